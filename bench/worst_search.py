@@ -7,6 +7,8 @@
     bench/worst_search.py --count        counts these again: KIND, INSTRUCTIONS, MODE, LIMIT, FOUND, a line each, tab between
     bench/worst_search.py --more         what one thing more costs: a restriction, a static speed, a gradient, a slot
     bench/worst_search.py --grown        a reading where restrictions and gradients double: WHAT, INSTRUCTIONS, THOSE OF THE PEER
+    bench/worst_search.py --stairs       a reading before stairs of restrictions, areas and static speeds: WHAT, INSTRUCTIONS where each is faster than
+                                         the nearer one, and where each is slower
     bench/worst_search.py --memory       heap and stack of each call of the scenarios: KIND, HELD, PEAK, REQUESTS, GREATEST, STACK
 
 bench/worst.sh builds what it runs (bench/out/worst), and says more.
@@ -236,7 +238,13 @@ def seeds(r):
     yield [*backwards(RESTRICTIONS, 600), "flush"]
     for reaction in (0, 10_000):
         yield [*backwards(RESTRICTIONS, 630, 2, reaction, turns=True), "odometer 1 50000"]
-    for _ in range(BATCH - 12):
+    for rising in (True, False):
+        for reaction in (0, 637):
+            yield [*stairs(570, restricted=RESTRICTIONS, rising=rising, reaction=reaction), "odometer 1 50000"]
+            yield [*stairs(600, areas=12, rising=rising, reaction=reaction), "clock 1000"]
+            yield [*stairs(600, speeds=24, rising=rising, reaction=reaction), "odometer 1 50000"]
+            yield [*stairs(570, 10, 10, 10, rising=rising, reaction=reaction), "odometer 1 50000"]
+    for _ in range(BATCH - 28):
         yield [*ENTERED, *(telegram(r) for _ in range(r.randrange(1, 8))), "action 7", *(any_line(r) for _ in range(r.randrange(4, 20)))]
 
 
@@ -578,15 +586,30 @@ def backwards(restricted, grades, step=2, reaction=0, turns=False, near=False):
     return [*lines, "action 7", "odometer 1 50000", "odometer 1 50000"]
 
 
-def areas_behind(areas, grades, near=False, step=2):
-    """The same with so many mode areas after all gradients in place of restrictions, one every 5 m, each 5 km/h slower than the one before it,
-    told from the farthest to the nearest, or from the nearest on."""
-    *lines, action, first, last = backwards(0, grades, step)
-    told = [[("D_MAMODE", grades * step + 10 + 5 * at), ("M_MAMODE", 0), ("V_MAMODE", 60 - at), ("L_MAMODE", 2), ("L_ACKMAMODE", 0)]
-            for at in (range(areas) if near else reversed(range(areas)))]
-    lines = [line.replace("160000", "600000") if isinstance(line, str) else line for line in lines]
-    lines.append(("telegram", dict(zip(HEADER, (0, 0, 0, 255, 1, 400, 1))), [(80, [("Q_DIR", 2), ("Q_SCALE", 1), *listed(told)])]))
-    return [*lines, action, first, last]
+def stairs(grades, restricted=0, areas=0, speeds=0, rising=True, step=2, reaction=0):
+    """Full Supervision with brakes that hardly act at up to 600 km/h, so many gradients ahead, and after all of them so many restrictions, mode
+    areas and static speeds by turns, one every 5 m. Each is 5 km/h faster than the nearer one, so that each slower one is nearer; or each is
+    5 km/h slower than the nearer one."""
+    *lines, action, first, last = [line.replace("160000", "600000") if isinstance(line, str) else line for line in backwards(0, grades, step, reaction)]
+    kinds = [kind for _, kind in sorted((at, kind) for kind, many in enumerate((restricted, areas, speeds)) for at in range(many))]
+    told = [[], [], []]
+    for at, kind in enumerate(kinds):
+        told[kind].append((grades * step + 5 * (at + 1), 1 + at if rising else 119 - at))
+    whole = [("Q_DIR", 2), ("Q_SCALE", 1)]
+    packets = [[restricted_at(whole, *one) for one in told[0][first:first + 10]] for first in range(0, restricted, 10)]
+    if areas:
+        packets.append([(80, whole + listed([[("D_MAMODE", after), ("M_MAMODE", 0), ("V_MAMODE", speed), ("L_MAMODE", 2), ("L_ACKMAMODE", 0)]
+                                             for after, speed in each_after(told[1])]))])
+    if speeds:
+        packets.append([(27, whole + listed([[("D_STATIC", after), ("V_STATIC", speed), ("Q_FRONT", 0), ("N_ITER", 0)]
+                                             for after, speed in each_after(told[2])]))])
+    heard = [("telegram", dict(zip(HEADER, (0, 0, 0, 255, 1, group, 1))), some) for group, some in enumerate(packets, 400)]
+    return [*lines, *heard, action, first, last]
+
+
+def each_after(told):
+    """How far each lies after the one before it, and its speed."""
+    return [(place - before, speed) for before, (place, speed) in zip((0, *(place for place, _ in told)), told)]
 
 
 def restricted_at(head, metres, speed):
@@ -597,7 +620,7 @@ def more():
     cases = {"32 and 232 restrictions ahead": [track(restricted=32), track(restricted=232)],
              "5 and 25 static speeds ahead": [track(speeds=5), track(speeds=25)],
              "5 and 25 gradients ahead": [track(grades=5), track(grades=25)],
-             "10 areas told near to far, far to near": [areas_behind(10, 690, near) for near in (True, False)]}
+             "10 areas, each slower than the nearer one, each faster": [stairs(690, areas=10, rising=rising) for rising in (False, True)]}
     for name, case in cases.items():
         texts = [[text_of(line) for line in lines] for lines in case]
         took = counted([(4, [*text[:-1], "count", text[-1]]) for text in texts])
@@ -617,6 +640,15 @@ def grown():
         print(f"{grades} gradients, {restricted} restrictions, told {order}", took, many - few, sep="\t", flush=True)
 
 
+def told_stairs():
+    for grades, reaction, many in STAIRS:
+        texts = [[text_of(line) for line in stairs(grades, rising=rising, reaction=reaction, **many)] for rising in (True, False)]
+        took = counted([(4, [*lines[:-1], "count", lines[-1]]) for lines in texts])
+        what = ", ".join(f"{number} {name}" for name, number in many.items())
+        print(f"{grades} gradients, {what}, a reaction of {reaction / 100:g} s", *(took[at, len(lines) + 1][0] for at, lines in enumerate(texts, 1)),
+              sep="\t", flush=True)
+
+
 def peer_reading(words):
     """What the peer takes for all readings of these lines."""
     done = subprocess.run(["valgrind", "--tool=callgrind", "--callgrind-out-file=/dev/null", "--collect-atstart=no", "--toggle-collect=*State*input*",
@@ -628,10 +660,16 @@ def peer_reading(words):
 GROWN = ((345, 32, "far to near"), (690, 8, "far to near"), (690, 16, "far to near"), (690, 32, "far to near"), (690, 64, "far to near"),
          (690, 128, "far to near"), (1380, 32, "far to near"), (690, 32, "near to far"), (690, 32, "by turns"))
 
+KINDS = ({"restricted": 10}, {"restricted": 20}, {"restricted": 40}, {"areas": 6}, {"areas": 12}, {"speeds": 12}, {"speeds": 24},
+         {"restricted": 10, "areas": 10, "speeds": 10})
+STAIRS = [(grades, reaction, many) for reaction in (0, 637) for grades in (345, 690) for many in KINDS]
+
 
 def main(words):
     if words == ["--grown"]:
         grown()
+    elif words == ["--stairs"]:
+        told_stairs()
     elif words == ["--count"]:
         count_again()
     elif words == ["--memory"]:

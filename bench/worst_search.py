@@ -238,13 +238,11 @@ def seeds(r):
     yield [*backwards(RESTRICTIONS, 600), "flush"]
     for reaction in (0, 10_000):
         yield [*backwards(RESTRICTIONS, 630, 2, reaction, turns=True), "odometer 1 50000"]
-    for rising in (True, False):
-        for reaction in (0, 637):
-            yield [*stairs(570, restricted=RESTRICTIONS, rising=rising, reaction=reaction), "odometer 1 50000"]
-            yield [*stairs(600, areas=12, rising=rising, reaction=reaction), "clock 1000"]
-            yield [*stairs(600, speeds=24, rising=rising, reaction=reaction), "odometer 1 50000"]
-            yield [*stairs(570, 10, 10, 10, rising=rising, reaction=reaction), "odometer 1 50000"]
-    for _ in range(BATCH - 28):
+    mixed = {"restricted": 10, "areas": 10, "speeds": 10}
+    for rising, near_end, reaction in itertools.product((True, False), (True, False), (0, 1_000, 10_000)):
+        for kinds in ({"restricted": RESTRICTIONS}, {"areas": 12}, {"speeds": 24}, mixed):
+            yield [*stairs(570, rising=rising, reaction=reaction, near_end=near_end, **kinds), "odometer 1 50000"]
+    for _ in range(BATCH - 60):
         yield [*ENTERED, *(telegram(r) for _ in range(r.randrange(1, 8))), "action 7", *(any_line(r) for _ in range(r.randrange(4, 20)))]
 
 
@@ -586,10 +584,10 @@ def backwards(restricted, grades, step=2, reaction=0, turns=False, near=False):
     return [*lines, "action 7", "odometer 1 50000", "odometer 1 50000"]
 
 
-def stairs(grades, restricted=0, areas=0, speeds=0, rising=True, step=2, reaction=0):
+def stairs(grades, restricted=0, areas=0, speeds=0, rising=True, step=2, reaction=0, near_end=False):
     """Full Supervision with brakes that hardly act at up to 600 km/h, so many gradients ahead, and after all of them so many restrictions, mode
     areas and static speeds by turns, one every 5 m. Each is 5 km/h faster than the nearer one, so that each slower one is nearer; or each is
-    5 km/h slower than the nearer one."""
+    5 km/h slower than the nearer one. The authority ends behind them, or before them and after all gradients."""
     *lines, action, first, last = [line.replace("160000", "600000") if isinstance(line, str) else line for line in backwards(0, grades, step, reaction)]
     kinds = [kind for _, kind in sorted((at, kind) for kind, many in enumerate((restricted, areas, speeds)) for at in range(many))]
     told = [[], [], []]
@@ -604,7 +602,14 @@ def stairs(grades, restricted=0, areas=0, speeds=0, rising=True, step=2, reactio
         packets.append([(27, whole + listed([[("D_STATIC", after), ("V_STATIC", speed), ("Q_FRONT", 0), ("N_ITER", 0)]
                                              for after, speed in each_after(told[2])]))])
     heard = [("telegram", dict(zip(HEADER, (0, 0, 0, 255, 1, group, 1))), some) for group, some in enumerate(packets, 400)]
-    return [*lines, *heard, action, first, last]
+    ends = grades * step + 1 if near_end else 32_767
+    ended = [(*line[:2], [(number, [(name, ends if name == "L_ENDSECTION" else value) for name, value in fields]) for number, fields in line[2]])
+             for line in heard_in(lines)]
+    return [*(line for line in lines if isinstance(line, str)), *ended, *heard, action, first, last]
+
+
+def heard_in(lines):
+    return [line for line in lines if not isinstance(line, str)]
 
 
 def each_after(told):
@@ -641,11 +646,12 @@ def grown():
 
 
 def told_stairs():
-    for grades, reaction, many in STAIRS:
-        texts = [[text_of(line) for line in stairs(grades, rising=rising, reaction=reaction, **many)] for rising in (True, False)]
+    for grades, reaction, near_end, many in STAIRS:
+        texts = [[text_of(line) for line in stairs(grades, rising=rising, reaction=reaction, near_end=near_end, **many)] for rising in (True, False)]
         took = counted([(4, [*lines[:-1], "count", lines[-1]]) for lines in texts])
         what = ", ".join(f"{number} {name}" for name, number in many.items())
-        print(f"{grades} gradients, {what}, a reaction of {reaction / 100:g} s", *(took[at, len(lines) + 1][0] for at, lines in enumerate(texts, 1)),
+        ends = "before them" if near_end else "behind them"
+        print(f"{grades} gradients, {what}, the end {ends}, a reaction of {reaction / 1000:g} s", *(took[at, len(lines) + 1][0] for at, lines in enumerate(texts, 1)),
               sep="\t", flush=True)
 
 
@@ -662,7 +668,8 @@ GROWN = ((345, 32, "far to near"), (690, 8, "far to near"), (690, 16, "far to ne
 
 KINDS = ({"restricted": 10}, {"restricted": 20}, {"restricted": 40}, {"areas": 6}, {"areas": 12}, {"speeds": 12}, {"speeds": 24},
          {"restricted": 10, "areas": 10, "speeds": 10})
-STAIRS = [(grades, reaction, many) for reaction in (0, 637) for grades in (345, 690) for many in KINDS]
+STAIRS = [(grades, reaction, near_end, many) for near_end in (False, True) for reaction in (0, 1_000, 10_000) for grades in (345, 690)
+          for many in KINDS]
 
 
 def main(words):

@@ -96,11 +96,7 @@ impl Links {
     pub fn meant(&self, group: &GroupIdentity, linked: bool) -> Option<Announcement>
         ensures { result ≡ meant self.now group.now linked }
     {
-        if linked {
-            self.first_of(group)
-        } else {
-            None
-        }
+        if linked { self.first_of(group) } else { None }
     }
 
     /// Takes note of a broken group and answers what it asks for (3.16.2; this project's profile). `linked` is its

@@ -46,7 +46,7 @@ impl GroupPackets {
 pub struct PacketsInTurn<'a> {
     /// What is still to come of a telegram, up to its first packet 136.
     packets: Packets<'a>,
-    /// The telegrams behind it.
+    /// The telegrams after it.
     telegrams: PacketsOfEach<'a>,
 }
 

@@ -1,4 +1,4 @@
--- Telegrams in one list of bytes: one more is added behind the others.
+-- Telegrams in one list of bytes: one more comes after the others.
 use Rattle.std.proofs.Common.{◌≡◌, ℕ, suc, ◌*◌, ◌≤◌, List, [], ◌∷◌, ◌++◌, length, take, drop, refl, sym, ap, subst, ◌∙◌, arith, length-drop, length-append}
 use Rattle.std.proofs.lemmas.List.{take-append-le, drop-append-le, take_all, drop_all, length-take-le}
 use Rattle.bits.specs.Bits.{bits_of}

@@ -109,14 +109,14 @@ impl<'a> Model for PacketsOfEach<'a> {
 }
 
 impl<'a> PacketsOfEach<'a> {
-    /// The packets of the next telegram, to be read one by one where they lie; None behind the last one.
+    /// The packets of the next telegram, to be read one by one where they lie; None after the last one.
     pub fn next_telegram(&mut self) -> Option<Packets<'a>>
         ensures { YieldsFirstBy (λ (w : Walk). packets_of w.items) (λ (ps : List (List Packet)). ps) self.old result self.new }
     {
         let (first, others) = self.extents.split_first()?;
-        let (bytes, behind) = self.bytes.split_at(first.bytes as usize);
-        self.bytes = behind;
+        let (bytes, more) = self.bytes.split_at(first.bytes as usize);
+        self.bytes = more;
         self.extents = others;
-        Some(Packets::behind_header(Header::default(), bytes, first.packets))
+        Some(Packets::after_header(Header::default(), bytes, first.packets))
     }
 }

@@ -71,7 +71,7 @@ impl Received {
         ensures few { length self.now.packets.items ≤ 33 }
         ensures header { result.header ≡ self.now.header }
     {
-        Packets::behind_header(self.header, self.bytes.as_slice(), self.count)
+        Packets::after_header(self.header, self.bytes.as_slice(), self.count)
     }
 
     /// Its bytes.

@@ -50,8 +50,8 @@ fn bytes_between(bytes: &[u8], start: u32, end: u32) -> &[u8]
 }
 
 impl<'a> Packets<'a> {
-    /// So many packets behind the header of a telegram that was tested.
-    pub(crate) fn behind_header(header: Header, bytes: &'a [u8], count: u32) -> Self
+    /// So many packets after the header of a telegram that was tested, read again from its bytes.
+    pub(crate) fn after_header(header: Header, bytes: &'a [u8], count: u32) -> Self
         requires { HoldPackets count bytes.now }
         ensures packets { packets_of result.items ≡ packets_in count (drop header_bits (bits_of bytes.now)) }
         ensures header { result.header ≡ header }

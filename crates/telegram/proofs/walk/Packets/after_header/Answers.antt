@@ -2,14 +2,14 @@ use Rattle.std.proofs.Common.{◌≡◌, ◌↔◌, ◌≤◌, ◌*◌, ℕ, Boo
 use Rattle.bits.specs.Bits.{bits_of}
 use Rattle.bits.proofs.Bytes.{length-bits_of}
 use Rattle.telegram.proofs.Walking.{located_packets}
-use Rattle.telegram.proofs.walk.Packets.behind_header.Goals as goal
+use Rattle.telegram.proofs.walk.Packets.after_header.Goals as goal
 
 -- so many bits were there, and were skipped
 skipped : {A : Type 0} (o : Option A) (n : ℕ) (old new : List Bool) → IsSome o ↔ (n ≤ length old) → OnSome o (new ≡ drop n old) → n ≤ length old → new ≡ drop n old
 skipped None n old new found rest enough = absurd (let none = found.1 enough in cc)
 skipped (Some x) n old new found rest enough = rest
 
--- the reader stands behind the header
+-- the reader stands after the header
 behind : (bytes : List ℕ) (o : Option (List Bool)) (old new : List Bool) → old ≡ bits_of bytes → IsSome o ↔ (50 ≤ length old) → OnSome o (new ≡ drop 50 old)
     → 50 ≤ 8 * length bytes → new ≡ drop 50 (bits_of bytes)
 behind bytes o old new held found rest enough =

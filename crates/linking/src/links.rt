@@ -91,8 +91,8 @@ impl Links {
         }
     }
 
-    /// The announcement that a broken group would take with it: the first one of the group that is left, where the group
-    /// is linked.
+    /// The announcement that a broken group would take with it: the first one of the group that is left, where the
+    /// group is linked.
     pub fn meant(&self, group: &GroupIdentity, linked: bool) -> Option<Announcement>
         ensures { result ≡ meant self.now group.now linked }
     {

@@ -1,5 +1,5 @@
--- What became of each balise group that an input closes: they are judged, and their packets used, in the mode before the
--- event (SUBSET-026, 3.4.4, 3.16.2 and 4.8). Groups stand in the order in which they closed.
+-- What became of each balise group that an input closes: they are judged, and their packets used, in the mode before
+-- the event (SUBSET-026, 3.4.4, 3.16.2 and 4.8). Groups stand in the order in which they closed.
 use Rattle.std.specs.Prelude.{List}
 use Rattle.events.specs.declared.input.Input.{Input}
 use Rattle.track_picture.specs.declared.closings.Closing.{Closing}

@@ -1,7 +1,7 @@
--- What became of each balise group that an input closes, as an investigator asks for it, read off what the groups of the
--- event did (SUBSET-026, 3.4, 3.4.4 and 3.16.2). Groups stand in the order in which they closed; lists of outcomes and
--- of entries have the newest first. A reader may take for granted that the entries are all that the life brought before
--- the event.
+-- What became of each balise group that an input closes, as an investigator asks for it, read off what the groups of
+-- the event did (SUBSET-026, 3.4, 3.4.4 and 3.16.2). Groups stand in the order in which they closed; lists of outcomes
+-- and of entries have the newest first. A reader may take for granted that the entries are all that the life brought
+-- before the event.
 use Rattle.std.specs.Prelude.{Option, Some, None, if◌then◌else◌, List, [], ◌∷◌, ◌++◌}
 use Rattle.balise_groups.specs.declared.message.Closed.{Closed}
 use Rattle.balise_groups.specs.declared.message.Closed.TheVariants as closed
@@ -23,7 +23,8 @@ use Rattle.track_picture.specs.Sentences.{begun, used_by, group_read, outcome_at
 
 -- ---- one group, by what it did and by the links that were left before it
 
--- one that is announced and wasn't used: it was passed in the wrong direction (3.16.2.3), or else found too early (3.16.2)
+-- one that is announced and wasn't used: it was passed in the wrong direction (3.16.2.3), or else found too early
+-- (3.16.2)
 abbrev pub why_rejected : Message → Announcement → MessageOutcome
 why_rejected message a = if is_passed_wrongly message.direction a then told.WrongWay a else told.TooEarly a
 

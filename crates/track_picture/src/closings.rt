@@ -27,8 +27,8 @@ use units::NoMemory;
 /// What became of the message of a balise group (SUBSET-026, 3.4.4 and 3.16.2).
 #[derive(Clone, Copy)]
 pub enum MessageOutcome {
-    /// It is used. With Some it is of the group of this announcement; with None its group isn't linked, or linking isn't
-    /// in use (3.4.4).
+    /// It is used. With Some it is of the group of this announcement; with None its group isn't linked, or linking
+    /// isn't in use (3.4.4).
     Accepted(Option<Announcement>),
     /// Its group is linked and isn't announced while others are (3.4.4). It isn't used.
     NotAnnounced,
@@ -218,9 +218,9 @@ impl<T: ProfileStores> TracksideOver<T> {
     }
 
     /// What becomes of each group that an input would close as the next event in a mode, in their order (SUBSET-026,
-    /// 3.4.4 and 3.16.2). Nothing changes. It works on a copy where two groups close, since the packets of the first may
-    /// bring the links by which the second is judged: NoMemory where memory is refused for that. None is taken where no
-    /// restriction and no profile is kept, nor room for one, of an input that uses no packet.
+    /// 3.4.4 and 3.16.2). Nothing changes. It works on a copy where two groups close, since the packets of the first
+    /// may bring the links by which the second is judged: NoMemory where memory is refused for that. None is taken
+    /// where no restriction and no profile is kept, nor room for one, of an input that uses no packet.
     pub fn closings_by(
         &self,
         alloc: Global,

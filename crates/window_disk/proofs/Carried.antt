@@ -1,17 +1,20 @@
 -- What a medium holds after requests, sector by sector.
-use Rattle.std.proofs.Common.{◌≡◌, ℕ, ◌*◌, List, [], ◌∷◌, ◌++◌, length, take, drop, refl, ◌∙◌, arith, length-append, length-drop, Option, None}
-use Rattle.std.specs.Prelude.{fold, All}
+use Rattle.std.proofs.Common.{◌≡◌, ℕ, ◌+◌, ◌-◌, ◌*◌, ◌<◌, ◌==◌, Bool, true, false, List, [], ◌∷◌, ◌++◌, length, take, drop, refl, ◌∙◌, ap, arith, length-append, length-drop, Option, Some, None}
+use Rattle.std.specs.Prelude.{fold, All, if◌then◌else◌}
+use Rattle.std.proofs.lemmas.Bool.Decides.{nat_tests}
+use borrow.Rule.Slice.PartMut.{put_mid, put_same}
 use Rattle.std.specs.List.{AllByRecursion}
-use Rattle.std.proofs.lemmas.List.{length-take-le}
+use Rattle.std.proofs.lemmas.List.{length-take-le, take_all}
 use Rattle.std.proofs.lemmas.List.Elements.{recursion_from_All}
 use Rattle.disk.specs.State.{sector_of}
 use Rattle.disk.specs.Record.{IsWithin, bytes_at, trace_of}
 use Rattle.disk.specs.declared.record.Call.{Call}
+use Rattle.disk.specs.declared.record.Span.{Span}
 use Rattle.disk.specs.declared.record.Call.TheVariants.{Quiet, Synced, Written, Torn}
-use Rattle.mirror_disk.specs.Mirror.{found_next, found_in, told_at}
+use Rattle.mirror_disk.specs.Mirror.{has_sector, found_next, found_in, told_at}
 use Rattle.mirror_disk.proofs.Carried.{put_sectors, carried_next as told_next}
 use Rattle.mirror_disk.proofs.Found.{bytes_now}
-use Rattle.window_disk.specs.Medium.{carried_next, carried}
+use Rattle.window_disk.specs.Medium.{with_sectors, carried_next, carried}
 
 -- it keeps its size
 next_size : (sectors : ℕ) (start written : List ℕ) (call : Call) → IsWithin sectors (length written) call → length start ≡ 512 * sectors
@@ -69,3 +72,41 @@ module _ (sectors : ℕ) (start written : List ℕ) (calls : List Call) (within 
 
   pub carried_now : (s : ℕ) → sector_of (carried written start calls) s ≡ bytes_at start written s (trace_of s (take (length calls) calls)).last
   carried_now s = carried_told s ∙ bytes_now start written s calls
+
+-- one sector's bytes are put in
+module _ (sectors : ℕ) (medium bytes : List ℕ) (s : ℕ) (below : s < sectors) (one : length bytes ≡ 512) (size : length medium ≡ 512 * sectors) where
+  abbrev span : Span
+  span = record { first = s; sectors = 1; from = 0 }
+
+  within_one : IsWithin sectors (length bytes) (Written span)
+  within_one = record { below = omega (arith, below); bytes = omega (arith, one) }
+
+  pub put_size : length (with_sectors bytes medium span) ≡ 512 * sectors
+  put_size = next_size sectors medium bytes (Written span) within_one size
+
+  pub put_other : (t : ℕ) → (t == s) ≡ false → sector_of (with_sectors bytes medium span) t ≡ sector_of medium t
+  put_other t other =
+      let outside : has_sector span t ≡ false = grind (arith, nat_tests, other) in
+      next_sector sectors medium bytes (Written span) t within_one size
+      ∙ ap (λ (b : Bool). told_at medium bytes t (if b then Some (0 + 512 * (t - s)) else None)) outside
+
+  whole : take 512 bytes ≡ bytes
+  whole = take_all 512 bytes (omega (arith, one))
+
+  pub put_one : sector_of (with_sectors bytes medium span) s ≡ bytes
+  put_one =
+      let inside : has_sector span s ≡ true = grind (arith, nat_tests) in
+      let start : 0 + 512 * (s - s) ≡ 0 = omega arith in
+      next_sector sectors medium bytes (Written span) s within_one size
+      ∙ ap (λ (b : Bool). told_at medium bytes s (if b then Some (0 + 512 * (s - s)) else None)) inside
+      ∙ ap (λ (n : ℕ). take 512 (drop n bytes)) start
+      ∙ whole
+
+  -- bytes that are there leave the medium
+  pub put_same_bytes : bytes ≡ sector_of medium s → with_sectors bytes medium span ≡ medium
+  put_same_bytes is = ap (λ (ys : List ℕ). put_mid (512 * s) 512 medium ys) (whole ∙ is) ∙ put_same (512 * s) 512 medium
+
+-- what is told of another sector stays
+pub told_other : (medium medium' written : List ℕ) (t : ℕ) (at : Option ℕ) → sector_of medium' t ≡ sector_of medium t → told_at medium' written t at ≡ told_at medium written t at
+told_other medium medium' written t None is = is
+told_other medium medium' written t (Some at) is = refl

@@ -1,21 +1,21 @@
 -- Sectors that are held.
-use Rattle.std.proofs.Common.{◌≡◌, ℕ, ◌+◌, ◌*◌, ◌<◌, ◌==◌, Bool, true, false, cond, not, ◌||◌, List, [], ◌∷◌, ◌++◌, length, map, drop, get_or, refl, sym, ◌∙◌, ap, subst, arith, rules, lit<, suc, Option, Some, None, is_some}
+use Rattle.std.proofs.Common.{◌≡◌, ℕ, ◌+◌, ◌*◌, ◌<◌, ◌≤◌, ◌==◌, Bool, true, false, cond, not, ◌||◌, List, [], ◌∷◌, ◌++◌, length, map, take, drop, get_or, refl, sym, ◌∙◌, ap, subst, arith, rules, lit<, suc, Option, Some, None, is_some}
 use Rattle.std.specs.Prelude.{All, nat_lt, position, if◌then◌else◌}
-use Rattle.std.specs.List.{position_or_len}
+use Rattle.std.specs.List.{position_or_len, AllByRecursion}
 use Rattle.std.proofs.lemmas.Bool.Decides.{nat_tests}
 use Rattle.std.proofs.lemmas.List.{length-map, map_push, drop-map}
-use Rattle.std.proofs.lemmas.List.Elements.{All-get_or, All-weaker, All-map, All-push, All-drop}
+use Rattle.std.proofs.lemmas.List.Elements.{All-get_or, All-weaker, All-map, All-push, All-drop, recursion_from_All, All-from_recursion}
 use Rattle.std.proofs.lemmas.List.Quantifiers.{position-Some}
 use Rattle.disk.specs.State.{sector_of, contents_of}
-use Rattle.disk.specs.Record.{IsWithin}
+use Rattle.disk.specs.Record.{IsWithin, bytes_at, trace_of}
 use Rattle.disk.specs.declared.record.Call.{Call}
 use Rattle.mirror_disk.specs.Mirror.{found_in, told_at}
 use Rattle.mirror_disk.proofs.Found.{bytes_now}
 use Rattle.window_disk.specs.declared.known.Known.{Known}
 use Rattle.window_disk.specs.Known.{numbers_of, has_number, with_room, IsHeld, told_or, renewed}
-use Rattle.window_disk.specs.Medium.{carried}
+use Rattle.window_disk.specs.Medium.{with_sectors, carried}
 use Rattle.window_disk.specs.Window.{Windowing, knows, window_state}
-use Rattle.window_disk.proofs.Carried.{carried_told}
+use Rattle.window_disk.proofs.Carried.{carried_told, put_one, put_other, put_same_bytes, told_other}
 
 -- where a sector is held, its number is among the numbers
 length_same : {X Y : Type 0} (p : Y → Bool) (f : X → Y) (xs : List X) → position_or_len p (map f xs) ≡ position_or_len (λ x. p (f x)) xs
@@ -111,3 +111,63 @@ has_last s xs =
 pub or_right : (a b : Bool) → b ≡ true → (a || b) ≡ true
 or_right true b is = refl
 or_right false b is = is
+
+-- sectors that are held stay the medium's where another one's bytes are put in
+absent : (b : Bool) (m n : ℕ) → suc n ≤ cond (not b) (1 + m) 0 → (b ≡ false) × (n ≤ m)
+absent true m n le = absurd (never le)
+  where
+    never : suc n ≤ 0 → ⊥
+    never le = grind (arith, le)
+absent false m n le = (refl, omega (arith, le))
+
+held_others : (sectors : ℕ) (medium medium' : List ℕ) (s : ℕ) → ((t : ℕ) → (t == s) ≡ false → sector_of medium' t ≡ sector_of medium t)
+    → (known : List Known) → length known ≤ position_or_len (λ k. k.sector == s) known
+    → AllByRecursion (IsHeld sectors medium) known → AllByRecursion (IsHeld sectors medium') known
+held_others sectors medium medium' s others [] le all = tt
+held_others sectors medium medium' s others (k ∷ known) le all =
+    let so = absent (k.sector == s) (position_or_len (λ k. k.sector == s) known) (length known) le in
+    (record { below = all.0.below; bytes = all.0.bytes ∙ sym (others k.sector so.0) }, held_others sectors medium medium' s others known so.1 all.1)
+
+is_past : (m n : ℕ) → is_some (cond (nat_lt m n) (Some m) None) ≡ false → n ≤ m
+is_past m n is = grind (arith, nat_tests, is)
+
+pub held_still : (sectors : ℕ) (medium medium' : List ℕ) (s : ℕ) → ((t : ℕ) → (t == s) ≡ false → sector_of medium' t ≡ sector_of medium t)
+    → (known : List Known) → is_some (position (λ k. k.sector == s) known) ≡ false
+    → All (IsHeld sectors medium) known → All (IsHeld sectors medium') known
+held_still sectors medium medium' s others known none all =
+    All-from_recursion (IsHeld sectors medium') known
+    (held_others sectors medium medium' s others known (is_past (position_or_len (λ k. k.sector == s) known) (length known) none)
+    (recursion_from_All (IsHeld sectors medium) known all))
+
+-- a sector that isn't known is neither written nor held
+pub unknown_found : (s : ℕ) (w : Windowing) → knows s w ≡ false → found_in s w.requests ≡ None
+unknown_found s w is = none_if (found_in s w.requests) (has_number s w.known) is
+
+or_left : (a b : Bool) → (a || b) ≡ false → b ≡ false
+or_left true b is = search (rules, is)
+or_left false b is = is
+
+pub unknown_place : (s : ℕ) (w : Windowing) (known : List Known) → w.known ≡ numbers_of known → knows s w ≡ false
+    → is_some (position (λ k. k.sector == s) known) ≡ false
+unknown_place s w known numbers is =
+    place_same s known ∙ ap (λ (ns : List ℕ). has_number s ns) (sym numbers) ∙ or_left (is_some (found_in s w.requests)) (has_number s w.known) is
+
+-- the disk on a medium with a sector's bytes
+module _ (w : Windowing) (s : ℕ) (bytes : List ℕ) (below : s < w.sectors) (one : length bytes ≡ 512) (size : length w.medium ≡ 512 * w.sectors) (unknown : knows s w ≡ false) where
+  abbrev next : List ℕ
+  next = with_sectors bytes w.medium (record { first = s; sectors = 1; from = 0 })
+
+  pub told_put : bytes_at next w.written s (trace_of s (take (length w.requests) w.requests)).last ≡ bytes
+  told_put =
+      sym (bytes_now next w.written s w.requests)
+      ∙ ap (λ (o : Option ℕ). told_at next w.written s o) (unknown_found s w unknown)
+      ∙ put_one w.sectors w.medium bytes s below one size
+
+  pub told_others : (t : ℕ) → (t == s) ≡ false → bytes_at next w.written t (trace_of t (take (length w.requests) w.requests)).last ≡ contents_of (window_state w) t
+  told_others t other =
+      sym (bytes_now next w.written t w.requests)
+      ∙ told_other w.medium next w.written t (found_in t w.requests) (put_other w.sectors w.medium bytes s below one size t other)
+      ∙ bytes_now w.medium w.written t w.requests
+
+  pub same_medium : bytes ≡ contents_of (window_state w) s → next ≡ w.medium
+  same_medium is = put_same_bytes w.sectors w.medium bytes s below one size (is ∙ unknown_contents s w unknown)

@@ -5,7 +5,7 @@ use Rattle.disk.specs.State.{State}
 use Rattle.disk.specs.Record.{IsWithin}
 use Rattle.disk.specs.declared.record.Call.{Call}
 use Rattle.mirror_disk.specs.Mirror.{Mirroring, IsRequest, mirror_state, found_in}
-use Rattle.window_disk.specs.Medium.{carried}
+use Rattle.window_disk.specs.Medium.{with_sectors, carried}
 use Rattle.window_disk.specs.Known.{has_number, IsHeld, HasRoom, with_room}
 use Rattle.window_disk.specs.declared.window.WindowDisk.TheInside.{Inside}
 
@@ -63,9 +63,15 @@ pub record IsFirstUnknown (first bytes : ℕ) (w : Windowing) (s : ℕ) : Type 0
   pub unknown : knows s w ≡ false
   pub before : (t : ℕ) → first ≤ t → t < s → knows t w ≡ true
 
--- the same disk, with a sector handed in that wasn't known
-abbrev pub with_sector : ℕ → Windowing → Windowing
-with_sector s w = record w { known = if knows s w then w.known else with_room w.known ++ s ∷ []; wanted = None }
+-- the same disk, with a sector handed in: one that isn't known is held from then on, on a medium with these bytes there
+abbrev pub with_sector : ℕ → List ℕ → Windowing → Windowing
+with_sector s bytes w =
+    if knows s w then record w { wanted = None }
+    else record w {
+      medium = with_sectors bytes w.medium (record { first = s; sectors = 1; from = 0 });
+      known = with_room w.known ++ s ∷ [];
+      wanted = None;
+    }
 
 -- the same disk, with the requests carried out on its medium
 abbrev pub with_carried : Windowing → Windowing
@@ -81,8 +87,8 @@ NotesRequest request bytes old new =
     new ≡ record old { requests = old.requests ++ request ∷ []; written = old.written ++ bytes }
 
 -- What is so of every such disk: its medium has whole sectors, what it holds is the medium's, each request is of
--- sectors that the medium has, with bytes that are there, and where there is no request there are no bytes. The room for
--- 16 sectors, 16 requests and 8,192 bytes was taken.
+-- sectors that the medium has, with bytes that are there, and where there is no request there are no bytes. The room
+-- for 16 sectors, 16 requests and 8,192 bytes was taken.
 pub record IsKept (m : Inside) : Type 0 where
   pub whole : length m.medium.bytes ≡ 512 * m.sectors
   pub held : All (IsHeld m.sectors m.medium.bytes) m.known.items

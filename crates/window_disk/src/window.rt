@@ -1,5 +1,5 @@
 //! The disk.
-ghost use Rattle.std.specs.Prelude.{◌≡◌, ℕ, ◌+◌, ◌*◌, ◌/◌, ◌%◌, ◌^◌, ◌<◌, ◌≤◌, length, take, drop, List, ◌∷◌, ◌++◌, [], true, false, IsTrue, IfOk, IfErr, IfSome, OnOk, OnErr, Option, Some, None, MatchOption, MatchResult, is_err, is_some, if◌then◌else◌};
+ghost use Rattle.std.specs.Prelude.{◌≡◌, ℕ, ◌+◌, ◌*◌, ◌/◌, ◌%◌, ◌^◌, ◌<◌, ◌≤◌, ◌==◌, length, take, drop, List, ◌∷◌, ◌++◌, [], true, false, IsTrue, IfOk, IfErr, IfSome, OnOk, OnErr, Option, Some, None, MatchOption, MatchResult, is_err, is_some, if◌then◌else◌};
 ghost use Rattle.disk.specs.State.{contents_of, sector_of, AreSectors, Counted, Touches, Holds, AreOpen, OpenOrSame, SameOpenOutside, SameOpen, IsSynced};
 ghost use Rattle.disk.specs.Reserve.{Spends};
 ghost use Rattle.disk.specs.Record.{IsWithin};
@@ -13,9 +13,9 @@ use std::alloc::Global;
 use std::marker::Model;
 use units::NoMemory;
 
-/// A disk that holds only some sectors of its medium. A read of a sector that isn't known answers DiskFault and tells which
-/// one is wanted; each write and each sync is noted as a request. It takes all its memory where it is made. A call that
-/// answers DiskFault changes nothing of what it holds.
+/// A disk that holds only some sectors of its medium. A read of a sector that isn't known answers DiskFault and tells
+/// which one is wanted; each write and each sync is noted as a request. It takes all its memory where it is made. A
+/// call that answers DiskFault changes nothing of what it holds.
 #[derive(Drop)]
 pub struct WindowDisk {
     sectors: u64,
@@ -85,15 +85,21 @@ impl WindowDisk {
         known
     }
 
-    /// Hands in what the medium holds of a sector. Where 16 sectors are known the one that came first is forgotten. The
-    /// caller owes a sector that the medium has, and just the bytes that it holds.
+    /// Hands in what the medium holds of a sector; nothing where it is known. Where 16 sectors were handed in the one
+    /// that came first is forgotten. The caller owes a sector that the medium has. Where the bytes aren't what the
+    /// medium holds, the disk is from then on one on a medium that held them.
     pub fn provide(&mut self, sector: u64, bytes: &[u8; SECTOR_BYTES])
-        requires below { sector < self.old.sectors }
-        requires bytes { bytes.now ≡ contents_of (window_state self.old) sector }
-        ensures exact { self.new ≡ with_sector sector self.old }
+        requires { sector < self.old.sectors }
+        ensures exact { self.new ≡ with_sector sector bytes.now self.old }
 
-        // The disk is what it was. The sector is known, and what was known stays so where fewer than 16 were handed in.
-        ensures same { window_state self.new ≡ window_state self.old }
+        // Where the bytes are what the medium holds, the disk is what it was.
+        ensures same { bytes.now ≡ contents_of (window_state self.old) sector →
+            window_state self.new ≡ window_state self.old }
+        ensures told { knows sector self.old ≡ false → contents_of (window_state self.new) sector ≡ bytes.now }
+        ensures others { (s : ℕ) → (s == sector) ≡ false →
+            contents_of (window_state self.new) s ≡ contents_of (window_state self.old) s }
+
+        // The sector is known, and what was known stays so where fewer than 16 were handed in.
         ensures known { knows sector self.new ≡ true }
         ensures stays { length self.old.known < 16 → (s : ℕ) → knows s self.old ≡ true → knows s self.new ≡ true }
     {
@@ -101,6 +107,12 @@ impl WindowDisk {
         if self.sector(sector).is_some() {
             return;
         }
+        let span = Span {
+            first: sector,
+            sectors: 1,
+            from: 0,
+        };
+        self.medium.carry(bytes, &[Call::Written(span)]);
         add(
             &mut self.known,
             Known {
@@ -167,9 +179,9 @@ impl WindowDisk {
         synced
     }
 
-    /// Empties the list, after a medium that carried it out: the disk holds what it held. Sectors that were handed in stay
-    /// known, and hold what was written; of others that were written the bytes are forgotten. The caller owes that no
-    /// sector is open, as `is_synced` tells.
+    /// Empties the list, after a medium that carried it out: the disk holds what it held. Sectors that were handed in
+    /// stay known, and hold what was written; of others that were written the bytes are forgotten. The caller owes that
+    /// no sector is open, as `is_synced` tells.
     pub fn empty(&mut self)
         requires { IsSynced (window_state self.old) }
         ensures exact { self.new ≡ with_carried self.old }
@@ -295,7 +307,8 @@ impl Disk for WindowDisk {
 
         // It fails exactly beyond the room, and else is the next request.
         ensures room { is_err result ≡ (if has_room_for (length bytes.now) (copy_of self.old) then false else true) }
-        ensures noted { OnOk result (NotesRequest (write_of first bytes.now (copy_of self.old)) bytes.now self.old self.new) }
+        ensures noted { OnOk result
+            (NotesRequest (write_of first bytes.now (copy_of self.old)) bytes.now self.old self.new) }
         ensures beyond { OnErr result (self.new ≡ record self.old { faults = (self.old.faults + 1) % 2 ^ 64 }) }
     {
         if !self.has_room(bytes.len()) {

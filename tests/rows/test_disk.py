@@ -2,8 +2,8 @@
 """Runs test_disk.row over the program of rows (asking.py has the words).
 
 A row's first word names what it is for: `memory` is a disk in memory that can lose power, `liar` a disk that lies,
-`file` a disk over an honest file in memory, `raw` such a file itself, and `window` a disk that holds only some sectors of
-its medium.
+`file` a disk over an honest file in memory, `raw` such a file itself, and `window` a disk that holds only some sectors
+of its medium.
 
     memory new 3 9 8          a disk of so many sectors, with room for so many calls and so many written sectors
     memory fail 2             of the calls from here on the one of this number, counted from 0, fails once

@@ -6,7 +6,7 @@ ghost use Rattle.window_disk.specs.Known.{HasRoom, with_room, renewed};
 use crate::requests::found;
 use disk::{Call, SECTOR_BYTES};
 
-/// How many sectors are held: an opening and a commit read fewer at a time.
+/// How many sectors are held at most. A block has six.
 pub const MOST_KNOWN: usize = 16;
 
 /// A sector and its bytes.

@@ -17,7 +17,8 @@ from . import campaign
 from .campaign import AHEAD, Batches, Job, Row, Take
 from .program import DEVICE, Failed
 
-LEAST_PLAYERS = 4
+LEAST_PLAYERS, PATIENCE = 4, "30s"
+"""For how many workers jobs are handed out at the least; and how long a scheduler may take to answer, which shares its machine with workers."""
 UNUSED = ("jinja2", "numpy", "distributed.comm.ucx")
 """What Dask loads where it is there: for its pages, for large arrays, and for networks of InfiniBand."""
 TOLD = ("numpy", "pandas")
@@ -94,7 +95,7 @@ def connected(scheduler: str) -> tuple[Any, Any]:
         config.set(SETTINGS)
         try:
             with instead({name: version_alone(name) for name in TOLD}):
-                client = Client(scheduler, set_as_default=False, timeout="10s")
+                client = Client(scheduler, set_as_default=False, timeout=PATIENCE)
         except OSError as error:
             raise Failed(f"{scheduler}: no scheduler answers there", DEVICE) from error
     return client, as_completed(loop=client.loop)

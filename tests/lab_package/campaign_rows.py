@@ -70,7 +70,8 @@ def by_two_workers(room, lives):
         unless(playing.poll() is None, "the campaign ended before a worker could be killed; take more lives")
         workers[0].send_signal(signal.SIGKILL)
         printed, said = playing.communicate(timeout=20 * WAIT)
-        unless(playing.returncode == 0 and printed.startswith(f"{lives} rows, {lives} of them") and not said, f"by a scheduler: {printed}{said}")
+        unless(playing.returncode == 0 and printed.startswith(f"{lives} rows, {lives} of them"), f"by a scheduler: {printed}{said}")
+        unless("Mismatched versions" not in said, f"the client tells other versions than it has: {said}")
         with sqlite3.connect(out) as connection:
             names = connection.execute("SELECT count(DISTINCT worker) FROM result").fetchone()[0]
         unless(names == 2, f"{names} workers played; two are wanted")

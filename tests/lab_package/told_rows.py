@@ -209,6 +209,13 @@ def compare_database(count, name, connection, journal, table, records):
                 fields += [(*key, place, at, *pair) for at, pair in enumerate(dict(packet)["fields"])]
             unused += [(*key, place, *one.values()) for place, one in enumerate(unused_in(record))]
     count.same(f"{name}, database", rows, wanted)
+    blocks = {}
+    for record in records:
+        block, event = record["block"], record["event"]
+        source, first, last = blocks.get(block, (record.get("source", "journal"), event, event))
+        blocks[block] = source, min(first, event), max(last, event)
+    count.same(f"{name}, blocks", {row[0]: row[1:] for row in connection.execute(
+        "SELECT block, source, first_event, last_event FROM block WHERE image = ?", [image])}, blocks)
     count.same(f"{name}, telegrams", {row[:2]: row[2] for row in connection.execute(
         "SELECT block, event, digits FROM telegram WHERE image = ?", [image])}, digits)
     count.same(f"{name}, fields", sorted(connection.execute(

@@ -1,7 +1,7 @@
 """Plays the jobs of a campaign by the workers of a scheduler of Dask.
 
-A life takes milliseconds, so what Dask does beside it is kept small: its client loads nothing that a campaign doesn't need, and jobs
-and rows go as bytes, since Dask looks through each part of a list by itself.
+A life takes milliseconds, so what Dask does beside it is kept small: its client loads nothing that a campaign doesn't
+need, and jobs and rows go as bytes, since Dask looks through each part of a list by itself.
 """
 import gc
 import os
@@ -17,7 +17,8 @@ from . import campaign
 from .campaign import AHEAD, Batches, Job, Row, Take
 from .program import DEVICE, Failed
 
-LEAST_PLAYERS = 4
+LEAST_PLAYERS, PATIENCE = 4, "30s"
+"""For how many workers jobs are handed out at the least; and how long a scheduler may take to answer."""
 UNUSED = ("jinja2", "numpy", "distributed.comm.ucx")
 """What Dask loads where it is there: for its pages, for large arrays, and for networks of InfiniBand."""
 TOLD = ("numpy", "pandas")
@@ -35,7 +36,7 @@ def played(packed: bytes) -> bytes:
 
 @contextmanager
 def instead(others: Mapping[str, ModuleType | None]) -> Iterator[None]:
-    """While this lasts, other modules stand for some that aren't loaded yet; where None stands, there is no such module."""
+    """While this lasts, other modules stand for some that aren't loaded yet; None says that there is no such module."""
     loaded: dict[str, Any] = modules
     put = {name: module for name, module in others.items() if name not in loaded}
     loaded.update(put)
@@ -63,7 +64,7 @@ def environment(told: Mapping[str, str]) -> Iterator[None]:
 
 @contextmanager
 def nothing_given_back() -> Iterator[None]:
-    """While this lasts, nobody looks for what can be given back, and nobody looks through what was loaded afterwards."""
+    """While this lasts, nobody looks for what can be given back, nor afterwards through what was loaded."""
     gc.disable()
     try:
         yield
@@ -90,11 +91,12 @@ def connected(scheduler: str) -> tuple[Any, Any]:
                 from dask import config
                 from distributed import Client, as_completed
         except ImportError as error:
-            raise Failed("python3-distributed is missing; tools/python --campaigns installs it by Debian's packages", DEVICE) from error
+            raise Failed("python3-distributed is missing; tools/python --campaigns installs it by Debian's packages",
+                         DEVICE) from error
         config.set(SETTINGS)
         try:
             with instead({name: version_alone(name) for name in TOLD}):
-                client = Client(scheduler, set_as_default=False, timeout="10s")
+                client = Client(scheduler, set_as_default=False, timeout=PATIENCE)
         except OSError as error:
             raise Failed(f"{scheduler}: no scheduler answers there", DEVICE) from error
     return client, as_completed(loop=client.loop)

@@ -219,6 +219,8 @@ def train(r):
             f"{r.choice((1, 70, r.randrange(1, 301)))} {r.choice((0, r.randrange(1_001)))} {r.choice((15, r.randrange(16)))}")
 
 
+LAST = ("clock 1000", "identity 41", "number 12345678", "train 20000 600000 1 10000 15", *(f"action {number}" for number in ACTIONS))
+
 ENTERED = ["cold 0", "identity 41", "action 2", "train 20000 160000 70 0 15", "action 3", "action 4", "action 5", "action 6"]
 
 
@@ -242,7 +244,11 @@ def seeds(r):
     for rising, near_end, reaction in itertools.product((True, False), (True, False), (0, 1_000, 10_000)):
         for kinds in ({"restricted": RESTRICTIONS}, {"areas": 12}, {"speeds": 24}, mixed):
             yield [*stairs(570, rising=rising, reaction=reaction, near_end=near_end, **kinds), "odometer 1 50000"]
-    for _ in range(BATCH - 60):
+    summed = stairs(690, reaction=10_000, near_end=True, **mixed)
+    yield summed[:-2]
+    for one in LAST:
+        yield [*summed[:-1], one]
+    for _ in range(BATCH - 61 - len(LAST)):
         yield [*ENTERED, *(telegram(r) for _ in range(r.randrange(1, 8))), "action 7", *(any_line(r) for _ in range(r.randrange(4, 20)))]
 
 

@@ -1,9 +1,9 @@
 //! Outputs, as C gets them.
 ghost use Rattle.std.specs.Prelude.{◌≡◌, ◌≤◌, length};
-ghost use Rattle.unit_calls.specs.Outputs.{level_number, brake_number, told_of, AreHanded};
+ghost use Rattle.unit_calls.specs.Outputs.{told_of, AreHanded};
 
-use events::{Brake, Output};
-use mode_table::TrainLevel;
+use events::Output;
+use image_calls::{brake_number, level_number};
 use onboard::Released;
 
 /// An output that may reach the train.
@@ -46,26 +46,6 @@ pub struct EtcsState {
     pub estimate: i64,
     /// How far that may be wrong to either side, in centimetres.
     pub uncertainty: u64,
-}
-
-fn level_number(level: Option<TrainLevel>) -> u8
-    ensures { result ≡ level_number level }
-{
-    match level {
-        Some(TrainLevel::Level0) => 0,
-        Some(TrainLevel::Level1) => 1,
-        None => 255,
-    }
-}
-
-fn brake_number(brake: Brake) -> u8
-    ensures { result ≡ brake_number brake }
-{
-    match brake {
-        Brake::None => 0,
-        Brake::Service => 1,
-        Brake::Emergency => 2,
-    }
 }
 
 /// The output of the event of this number, as C sees it.

@@ -11,6 +11,8 @@
 # waited for.
 #
 #     bench/campaign.sh [SCENARIOS [SEED [TURNS]]]    2,000 random lives of seed 7, three turns
+#     bench/campaign.sh --drives ..                   lives as the drives of drives/ come to: 200 s, told five times a second
+#     bench/campaign.sh [--drives] --dask ..          the plain loop, and `./lab campaign` in both ways, alone
 #
 # The programs are the proved ones, or those that GAKNIFUR_ETCS and GAKNIFUR_ETCS_LAB name. What isn't there is left out: Dask (tools/python
 # --campaigns), GNU parallel (Debian's package parallel).
@@ -21,6 +23,15 @@ if [ -z "$GAKNIFUR_ETCS" ] || [ -z "$GAKNIFUR_ETCS_LAB" ]; then
     GAKNIFUR_ETCS=$top/crates/etcs/out/etcs GAKNIFUR_ETCS_LAB=$top/crates/etcs_lab/out/etcs_lab
 fi
 export GAKNIFUR_ETCS GAKNIFUR_ETCS_LAB
+kind=random asked=all
+while [ "${1#--}" != "$1" ]; do
+    case $1 in
+        --drives) kind=drives ;;
+        --dask) asked=dask ;;
+        *) echo "bench/campaign.sh: $1 is no word" 1>&2; exit 2 ;;
+    esac
+    shift
+done
 scenarios=${1:-2000} seed=${2:-7} turns=${3:-3}
 [ -w /dev/shm ] && [ -z "$TMPDIR" ] && memory=/dev/shm
 room=$(mktemp -d ${memory:+-p "$memory"}) || exit 1
@@ -35,15 +46,37 @@ cd "$room" || exit 1
 status=0 python=/usr/bin/python3
 
 mkdir scenarios
-"$python" -I -B - "$top/python" "$scenarios" "$seed" <<'P' || exit 1
+"$python" -I -B - "$top/python" "$scenarios" "$seed" "$kind" <<'P' || exit 1
+import json
+import random
 import sys
 from pathlib import Path
 
 sys.path.insert(0, sys.argv[1])
-from gaknifur.campaign import at_random
+from gaknifur import random_lives
 
-for number, job in enumerate(at_random(int(sys.argv[2]), int(sys.argv[3]), 64)):
-    Path(f"scenarios/{number:07}.json").write_bytes(dict(job.files)["scenario.json"])
+STEP_MS, STEPS = 200, 1000
+
+
+def authority(group):
+    return random_lives.digits(f"NID_BG {group}; 12: V_MAIN 24, L_ENDSECTION 5000; 21: D_GRADIENT 0, Q_GDIR 1, G_A 0; "
+                               "27: D_STATIC 0, V_STATIC 24, Q_FRONT 1, N_ITER 0")
+
+
+def driven(numbers):
+    """A train that is made ready, and drives past an authority every 2 km; in each step the unit is told moment and way."""
+    steps = [{"telegram": authority(2)}, {"driver": [1, f"IC {numbers.randrange(1_000)}"]}]
+    steps += [{"driver": entry} for entry in (*random_lives.ENTRIES, [6])]
+    for step in range(STEPS):
+        speed = numbers.randrange(60_000, 100_000)
+        steps += [{"clock": (step + 1) * STEP_MS}, {"drive": [speed * 100 * STEP_MS // 3_600_000, speed]}]
+    groups = [{"at": (1 + index) * 200_000, "spacing": 300, "balises": [authority(10 + index)]} for index in range(2)]
+    return json.dumps({"groups": groups, "steps": steps, "cold": 0}, separators=(",", ":")).encode()
+
+
+scenario = {"random": random_lives.scenario, "drives": driven}[sys.argv[4]]
+for number in range(int(sys.argv[2])):
+    Path(f"scenarios/{number:07}.json").write_bytes(scenario(random.Random(f"{sys.argv[3]}/{number}")))
 P
 "$GAKNIFUR_ETCS" format empty 64 >/dev/null || exit 1
 
@@ -89,7 +122,7 @@ spent() {
 # A scheduler with so many workers, whose processes stand in dask$1, and its address in address$1.
 start_dask() {
     local number
-    export PYTHONPATH=$top/python DASK_DISTRIBUTED__WORKER__PROFILE__ENABLED=False
+    export PYTHONPATH=$top/python DASK_CONFIG=$top/python/gaknifur/dask.yaml
     "$python" -m distributed.cli.dask_scheduler --host 127.0.0.1 --port 0 --no-dashboard --no-show --scheduler-file "told$1" >/dev/null 2>&1 &
     started+=($!) && echo $! >"dask$1"
     for ((number = 0; number < 600; number++)); do [ -s "told$1" ] && break; sleep 0.1; done
@@ -97,7 +130,7 @@ start_dask() {
         "$python" -m distributed.cli.dask_worker --scheduler-file "told$1" --nthreads 1 --no-nanny --no-dashboard --host 127.0.0.1 >/dev/null 2>&1 &
         started+=($!) && echo $! >>"dask$1"
     done
-    unset PYTHONPATH
+    unset PYTHONPATH DASK_CONFIG
     sed -n 's/.*"address": "\(tcp[^"]*\)".*/\1/p' "told$1" | head -n 1 >"address$1"
     "$python" -I - "$(cat "address$1")" "$1" <<'P'
 import sys
@@ -133,9 +166,9 @@ if "$python" -c 'import distributed' 2>/dev/null; then
     done
     rm -f counts
 fi
-ways+=(by_xargs)
-if parallel --version 2>/dev/null </dev/null | grep -q '^GNU parallel'; then ways+=(by_parallel); fi
-echo "$scenarios scenarios of seed $seed on $(nproc) processors, $(date -u +%F), beside a load of $(cut -d ' ' -f 1 /proc/loadavg), images in ${memory:-${TMPDIR:-/tmp}}"
+[ "$asked" = dask ] || ways+=(by_xargs)
+if [ "$asked" = all ] && parallel --version 2>/dev/null </dev/null | grep -q '^GNU parallel'; then ways+=(by_parallel); fi
+echo "$scenarios scenarios ($kind) of seed $seed on $(nproc) processors, $(date -u +%F), beside a load of $(cut -d ' ' -f 1 /proc/loadavg), images in ${memory:-${TMPDIR:-/tmp}}"
 for ((turn = 0; turn < turns; turn++)); do
     for processes in 1 2 4; do
         for way in "${ways[@]}"; do counted "$way" $processes; done

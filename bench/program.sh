@@ -1,17 +1,23 @@
 #!/bin/bash
 # Seconds and peak memory of `etcs run` on a scenario of so many steps (100,000), and of `etcs journal` on an image that is full with as many
-# blocks.
+# blocks, beside the peer's (bench/peer), which has to print the same and leave the same image. The program must be there (./etcs --prove); with
+# UNPROVED=yes one is compiled without a proof (bench/unproved).
 #
 #     bench/program.sh [STEPS]
 top=$(cd "$(dirname "$(readlink -f -- "$0")")/.." && pwd) || exit 1
 program=$top/crates/etcs/out/etcs
+if [ -n "${UNPROVED:-}" ]; then
+    program=$top/bench/out/etcs
+    mkdir -p "$top/bench/out" && "$top/bench/unproved" etcs "$program" >&2 || exit 1
+fi
 [ -x "$program" ] || { echo "there is no program $program: rt ci or ./etcs --prove makes it"; exit 1; }
+"$top/bench/peer.sh" --build >&2 || exit 1
 room=$(mktemp -d) || exit 1
 trap 'rm -rf "$room"' EXIT
-exec python3 -I - "$program" "$room" "${1:-100000}" <<'P'
-import json, os, subprocess, sys, threading, time
+python3 -I - "$program" "$top/bench/out/peer/release/etcs_peer" "$room" "${1:-100000}" <<'P'
+import filecmp, json, os, subprocess, sys, threading, time
 
-program, room, count = sys.argv[1], sys.argv[2], int(sys.argv[3])
+program, peer, room, count = *sys.argv[1:4], int(sys.argv[4])
 os.chdir(room)
 
 
@@ -28,17 +34,27 @@ def watch(process, seen):
         time.sleep(0.01)
 
 
-def measured(*words):
+def measured(name, file, *words):
+    """Runs it, what it prints into a file, and tells its wall time and the most memory that it held."""
     start, seen = time.monotonic(), []
-    with open("out", "wb") as out:
-        ran = subprocess.Popen([program, *words], stdout=out)
+    with open(name, "wb") as out:
+        ran = subprocess.Popen([file, *words], stdout=out)
         watcher = threading.Thread(target=watch, args=(ran.pid, seen))
         watcher.start()
         status = ran.wait()
     seconds = time.monotonic() - start
     watcher.join()
-    lines = sum(1 for _ in open("out"))
-    print(f"etcs {' '.join(words)}: status {status}, {lines} lines, {seconds:.1f} s, {max(seen) / 1024:.0f} MB at most")
+    lines = sum(1 for _ in open(name))
+    print(f"{name:<5} {' '.join(words)}: status {status}, {lines} lines, {seconds:.1f} s, {max(seen) / 1024:.0f} MB at most", flush=True)
+
+
+def both(word, *words, makes=None):
+    """The program and the peer, each on an image of its own where they make or change one."""
+    for name, file in (("etcs", program), ("peer", peer)):
+        measured(name, file, word, *words, *([f"{makes}.{name}"] if makes else []), *([str(count)] if word == "format" else []))
+    images = [f"{makes}.{name}" for name in ("etcs", "peer")] if makes else []
+    if not filecmp.cmp("etcs", "peer", shallow=False) or images and not filecmp.cmp(*images, shallow=False):
+        raise SystemExit(f"{word}: the program and the peer print or leave something else")
 
 
 def scenario(name, steps):
@@ -49,8 +65,8 @@ def scenario(name, steps):
 clocks = [{"clock": moment} for moment in range(count)]
 scenario("eights", clocks)
 scenario("ones", [step for clock in clocks for step in (clock, {"flush": True})])
-measured("format", "image", str(count))
-measured("run", "eights", "image")
-measured("run", "ones", "image")
-measured("journal", "image")
+both("format", makes="image")
+both("run", "eights", makes="image")
+both("run", "ones", makes="image")
+both("journal", "image.etcs")
 P

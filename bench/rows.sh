@@ -70,3 +70,4 @@ for moves in 0 1; do
     row "Onboard::accept, $told" "$(each 24 8 '*accept_one*' ./rows_onboard $moves)" "$(each 24 8 '*accept_one*' ./peer_rows unit 4 $moves)"
     row "an eighth of Onboard::flush, $told" "$(each 24 8 '*flush_one*' ./rows_onboard $moves)" "$(each 24 8 '*flush_one*' ./peer_rows unit 4 $moves)"
 done
+row 'Onboard::open, a power-up on 4 slots' "$(within '*open_one*' ./rows_onboard 0 1)" "$(within '*open_one*' ./peer_rows unit 4 0 1)"

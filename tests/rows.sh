@@ -33,9 +33,9 @@ done
 rows test_decode 291
 rows test_parts 2732
 rows test_modes 2613
-rows test_disk 353
+rows test_disk 502
 rows test_blocks 741
-rows test_journal 1045
+rows test_journal 1100
 rows test_onboard 34585
 rows test_kernel 660
 rows test_track 60

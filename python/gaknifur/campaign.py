@@ -20,7 +20,7 @@ from pathlib import Path
 from typing import Any
 
 from . import case_files, program, sound
-from .program import DEVICE, Failed
+from .program import Failed
 from .reading import Json, read
 from .shown import shown
 
@@ -30,10 +30,10 @@ Take = Callable[[Row], None]
 COLUMNS = ("name", "job_sha256", "kind", "ended", "image_sha256", "events", "lives", "mode", "brake", "limit_m_per_h",
            "place_cm", "emergencies", "trips", "tests", "missed", "first_missed", "sound", "seconds", "worker")
 NOT_COMPARED = ("seconds", "worker")
-MOST_LOSSES, LEAST_PLAYERS = 3, 4
-BATCH_SECONDS, MOST_AT_ONCE, SHARES, AHEAD = 0.25, 64, 2, 2
-"""How long scenarios take that are handed out at once, and how many these are at the most; into how many parts for each player what
-is left is cut at the least; and how many parts each player has, with the one that it plays."""
+MOST_LOSSES = 3
+MOST_SECONDS, LEAST_SECONDS, MOST_AT_ONCE, SHARES, AHEAD = 0.5, 0.03, 128, 2, 2
+"""How long scenarios take that are handed out at once, at the most and at the least, and how many these are at the most; into how many
+parts for each player what is left is cut at the least; and how many parts each player has, with the one that it plays."""
 
 
 @dataclass(frozen=True)
@@ -109,7 +109,7 @@ def play_scenario(job: Job, room: Path) -> Row:
     row: Row = {"ended": ended, "image_sha256": journal.sha256, "sound": 1}
     try:
         sound.check_image(journal)
-        sound.check_released([line for line in printed if sound.RELEASED.fullmatch(line)], journal.records)
+        sound.check_released(printed, journal.records)
     except sound.Missed as missed:
         row |= {"first_missed": str(missed), "sound": 0}
     return row | told_of(journal.records)
@@ -120,11 +120,15 @@ def told_of(told: Iterable[Json]) -> Row:
     records = list(told)
     if not records:
         return {"events": 0, "lives": 0}
-    last, behind = records[-1], list(zip(records, records[1:]))
-    begun = sum(now["brake"] == "emergency" != before["brake"] for before, now in behind)
-    trips = sum(now["mode"] == "TR" != before["mode"] for before, now in behind)
+    last, brakes, modes = records[-1], [record["brake"] for record in records], [record["mode"] for record in records]
     return {"events": len(records), "lives": len({record["life"] for record in records}), "mode": last["mode"], "brake": last["brake"],
-            "limit_m_per_h": last["limit_m_per_h"], "place_cm": last["place_cm"], "emergencies": begun, "trips": trips}
+            "limit_m_per_h": last["limit_m_per_h"], "place_cm": last["place_cm"], "emergencies": begun(brakes, "emergency"),
+            "trips": begun(modes, "TR")}
+
+
+def begun(values: list[str], value: str) -> int:
+    """How often a value came after another one."""
+    return sum(now == value != before for before, now in zip(values, values[1:])) if value in values else 0
 
 
 def play_case(job: Job, room: Path) -> Row:
@@ -171,8 +175,9 @@ def play_all(jobs: list[Job]) -> list[Row]:
 
 class Batches:
     """The jobs as they are handed out, since handing out one costs as much as a program does: the first ones alone, so that each
-    player has one soon; then as many scenarios at once as take `BATCH_SECONDS`; and ever fewer towards the end of so many jobs, so
-    that all players end at about the same time. A case file is by itself, and so is what was handed out with a lost player."""
+    player has one soon; then as many scenarios at once as take `MOST_SECONDS`; and ever fewer towards the end of so many jobs, down to
+    what takes `LEAST_SECONDS`, so that all players end at about the same time. A case file is by itself, and so is what was handed
+    out with a lost player."""
 
     def __init__(self, jobs: Iterable[Job], count: int, players: int) -> None:
         self.jobs, self.count, self.players = iter(jobs), count, players
@@ -189,8 +194,9 @@ class Batches:
         """How many scenarios are handed out next."""
         if not self.seconds:
             return 1
-        by_time = int(BATCH_SECONDS * self.known / self.seconds)
-        return max(1, min(MOST_AT_ONCE, by_time, (self.count - self.given) // (SHARES * self.players)))
+        least, most = (int(seconds * self.known / self.seconds) for seconds in (LEAST_SECONDS, MOST_SECONDS))
+        share = (self.count - self.given) // (SHARES * self.players)
+        return max(1, min(MOST_AT_ONCE, most, max(least, share)))
 
     def next_job(self) -> Job | None:
         """The next job."""
@@ -275,41 +281,3 @@ def again(jobs: list[Job], left: Batches, losses: Counter[str], take: Take) -> N
             take(lost(job))
         else:
             left.again.append(job)
-
-
-def by_scheduler(jobs: Iterable[Job], count: int, scheduler: str, take: Take) -> None:
-    """Plays so many jobs by the workers of a scheduler of Dask. One that is lost hands its jobs on to the others."""
-    try:
-        from distributed import Client, as_completed
-    except ImportError as error:
-        raise Failed("python3-distributed is missing; tools/python --campaigns installs it by Debian's packages", DEVICE) from error
-    try:
-        client = Client(scheduler, set_as_default=False, timeout="10s")
-    except OSError as error:
-        raise Failed(f"{scheduler}: no scheduler answers there", DEVICE) from error
-    with client:
-        known, running = dict[str, list[Job]](), as_completed(loop=client.loop)
-        players = max(LEAST_PLAYERS, sum(client.nthreads().values()))
-        left = Batches(jobs, count, players)
-
-        def hand_out() -> None:
-            while len(known) < AHEAD * players and (batch := left.next()):
-                future = client.submit(play_all, batch, key=f"{batch[0].name}-{len(batch)}-{batch[0].sha256}", pure=False)
-                known[future.key] = batch
-                running.add(future)
-
-        hand_out()
-        for future in running:
-            if future.status in ("pending", "lost"):
-                running.add(future)  # its worker was lost before the rows were handed over: they are played again
-                continue
-            batch = known.pop(future.key)
-            try:
-                left.learn(rows := future.result())
-            except Exception:  # the scheduler gave the jobs up: it may be one of them that ends its workers
-                rows = [lost(job) for job in batch] if len(batch) == 1 else []
-                left.again += batch if len(batch) > 1 else []
-            future.release()
-            hand_out()
-            for row in rows:
-                take(row)

@@ -63,7 +63,8 @@ def play_campaign(told: argparse.Namespace, progress: Progress) -> int:
     lives = (job for job in campaign.at_random(told.random, told.seed, told.slots) if not table.is_there(job))
     try:
         if told.scheduler:
-            campaign.by_scheduler(itertools.chain(left, lives), count, told.scheduler, take)
+            from . import scheduled
+            scheduled.by_scheduler(itertools.chain(left, lives), count, told.scheduler, take)
         else:
             campaign.here(itertools.chain(left, lives), count, max(1, told.workers), take)
     except KeyboardInterrupt:

@@ -8,6 +8,7 @@ from collections.abc import Iterable, Iterator, Sequence
 from pathlib import Path
 from typing import Any
 
+import numpy as np
 import pandas as pd
 
 from . import causes, files, tables, times
@@ -71,10 +72,9 @@ def insert(connection: sqlite3.Connection, name: str, columns: Sequence[str], ro
 
 def plain(column: Any) -> list[Any]:
     """A column's values as SQLite takes them: whole numbers and texts of Python, and None."""
-    missing = column.isna().to_numpy()
     values = column.to_numpy(object)
     return [None if gone else value.item() if hasattr(value, "item") else int(value) if isinstance(value, bool) else value
-            for value, gone in zip(values, missing)]
+            for value, gone in zip(values, pd.isna(values))]
 
 
 def rows_of(columns: Sequence[Any]) -> Iterator[tuple[Any, ...]]:
@@ -138,15 +138,20 @@ def replay_rows(lines: list[Json]) -> Iterator[list[Any]]:
         yield [verdict, *(line.get(name) for name in REPLAY[1:]), *told]
 
 
+def block_rows(table: pd.DataFrame) -> Iterator[tuple[int, str, int, int]]:
+    """Each block with its source, its first event and its last one."""
+    order = np.argsort(table["block"].to_numpy(), kind="stable")
+    block, event = table["block"].to_numpy()[order], table["event"].to_numpy()[order]
+    firsts = np.flatnonzero(np.concatenate([[True], block[1:] != block[:-1]]))
+    sources = table["source"].to_numpy(object)[order][firsts] if "source" in table else ["journal"] * len(firsts)
+    return zip(block[firsts].tolist(), sources, np.minimum.reduceat(event, firsts).tolist(), np.maximum.reduceat(event, firsts).tolist())
+
+
 def add_events(connection: sqlite3.Connection, image: int, table: pd.DataFrame) -> None:
     """Adds blocks and records, and what their telegrams are."""
     if table.empty:
         return
-    told = {"block": table["block"], "source": table["source"] if "source" in table else "journal", "event": table["event"]}
-    blocks = pd.DataFrame(told).groupby("block").agg(
-        source=("source", "first"), first_event=("event", "min"), last_event=("event", "max")).reset_index()
-    insert(connection, "block", ["image", "block", "source", "first_event", "last_event"],
-           ([image, *row] for row in zip(*(plain(blocks[name]) for name in blocks))))
+    insert(connection, "block", ["image", "block", "source", "first_event", "last_event"], ([image, *row] for row in block_rows(table)))
     beside = {name: tables.before(table, told) for name, told in BEFORE.items()} | {
         name: tables.behind(table, told) for name, told in NEXT.items()}
     uncertainty = table["uncertainty_cm"]

@@ -176,13 +176,13 @@ def parsed_all(lines: Sequence[str], what: str) -> list[Json]:
         told = json.loads(f"[{','.join(lines)}]")
     except ValueError:
         told = []
-    if len(told) == len(lines) and all(isinstance(one, dict) for one in told):
+    if len(told) == len(lines) and set(map(type, told)) <= {dict}:
         return list(told)
     return [parsed(line, what) for line in lines]
 
 
 def objects(words: list[str], path: Path, step: Callable[[Json], None]) -> Run:
-    """Hands each line of a run to `step`. Those of a small image are taken all at once, at the end of the run."""
+    """Hands the object of each line of a run to `step`. Those of a small image are taken all at once, at the end of the run."""
     run = Run(words, path)
     if is_small(path):
         for told in parsed_all(run.all_lines(), words[0]):
@@ -258,19 +258,20 @@ def tell_events(journal: Journal, other_blocks: bool, strays: bool, progress: Pr
     extent = journal.examination["journal"] or {}
     last, first = extent.get("last_event"), extent.get("first_event")
     whole = 0 if last is None or first is None else last - first + 1
-    ended, records = False, Records()
+    ended, count, records = False, 0, Records()
     journal.records = records
 
     def step(told: Json) -> None:
-        nonlocal ended
+        nonlocal ended, count
         if told.get("source") in STRAY:
             journal.strays += [told] if strays else []
         elif not other_blocks and told.pop("source", "journal") != "journal":
             return
         elif "event" in told:
             records.append(told)
-            if len(records) % 1000 == 0:
-                progress("events", len(records), whole)
+            count += 1
+            if count % 1000 == 0:
+                progress("events", count, whole)
         elif "unreadable" in told:
             journal.unreadable.append(told["unreadable"]["block"])
         elif "end" in told:

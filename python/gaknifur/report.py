@@ -1,4 +1,5 @@
 """The page of one journal: one HTML file that asks nothing of the network, has no script, and reads the same on paper."""
+import functools
 from collections.abc import Iterator
 from dataclasses import dataclass, field
 from typing import Any
@@ -171,6 +172,7 @@ def utc_texts(table: pd.DataFrame) -> Json:
             for row, told, off in zip(table.index, table["utc_by_marks"], table["utc_uncertainty_ms"]) if told is not None}
 
 
+@functools.cache
 def environment() -> jinja2.Environment:
     """Templates that escape each text."""
     return jinja2.Environment(loader=jinja2.PackageLoader("gaknifur"), autoescape=True, trim_blocks=True,

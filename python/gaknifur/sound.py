@@ -1,6 +1,6 @@
 """Whether a journal is sound: the image is whole, the kernel answers as it tells, and what was released is what it tells."""
 import re
-from collections.abc import Sequence
+from collections.abc import Iterable
 
 from ._header import Indication
 from .reading import Journal, Json
@@ -55,18 +55,18 @@ def check_image(journal: Journal) -> None:
         raise Missed("a replay in which nothing differs", str(journal.replay[-1]))
 
 
-def check_released(released: list[str], records: Sequence[Json]) -> None:
-    """Each output that was released is that of its record."""
-    told = {record["event"]: record for record in records}
-    for line in released:
-        found = RELEASED.fullmatch(line)
-        assert found is not None
-        record = told.get(int(found[1]))
-        if record is None:
-            continue  # an older block, which was written over
-        level = "-" if record["level"] is None else str(record["level"])
-        shown = sum(BITS[name] for name in record["indications"])
-        wanted = f"event {record['event']} mode {record['mode']} level {level} brake {record['brake']} " \
-                 f"limit {record['limit_m_per_h']} ind {shown}"
-        if line != wanted:
-            raise Missed(f"the output of its record: {wanted}", f"this output was released: {line}", record)
+def output_text(record: Json) -> str:
+    """The line of a record's output, as `etcs run` prints it."""
+    level = "-" if record["level"] is None else record["level"]
+    return (f"event {record['event']} mode {record['mode']} level {level} brake {record['brake']} limit {record['limit_m_per_h']} "
+            f"ind {sum(map(BITS.__getitem__, record['indications']))}")
+
+
+def check_released(printed: Iterable[str], records: Iterable[Json]) -> None:
+    """Each output that was released is that of its record. Other lines that were printed aren't looked at, and none of an older block,
+    which was written over."""
+    by_head = {f"event {record['event']}": record for record in records}
+    told = set(map(output_text, by_head.values()))
+    for line in printed:
+        if line not in told and (record := by_head.get(line[:line.find(" ", 6)])) is not None and RELEASED.fullmatch(line):
+            raise Missed(f"the output of its record: {output_text(record)}", f"this output was released: {line}", record)

@@ -1,6 +1,7 @@
 """Campaigns: how jobs are handed out, and what comes of those whose worker is lost."""
 import json
 import os
+import pickle
 import sys
 import tempfile
 import types
@@ -10,7 +11,7 @@ from pathlib import Path
 from typing import Any, Self
 from unittest.mock import patch
 
-from gaknifur import campaign
+from gaknifur import campaign, scheduled
 from gaknifur.campaign import MOST_AT_ONCE, Batches, Job, Row
 
 from .samples import journal, record
@@ -43,14 +44,16 @@ class Handed(unittest.TestCase):
         return found
 
     def test_each_job_once(self) -> None:
-        jobs = jobs_of(1000, 100)
-        found = self.handed(jobs, 0.001)
+        jobs = jobs_of(4000, 1000)
+        found = self.handed(jobs, 1 / 1024)
         self.assertEqual([job.name for batch in found for job in batch], [job.name for job in jobs])
         self.assertEqual([len(batch) for batch in found[:4]], [1] * 4)
         self.assertEqual(max(map(len, found)), MOST_AT_ONCE)
         self.assertTrue(all(len(batch) == 1 for batch in found if batch[0].kind == "case"))
         self.assertTrue(all(job.kind == "scenario" for batch in found if len(batch) > 1 for job in batch))
-        self.assertEqual([len(batch) for batch in found[-8:]], [1] * 8)
+        # in 0.03 s 30 are played; an eighth of what is left is fewer from 239 on, and the last job is a case
+        self.assertEqual([len(batch) for batch in found[-8:-2]], [30] * 6)
+        self.assertLess(len(found[-9]), 40)
 
     def test_long_jobs_are_handed_out_alone(self) -> None:
         self.assertEqual({len(batch) for batch in self.handed(jobs_of(100), 1.0)}, {1})
@@ -74,11 +77,11 @@ class Lost(unittest.TestCase):
 class Future:
     """What a scheduler's client holds of jobs that it handed on."""
 
-    def __init__(self, plays: Callable[[], list[Row]], key: str) -> None:
+    def __init__(self, plays: Callable[[], bytes], key: str) -> None:
         self.plays, self.key, self.status, self.is_released = plays, key, "finished", False
 
-    def result(self) -> list[Row]:
-        """The rows; raises where the scheduler gave the jobs up."""
+    def result(self) -> bytes:
+        """The packed rows; raises where the scheduler gave the jobs up."""
         return self.plays()
 
     def release(self) -> None:
@@ -94,10 +97,13 @@ class Scheduler:
         self.stopped, self.played, self.futures = stopped, list[list[str]](), list[Future]()
 
     def module(self) -> types.ModuleType:
-        """What a campaign takes of the module `distributed`."""
+        """What a campaign takes of the modules `dask` and `distributed`."""
         told = types.ModuleType("distributed")
-        told.__dict__.update(Client=lambda *words, **named: self, as_completed=lambda loop: self)
+        told.__dict__.update(Client=lambda *words, **named: self, as_completed=lambda loop: self, config=self)
         return told
+
+    def set(self, settings: dict[str, Any]) -> None:
+        """What a client is to do otherwise."""
 
     loop = None
 
@@ -111,17 +117,18 @@ class Scheduler:
     def __exit__(self, *_: object) -> None:
         self.is_left = True
 
-    def submit(self, plays: Callable[[list[Job]], list[Row]], batch: list[Job], key: str, pure: bool) -> Future:
+    def submit(self, plays: Callable[[bytes], bytes], packed: bytes, key: str, pure: bool) -> Future:
         """Hands jobs on."""
-        def played() -> list[Row]:
-            names = [job.name for job in batch]
+        names = [job.name for job in pickle.loads(packed)]
+
+        def played() -> bytes:
             self.played.append(names)
             if set(names) & set(LOST):
                 raise RuntimeError("KilledWorker")
-            return plays(batch)
+            return plays(packed)
 
         future = Future(played, key)
-        if batch[0].name in self.stopped:
+        if names[0] in self.stopped:
             future.status = "lost"
         return future
 
@@ -146,8 +153,8 @@ class Scheduled(unittest.TestCase):
     def test_given_back_and_lost(self) -> None:
         taken: list[Row] = []
         dask = Scheduler({"0", "20", "40"})
-        with patch.dict(sys.modules, distributed=dask.module()), patch.object(campaign, "play", played_of):
-            campaign.by_scheduler(jobs_of(80, 100), 80, "tcp://none", taken.append)
+        with patch.dict(sys.modules, dask=dask.module(), distributed=dask.module()), patch.object(campaign, "play", played_of):
+            scheduled.by_scheduler(jobs_of(80, 100), 80, "tcp://none", taken.append)
         self.assertEqual(sorted(int(row["name"]) for row in taken), list(range(80)))
         self.assertEqual({row["name"]: row["ended"] for row in taken if row["ended"] != "carried out"},
                          dict.fromkeys(LOST, f"failed: its worker was lost {campaign.MOST_LOSSES} times"))

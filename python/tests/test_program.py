@@ -142,9 +142,22 @@ class Whole(unittest.TestCase):
         done = self.ran('printf "%300000s" "$1"; printf "%200000s" "$2" 1>&2; exit 3')
         self.assertEqual((done.status, len(done.output), len(done.said)), (3, 300_000, 200_000))
         self.assertEqual((done.output[-6:], done.said[-7:]), (b" first", b" second"))
-        self.assertEqual(self.ran("cat; echo $GAKNIFUR_A"), Ran(0, b"\n", b""))
+        self.assertEqual(self.ran("echo $GAKNIFUR_A"), Ran(0, b"\n", b""))
         with patch.dict(os.environ, {"GAKNIFUR_A": "a"}):
             self.assertEqual(self.ran("echo $GAKNIFUR_A"), Ran(0, b"a\n", b""))
+
+    def test_that_reads_nothing(self) -> None:
+        """Whatever there is for this process to read."""
+        before = os.dup(0)
+        with tempfile.TemporaryFile() as given:
+            given.write(b"given")
+            given.seek(0)
+            os.dup2(given.fileno(), 0)
+            try:
+                self.assertEqual(self.ran("cat"), Ran(0, b"", b""))
+            finally:
+                os.dup2(before, 0)
+                os.close(before)
 
     def test_signals(self) -> None:
         self.assertEqual(self.ran("kill -KILL $$").status, -9)

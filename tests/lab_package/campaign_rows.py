@@ -54,7 +54,7 @@ def by_two_workers(room, lives):
     """The lives by a scheduler and two workers; one is killed once some rows are there."""
     told = room / "scheduler.json"
     quiet = {"stdout": subprocess.DEVNULL, "stderr": subprocess.DEVNULL, "cwd": room,
-             "env": os.environ | {"PYTHONPATH": str(TOP / "python"), "DASK_DISTRIBUTED__WORKER__PROFILE__ENABLED": "False"}}
+             "env": os.environ | {"PYTHONPATH": str(TOP / "python"), "DASK_CONFIG": str(TOP / "python/gaknifur/dask.yaml")}}
     start = lambda module, *words: subprocess.Popen([PYTHON, "-m", f"distributed.cli.{module}", *words], **quiet)
     scheduler = start("dask_scheduler", "--host", "127.0.0.1", "--port", "0", "--no-dashboard", "--no-show", "--scheduler-file", str(told))
     workers = []
@@ -71,6 +71,7 @@ def by_two_workers(room, lives):
         workers[0].send_signal(signal.SIGKILL)
         printed, said = playing.communicate(timeout=20 * WAIT)
         unless(playing.returncode == 0 and printed.startswith(f"{lives} rows, {lives} of them"), f"by a scheduler: {printed}{said}")
+        unless("Mismatched versions" not in said, f"the client tells other versions than it has: {said}")
         with sqlite3.connect(out) as connection:
             names = connection.execute("SELECT count(DISTINCT worker) FROM result").fetchone()[0]
         unless(names == 2, f"{names} workers played; two are wanted")

@@ -134,6 +134,7 @@ class Count(Compared):
         super().__init__()
         self.images = self.unused = self.records = self.interventions = self.telegrams = self.pages = self.strayed = 0
         self.strays = Counter()
+        self.is_none_told = False
 
     def end(self):
         print(f"lab: {self.records} records of {self.images} images, {self.interventions} interventions, {self.telegrams} telegrams, "
@@ -169,11 +170,15 @@ def compare_table(count, name, journal, records):
 def compare_strays(count, name, journal, image):
     """The table of records of blocks that are damaged or in a wrong slot; and the page of some images that have any."""
     strays = plain_strays(image)
+    if not strays and count.is_none_told:
+        count.same(f"{name}, records of damaged blocks", journal.strays, [])
+        return
     wanted = [wanted_row(one, {"byte": str(one["byte"]), "slot": str((one["byte"] - 512) // 3072)}) for one in strays]
     rows = list(csv.DictReader(io.StringIO(tables.csv_text(tables.strays(journal)))))
     count.same(f"{name}, records of damaged blocks", rows, wanted)
     count.strays.update(one["source"] for one in strays)
     if not strays:
+        count.is_none_told = True  # (a table without a row was compared, which takes as long as one with rows)
         return
     count.strayed += 1
     if count.strayed % EACH_PAGE == 1:
@@ -204,6 +209,13 @@ def compare_database(count, name, connection, journal, table, records):
                 fields += [(*key, place, at, *pair) for at, pair in enumerate(dict(packet)["fields"])]
             unused += [(*key, place, *one.values()) for place, one in enumerate(unused_in(record))]
     count.same(f"{name}, database", rows, wanted)
+    blocks = {}
+    for record in records:
+        block, event = record["block"], record["event"]
+        source, first, last = blocks.get(block, (record.get("source", "journal"), event, event))
+        blocks[block] = source, min(first, event), max(last, event)
+    count.same(f"{name}, blocks", {row[0]: row[1:] for row in connection.execute(
+        "SELECT block, source, first_event, last_event FROM block WHERE image = ?", [image])}, blocks)
     count.same(f"{name}, telegrams", {row[:2]: row[2] for row in connection.execute(
         "SELECT block, event, digits FROM telegram WHERE image = ?", [image])}, digits)
     count.same(f"{name}, fields", sorted(connection.execute(

@@ -2,7 +2,8 @@
 """Runs test_disk.row over the program of rows (asking.py has the words).
 
 A row's first word names what it is for: `memory` is a disk in memory that can lose power, `liar` a disk that lies,
-`file` a disk over an honest file in memory, and `raw` such a file itself.
+`file` a disk over an honest file in memory, `raw` such a file itself, and `window` a disk that holds only some sectors
+of its medium.
 
     memory new 3 9 8          a disk of so many sectors, with room for so many calls and so many written sectors
     memory fail 2             of the calls from here on the one of this number, counted from 0, fails once
@@ -18,6 +19,15 @@ A row's first word names what it is for: `memory` is a disk in memory that can l
     raw write 512 64 7        writes so many bytes of this value from an offset on, and answers how many were written
     raw open 1                whether a sector is open
     raw sync
+    window new 4              a disk on a medium of so many sectors, of which none is known
+    window wanted             the sector that is wanted; no where none is
+    window provide 2 7        hands in a sector of this byte
+    window seek 2             whether a sector is known
+    window requests           how many requests there are
+    window request 0          how many sectors a request writes, 0 of a sync; no where there is none
+    window first 0            the first of them
+    window byte 0 1           the byte that one of them holds 512 times
+    window empty              empties the list; no where a sector is open
 
 What each disk is asked:
 
@@ -35,7 +45,7 @@ import sys
 
 from asking import main
 
-DISKS = {"memory": 0, "liar": 1, "file": 2, "raw": 3}
+DISKS = {"memory": 0, "liar": 1, "file": 2, "raw": 3, "window": 4}
 # Of each word the number of its operation, and how many numbers come behind it.
 CALLS = {
     "write": (0, 2), "put": (2, 2), "read": (3, 1), "pair": (4, 2), "sync": (5, 0), "sectors": (6, 0), "whole": (7, 2),
@@ -48,8 +58,12 @@ OWN = {
     "liar": {},
     "file": {"fill": (8, 2), "over": (9, 1)},
     "raw": {"new": (0, 2), "write": (1, 3), "open": (2, 1), "sync": (3, 0)},
+    "window": {
+        "new": (8, 1), "wanted": (9, 0), "provide": (10, 2), "seek": (11, 1), "requests": (12, 0), "request": (13, 1),
+        "first": (14, 1), "byte": (15, 2), "empty": (16, 0),
+    },
 }
-BYTES = {(word, disk) for disk in DISKS for word in ("write", "put")}
+BYTES = {(word, disk) for disk in DISKS for word in ("write", "put", "provide")}
 ANSWERS = {1: "done", 2: "fault", 3: "yes", 4: "no", 5: "mixed", 6: "no memory"}
 
 

@@ -6,6 +6,7 @@ A row is a call of the journal over a disk in memory, or what befalls the disk. 
     disk 25                   a disk of so many sectors, all zeros
     format 4                  makes an empty journal of so many slots
     open                      opens the journal
+    steps                     opens it in steps, each asked once more where the device fails
     commit 2 7                commits so many records, and as what is kept so many lives
     commits 1000 1            so many commits of so many records each, up to the first that is refused
     block 3                   reads a block
@@ -34,7 +35,7 @@ BYTE, WORD, LONG = 2**8, 2**32, 2**64
 BEFALLS = {"disk": (0, [LONG]), "keep": (1, []), "again": (2, []), "fail": (3, [LONG]), "cut": (4, [LONG]),
            "make": (6, [4, LONG, LONG, BYTE])}
 CALLS = {"format": (0, [WORD]), "open": (1, []), "commit": (2, [BYTE, WORD]), "commits": (3, [LONG, BYTE]),
-         "block": (4, [LONG]), "retained": (5, [])}
+         "block": (4, [LONG]), "retained": (5, []), "steps": (7, [])}
 CHOICES = {"old": 0, "new": 1, "ff": 0xFF + 2, "zeros": 0 + 2}
 REFUSALS = {"room": 0, "memory": 1}
 DEVICE, DAMAGED, NOT_FORMATTED = "DeviceFault", "Damaged", "NotFormatted"
@@ -163,8 +164,8 @@ def list_lines(told):
 
 
 TELLING = {
-    "format": lambda told: named(FORMATTING, told.take()), "open": opening, "commit": committing, "commits": committing,
-    "block": block, "retained": retained,
+    "format": lambda told: named(FORMATTING, told.take()), "open": opening, "steps": opening, "commit": committing,
+    "commits": committing, "block": block, "retained": retained,
 }
 
 if __name__ == "__main__":

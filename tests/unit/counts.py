@@ -31,7 +31,7 @@ MOST_SUMS = 140_000
 # A reading with twice the restrictions, or twice the gradients, takes at most twice as much, and a little for the call itself.
 MOST_DOUBLED = 2.05
 # Bytes of stack: of an opening, and of any other call.
-MOST_STACK_OF_OPEN, MOST_STACK, LEAST_CALLS = 16_384, 16_640, 15
+MOST_STACK_OF_OPEN, MOST_STACK, LEAST_CALLS = 16_384, 11_776, 15
 
 
 def rows():

@@ -12,6 +12,11 @@ abbrev pub before_infill : List Packet → List Packet
 before_infill [] = []
 before_infill (packet ∷ packets) = if number_of packet == infill then [] else packet ∷ before_infill packets
 
+-- the packets that are used of those of each telegram, one telegram after another
+abbrev pub used_of : List (List Packet) → List Packet
+used_of [] = []
+used_of (packets ∷ others) = before_infill packets ++ used_of others
+
 -- the packets of telegrams, one after another
 abbrev pub told_by : List Telegram → List Packet
 told_by [] = []

@@ -135,12 +135,12 @@ impl Assembler {
             *whole = None;
             return;
         }
-        *ended = if goes_on(&reading, &self.current) {
-            None
+        if goes_on(&reading, &self.current) {
+            *ended = None;
         } else {
-            self.end()
-        };
-        *whole = self.join(reading);
+            self.end(ended);
+        }
+        self.join(reading, whole);
     }
 
     /// Whether the group being read is left at a path of the life, in centimetres: beyond 1,300 cm behind its last
@@ -177,10 +177,11 @@ impl Assembler {
         ensures few { packets_of_closed result ≤ packets_in self.old.readings }
         ensures stands { (entries : List GroupEntry) → self.old ≡ known entries → self.new ≡ known (Went path ∷ entries) }
     {
-        if !self.is_leaving(path) {
-            return None;
+        let mut left = None;
+        if self.is_leaving(path) {
+            self.end(&mut left);
         }
-        self.end()
+        left
     }
 
     /// An equal value.
@@ -194,31 +195,31 @@ impl Assembler {
         }
     }
 
-    // The group being read ends, if there is one.
-    fn end(&mut self) -> Option<Closed>
-        ensures answer { result ≡ close_of self.old.readings }
+    // The group being read ends, if there is one; what it closes to goes into a place that the caller has.
+    fn end(&mut self, closed: &mut Option<Closed>)
+        ensures answer { closed.new ≡ close_of self.old.readings }
         ensures none { self.new.readings ≡ [] }
         ensures stands { (groups : Groups) → self.old ≡ known_of groups → self.new ≡ known_of (ended groups) }
     {
-        let ended = self.readings.close();
+        self.readings.close(closed);
         self.readings.clear();
         if self.current.is_some() {
             self.last = self.current;
             self.current = None;
         }
-        ended
     }
 
     // One more telegram of the group being read, which may make it whole.
-    fn join(&mut self, reading: Reading) -> Option<Closed>
-        ensures answer { result ≡ close_if_whole (with_reading self.old.readings reading) }
+    fn join(&mut self, reading: Reading, whole: &mut Option<Closed>)
+        ensures answer { whole.new ≡ close_if_whole (with_reading self.old.readings reading) }
         ensures stands { (groups : Groups) → self.old ≡ known_of groups → self.new ≡ known_of (joined_by reading groups) }
     {
         self.current = Some(seen_at(&reading));
         self.readings.add(reading);
-        if !self.readings.are_whole() {
-            return None;
+        if self.readings.are_whole() {
+            self.end(whole);
+        } else {
+            *whole = None;
         }
-        self.end()
     }
 }

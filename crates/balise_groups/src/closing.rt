@@ -1,5 +1,5 @@
 //! The readings of a group become its message, or the cause why it has none.
-ghost use Rattle.std.specs.Prelude.{◌≡◌, ℕ, ◌+◌, ◌<◌, ◌≤◌, List, [], ◌∷◌, ◌++◌, length};
+ghost use Rattle.std.specs.Prelude.{◌≡◌, ℕ, ◌+◌, ◌<◌, ◌≤◌, List, [], ◌∷◌, ◌++◌, length, map};
 ghost use Rattle.std.specs.List.{list_any};
 ghost use Rattle.balise_groups.specs.Telling.{told_by};
 ghost use Rattle.balise_groups.specs.Closing.{all_below, is_at, is_read, is_whole, is_of_next, is_of_previous, covers, is_covered, same_flag, differs, disagrees, is_refused, cause_of, direction_of, reading_at, telegrams_at, telegrams_below, message_of, close_of};
@@ -7,8 +7,7 @@ ghost use Rattle.balise_groups.specs.Closing.{all_below, is_at, is_read, is_whol
 use crate::group_packets::GroupPackets;
 use crate::message::{Broken, Cause, Closed, Message};
 use crate::reading::Reading;
-use arrayvec::ArrayVec;
-use telegram::Received;
+use telegram::Gathered;
 use vars::{Duplicate, LinkOrientation, Variable};
 
 fn is_at(reading: &Reading, place: u64) -> bool
@@ -193,25 +192,26 @@ fn place<'a>(first: &'a Reading, readings: &'a [Reading]) -> &'a Reading
 }
 
 // Adds the telegram of a place.
-fn add_telegram(telegrams: &mut ArrayVec<Received, 8>, readings: &[Reading], place: u64)
-    requires { length telegrams.old.items < 8 }
-    ensures added { telegrams.new.items ≡ telegrams.old.items ++ telegrams_at place readings.now }
-    ensures count { length telegrams.new.items ≤ length telegrams.old.items + 1 }
+fn add_telegram(telegrams: &mut Gathered, readings: &[Reading], place: u64)
+    requires { length telegrams.old < 8 }
+    ensures added { telegrams.new ≡ telegrams.old ++ map (λ t. t.packets.items) (telegrams_at place readings.now) }
+    ensures count { length telegrams.new ≤ length telegrams.old + 1 }
 {
     for reading in readings {
         if is_at(reading, place) {
-            telegrams.push(reading.telegram.copy());
+            telegrams.push(&reading.telegram);
             return;
         }
     }
 }
 
 // The packets of the telegrams, in order of place.
+#[tactic(auto, using(crate::proofs::Telling::told_used))]
 fn packets(readings: &[Reading], places: u64) -> GroupPackets
     requires { places ≤ 8 }
     ensures { result ≡ told_by (telegrams_below places readings.now) }
 {
-    let mut telegrams = ArrayVec::new();
+    let mut telegrams = Gathered::new();
     for place in 0..places {
         add_telegram(&mut telegrams, readings, place);
     }
@@ -232,21 +232,24 @@ fn message(first: &Reading, readings: &[Reading]) -> Message
     }
 }
 
-/// What a group closes to (SUBSET-026, 3.4 and 3.16.2; why it is broken: this project's profile), of which these are
-/// the readings that count, one a place. None where there are none.
-pub fn close(readings: &[Reading]) -> Option<Closed>
-    ensures { result ≡ close_of readings.now }
+/// Puts what a group closes to (SUBSET-026, 3.4 and 3.16.2; why it is broken: this project's profile) in a place that
+/// the caller has; these are its readings that count, one a place. None where there are none.
+pub fn close(readings: &[Reading], closed: &mut Option<Closed>)
+    ensures { closed.new ≡ close_of readings.now }
 {
-    let first = readings.first()?;
-    Some(match cause(first, readings) {
-        None => Closed::Whole(message(first, readings)),
+    let Some(first) = readings.first() else {
+        *closed = None;
+        return;
+    };
+    match cause(first, readings) {
+        None => *closed = Some(Closed::Whole(message(first, readings))),
         Some(cause) => {
             let header = first.telegram.header();
-            Closed::Broken(Broken {
+            *closed = Some(Closed::Broken(Broken {
                 group: header.group,
                 linked: header.linked,
                 cause,
-            })
+            }));
         }
-    })
+    }
 }

@@ -1,13 +1,13 @@
 //! A group's packets, walked through in order of place and cut at infill (packet 136).
 ghost use Rattle.std.specs.Prelude.{◌≡◌, ◌++◌, ◌∷◌, List, [], length};
+ghost use Rattle.std.specs.Bool.{OnTrue, OnFalse};
 ghost use Rattle.std.specs.Iterator.{YieldsFirstBy, item_count};
 ghost use Rattle.telegram.specs.Walks.{Walk, packets_of};
-ghost use Rattle.balise_groups.specs.Telling.{before_infill, told_by};
+ghost use Rattle.balise_groups.specs.Telling.{before_infill, used_of};
 
-use arrayvec::ArrayVec;
 use packets::Packet;
 use std::marker::Model;
-use telegram::{PacketInPlace, Packets, Received};
+use telegram::{Gathered, PacketInPlace, Packets, PacketsOfEach};
 
 /// NID_PACKET of infill: neither it nor what follows it is used.
 const INFILL: u8 = 136;
@@ -16,17 +16,17 @@ const INFILL: u8 = 136;
 /// packet 136.
 #[derive(Drop)]
 pub struct GroupPackets {
-    pub(crate) telegrams: ArrayVec<Received, 8>,
+    pub(crate) telegrams: Gathered,
 }
 
 impl Model for GroupPackets {
     ghost use Rattle.std.specs.Prelude.{List};
     ghost use Rattle.packets.specs.declared.packet.Packet.{Packet};
-    ghost use Rattle.balise_groups.specs.Telling.{told_by};
+    ghost use Rattle.balise_groups.specs.Telling.{used_of};
 
     ghost Value = { List Packet };
 
-    ghost view = { λ p. told_by p.telegrams.items };
+    ghost view = { λ p. used_of p.telegrams };
 }
 
 impl GroupPackets {
@@ -36,7 +36,7 @@ impl GroupPackets {
     {
         PacketsInTurn {
             packets: Packets::default(),
-            telegrams: self.telegrams.as_slice(),
+            telegrams: self.telegrams.iter(),
         }
     }
 }
@@ -46,31 +46,39 @@ impl GroupPackets {
 pub struct PacketsInTurn<'a> {
     /// What is still to come of a telegram, up to its first packet 136.
     packets: Packets<'a>,
-    /// The telegrams behind it.
-    telegrams: &'a [Received],
+    /// The telegrams after it.
+    telegrams: PacketsOfEach<'a>,
 }
 
 impl<'a> Model for PacketsInTurn<'a> {
     ghost use Rattle.std.specs.Prelude.{List, ◌++◌};
     ghost use Rattle.packets.specs.declared.packet.Packet.{Packet};
     ghost use Rattle.telegram.specs.Walks.{packets_of};
-    ghost use Rattle.balise_groups.specs.Telling.{before_infill, told_by};
+    ghost use Rattle.balise_groups.specs.Telling.{before_infill, used_of};
 
     ghost Value = { List Packet };
 
-    ghost view = { λ w. before_infill (packets_of w.packets.items) ++ told_by w.telegrams.now };
+    ghost view = { λ w. before_infill (packets_of w.packets.items) ++ used_of w.telegrams };
 }
 
-// The next packet of a telegram that is used.
-fn next_used<'a>(packets: &mut Packets<'a>) -> Option<PacketInPlace<'a>>
-    ensures { YieldsFirstBy (λ item. item.packet) (λ (w : Walk). before_infill (packets_of w.items)) packets.old result packets.new }
-{
-    let item = packets.next()?;
-    if item.packet().number().get() == INFILL {
-        *packets = Packets::default();
-        return None;
+impl<'a> PacketsInTurn<'a> {
+    /// Puts the next packet in the place of another one: what `next` gives, but read where it is to stay. False where
+    /// no packet is left.
+    pub fn next_into(&mut self, item: &mut PacketInPlace<'a>) -> bool
+        ensures some { OnTrue result (self.old ≡ item.new.packet ∷ self.new) }
+        ensures none { OnFalse result ((self.old ≡ []) × (self.new ≡ [])) }
+    {
+        'telegrams: loop {
+            if self.packets.next_into(item) && item.packet().number().get() != INFILL {
+                return true;
+            }
+            let Some(packets) = self.telegrams.next_telegram() else {
+                self.packets = Packets::default();
+                return false;
+            };
+            self.packets = packets;
+        }
     }
-    Some(item)
 }
 
 impl<'a> Iterator for PacketsInTurn<'a> {
@@ -81,13 +89,10 @@ impl<'a> Iterator for PacketsInTurn<'a> {
     ghost remaining = { item_count (λ packets. packets) };
 
     fn next(&mut self) -> Option<PacketInPlace<'a>> {
-        'telegrams: loop {
-            if let Some(item) = next_used(&mut self.packets) {
-                return Some(item);
-            }
-            let (first, others) = self.telegrams.split_first()?;
-            self.packets = first.packets();
-            self.telegrams = others;
+        let mut item: PacketInPlace<'a> = PacketInPlace::new();
+        if !self.next_into(&mut item) {
+            return None;
         }
+        Some(item)
     }
 }

@@ -71,16 +71,16 @@ impl Readings {
     {
         let mut packets = 0;
         for reading in self.items.as_slice() {
-            packets += reading.telegram.packets().len() as usize;
+            packets += reading.telegram.count() as usize;
         }
         packets
     }
 
-    /// What they close to; None where there are none.
-    pub fn close(&self) -> Option<Closed>
-        ensures { result ≡ close_of self.now }
+    /// Puts what they close to in a place that the caller has; None where there are none.
+    pub fn close(&self, closed: &mut Option<Closed>)
+        ensures { closed.new ≡ close_of self.now }
     {
-        close(self.items.as_slice())
+        close(self.items.as_slice(), closed);
     }
 
     /// An equal value.

@@ -9,7 +9,7 @@ use Rattle.events.specs.declared.kept.Kept.{Kept}
 use Rattle.lives.specs.Steps.{Step, whole_valid_at, known_before, step_by, record_step, record_steps, follows_on, slot_steps, behind, block_at, steps_from, steps_of, before_number, steps_since, number_of_life}
 use Rattle.lives.specs.declared.visit.Unknown.{Unknown}
 use Rattle.lives.specs.declared.visit.Unknown.TheVariants.{BeforeOldest, Gap, WithinBlock}
-use Rattle.lives.proofs.Places.{some_at, at_some, at_number}
+use Rattle.lives.proofs.Places.{at_number}
 use Rattle.mode_table.specs.declared.statuses.Cold.{Cold}
 use Rattle.ring.specs.Slots.{Valid}
 use Rattle.image_calls.specs.Asking.{IsFresh}
@@ -180,10 +180,9 @@ module _ (number event : ℕ) where
 
 begins_there : (bytes : List ℕ) (ring : Ring) (from : ℕ) → IsFresh bytes ring from → (b : Block) → block_at ring.slots (whole_valid_at ring.slots ring.whole (image_of bytes)) from ≡ Some b
     → (word : Cold) × (first_word b.records.items ≡ Some word)
-begins_there bytes ring from (inl none) b there = absurd (none b (some_at ring.slots from (whole_valid_at ring.slots ring.whole (image_of bytes)) b there))
+begins_there bytes ring from (inl none) b there = absurd (let no : None ≡ Some b = sym none ∙ there in cc)
 begins_there bytes ring from (inr held) b there =
-    let its = at_some ring.slots from (whole_valid_at ring.slots ring.whole (image_of bytes)) held.0 held.2 in
-    let same : held.0 ≡ b = (let e : Some held.0 ≡ Some b = sym its ∙ there in cc) in
+    let same : held.0 ≡ b = (let e : Some held.0 ≡ Some b = sym held.2 ∙ there in cc) in
     (held.1, ap (λ (x : Block). first_word x.records.items) (sym same) ∙ held.3)
 
 -- .. of an image, where a search for a block that begins so ends

@@ -6,9 +6,9 @@ use Rattle.driver.specs.declared.datum.Datum.{Datum}
 use Rattle.driver.specs.declared.datum.Datum.TheVariants as a_datum
 use Rattle.events.specs.Kept.{PositionFrom}
 use Rattle.events.specs.declared.kept.Kept.{Kept}
+use Rattle.mode_table.specs.Numbers.{level_number}
 use Rattle.mode_table.specs.declared.level.TrainLevel.{TrainLevel}
 use Rattle.image_calls.specs.NationalItems.{TellsNational}
-use Rattle.image_calls.specs.Numbers.{level_code}
 use Rattle.image_calls.specs.declared.kept_items.EtcsKept.{EtcsKept}
 use Rattle.image_calls.specs.declared.kept_items.EtcsTrain.{EtcsTrain}
 use Rattle.image_calls.specs.declared.kept_items.Group.{Group}
@@ -28,8 +28,8 @@ status_number (a_datum.Invalid value) = 2
 
 abbrev pub level_told : Datum TrainLevel → ℕ
 level_told a_datum.Unknown = 0
-level_told (a_datum.Valid level) = level_code level
-level_told (a_datum.Invalid level) = level_code level
+level_told (a_datum.Valid level) = level_number level
+level_told (a_datum.Invalid level) = level_number level
 
 abbrev pub train_told : Option Train → EtcsTrain
 train_told None = record { length = 0; maximum = 0; deceleration = 0; reaction = 0; category = 0 }

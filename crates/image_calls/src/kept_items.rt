@@ -3,7 +3,6 @@ ghost use Rattle.std.specs.Prelude.{◌≡◌};
 ghost use Rattle.image_calls.specs.KeptItems.{status_number, level_told, train_told, group_told, identity_told, identity_bytes, or_zero, flag_of, TellsKept};
 
 use crate::national_items::{EtcsNational, national_told};
-use crate::numbers::level_code;
 use driver::{Datum, DriverIdentity, RunningNumber, TrainData};
 use events::{Kept, Position};
 use mode_table::TrainLevel;
@@ -77,7 +76,7 @@ fn level_told(level: Datum<TrainLevel>) -> u8
 {
     match level {
         Datum::Unknown => 0,
-        Datum::Valid(level) | Datum::Invalid(level) => level_code(level),
+        Datum::Valid(level) | Datum::Invalid(level) => level.number(),
     }
 }
 

@@ -35,6 +35,7 @@ pub use journals::{EtcsJournal, journal_call, next_call};
 pub use kept_items::{EtcsKept, EtcsTrain, kept_told};
 pub use links::first_word;
 pub use national_items::EtcsNational;
+pub use numbers::{brake_number, level_number};
 pub use records::{EtcsRecord, record_call, record_told};
 pub use replays::replay_call;
 pub use slots::{EtcsSlot, slot_call};

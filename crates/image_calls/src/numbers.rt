@@ -2,7 +2,7 @@
 ghost use Rattle.std.specs.Prelude.{◌≡◌};
 ghost use Rattle.blocks.specs.Codes.{kind_number, output_level_number, brake_number};
 ghost use Rattle.blocks.specs.Records.{kind_name};
-ghost use Rattle.image_calls.specs.Numbers.{format_number, level_code};
+ghost use Rattle.image_calls.specs.Numbers.{format_number};
 
 use blocks::Format;
 use events::{Brake, Event, Input};
@@ -32,29 +32,18 @@ pub(crate) fn kind_number(event: &Event) -> u8
     }
 }
 
-/// The number of a level.
-pub(crate) fn level_code(level: TrainLevel) -> u8
-    ensures { result ≡ level_code level }
-{
-    match level {
-        TrainLevel::Level0 => 0,
-        TrainLevel::Level1 => 1,
-    }
-}
-
 /// The number of the level of an output, 255 where none is valid.
-pub(crate) fn level_number(level: Option<TrainLevel>) -> u8
+pub fn level_number(level: Option<TrainLevel>) -> u8
     ensures { result ≡ output_level_number level }
 {
     match level {
-        Some(TrainLevel::Level0) => 0,
-        Some(TrainLevel::Level1) => 1,
+        Some(level) => level.number(),
         None => 255,
     }
 }
 
 /// The number of a command to the brakes.
-pub(crate) fn brake_number(brake: Brake) -> u8
+pub fn brake_number(brake: Brake) -> u8
     ensures { result ≡ brake_number brake }
 {
     match brake {

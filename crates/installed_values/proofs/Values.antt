@@ -1,5 +1,5 @@
 -- The values of the packet 3 that was written are those that it had. Widths are bits.
-use Rattle.std.proofs.Common.{◌≡◌, ℕ, ◌+◌, ◌-◌, ◌*◌, ◌≤◌, Bool, true, false, List, [], ◌∷◌, ◌++◌, length, length-append, take, drop, refl, ap, ◌∙◌, arith, append_assoc, if◌then◌else◌}
+use Rattle.std.proofs.Common.{◌≡◌, ℕ, ◌+◌, ◌-◌, ◌*◌, ◌≤◌, Bool, true, false, List, [], ◌∷◌, ◌++◌, length, length-append, take, drop, refl, sym, ap, ◌∙◌, arith, append_assoc, if◌then◌else◌}
 use Rattle.std.specs.List.{filter}
 use Rattle.std.proofs.lemmas.List.{take_at, drop_at, drop-drop, length-drop, length-take-le}
 use Rattle.bits.specs.Bits.{bits_of, number, number_bits}
@@ -94,10 +94,39 @@ countries_stay countries len bits rest le =
     ∙ ap number (take_at c (f.0 ++ rest) 5 c_long)
     ∙ ap (λ b. number (take 5 b)) there
 
+-- the packet 3 that was written: its head, the rows that are kept, and what is behind it
+there : (p : PacketPlace) (bytes written : List ℕ) (y pad : List Bool) → IsFor p bytes written y pad
+    → drop p.start (bits_of written)
+    ≡ own_head (drop p.start (bits_of bytes)) (p.length - 29)
+    ++ (kept (countries_at (drop p.start (bits_of bytes))) (rows_of 3) (drop 23 (drop p.start (bits_of bytes))) ++ (drop (p.start + p.length) (bits_of bytes) ++ pad))
+there p bytes written y pad is =
+    let old = bits_of bytes in
+    let here = drop p.start old in
+    let layout = is.layout in
+    let rest = drop (p.start + p.length) old ++ pad in
+    let before : length (take p.start old) ≡ p.start = length-take-le p.start old (omega arith) in
+    ap (drop p.start) is.bits
+    ∙ drop_at (take p.start old) (y ++ rest) p.start before
+    ∙ ap (λ x. x ++ rest) is.own
+    ∙ append_assoc (own_head here (p.length - 29)) (kept (countries_at here) (rows_of 3) (drop 23 here)) rest
+
+head_long : (p : PacketPlace) (bytes written : List ℕ) (y pad : List Bool) → IsFor p bytes written y pad → length (own_head (drop p.start (bits_of bytes)) (p.length - 29)) ≡ 23
+head_long p bytes written y pad is =
+    let old = bits_of bytes in
+    let len = is.len in
+    let layout = is.layout in
+    length-own_head (drop p.start old) (p.length - 29) (omega (arith, length-drop p.start old))
+
+pub behind_head : (p : PacketPlace) (bytes written : List ℕ) (y pad : List Bool) → IsFor p bytes written y pad
+    → drop 23 (drop p.start (bits_of written))
+    ≡ kept (countries_at (drop p.start (bits_of bytes))) (rows_of 3) (drop 23 (drop p.start (bits_of bytes))) ++ (drop (p.start + p.length) (bits_of bytes) ++ pad)
+behind_head p bytes written y pad is =
+    ap (drop 23) (there p bytes written y pad is)
+    ∙ drop_at (own_head (drop p.start (bits_of bytes)) (p.length - 29)) _ 23 (head_long p bytes written y pad is)
+
 pub values_stay : (p : PacketPlace) (bytes written : List ℕ) (y pad : List Bool) → IsFor p bytes written y pad → ValuesStay p (bits_of bytes) (bits_of written)
 values_stay p bytes written y pad is =
     let old = bits_of bytes in
-    let new = bits_of written in
     let here = drop p.start old in
     let countries = countries_at here in
     let len = is.len in
@@ -106,25 +135,20 @@ values_stay p bytes written y pad is =
     let k = kept countries (rows_of 3) (drop 23 here) in
     let rest = drop (p.start + p.length) old ++ pad in
     let long : p.length ≤ length here = omega (arith, length-drop p.start old) in
-    let few : countries ≤ 31 = few_countries here (omega arith) in
-    let before : length (take p.start old) ≡ p.start = length-take-le p.start old (omega arith) in
-    let there : drop p.start new ≡ (u ++ k) ++ rest =
-    ap (drop p.start) is.bits ∙ drop_at (take p.start old) (y ++ rest) p.start before ∙ ap (λ x. x ++ rest) is.own in
-    let behind : (u ++ k) ++ rest ≡ u ++ (k ++ rest) = append_assoc u k rest in
-    let u_long : length u ≡ 23 = length-own_head here (p.length - 29) (omega arith) in
+    let at = there p bytes written y pad is in
     let ten : length (take 10 here) ≡ 10 = length-take-le 10 here (omega arith) in
     let nb = number_bits 13 (p.length - 29) in
     let whole : (124 + 10 * countries) + 23 ≡ p.length - 29 = omega (arith, len) in
-    let head_first : (u ++ k) ++ rest ≡ take 10 here ++ (nb ++ (k ++ rest)) = behind ∙ append_assoc (take 10 here) nb (k ++ rest) in
+    let few : countries ≤ 31 = few_countries here (omega arith) in
+    let head_first : u ++ (k ++ rest) ≡ take 10 here ++ (nb ++ (k ++ rest)) = append_assoc (take 10 here) nb (k ++ rest) in
     record {
-      head = ap (take 10) (there ∙ head_first) ∙ take_at (take 10 here) (nb ++ (k ++ rest)) 10 ten;
-      length = ap (λ b. number (take 13 (drop 10 b))) (there ∙ head_first)
+      head = ap (take 10) (at ∙ head_first) ∙ take_at (take 10 here) (nb ++ (k ++ rest)) 10 ten;
+      length = ap (λ b. number (take 13 (drop 10 b))) (at ∙ head_first)
           ∙ ap (λ b. number (take 13 b)) (drop_at (take 10 here) (nb ++ (k ++ rest)) 10 ten)
           ∙ ap number (take_at nb (k ++ rest) 13 (length-number_bits 13 (p.length - 29)))
           ∙ number-of_bits 13 (p.length - 29) (omega arith);
-      countries = ap countries_at there ∙ countries_stay countries (p.length - 29) here rest (omega arith);
-      values = ap (λ b. values_by countries (own (rows_of 3)) (drop 23 b)) (there ∙ behind)
-          ∙ ap (values_by countries (own (rows_of 3))) (drop_at u (k ++ rest) 23 u_long)
+      countries = ap countries_at (at ∙ sym (append_assoc u k rest)) ∙ countries_stay countries (p.length - 29) here rest (omega arith);
+      values = ap (values_by countries (own (rows_of 3))) (behind_head p bytes written y pad is)
           ∙ values_kept countries (rows_of 3) (drop 23 here) rest (omega (arith, total_is countries, length-drop 23 here));
       all = ap (λ n. n + 23) (own_total countries) ∙ whole;
     }

@@ -9,6 +9,7 @@ use Rattle.packets.specs.declared.packet.Packet.TheVariants as packets
 use Rattle.track_packets.specs.declared.listing.PacketPlace.{PacketPlace}
 use Rattle.installed_values.specs.Adapting.{Tells, found_in}
 use Rattle.installed_values.specs.Reading.{ReadsValues}
+use Rattle.installed_values.specs.Rebuilding.{IsRebuilt}
 use Rattle.installed_values.specs.Staying.{OthersStay, IsLeftAsItIs, FaultsStay, ValuesStay}
 use Rattle.installed_values.specs.declared.adapting.Adaptation.TheVariants.{Written}
 
@@ -25,6 +26,10 @@ OthersStayAsTheyWere = OfEachWritten OthersStay
 -- The packet 3 has the values that this project has a place for.
 abbrev pub ValuesAreKept : Type 0
 ValuesAreKept = OfEachWritten (λ installed bytes written. ValuesStay installed (bits_of bytes) (bits_of written))
+
+-- Nothing of it is lost: what was sent can be built again.
+abbrev pub NothingIsLost : Type 0
+NothingIsLost = OfEachWritten (λ installed bytes written. IsRebuilt installed (bits_of bytes) (bits_of written))
 
 -- What a unit reads of the packet 3 is what the track sent, but for the values that are left out.
 abbrev pub ValuesAreRead : Type 0

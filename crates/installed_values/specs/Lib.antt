@@ -5,4 +5,5 @@ pub mod Finding
 pub mod Keeping
 pub mod Laws
 pub mod Reading
+pub mod Rebuilding
 pub mod Staying

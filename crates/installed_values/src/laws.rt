@@ -1,5 +1,5 @@
-//! Laws of `adapt`: what stays as it was, that twice is once, and that other faults stay.
-ghost use Rattle.installed_values.specs.Laws.{OtherFaultsStay, OthersStayAsTheyWere, TwiceIsOnce, ValuesAreKept, ValuesAreRead};
+//! Laws of `adapt`: what stays as it was, that nothing is lost, that twice is once, and that other faults stay.
+ghost use Rattle.installed_values.specs.Laws.{NothingIsLost, OtherFaultsStay, OthersStayAsTheyWere, TwiceIsOnce, ValuesAreKept, ValuesAreRead};
 
 /// A law: the header, all packets but the packet 3 and the end mark are as they were, each packet bit for bit and in its
 /// order; what is behind the packet 3 stands 29 bits earlier.
@@ -11,6 +11,12 @@ pub fn others_stay_as_they_were()
 /// variable that this project has a place for the bits that it had, in the order of the track's layout.
 pub fn values_are_kept()
     ensures { ValuesAreKept }
+{}
+
+/// A law: nothing of the packet 3 is lost. The bits behind L_PACKET that the track sent are built again, row by row, of the
+/// bits that were written and of the values that `dropped_of` tells.
+pub fn nothing_is_lost()
+    ensures { NothingIsLost }
 {}
 
 /// A law: where `packets` reads national values at the place of the packet 3, these are the values that the track sent: the

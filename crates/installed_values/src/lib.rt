@@ -15,5 +15,6 @@ pub use dropping::{Dropped, dropped_of};
 pub use finding::is_installed;
 pub use keeping::has_place;
 pub use laws::{
-    other_faults_stay, others_stay_as_they_were, twice_is_once, values_are_kept, values_are_read,
+    nothing_is_lost, other_faults_stay, others_stay_as_they_were, twice_is_once, values_are_kept,
+    values_are_read,
 };

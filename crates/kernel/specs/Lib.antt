@@ -7,4 +7,5 @@ pub mod StandsFor
 pub mod Laws
 pub mod Quiet
 pub mod Trips
+pub mod Closings
 pub mod Showing

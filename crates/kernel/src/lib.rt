@@ -5,6 +5,7 @@
 
 mod accepting;
 mod causes;
+mod closings;
 mod commanding;
 mod counts;
 mod keeping;

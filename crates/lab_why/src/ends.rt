@@ -4,11 +4,13 @@ ghost use Rattle.std.specs.Option.{option_map};
 ghost use Rattle.onboard.specs.Stops.{step_of};
 ghost use Rattle.pieces.specs.Pieces.{texts};
 ghost use Rattle.pieces.specs.declared.piece.Form.TheVariants.{Json};
-ghost use Rattle.lab_why.specs.Ends.{step_at, cold_text, first_line, open_name, accept_name, flush_name, stop_number, stop_name, stopped_line, last_line};
+ghost use Rattle.lab_why.specs.Ends.{step_at, first_line, stopped_line, last_line};
 
+use lab_events::cold_word;
 use mode_table::Cold;
-use onboard::{AcceptError, FlushError, LiveError, OpenError};
+use onboard::LiveError;
 use pieces::{Piece, known};
+use sessions::of_stop;
 
 /// The step of the scenario that a step of the life comes from, where it is none of the first ones.
 pub(crate) fn step_from(ends: &[usize], first: usize, place: usize) -> usize
@@ -21,82 +23,17 @@ pub(crate) fn step_from(ends: &[usize], first: usize, place: usize) -> usize
     step
 }
 
-fn cold_text(cold: Cold) -> &'static str
-    ensures { result.now ≡ cold_text cold }
-{
-    match cold {
-        Cold::Unknown => "unknown",
-        Cold::Moved => "moved",
-        Cold::NotMoved => "not_moved",
-    }
-}
-
 /// The line before the first output.
 pub(crate) fn first_pieces(cold: Cold, steps: usize) -> [Piece; 5]
     ensures { texts Json result ≡ first_line cold steps }
 {
     [
         Piece::Same("{\"scenario\":{\"cold\":\""),
-        Piece::Same(cold_text(cold)),
+        Piece::Same(cold_word(cold)),
         Piece::Same("\",\"steps\":"),
         Piece::Number(steps as u64),
         Piece::Same("}}\n"),
     ]
-}
-
-fn open_name(error: OpenError) -> &'static str
-    ensures { result.now ≡ open_name error }
-{
-    match error {
-        OpenError::DeviceFault => "DeviceFault",
-        OpenError::NotFormatted => "NotFormatted",
-        OpenError::Damaged => "Damaged",
-        OpenError::NoMemory => "NoMemory",
-        OpenError::WornOut => "WornOut",
-    }
-}
-
-fn accept_name(error: AcceptError) -> &'static str
-    ensures { result.now ≡ accept_name error }
-{
-    match error {
-        AcceptError::PendingFull => "PendingFull",
-        AcceptError::ClockBack => "ClockBack",
-        AcceptError::NoMemory => "NoMemory",
-        AcceptError::Failed => "Failed",
-    }
-}
-
-fn flush_name(error: FlushError) -> &'static str
-    ensures { result.now ≡ flush_name error }
-{
-    match error {
-        FlushError::DeviceFault => "DeviceFault",
-        FlushError::Failed => "Failed",
-        FlushError::WornOut => "WornOut",
-    }
-}
-
-fn stop_number(error: LiveError) -> u8
-    ensures { result ≡ stop_number error }
-{
-    match error {
-        LiveError::Open(error) => error.number(),
-        LiveError::Accept(_, error) => error.number(),
-        LiveError::Flush(_, error) => error.number(),
-        LiveError::NoMemory(_) => AcceptError::NoMemory.number(),
-    }
-}
-
-fn stop_name(error: LiveError) -> &'static str
-    ensures { result.now ≡ stop_name error }
-{
-    match error {
-        LiveError::Open(error) => open_name(error),
-        LiveError::Accept(_, error) => accept_name(error),
-        LiveError::Flush(_, error) => flush_name(error),
-        LiveError::NoMemory(_) => accept_name(AcceptError::NoMemory),
-    }
 }
 
 // The step of the scenario at which the life stopped; none where no life began.
@@ -140,10 +77,9 @@ pub(crate) fn last_pieces(ends: &[usize], stopped: &Option<LiveError>) -> [Piece
             none,
             none,
         ],
-        Some(error) => stopped_pieces(
-            step_named(ends, *error),
-            stop_number(*error),
-            stop_name(*error),
-        ),
+        Some(error) => {
+            let (number, name) = of_stop(*error);
+            stopped_pieces(step_named(ends, *error), number, name)
+        }
     }
 }

@@ -40,9 +40,12 @@ is_other Reverse Nominal = true
 is_other Nominal Reverse = true
 is_other Nominal Nominal = false
 
--- its direction is known and isn't the announced one
+-- a direction in which a group was passed is known and isn't the announced one
+abbrev pub is_passed_wrongly : Option LinkOrientation → Announcement → Bool
+is_passed_wrongly direction a = option_map_or (is_other a.direction) direction false
+
 abbrev pub is_wrong_way : GroupRead → Announcement → Bool
-is_wrong_way group a = option_map_or (is_other a.direction) group.direction false
+is_wrong_way group a = is_passed_wrongly group.direction a
 
 -- ---- the judgement: what becomes of a group and what linking asks for, by the first row that holds, and else by what
 -- stands after the rows

@@ -2,7 +2,7 @@
 ghost use Rattle.std.specs.Prelude.{◌≡◌, ◌≤◌, ◌^◌, if◌then◌else◌};
 ghost use Rattle.std.specs.Int.RustNames.{unsigned_abs};
 ghost use Rattle.linking.specs.Linking.{first_place, last_place, is_passed_by, no_effect, service, both, effect_of};
-ghost use Rattle.linking.specs.Judging.{is_of, is_too_early, is_wrong_way, is_before};
+ghost use Rattle.linking.specs.Judging.{is_of, is_too_early, is_passed_wrongly, is_before};
 
 use crate::{Effect, GroupRead};
 use units::Cm;
@@ -75,11 +75,11 @@ impl Announcement {
         group.max_front() < self.first_place()
     }
 
-    /// Whether a group is known to have been passed in the other direction.
-    pub(crate) fn is_wrong_way(&self, group: &GroupRead) -> bool
-        ensures { result ≡ is_wrong_way group.now self.now }
+    /// Whether a group that was passed in a direction is known to have been passed in another one than it announces.
+    pub fn is_wrong_way(&self, direction: Option<LinkOrientation>) -> bool
+        ensures { result ≡ is_passed_wrongly direction self.now }
     {
-        match group.direction {
+        match direction {
             None => false,
             Some(direction) => self.direction != direction,
         }

@@ -3,7 +3,7 @@ ghost use Rattle.std.specs.Prelude.{◌≡◌, ◌≤◌, List, [], length, filt
 ghost use Rattle.std.specs.List.{list_any};
 ghost use Rattle.linking.specs.Linking.{LinkEntry, known, numbered, takes, is_any, is_passed_by, misses, after_misses};
 ghost use Rattle.linking.specs.Linking.LinkEntry.{Announced, Accepted, Reacted};
-ghost use Rattle.linking.specs.Judging.{first_of, judgement, judged_by, after_verdict, after_judgement, broken_effect, after_broken, is_before};
+ghost use Rattle.linking.specs.Judging.{first_of, judgement, judged_by, after_verdict, after_judgement, meant, broken_effect, after_broken, is_before};
 
 use crate::{Announcement, Effect, GroupRead, Judgement, Verdict};
 use arrayvec::ArrayVec;
@@ -70,6 +70,33 @@ impl Links {
         let judgement = self.judged(group);
         self.follow(&judgement.verdict);
         judgement
+    }
+
+    /// What `judge` would answer to a whole group that was read. Nothing changes.
+    pub fn judged(&self, group: &GroupRead) -> Judgement
+        ensures { result ≡ judgement self.now group.now }
+    {
+        if !group.linked || !self.is_in_use() {
+            return Judgement {
+                verdict: Verdict::Accept(None),
+                effect: Effect::NONE,
+            };
+        }
+        match self.first_of(&group.group) {
+            None => Judgement {
+                verdict: Verdict::Ignore,
+                effect: Effect::NONE,
+            },
+            Some(announcement) => self.judged_by(group, announcement),
+        }
+    }
+
+    /// The announcement that a broken group would take with it: the first one of the group that is left, where the
+    /// group is linked.
+    pub fn meant(&self, group: &GroupIdentity, linked: bool) -> Option<Announcement>
+        ensures { result ≡ meant self.now group.now linked }
+    {
+        if linked { self.first_of(group) } else { None }
     }
 
     /// Takes note of a broken group and answers what it asks for (3.16.2; this project's profile). `linked` is its
@@ -140,30 +167,11 @@ impl Links {
             .find(|a| a.is_of(group))
     }
 
-    // What becomes of a group that was read, and what linking asks for.
-    fn judged(&self, group: &GroupRead) -> Judgement
-        ensures { result ≡ judgement self.now group.now }
-    {
-        if !group.linked || !self.is_in_use() {
-            return Judgement {
-                verdict: Verdict::Accept(None),
-                effect: Effect::NONE,
-            };
-        }
-        match self.first_of(&group.group) {
-            None => Judgement {
-                verdict: Verdict::Ignore,
-                effect: Effect::NONE,
-            },
-            Some(announcement) => self.judged_by(group, announcement),
-        }
-    }
-
     // The same of a group that is announced.
     fn judged_by(&self, group: &GroupRead, announcement: Announcement) -> Judgement
         ensures { result ≡ judged_by self.now group.now (Some announcement) }
     {
-        if announcement.is_wrong_way(group) {
+        if announcement.is_wrong_way(group.direction) {
             return Judgement {
                 verdict: Verdict::Reaction(announcement),
                 effect: Effect::TRIP,

@@ -4,4 +4,5 @@ pub mod Life
 pub mod Conditions
 pub mod Sentences
 pub mod Tripping
+pub mod Closings
 pub mod StandsFor

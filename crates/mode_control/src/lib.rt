@@ -6,6 +6,7 @@
 mod acknowledging;
 mod acting;
 mod calls;
+mod closings;
 mod conditions;
 mod deed;
 mod knowing;

@@ -1,12 +1,15 @@
--- Records that are answers don't differ.
-use Rattle.std.proofs.Common.{◌≡◌, ◌∙◌, ℕ, zero, suc, List, [], ◌∷◌, Option, Some, None, refl, sym, subst}
+-- A record that is the answer doesn't differ.
+use Rattle.std.proofs.Common.{◌≡◌, ◌∙◌, Option, Some, None, refl, sym, subst}
 use Rattle.blocks.specs.declared.format.Format.{Format}
 use Rattle.blocks.specs.declared.records.BlockRecord.{BlockRecord}
-use Rattle.kernel.specs.Lives.{Story, onward}
+use Rattle.kernel.specs.Lives.{Story}
 use Rattle.replaying.specs.Comparing.{DiffersIn}
-use Rattle.replaying.specs.Following.{AreAnswers, IsFirst}
+use Rattle.replaying.specs.Following.{answer_to}
+use Rattle.replaying.specs.Judgements.{IsVerdict}
+use Rattle.replaying.specs.ReplayState.{ReplayState}
 use Rattle.replaying.specs.declared.differences.RecordField.{RecordField}
 use Rattle.replaying.specs.declared.differences.RecordField.TheVariants as a_field
+use Rattle.replaying.specs.declared.following.Found.{Found}
 use Rattle.blocks.specs.declared.records.Situation.{Situation}
 use Rattle.replaying.specs.Comparing.{SituationDiffers}
 
@@ -42,8 +45,6 @@ same_record a_field.Limit one differs = same_situation a_field.Limit one.situati
 equal_records : (field : RecordField) (one other : BlockRecord) → one ≡ other → DiffersIn field one other → ⊥
 equal_records field one other same differs = same_record field one (subst (λ (r : BlockRecord). DiffersIn field one r) (sym same) differs)
 
-pub excluded : (format : Format) (at : Story) (records : List BlockRecord) (index : ℕ) (field : RecordField) (answer : BlockRecord)
-    → AreAnswers format at records → IsFirst format at records index field answer → ⊥
-excluded format at [] index field answer are first = first
-excluded format at (told ∷ rest) zero field answer are first = equal_records field told answer (are.0 ∙ sym first.0) first.1
-excluded format at (told ∷ rest) (suc index) field answer are first = excluded format (onward at told.event) rest index field answer are.1 first.1
+pub excluded : (format : Format) (at : Story) (told : BlockRecord) (replay : ReplayState) (found : Found)
+    → told ≡ answer_to format at told.event → IsVerdict format at told replay (Some found) → ⊥
+excluded format at told replay found is differs = equal_records found.field told found.answer (is ∙ sym differs.0) differs.1

@@ -1,5 +1,5 @@
 pub mod Shown
-pub mod Firsts
 pub mod Units
+pub mod Verdicts
 pub mod Excluding
 pub mod Later

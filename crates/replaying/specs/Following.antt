@@ -1,7 +1,7 @@
 -- What the kernel answers to the events that blocks tell (this project's profile). Records of a block have the oldest
 -- first. It is said of each story that may stand before them, of this unit's own events or not: whatever a head tells,
 -- there is one behind which just that is kept (`story_by`).
-use Rattle.std.specs.Prelude.{◌≡◌, ℕ, zero, suc, List, [], ◌∷◌}
+use Rattle.std.specs.Prelude.{◌≡◌, List, [], ◌∷◌}
 use Rattle.blocks.specs.Blocks.{record_told, kept_told}
 use Rattle.blocks.specs.declared.format.Format.{Format}
 use Rattle.blocks.specs.declared.records.BlockRecord.{BlockRecord}
@@ -10,13 +10,6 @@ use Rattle.events.specs.declared.kept.Kept.{Kept}
 use Rattle.kernel.specs.Lives.{Story, onward, past_at, number_at, left_by}
 use Rattle.mode_table.specs.declared.statuses.Cold.{Cold}
 use Rattle.onboard.specs.Events.{record_at}
-use Rattle.replaying.specs.Comparing.{DiffersIn}
-use Rattle.replaying.specs.declared.differences.RecordField.{RecordField}
-
--- the story with the events of records
-abbrev pub behind : List BlockRecord → Story → Story
-behind [] at = at
-behind (told ∷ rest) at = behind rest (onward at told.event)
 
 -- what a format tells of the kernel's answer to an event
 abbrev pub answer_to : Format → Story → Event → BlockRecord
@@ -26,13 +19,6 @@ answer_to format at event = record_told format (record_at at event)
 abbrev pub AreAnswers : Format → Story → List BlockRecord → Type 0
 AreAnswers format at [] = Unit {0}
 AreAnswers format at (told ∷ rest) = (told ≡ answer_to format at told.event) × AreAnswers format (onward at told.event) rest
-
--- the record of this index is the first that isn't: it differs in this field from this answer
-abbrev pub IsFirst : Format → Story → List BlockRecord → ℕ → RecordField → BlockRecord → Type 0
-IsFirst format at [] index field answer = ⊥
-IsFirst format at (told ∷ rest) zero field answer = (answer ≡ answer_to format at told.event) × DiffersIn field told answer
-IsFirst format at (told ∷ rest) (suc index) field answer =
-    (told ≡ answer_to format at told.event) × IsFirst format (onward at told.event) rest index field answer
 
 -- Behind this the same is kept, as far as a power-up by this word leaves it.
 pub record IsBehind (kept : Kept) (word : Cold) (at : Story) : Type 0 where

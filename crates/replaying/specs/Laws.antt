@@ -1,5 +1,5 @@
 -- What is true of every list of events, and of what blocks tell of it (this project's profile).
-use Rattle.std.specs.Prelude.{◌≡◌, ℕ, List}
+use Rattle.std.specs.Prelude.{◌≡◌, ℕ, List, Some}
 use Rattle.blocks.specs.declared.block.Block.{Block}
 use Rattle.blocks.specs.declared.format.Format.{Format}
 use Rattle.blocks.specs.declared.format.Format.TheVariants.{Three}
@@ -10,8 +10,10 @@ use Rattle.mode_table.specs.declared.statuses.Cold.{Cold}
 use Rattle.kernel.specs.Lives.{Story, story_of, story_by}
 use Rattle.onboard.specs.Events.{account_of}
 use Rattle.ring.specs.Account.{Tells}
-use Rattle.replaying.specs.Following.{AreAnswers, IsFirst, IsBehind}
-use Rattle.replaying.specs.declared.differences.RecordField.{RecordField}
+use Rattle.replaying.specs.Following.{AreAnswers, IsBehind, answer_to}
+use Rattle.replaying.specs.Judgements.{IsVerdict}
+use Rattle.replaying.specs.ReplayState.{ReplayState}
+use Rattle.replaying.specs.declared.following.Found.{Found}
 
 -- whatever a head tells, and by each word: there is a story behind which that is kept, so that no verdict on what
 -- comes behind a head is one about nothing
@@ -22,7 +24,7 @@ EachHeadIsLed = (kept : Kept) (word : Cold) → IsBehind kept word (story_by kep
 abbrev pub UnitsAgree : Type 0
 UnitsAgree = (whole_from : ℕ) (events : List Event) (block : Block) → Tells (account_of whole_from events) block → block.format ≡ Three → (s : List Event) × AreAnswers block.format (story_of s) block.records.items
 
--- where all are answers, none differs
+-- of a record that is the kernel's answer no verdict tells that it differs
 abbrev pub VerdictsExclude : Type 0
-VerdictsExclude = (format : Format) (at : Story) (records : List BlockRecord) (index : ℕ) (field : RecordField) (answer : BlockRecord)
-    → AreAnswers format at records → IsFirst format at records index field answer → ⊥
+VerdictsExclude = (format : Format) (at : Story) (told : BlockRecord) (replay : ReplayState) (found : Found)
+    → told ≡ answer_to format at told.event → IsVerdict format at told replay (Some found) → ⊥

@@ -1,5 +1,5 @@
 pub mod Comparing
 pub mod ReplayState
 pub mod Following
-pub mod Laws
 pub mod Judgements
+pub mod Laws

@@ -13,7 +13,7 @@ pub fn units_agree()
     ensures { UnitsAgree }
 {}
 
-/// A law: records that are all the kernel's answers have no first one that differs.
+/// A law: of a record that is the kernel's answer no verdict tells that it differs.
 pub fn verdicts_exclude()
     ensures { VerdictsExclude }
 {}

@@ -4,7 +4,6 @@
 #![tactic(auto)]
 
 mod comparing;
-mod copying;
 mod differences;
 mod following;
 mod heads;
@@ -15,7 +14,7 @@ mod replay;
 mod telling;
 
 pub use differences::{KeptField, RecordField};
-pub use following::{Found, follow_records, replay_life};
+pub use following::Found;
 pub use heads::{HeadFound, compare_head};
 pub use judging::Judged;
 pub use laws::{each_head_is_led, units_agree, verdicts_exclude};

@@ -12,4 +12,5 @@ mod stops;
 
 pub use images::{Image, format_disk, format_image, list_disk, list_image};
 pub use lives::run_life;
+pub use reasons::{Reason, of_stop};
 pub use scenarios::{play, run_scenario};

@@ -1,4 +1,5 @@
 pub mod Answering
+pub mod Gathering
 pub mod Lengths
 pub mod PacketsInTurn
 pub mod Places

@@ -4,6 +4,7 @@
 mod decoding;
 mod encoding;
 mod fault;
+mod gathered;
 mod header;
 mod laws;
 mod message;
@@ -15,6 +16,7 @@ mod walk;
 pub use decoding::{decode, decode_into};
 pub use encoding::{TooLong, encode};
 pub use fault::TelegramFault;
+pub use gathered::{Gathered, PacketsOfEach};
 pub use header::{HEADER_BITS, Header};
 pub use laws::{
     at_most_33_packets, packets_stand_in_place, sinks_take_header_fields, telegrams_spelled_once,

@@ -1,16 +1,16 @@
 //! A telegram kept as its bytes: tested once, and read again when its packets are wanted.
-ghost use Rattle.std.specs.Prelude.{◌≡◌, ◌≤◌, ◌↔◌, Ok, Err, length};
-ghost use Rattle.telegram.specs.Telegrams.{Carries, RefusesBytes};
-ghost use Rattle.telegram.specs.Walks.{packets_of};
+ghost use Rattle.std.specs.Prelude.{◌≡◌, ◌≤◌, ◌↔◌, Ok, Err, length, drop};
+ghost use Rattle.bits.specs.Bits.{bits_of};
+ghost use Rattle.telegram.specs.Telegrams.{header_bits, Carries, RefusesBytes};
+ghost use Rattle.telegram.specs.Walks.{packets_of, packets_in, HoldPackets};
 ghost use Rattle.telegram.specs.declared.fault.TelegramFault.{TelegramFault};
 ghost use Rattle.telegram.specs.declared.message.Telegram.{Telegram};
 
 use crate::fault::TelegramFault;
-use crate::header::{HEADER_BITS, Header};
+use crate::header::Header;
 use crate::validation::packets;
 use crate::walk::Packets;
 use arrayvec::ArrayVec;
-use bits::BitReader;
 use packets::TELEGRAM_BYTES;
 use std::marker::Model;
 
@@ -71,16 +71,23 @@ impl Received {
         ensures few { length self.now.packets.items ≤ 33 }
         ensures header { result.header ≡ self.now.header }
     {
-        let bytes = self.bytes.as_slice();
-        let mut reader = BitReader::new(bytes);
-        let _ = reader.run(HEADER_BITS);
-        Packets {
-            header: self.header,
-            bytes,
-            reader,
-            start: HEADER_BITS,
-            left: self.count,
-        }
+        Packets::after_header(self.header, self.bytes.as_slice(), self.count)
+    }
+
+    /// Its bytes.
+    pub(crate) fn bytes(&self) -> &[u8]
+        ensures packets { packets_in (length self.now.packets.items) (drop header_bits (bits_of result.now)) ≡ self.now.packets.items }
+        ensures held { HoldPackets (length self.now.packets.items) result.now }
+    {
+        self.bytes.as_slice()
+    }
+
+    /// How many packets it has, at most 33.
+    pub fn count(&self) -> u32
+        ensures value { result ≡ length self.now.packets.items }
+        ensures few { result ≤ 33 }
+    {
+        self.count
     }
 
     /// An equal value.

@@ -1,11 +1,14 @@
 //! A walk over a tested telegram, which reads one packet after another from its bytes.
-ghost use Rattle.std.specs.Prelude.{◌≡◌, ◌+◌, ◌*◌, ◌/◌, ◌≤◌, [], ◌∷◌, length, ◌↔◌, IsTrue};
+ghost use Rattle.std.specs.Prelude.{◌≡◌, ◌+◌, ◌*◌, ◌/◌, ◌≤◌, [], ◌∷◌, length, drop, ◌↔◌, IsTrue};
 ghost use Rattle.std.specs.Bool.{OnTrue, OnFalse};
 ghost use Rattle.std.specs.List.{slice_range};
 ghost use Rattle.std.specs.Iterator.{YieldsFirst, item_count};
+ghost use Rattle.bits.specs.Bits.{bits_of};
+ghost use Rattle.telegram.specs.Telegrams.{header_bits};
+ghost use Rattle.telegram.specs.Walks.{packets_of, packets_in, HoldPackets};
 
 use crate::decoding::read_next;
-use crate::header::Header;
+use crate::header::{HEADER_BITS, Header};
 use crate::place::PacketInPlace;
 use bits::BitReader;
 use std::marker::Model;
@@ -47,6 +50,23 @@ fn bytes_between(bytes: &[u8], start: u32, end: u32) -> &[u8]
 }
 
 impl<'a> Packets<'a> {
+    /// So many packets after the header of a telegram that was tested, read again from its bytes.
+    pub(crate) fn after_header(header: Header, bytes: &'a [u8], count: u32) -> Self
+        requires { HoldPackets count bytes.now }
+        ensures packets { packets_of result.items ≡ packets_in count (drop header_bits (bits_of bytes.now)) }
+        ensures header { result.header ≡ header }
+    {
+        let mut reader = BitReader::new(bytes);
+        let _ = reader.run(HEADER_BITS);
+        Packets {
+            header,
+            bytes,
+            reader,
+            start: HEADER_BITS,
+            left: count,
+        }
+    }
+
     /// The header of the telegram.
     pub fn header(&self) -> Header
         ensures { result ≡ self.now.header }

@@ -6,6 +6,7 @@ pub mod Happenings
 pub mod Parts
 pub mod History
 pub mod Sentences
+pub mod Closings
 pub mod Steps
 pub mod Stores
 pub mod StandsFor

@@ -24,6 +24,18 @@ use mode_table::Mode;
 use vars::LinkOrientation;
 
 impl Parts {
+    /// A message as linking judges it: by the place of the train at its reading.
+    pub(crate) fn group_read(&self, message: &Message) -> GroupRead
+        ensures { result ≡ group_read self.now.place message.now }
+    {
+        GroupRead {
+            group: message.group,
+            linked: message.linked,
+            direction: message.direction,
+            place: self.place.place_at(&message.sums),
+        }
+    }
+
     // Linking judges a group, and asks for something. One that is accepted counts for the national values by its
     // country.
     fn judge(&mut self, message: &Message) -> Verdict
@@ -32,13 +44,8 @@ impl Parts {
             → (let j = judgement self.old.links (group_read self.old.place message.now) in
             self.new ≡ columns_of (grown_so_far life begun (added (outcome_at_first message.now j.verdict) (asking_for j.effect used)))) }
     {
-        let place = self.place.place_at(&message.sums);
-        let judgement = self.links.judge(&GroupRead {
-            group: message.group,
-            linked: message.linked,
-            direction: message.direction,
-            place,
-        });
+        let group = self.group_read(message);
+        let judgement = self.links.judge(&group);
         self.happened = self.happened.asking(judgement.effect);
         if let Verdict::Accept(_) = judgement.verdict {
             self.national.enter(message.group.country);
@@ -154,8 +161,8 @@ impl<T: ProfileStores> TracksideOver<T> {
     }
 }
 
-// The direction in which a group was passed: that of its balises, else the announced one.
-fn direction_by(
+/// The direction in which a group was passed: that of its balises, else the announced one (SUBSET-026, 3.4).
+pub fn direction_by(
     told: &Option<LinkOrientation>,
     announced: &Option<Announcement>,
 ) -> Option<LinkOrientation>

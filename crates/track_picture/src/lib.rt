@@ -6,6 +6,7 @@
 
 mod asking;
 mod closing;
+mod closings;
 mod column;
 mod ending;
 mod fixing;
@@ -19,6 +20,8 @@ mod state;
 mod stores;
 mod using;
 
+pub use closing::direction_by;
+pub use closings::{Closing, Closings, MessageOutcome};
 pub use ending::{
     counts_while_not_ended, each_by_its_line, ended_counts_no_more, latest_counts_alone,
     modes_delete_by_the_table, none_at_power_up, place_is_read,

@@ -37,9 +37,9 @@ impl Parts {
         self.begin();
     }
 
-    // A movement: announced groups are missed that the train has passed. A movement that leads too far isn't added.
-    // Answers whether the group being read is left by it, and so has to end.
-    fn go(&mut self, reading: &Reading) -> bool
+    /// A movement: announced groups are missed that the train has passed. A movement that leads too far isn't added.
+    /// Answers whether the group being read is left by it, and so has to end.
+    pub(crate) fn go(&mut self, reading: &Reading) -> bool
         ensures moved { (life : Life) → self.old ≡ columns_of life → self.new ≡ still_reading life reading.now }
         ensures none { (life : Life) → self.old ≡ columns_of life → result ≡ false → left_by life.entries reading.now ≡ None }
         ensures idle { is_none self.old.groups.current ≡ true → result ≡ false }
@@ -55,8 +55,8 @@ impl Parts {
         self.groups.is_leaving(self.place.sums().path())
     }
 
-    // The group being read is left, and ends.
-    fn leave(&mut self) -> Option<Closed>
+    /// The group being read is left, and ends.
+    pub(crate) fn leave(&mut self) -> Option<Closed>
         ensures answer { (life : Life) (reading : Told) → self.old ≡ still_reading life reading → result ≡ left_by life.entries reading }
         ensures stands { (life : Life) (reading : Told) → self.old ≡ still_reading life reading
             → self.new ≡ columns_of (grown_so_far life (moved life.entries reading) (after_moving life.entries reading)) }
@@ -65,8 +65,13 @@ impl Parts {
         self.groups.moved(self.place.sums().path())
     }
 
-    // A telegram: the groups that it closes, in places that the caller has.
-    fn hear(&mut self, telegram: Received, ended: &mut Option<Closed>, whole: &mut Option<Closed>)
+    /// A telegram: the groups that it closes, in places that the caller has.
+    pub(crate) fn hear(
+        &mut self,
+        telegram: Received,
+        ended: &mut Option<Closed>,
+        whole: &mut Option<Closed>,
+    )
         ensures ended { (life : Life) (bytes : List ℕ) → self.old ≡ columns_of life → telegram_in bytes ≡ Some telegram
             → ended.new ≡ (closed_by (groups_of life.entries) (heard life.entries bytes).heard).ended }
         ensures whole { (life : Life) (bytes : List ℕ) → self.old ≡ columns_of life → telegram_in bytes ≡ Some telegram

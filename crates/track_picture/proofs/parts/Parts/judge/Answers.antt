@@ -1,10 +1,10 @@
 use Rattle.std.proofs.Common.{◌∷◌, ap, sym, ◌∙◌}
+use Rattle.linking.specs.declared.judgement.GroupRead.{GroupRead}
 use Rattle.linking.specs.declared.judgement.Judgement.{Judgement}
 use Rattle.linking.specs.declared.judgement.Verdict.{Verdict}
 use Rattle.linking.specs.Judging.{judgement, after_verdict}
 use Rattle.linking.specs.Linking.{known as known_links}
 use Rattle.national.specs.InForce as national
-use Rattle.odometry.specs.declared.earlier.EarlierPlace.{EarlierPlace}
 use Rattle.track_picture.specs.Entry.{TrackEntry, blank, added, asking, asking_for}
 use Rattle.track_picture.specs.Sentences.{group_read, outcome_at_first}
 use Rattle.track_picture.specs.StandsFor.{KnownTrack, grown_so_far}
@@ -20,8 +20,8 @@ returns-in-Accept-clause-stands c life begun used s =
     let all = entry ∷ life.entries in
     let it = c.judge-judgement.result in
     let found = c.judge-judgement.ensures.answer
-    ∙ ap (λ (p : EarlierPlace). judgement c.self.inside.links (record { group = m.group; linked = m.linked; direction = m.direction; place = p })) c.place_at-place.ensures
-    ∙ ap (λ (k : KnownTrack). judgement k.links (group_read k.place m)) c.self.view_is in
+    ∙ ap (λ (r : GroupRead). judgement c.self.inside.links r) c.group_read-group.ensures
+    ∙ ap (λ (k : KnownTrack). judgement k.links (group_read c.args.self.now.place m)) c.self.view_is in
     let left = c.judge-judgement.ensures.stands (links all) (ap (λ (k : KnownTrack). k.links) parts)
     ∙ ap (λ (x : Judgement). known_links (after_verdict x.verdict (links all))) (sym c.judge-judgement.ensures.answer) in
     let values = c.enter.ensures.stands life.kept (national_entries all) (ap (λ (k : KnownTrack). k.national) parts)
@@ -36,8 +36,8 @@ returns-in_default c =
     let m = c.args.message.now in
     let it = c.judge-judgement.result in
     let found = c.judge-judgement.ensures.answer
-    ∙ ap (λ (p : EarlierPlace). judgement c.self.inside.links (record { group = m.group; linked = m.linked; direction = m.direction; place = p })) c.place_at-place.ensures
-    ∙ ap (λ (k : KnownTrack). judgement k.links (group_read k.place m)) c.self.view_is in
+    ∙ ap (λ (r : GroupRead). judgement c.self.inside.links r) c.group_read-group.ensures
+    ∙ ap (λ (k : KnownTrack). judgement k.links (group_read c.args.self.now.place m)) c.self.view_is in
     record {
       answer = ap (λ (x : Judgement). x.verdict) found;
       stands = λ life begun used s. (

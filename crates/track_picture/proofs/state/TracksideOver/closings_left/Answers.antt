@@ -1,0 +1,22 @@
+use Rattle.std.proofs.Common.{[], Option, None, ap, ◌∙◌}
+use Rattle.balise_groups.specs.declared.message.Closed.{Closed}
+use Rattle.track_picture.specs.Closings.{closings_in, listed}
+use Rattle.track_picture.specs.Columns.{moved, happened_by}
+use Rattle.track_picture.specs.Sentences.{with_closed}
+use Rattle.track_picture.proofs.OneGroup.{alone, one_if}
+use Rattle.track_picture.proofs.Standing.{seen_columns as seen}
+use Rattle.track_picture.proofs.state.TracksideOver.closings_left.Goals as goal
+
+pub returns : goal.returns
+returns g c life mode s =
+    let reading = c.args.reading.now in
+    let at = c.copy-parts.ensures ∙ (seen c.self.view_is s).parts_are in
+    let went = c.go.ensures.moved life at in
+    let left = c.leave-ended.ensures.stands life reading went in
+    let begun = moved life.entries reading in
+    let happened = happened_by life.entries reading in
+    alone c.closing_if.result
+    ∙ ap listed c.closing_if.ensures
+    ∙ one_if mode life begun happened c.leave-ended.new.self c.leave-ended.result left
+    ∙ ap (λ (group : Option Closed). closings_in life.entries begun (with_closed mode life.entries begun group (record { groups = []; happened = happened })).groups)
+    (c.leave-ended.ensures.answer life reading went)

@@ -1,0 +1,3 @@
+pub mod Medium
+pub mod Known
+pub mod Window

@@ -7,8 +7,8 @@
     bench/worst_search.py --count        counts these again: KIND, INSTRUCTIONS, MODE, LIMIT, FOUND, a line each, tab between
     bench/worst_search.py --more         what one thing more costs: a restriction, a static speed, a gradient, a slot
     bench/worst_search.py --grown        a reading where restrictions and gradients double: WHAT, INSTRUCTIONS, THOSE OF THE PEER
-    bench/worst_search.py --stairs       a reading before stairs of restrictions, areas and static speeds: WHAT, INSTRUCTIONS where each is faster than
-                                         the nearer one, and where each is slower
+    bench/worst_search.py --stairs       a reading before stairs of restrictions, areas and static speeds: WHAT, INSTRUCTIONS where each is
+                                         faster than the nearer one, and where each is slower
     bench/worst_search.py --memory       heap and stack of each call of the scenarios: KIND, HELD, PEAK, REQUESTS, GREATEST, STACK
 
 bench/worst.sh builds what it runs (bench/out/worst), and says more.
@@ -594,7 +594,8 @@ def stairs(grades, restricted=0, areas=0, speeds=0, rising=True, step=2, reactio
     """Full Supervision with brakes that hardly act at up to 600 km/h, so many gradients ahead, and after all of them so many restrictions, mode
     areas and static speeds by turns, one every 5 m. Each is 5 km/h faster than the nearer one, so that each slower one is nearer; or each is
     5 km/h slower than the nearer one. The authority ends behind them, or before them and after all gradients."""
-    *lines, action, first, last = [line.replace("160000", "600000") if isinstance(line, str) else line for line in backwards(0, grades, step, reaction)]
+    *lines, action, first, last = [line.replace("160000", "600000") if isinstance(line, str) else line
+                                   for line in backwards(0, grades, step, reaction)]
     kinds = [kind for _, kind in sorted((at, kind) for kind, many in enumerate((restricted, areas, speeds)) for at in range(many))]
     told = [[], [], []]
     for at, kind in enumerate(kinds):
@@ -657,8 +658,8 @@ def told_stairs():
         took = counted([(4, [*lines[:-1], "count", lines[-1]]) for lines in texts])
         what = ", ".join(f"{number} {name}" for name, number in many.items())
         ends = "before them" if near_end else "behind them"
-        print(f"{grades} gradients, {what}, the end {ends}, a reaction of {reaction / 1000:g} s", *(took[at, len(lines) + 1][0] for at, lines in enumerate(texts, 1)),
-              sep="\t", flush=True)
+        print(f"{grades} gradients, {what}, the end {ends}, a reaction of {reaction / 1000:g} s",
+              *(took[at, len(lines) + 1][0] for at, lines in enumerate(texts, 1)), sep="\t", flush=True)
 
 
 def peer_reading(words):

@@ -1,6 +1,6 @@
 -- What a search over segments that rise finds.
-use Rattle.std.proofs.Common.{◌≡◌, ℕ, zero, suc, ◌<◌, ◌≤◌, ℤ, ◌≤ℤ◌, ◌<ℤ◌, List, [], ◌∷◌, length, get_or, true, false, refl, arith}
-use Rattle.std.specs.Prelude.{Option, None, Some, int_lt, not}
+use Rattle.std.proofs.Common.{◌≡◌, ℕ, zero, suc, ◌<◌, ◌≤◌, ℤ, ◌≤ℤ◌, ◌<ℤ◌, List, [], ◌∷◌, length, take, get_or, true, false, refl, ap, arith}
+use Rattle.std.specs.Prelude.{Option, None, Some, int_lt, not, filter}
 use Rattle.std.specs.List.Sorted.{IsPartitionedBy}
 use Rattle.std.proofs.lemmas.Int.{ints}
 use Rattle.track_store.specs.declared.segments.Segment.{Segment}
@@ -37,6 +37,34 @@ module _ {A : Type 0} where
   parted place segments r i j d a h later =
       let order = in_order segments i j d d r a h in
       grind (arith, ints)
+
+  pub parted_below : (place : ℤ) (segments : List (Segment A)) → IsRising segments →
+      IsPartitionedBy (λ (s : Segment A). int_lt s.start place) segments
+  parted_below place segments r i j d a h later =
+      let order = in_order segments i j d d r a h in
+      grind (arith, ints)
+
+  -- those that start below a place are the first ones
+  none_below : (place : ℤ) (segments : List (Segment A)) →
+      ((k : ℕ) (d : Segment A) → k < length segments → int_lt (get_or segments k d).start place ≡ false) →
+      filter (λ (s : Segment A). int_lt s.start place) segments ≡ []
+  none_below place [] behind = refl
+  none_below place (s ∷ segments) behind =
+      let here : int_lt s.start place ≡ false = behind 0 s (omega arith) in
+      rw here (none_below place segments (λ k d a. behind (suc k) d (omega arith)))
+
+  pub below_front : (place : ℤ) (segments : List (Segment A)) (count : ℕ) → count ≤ length segments →
+      ((k : ℕ) (d : Segment A) → k < count → int_lt (get_or segments k d).start place ≡ true) →
+      ((k : ℕ) (d : Segment A) → count ≤ k → k < length segments → int_lt (get_or segments k d).start place ≡ false) →
+      filter (λ (s : Segment A). int_lt s.start place) segments ≡ take count segments
+  below_front place [] zero within front behind = refl
+  below_front place [] (suc n) within front behind = absurd (omega arith)
+  below_front place (s ∷ segments) zero within front behind =
+      none_below place (s ∷ segments) (λ k d a. behind k d (omega arith) a)
+  below_front place (s ∷ segments) (suc n) within front behind =
+      let here : int_lt s.start place ≡ true = front 0 s (omega arith) in
+      rw here (ap (λ (rest : List (Segment A)). s ∷ rest)
+      (below_front place segments n (omega arith) (λ k d a. front (suc k) d (omega arith)) (λ k d a h. behind (suc k) d (omega arith) (omega arith))))
 
   -- segments ahead of a place don't count there
   pub all_ahead : (otherwise : Option A) (place : ℤ) (segments : List (Segment A)) (d : Segment A) →

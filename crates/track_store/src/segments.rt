@@ -1,5 +1,5 @@
 //! Segments in a list: values are looked up, steps are taken in, and what lies before a mark is dropped.
-ghost use Rattle.std.specs.Prelude.{◌≡◌, ℕ, IsTrue, IfSome, ◌+◌, ◌<◌, ◌≤◌, ℤ, false, if◌then◌else◌, int_lt, is_none, Some, ◌||◌, ◌↔◌, None, length, vec_len, vec_capacity};
+ghost use Rattle.std.specs.Prelude.{◌≡◌, ℕ, IsTrue, IfSome, ◌+◌, ◌<◌, ◌≤◌, ℤ, false, if◌then◌else◌, int_lt, is_none, Some, ◌||◌, ◌↔◌, None, length, filter, take, vec_len, vec_capacity};
 ghost use Rattle.std.specs.List.{list_any};
 ghost use Rattle.track_store.specs.Facts.{from_mark, passed, replaced};
 ghost use Rattle.track_store.specs.Segments.{value_of_segments, value_behind, next_among, IsRising, IsStarted, IsKept, IsKeptBehind, is_first_passed, first_cut, is_reached};
@@ -117,6 +117,25 @@ fn is_same<T: Same>(one: &Option<T>, other: &Option<T>) -> bool
     }
 }
 
+// How many segments start below a place: those that do are the first ones.
+fn started_below<T: Copy>(segments: &[Segment<T>], place: Cm) -> usize
+    requires { IsRising segments.now }
+    ensures { filter (λ segment. int_lt segment.start place) segments.now ≡ take result segments.now }
+{
+    segments.partition_point(|segment| segment.start < place)
+}
+
+// Drops the segments that start at a place or behind it. Those that stay aren't gone through.
+fn drop_from<T: Copy>(segments: &mut Vec<Segment<T>>, place: Cm)
+    requires { IsRising segments.old.items }
+    ensures items { segments.new.items ≡ filter (λ segment. int_lt segment.start place) segments.old.items }
+    ensures len { vec_len segments.new ≤ vec_len segments.old }
+    ensures capacity { vec_capacity segments.new ≡ vec_capacity segments.old }
+{
+    let count = started_below(segments, place);
+    segments.truncate(count);
+}
+
 // Takes one value from a place on, in place of all segments there. The list has room for one more.
 fn hold_from<T: Copy + Same>(segments: &mut Vec<Segment<T>>, place: Cm, value: Option<T>)
     requires kept { IsKept segments.old.items }
@@ -127,7 +146,7 @@ fn hold_from<T: Copy + Same>(segments: &mut Vec<Segment<T>>, place: Cm, value: O
     ensures len { vec_len segments.new ≤ vec_len segments.old + 1 }
     ensures capacity { vec_capacity segments.new ≡ vec_capacity segments.old }
 {
-    segments.retain(|segment| segment.start < place);
+    drop_from(segments, place);
     if !is_same(&value_behind(segments), &value) {
         segments.push_reserved(Segment {
             start: place,

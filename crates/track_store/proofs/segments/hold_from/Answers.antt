@@ -1,6 +1,5 @@
 use Rattle.std.proofs.Common.{◌≡◌, ◌≢◌, true, false, [], ◌∷◌, ◌++◌, ap, sym, subst, ◌∙◌, rules}
 use Rattle.std.specs.Prelude.{int_lt, filter, None}
-use Rattle.std.proofs.lemmas.Fn.{filter_same}
 use Rattle.track_store.specs.declared.segments.Segment.{Segment}
 use Rattle.track_store.specs.Segments.{value_of_segments, value_behind, IsKept}
 use Rattle.track_store.proofs.Segmenting.{value_of_cut, value_of_front}
@@ -11,15 +10,13 @@ pub returns-then-not-is_same-clause-value : goal.returns-then-not-is_same-clause
 returns-then-not-is_same-clause-value g c there =
     ap (λ segments. value_of_segments segments there)
     (c.push_reserved.ensures.items
-    ∙ ap (λ segments. segments ++ record { start = c.args.place; value = c.args.value } ∷ [])
-    (filter_same _ (λ s. int_lt s.start c.args.place) _ (λ x b f' k. search rules) _ _ c.retain.ensures.filtered))
+    ∙ ap (λ segments. segments ++ record { start = c.args.place; value = c.args.value } ∷ []) c.drop_from.ensures.items)
     ∙ value_of_cut c.args.place c.args.value c.args.segments.now.items there
 
 pub returns-then-not-is_same-clause-kept : goal.returns-then-not-is_same-clause-kept
 returns-then-not-is_same-clause-kept g c =
     let front = filter (λ (s : Segment _). int_lt s.start c.args.place) c.args.segments.now.items in
-    let retained : c.retain.new.self.items ≡ front =
-    filter_same _ (λ s. int_lt s.start c.args.place) _ (λ x b f' k. search rules) _ _ c.retain.ensures.filtered in
+    let retained : c.drop_from.new.segments.items ≡ front = c.drop_from.ensures.items in
     let behind : c.value_behind.result ≡ value_behind None front =
     c.value_behind.ensures ∙ ap (value_behind None) (c.deref.ensures.value ∙ retained) in
     let other : value_behind None front ≢ c.args.value =
@@ -30,7 +27,7 @@ returns-then-not-is_same-clause-kept g c =
 
 pub returns-else-not-is_same-clause-value : goal.returns-else-not-is_same-clause-value
 returns-else-not-is_same-clause-value g c there =
-    let retained = filter_same _ (λ s. int_lt s.start c.args.place) _ (λ x b f' k. search rules) _ _ c.retain.ensures.filtered in
+    let retained = c.drop_from.ensures.items in
     let same : c.value_behind.result ≡ c.args.value = c.is_same.ensures.0 (search rules) in
     ap (λ segments. value_of_segments segments there) retained
     ∙ value_of_front c.args.place c.args.value c.args.segments.now.items there
@@ -38,5 +35,5 @@ returns-else-not-is_same-clause-value g c there =
 
 pub returns-else-not-is_same-clause-kept : goal.returns-else-not-is_same-clause-kept
 returns-else-not-is_same-clause-kept g c =
-    let retained = filter_same _ (λ s. int_lt s.start c.args.place) _ (λ x b f' k. search rules) _ _ c.retain.ensures.filtered in
+    let retained = c.drop_from.ensures.items in
     subst IsKept (sym retained) (kept_front c.args.place c.args.segments.now.items c.requires.kept)

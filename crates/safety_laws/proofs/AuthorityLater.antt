@@ -26,7 +26,6 @@ use Rattle.linking.specs.declared.judgement.Verdict.TheVariants.{Accept, Ignore,
 use Rattle.linking.specs.declared.judgement.Judgement.{Judgement}
 use Rattle.mode_table.specs.declared.mode.Mode.{Mode}
 use Rattle.mode_table.specs.declared.statuses.Item.TheVariants as item
-use Rattle.mode_table.specs.Statuses.{status_on}
 use Rattle.packets.specs.declared.authority.EndTimer.{EndTimer}
 use Rattle.packets.specs.declared.authority.MovementAuthority.{MovementAuthority}
 use Rattle.packets.specs.declared.packet.Packet.{Packet}
@@ -35,15 +34,16 @@ use Rattle.units.specs.Stretches.{Span}
 use Rattle.vars.specs.declared.scale.Scale.{Scale}
 use Rattle.vars.specs.declared.group.GroupIdentity.{GroupIdentity}
 use Rattle.track_picture.specs.Entry.{TrackEntry, Begun, Used, Outcome, Fact, blank, added, asking_for, facts_in}
-use Rattle.track_picture.specs.Live.{is_deleted}
+use Rattle.track_picture.specs.Live.{deleting}
 use Rattle.track_picture.specs.History.{moment_of, groups_of}
-use Rattle.track_picture.specs.Columns.{after_column, after_clock, after_authority, after_facts, after_told, authority_deleted, authorities}
+use Rattle.track_picture.specs.Columns.{after_authority, after_facts, authority_deleted}
 use Rattle.track_picture.proofs.SameParts.{same_end}
 use Rattle.track_picture.specs.Sentences.{begun, happened_first, with_closed, closed_by, used_by, outcome, outcome_at_first, judged}
 use Rattle.mode_control.specs.History.{tracks, mode_of}
 use Rattle.mode_control.specs.Sentences.{told, entry_of}
 use Rattle.kernel.specs.Lives.{life_of}
 use Rattle.safety_laws.specs.Ends.{is_authority, tells_authority, uses_authority, end_after, moment_after}
+use Rattle.safety_laws.proofs.AuthorityTold.{authorities, after_clock, after_told, after_entered, by_event}
 use Rattle.safety_laws.proofs.Events.{train}
 
 -- ---- what has run out has run out later
@@ -126,11 +126,11 @@ no_facts (fact ∷ facts) entries h =
     let parts = or_parts (is_authority fact) (list_any is_authority facts) h in
     ap (after_facts after_authority facts) (no_packet (as_movement_authority fact.packet) fact entries parts.0) ∙ no_facts facts entries parts.1
 
-no_groups : (outcomes : List Outcome) (entries : List AuthorityEntry) → list_any tells_authority outcomes ≡ false → after_told after_authority outcomes entries ≡ entries
+no_groups : (outcomes : List Outcome) (entries : List AuthorityEntry) → list_any tells_authority outcomes ≡ false → after_told outcomes entries ≡ entries
 no_groups [] entries h = refl
 no_groups (outcome ∷ outcomes) entries h =
     let parts = or_parts (tells_authority outcome) (list_any tells_authority outcomes) h in
-    no_facts (facts_in outcome) (after_told after_authority outcomes entries) parts.0 ∙ no_groups outcomes entries parts.1
+    no_facts (facts_in outcome) (after_told outcomes entries) parts.0 ∙ no_groups outcomes entries parts.1
 
 -- an end behind a mode that was entered was there before it
 not_deleted : (b : Bool) (entries : List AuthorityEntry) (end : End) → end_of (cond b (authority_deleted entries) entries) ≡ Some end → end_of entries ≡ Some end
@@ -138,9 +138,9 @@ not_deleted true entries end h = absurd (let no : None ≡ Some end = h in cc)
 not_deleted false entries end h = h
 
 past_mode : (entered : Option Mode) (entries : List AuthorityEntry) (end : End) →
-    end_of (after_column item.Authority authority_deleted entered entries) ≡ Some end → end_of entries ≡ Some end
+    end_of (after_entered entered entries) ≡ Some end → end_of entries ≡ Some end
 past_mode None entries end h = h
-past_mode (Some mode) entries end h = not_deleted (is_deleted (status_on item.Authority mode)) entries end h
+past_mode (Some mode) entries end h = not_deleted (deleting item.Authority mode) entries end h
 
 accepted_same : (clock : Option ℕ) (before : List AuthorityEntry) → accepted (after_clock clock before) ≡ accepted before
 accepted_same None before = refl
@@ -213,20 +213,20 @@ now_by_facts (fact ∷ facts) entries moment at h =
     now_by_facts facts (after_authority fact entries) moment at.1 (now_by_packet (as_movement_authority fact.packet) fact entries moment at.0 h)
 
 now_by_groups : (outcomes : List Outcome) (entries : List AuthorityEntry) (moment : ℕ) → groups_at moment outcomes → now_of entries ≡ moment →
-    now_of (after_told after_authority outcomes entries) ≡ moment
+    now_of (after_told outcomes entries) ≡ moment
 now_by_groups [] entries moment at h = h
 now_by_groups (outcome ∷ outcomes) entries moment at h =
-    now_by_facts (facts_in outcome) (after_told after_authority outcomes entries) moment at.0 (now_by_groups outcomes entries moment at.1 h)
+    now_by_facts (facts_in outcome) (after_told outcomes entries) moment at.0 (now_by_groups outcomes entries moment at.1 h)
 
 now_by_clock : (clock : Option ℕ) (entries : List AuthorityEntry) → now_of (after_clock clock entries) ≡ unwrap_or clock (now_of entries)
 now_by_clock None entries = refl
 now_by_clock (Some moment) entries = refl
 
-now_by_mode : (entered : Option Mode) (entries : List AuthorityEntry) → now_of (after_column item.Authority authority_deleted entered entries) ≡ now_of entries
+now_by_mode : (entered : Option Mode) (entries : List AuthorityEntry) → now_of (after_entered entered entries) ≡ now_of entries
 now_by_mode None entries = refl
 now_by_mode (Some mode) entries =
     let cases : (b : Bool) → now_of (cond b (authority_deleted entries) entries) ≡ now_of entries = elim [ true ↦ refl | false ↦ refl ] in
-    cases (is_deleted (status_on item.Authority mode))
+    cases (deleting item.Authority mode)
 
 now_is : (events : List Event) → now_of (authorities (tracks (life_of events).entries)) ≡ moment_after events
 now_is [] = refl
@@ -237,7 +237,8 @@ now_is (an_event.Input input ∷ events) =
     let before = tracks life.entries in
     let clock = event.begun.clock in
     let known = after_clock clock (authorities before) in
-    now_by_mode (entry_of life input).track.entered (Passed (train life input) ∷ after_told after_authority event.used.groups known)
+    ap now_of (by_event (entry_of life input).track before)
+    ∙ now_by_mode (entry_of life input).track.entered (Passed (train life input) ∷ after_told event.used.groups known)
     ∙ now_by_groups event.used.groups known (unwrap_or clock (moment_of before)) (all_now (mode_of life.entries) before input)
     (now_by_clock clock (authorities before) ∙ ap (unwrap_or clock) (now_is events))
 
@@ -252,8 +253,9 @@ never_forward events input new none order is =
     let before = authorities (tracks life.entries) in
     let clock = event.begun.clock in
     let here : Span = train life input in
-    let told_so = sym (same_end (tracks (life_of (an_event.Input input ∷ events)).entries)) ∙ is in
-    let kept = past_mode (entry_of life input).track.entered (Passed here ∷ after_told after_authority event.used.groups (after_clock clock before)) new told_so in
+    let added = by_event (entry_of life input).track (tracks life.entries) in
+    let told_so = sym (same_end (tracks (life_of (an_event.Input input ∷ events)).entries) ∙ ap end_of added) ∙ is in
+    let kept = past_mode (entry_of life input).track.entered (Passed here ∷ after_told event.used.groups (after_clock clock before)) new told_so in
     let alone : end_of (Passed here ∷ after_clock clock before) ≡ Some new =
     sym (ap (λ (entries : List AuthorityEntry). end_of (Passed here ∷ entries)) (no_groups event.used.groups (after_clock clock before) none)) ∙ kept in
     let at : now_of before ≡ moment_of (tracks life.entries) = now_is events in

@@ -12,14 +12,13 @@ use Rattle.events.specs.declared.input.Input.{Input}
 use Rattle.mode_table.specs.declared.conditions.Conditions.{Conditions}
 use Rattle.mode_table.specs.declared.mode.Mode.{Mode}
 use Rattle.mode_table.specs.declared.mode.Mode.TheVariants.{FullSupervision, OnSight, StaffResponsible, Shunting, Unfitted, StandBy, Trip, PostTrip, SystemFailure}
-use Rattle.mode_table.specs.declared.statuses.Item.TheVariants as item
 use Rattle.mode_table.specs.Modes.{is_mode, is_one_of}
 use Rattle.mode_table.specs.Rows.{next_mode}
 use Rattle.packets.specs.declared.authority.MovementAuthority.{MovementAuthority}
 use Rattle.packets.specs.Packets.{as_movement_authority}
 use Rattle.track_picture.specs.Entry.{TrackEntry, Outcome, Fact, facts_in}
 use Rattle.track_picture.specs.History as picture
-use Rattle.track_picture.specs.Columns.{after_column, after_clock, after_authority, after_facts, after_told, authority_deleted, authorities}
+use Rattle.track_picture.specs.Columns.{after_authority, after_facts}
 use Rattle.track_picture.proofs.SameParts.{same_accepted}
 use Rattle.mode_control.specs.Conditions.{is_full_to}
 use Rattle.mode_control.specs.History.{tracks, mode_of}
@@ -27,6 +26,7 @@ use Rattle.mode_control.specs.Life.{Life, grown}
 use Rattle.mode_control.specs.Sentences.{told, entry_of}
 use Rattle.kernel.specs.Lives.{life_of}
 use Rattle.safety_laws.specs.Running.{modes_by_authority}
+use Rattle.safety_laws.proofs.AuthorityTold.{authorities, after_clock, after_told, after_train, after_entered, by_event}
 use Rattle.safety_laws.proofs.Events.{event_seen, train, found}
 
 abbrev runs : Mode → Bool
@@ -52,13 +52,13 @@ past_facts [] entries h = h
 past_facts (fact ∷ facts) entries h =
     past_facts facts (after_authority fact entries) (by_packet (as_movement_authority fact.packet) fact entries h)
 
-past_groups : (outcomes : List Outcome) (entries : List authority.AuthorityEntry) → stored entries → stored (after_told after_authority outcomes entries)
+past_groups : (outcomes : List Outcome) (entries : List authority.AuthorityEntry) → stored entries → stored (after_told outcomes entries)
 past_groups [] entries h = h
 past_groups (outcome ∷ outcomes) entries h =
-    past_facts (facts_in outcome) (after_told after_authority outcomes entries) (past_groups outcomes entries h)
+    past_facts (facts_in outcome) (after_told outcomes entries) (past_groups outcomes entries h)
 
 past_mode : (mode : Mode) (entries : List authority.AuthorityEntry) → runs mode ≡ true → stored entries →
-    stored (after_column item.Authority authority_deleted (Some mode) entries)
+    stored (after_entered (Some mode) entries)
 past_mode FullSupervision entries h s = s
 past_mode OnSight entries h s = s
 past_mode StaffResponsible entries h s = absurd (let no : false ≡ true = h in cc)
@@ -71,7 +71,7 @@ past_mode SystemFailure entries h s = absurd (let no : false ≡ true = h in cc)
 
 past_turn : (same : Bool) (old new : Mode) (entries : List authority.AuthorityEntry) → runs (unwrap_or (cond same None (Some new)) old) ≡ true →
     (runs old ≡ true → stored entries) → (runs new ≡ true → stored entries) →
-    stored (after_column item.Authority authority_deleted (cond same None (Some new)) entries)
+    stored (after_entered (cond same None (Some new)) entries)
 past_turn true old new entries h before entering = before h
 past_turn false old new entries h before entering = past_mode new entries h (entering h)
 
@@ -163,7 +163,12 @@ by_fact events = subst (λ (fact : Option authority.Fact). is_some fact ≡ true
 
 module _ (life : Life) (input : Input) where
   abbrev seen : List authority.AuthorityEntry
-  seen = authorities (tracks (event_seen life input ∷ life.entries))
+  seen =
+      let event = told life input in
+      after_train (Some (train life input)) (after_told event.used.groups (after_clock event.begun.clock (authorities (tracks life.entries))))
+
+  read_so : stored (authorities (tracks (event_seen life input ∷ life.entries))) → stored seen
+  read_so = subst stored (by_event (event_seen life input).track (tracks life.entries))
 
   -- as it is read off the facts that count
   abbrev read : List authority.AuthorityEntry
@@ -178,13 +183,14 @@ module _ (life : Life) (input : Input) where
       let was : List authority.AuthorityEntry = authorities (tracks life.entries) in
       let event = told life input in
       let still : stored was → stored seen = λ s. past_groups event.used.groups (after_clock event.begun.clock was) (past_clock event.begun.clock was s) in
-      past_turn (is_mode old new) old new seen now (λ h. still (before h))
+      subst stored (sym (by_event (entry_of life input).track (tracks life.entries)))
+      (past_turn (is_mode old new) old new seen now (λ h. still (before h))
       (λ h. elim (enters old c h) [
         | inl runs ↦ still (before runs)
-        | inr full ↦ by_column (tracks (event_seen life input ∷ life.entries))
+        | inr full ↦ read_so (by_column (tracks (event_seen life input ∷ life.entries))
             (full_stored (authority.accepted read) (λ (fact : authority.Fact). end_now fact (authority.now_of read) (authority.sights read))
-            (is_full_to (grown life (event_seen life input)) (train life input).max_front) full)
-      ])
+            (is_full_to (grown life (event_seen life input)) (train life input).max_front) full))
+      ]))
 
 runs_stored : (events : List Event) → runs (mode_of (life_of events).entries) ≡ true → stored (authorities (tracks (life_of events).entries))
 runs_stored [] h = absurd (let no : false ≡ true = h in cc)

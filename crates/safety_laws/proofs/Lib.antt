@@ -4,6 +4,7 @@ mod ByAuthority
 mod Leaving
 mod Courses
 mod Meeting
+mod AuthorityTold
 mod AuthorityLater
 mod Lessening
 mod Passing

@@ -8,12 +8,13 @@ use Rattle.areas.specs.Levels as levels
 use Rattle.authority.specs.Entries.{accepted}
 use Rattle.national.specs.InForce as national
 use Rattle.track_store.specs.Profiles.{listed}
-use Rattle.track_picture.specs.Columns.{authorities, all_areas, announced_levels, national_entries}
+use Rattle.track_picture.specs.Columns.{told_in}
 use Rattle.track_picture.specs.Ending.{LatestCountsAlone}
-use Rattle.track_picture.proofs.Granted.{granted_all}
+use Rattle.track_picture.specs.Happenings.{happenings}
+use Rattle.track_picture.proofs.Granted.{grants_are}
 use Rattle.track_picture.proofs.Zones.{told_areas, told_all}
-use Rattle.track_picture.proofs.Announced as announced
-use Rattle.track_picture.proofs.Nation as nation
+use Rattle.track_picture.proofs.Announced.{levels_are}
+use Rattle.track_picture.proofs.Nation.{waiting_are}
 
 one : {X : Type 0} (o : Option X) → length (listed o) ≤ 1
 one None = omega arith
@@ -28,9 +29,12 @@ one_of_areas (areas.AreaEntry.Told fact ∷ es) = omega arith
 one_of_areas (areas.AreaEntry.Cleared ∷ es) = omega arith
 
 pub latest_counts_alone : LatestCountsAlone
-latest_counts_alone events = record {
-  authorities = none_or_one _ (accepted (authorities events)) (granted_all events);
-  areas = subst (λ (xs : List (List Area)). length xs ≤ 1) (sym (told_all events)) (one_of_areas (all_areas events));
-  levels = none_or_one _ (levels.waiting (announced_levels events)) (announced.waits_all events);
-  values = none_or_one _ (national.waiting (national_entries events)) (nation.waits_all events);
-}
+latest_counts_alone events =
+    let all = happenings events in
+    let told = told_in all in
+    record {
+      authorities = none_or_one _ (accepted told.grants) (grants_are all);
+      areas = subst (λ (xs : List (List Area)). length xs ≤ 1) (sym (told_all all)) (one_of_areas told.areas);
+      levels = none_or_one _ (levels.waiting told.levels) (levels_are all);
+      values = none_or_one _ (national.waiting told.values) (waiting_are all);
+    }

@@ -1,6 +1,6 @@
 -- Kind by kind, what counts behind a happening follows the kind's line of the table.
 use Rattle.std.proofs.Common.{List, refl, ap}
-use Rattle.std.specs.Prelude.{Some, reverse}
+use Rattle.std.specs.Prelude.{reverse}
 use Rattle.mode_table.specs.declared.mode.Mode.{Mode}
 use Rattle.mode_table.specs.declared.statuses.Item.TheVariants as item
 use Rattle.restriction.specs.declared.restriction.Restriction.{Restriction}
@@ -44,8 +44,8 @@ leaves_all : (mode : Mode) (earlier : List Happening) → LeavesAll mode earlier
 leaves_all mode earlier = record {
   restrictions =
       ap (λ (rs : List Restriction). held (mark_in earlier) (reverse rs))
-      (stays restricted item.Restrictions limits.none_deletes (λ m x. refl) (Some mode) earlier);
-  values = ap newest (stays values item.AnnouncedValues nation.none_deletes (λ m x. refl) (Some mode) earlier);
+      (stays restricted item.Restrictions limits.none_deletes (λ m x. refl) mode earlier);
+  values = ap newest (stays values item.AnnouncedValues nation.none_deletes (λ m x. refl) mode earlier);
 }
 
 pub modes_delete_by_the_table : ModesDeleteByTheTable

@@ -1,222 +1,140 @@
 -- The authority that counts, what its timers have seen and the moment are those of the authority's list.
-use Rattle.std.proofs.Common.{◌≡◌, ℕ, ℤ, List, [], ◌∷◌, Bool, true, false, cond, refl, ap, sym, ◌∙◌}
-use Rattle.std.specs.Prelude.{Option, Some, None, not}
+use Rattle.std.proofs.Common.{◌≡◌, ℕ, ℤ, List, [], ◌∷◌, Bool, true, false, cond, refl, ap, ◌∙◌}
+use Rattle.std.specs.Prelude.{Option, Some, None}
 use Rattle.vars.specs.declared.group.GroupIdentity.{GroupIdentity}
-use Rattle.packets.specs.declared.packet.Packet.{Packet}
-use Rattle.packets.specs.declared.packet.Packet.TheVariants as packets
-use Rattle.track_picture.specs.Entry.{TrackEntry, Outcome}
-use Rattle.units.specs.Stretches.{Span}
 use Rattle.authority.specs.Entries as authority
 use Rattle.authority.specs.Entries.{AuthorityEntry, Sight, accepted, sights, now_of}
-use Rattle.linking.specs.declared.announcement.Announcement.{Announcement}
 use Rattle.events.specs.declared.input.Reading.{Reading}
-use Rattle.linking.specs.Linking.{LinkEntry}
 use Rattle.mode_table.specs.declared.mode.Mode.{Mode}
 use Rattle.mode_table.specs.declared.statuses.Item.TheVariants as item
-use Rattle.mode_table.specs.Statuses.{status_on}
+use Rattle.packets.specs.declared.packet.Packet.{Packet}
+use Rattle.packets.specs.declared.packet.Packet.TheVariants as packets
 use Rattle.track_store.specs.Profiles.{listed}
-use Rattle.track_picture.specs.Columns.{after_told, after_clock, after_authority, after_train, after_column, authority_deleted, authorities}
-use Rattle.track_picture.specs.Live.{is_deleted, Happening}
-use Rattle.track_picture.specs.Parts.{newest, moment_in}
-use Rattle.track_picture.specs.Happenings.{and_ticked, and_moved, and_missed, and_closed, and_seen, and_entered, and_marked, happenings, comes_later}
+use Rattle.units.specs.Stretches.{Span}
+use Rattle.track_picture.specs.Columns.{TrackTold, told_in, authority_deleted}
+use Rattle.track_picture.specs.Entry.{TrackEntry, Outcome, facts_in}
+use Rattle.track_picture.specs.Happenings.{and_ticked, and_moved, and_missed, and_judged, and_closed, and_seen, and_entered, and_marked, happenings}
+use Rattle.track_picture.specs.Live.{Happening, level_told, deleting}
+use Rattle.track_picture.specs.Parts.{moment_in}
 use Rattle.track_picture.proofs.EachKind.{grant, look}
-use Rattle.track_picture.proofs.OneKind.{value, fact_with, kept_all, lost_all, step_to, past_links, past_level, judged, missed, ticked, moved, marked, seen, column}
-use Rattle.track_picture.proofs.Growing.{closed_in_one, past_missed, past_judged}
+use Rattle.track_picture.proofs.Growing.{past_missed, past_judged, past_used}
+use Rattle.track_picture.proofs.OneKind.{Follows, value, fact_with, kept_all, lost_all, by_mode, step_to, follows, past_linked, past_links, past_level}
 
-pub newest_listed : {X : Type 0} (x : Option X) → newest (listed x) ≡ x
-newest_listed None = refl
-newest_listed (Some x) = refl
+-- ---- the authority
 
 abbrev granted : List AuthorityEntry → List authority.Fact
 granted es = listed (accepted es)
 
-abbrev grant_as : List Happening → List (AuthorityEntry) → Type 0
-grant_as hs es = value grant hs ≡ granted es
+abbrev latest : TrackTold → List authority.Fact
+latest told = granted told.grants
 
-grant_first : (group : GroupIdentity) (place : ℤ) (moment : ℕ) (packet : Packet) (hs : List Happening) (es : List (AuthorityEntry)) → grant_as hs es →
-    grant_as (cond (not (comes_later packet)) (Happening.Told (fact_with group place moment packet) ∷ hs) hs) (after_authority (fact_with group place moment packet) es)
-grant_first g p m (packets.MovementAuthority q) hs es r =
-    step_to grant (Happening.Told (fact_with g p m (packets.MovementAuthority q))) hs (granted es) r ∙ ap (λ xs. authority.fact_of q p m ∷ xs) (lost_all (granted es))
-grant_first g p m (packets.Linking q) hs es r = past_links grant (λ a. refl) g p m q (λ x. refl) hs ∙ r
-grant_first g p m (packets.LevelTransition q) hs es r = past_level grant (λ a. refl) g p m q (λ x. refl) hs ∙ r
-grant_first g p m (packets.RestrictionRevocation q) hs es r = r
-grant_first g p m (packets.ModeProfile q) hs es r = r
-grant_first g p m other hs es r = step_to grant (Happening.Told (fact_with g p m other)) hs (granted es) r ∙ kept_all (granted es)
+grant_told : (group : GroupIdentity) (place : ℤ) (moment : ℕ) (packet : Packet) (told : TrackTold) →
+    Follows grant latest (Happening.Told (fact_with group place moment packet)) told
+grant_told g p m (packets.MovementAuthority q) told = ap (λ xs. authority.fact_of q p m ∷ xs) (lost_all (latest told))
+grant_told g p m (packets.Linking q) told = past_links grant (λ a. refl) g p q (latest told)
+grant_told g p m (packets.LevelTransition q) told =
+    past_level grant (λ a. refl) (level_told (fact_with g p m (packets.LevelTransition q))) (latest told)
+grant_told g p m other told = kept_all (latest told)
 
-grant_later : (group : GroupIdentity) (place : ℤ) (moment : ℕ) (packet : Packet) (hs : List Happening) (es : List (AuthorityEntry)) → grant_as hs es →
-    grant_as (cond (comes_later packet) (Happening.Told (fact_with group place moment packet) ∷ hs) hs) es
-grant_later g p m (packets.RestrictionRevocation q) hs es r =
-    step_to grant (Happening.Told (fact_with g p m (packets.RestrictionRevocation q))) hs (granted es) r ∙ kept_all (granted es)
-grant_later g p m (packets.ModeProfile q) hs es r =
-    step_to grant (Happening.Told (fact_with g p m (packets.ModeProfile q))) hs (granted es) r ∙ kept_all (granted es)
-grant_later g p m other hs es r = r
+grant_one : (h : Happening) (told : TrackTold) → Follows grant latest h told
+grant_one (Happening.Told fact) told = grant_told fact.group fact.place fact.moment fact.packet told
+grant_one (Happening.Linked entry) told = past_linked grant refl entry (latest told)
+grant_one (Happening.Entered mode) told = by_mode grant granted authority_deleted (λ xs. refl) (deleting item.Authority mode) told.grants
+grant_one other told = kept_all (latest told)
 
-grant_closed : (outcomes : List Outcome) (hs : List Happening) (es : List (AuthorityEntry)) → grant_as hs es →
-    grant_as (and_closed outcomes hs) (after_told after_authority outcomes es)
-grant_closed =
-    closed_in_one grant_as after_authority
-    (λ fact hs es r. grant_first fact.group fact.place fact.moment fact.packet hs es r)
-    (λ fact hs es r. grant_later fact.group fact.place fact.moment fact.packet hs es r)
-    (λ outcome hs es r. judged grant refl (λ entry x. refl) outcome hs ∙ r)
-
-abbrev look_as : List Happening → List (AuthorityEntry) → Type 0
-look_as hs es = value look hs ≡ sights es
-
-look_first : (group : GroupIdentity) (place : ℤ) (moment : ℕ) (packet : Packet) (hs : List Happening) (es : List (AuthorityEntry)) → look_as hs es →
-    look_as (cond (not (comes_later packet)) (Happening.Told (fact_with group place moment packet) ∷ hs) hs) (after_authority (fact_with group place moment packet) es)
-look_first g p m (packets.MovementAuthority q) hs es r =
-    step_to look (Happening.Told (fact_with g p m (packets.MovementAuthority q))) hs (sights es) r ∙ lost_all (sights es)
-look_first g p m (packets.Linking q) hs es r = past_links look (λ a. refl) g p m q (λ x. refl) hs ∙ r
-look_first g p m (packets.LevelTransition q) hs es r = past_level look (λ a. refl) g p m q (λ x. refl) hs ∙ r
-look_first g p m (packets.RestrictionRevocation q) hs es r = r
-look_first g p m (packets.ModeProfile q) hs es r = r
-look_first g p m other hs es r = step_to look (Happening.Told (fact_with g p m other)) hs (sights es) r ∙ kept_all (sights es)
-
-look_later : (group : GroupIdentity) (place : ℤ) (moment : ℕ) (packet : Packet) (hs : List Happening) (es : List (AuthorityEntry)) → look_as hs es →
-    look_as (cond (comes_later packet) (Happening.Told (fact_with group place moment packet) ∷ hs) hs) es
-look_later g p m (packets.RestrictionRevocation q) hs es r =
-    step_to look (Happening.Told (fact_with g p m (packets.RestrictionRevocation q))) hs (sights es) r ∙ kept_all (sights es)
-look_later g p m (packets.ModeProfile q) hs es r =
-    step_to look (Happening.Told (fact_with g p m (packets.ModeProfile q))) hs (sights es) r ∙ kept_all (sights es)
-look_later g p m other hs es r = r
-
-look_closed : (outcomes : List Outcome) (hs : List Happening) (es : List (AuthorityEntry)) → look_as hs es →
-    look_as (and_closed outcomes hs) (after_told after_authority outcomes es)
-look_closed =
-    closed_in_one look_as after_authority
-    (λ fact hs es r. look_first fact.group fact.place fact.moment fact.packet hs es r)
-    (λ fact hs es r. look_later fact.group fact.place fact.moment fact.packet hs es r)
-    (λ outcome hs es r. judged look refl (λ entry x. refl) outcome hs ∙ r)
+pub grants_are : (hs : List Happening) → value grant hs ≡ listed (accepted (told_in hs).grants)
+grants_are = follows grant latest refl grant_one
 
 -- ---- the moment
 
-abbrev moment_as : List Happening → List AuthorityEntry → Type 0
-moment_as hs es = moment_in hs ≡ now_of es
+now_told : (group : GroupIdentity) (place : ℤ) (moment : ℕ) (packet : Packet) (hs : List Happening) → moment_in hs ≡ now_of (told_in hs).grants →
+    moment_in (Happening.Told (fact_with group place moment packet) ∷ hs) ≡ now_of (told_in (Happening.Told (fact_with group place moment packet) ∷ hs)).grants
+now_told g p m (packets.MovementAuthority q) hs r = refl
+now_told g p m other hs r = r
 
-moment_first : (group : GroupIdentity) (place : ℤ) (moment : ℕ) (packet : Packet) (hs : List Happening) (es : List AuthorityEntry) → moment_as hs es →
-    moment_as (cond (not (comes_later packet)) (Happening.Told (fact_with group place moment packet) ∷ hs) hs) (after_authority (fact_with group place moment packet) es)
-moment_first g p m (packets.MovementAuthority q) hs es r = refl
-moment_first g p m other hs es r = r
+now_by_mode : (deleted : Bool) (es : List AuthorityEntry) → now_of es ≡ now_of (cond deleted (authority_deleted es) es)
+now_by_mode true es = refl
+now_by_mode false es = refl
 
-moment_later : (group : GroupIdentity) (place : ℤ) (moment : ℕ) (packet : Packet) (hs : List Happening) (es : List AuthorityEntry) → moment_as hs es →
-    moment_as (cond (comes_later packet) (Happening.Told (fact_with group place moment packet) ∷ hs) hs) es
-moment_later g p m (packets.RestrictionRevocation q) hs es r = r
-moment_later g p m (packets.ModeProfile q) hs es r = r
-moment_later g p m other hs es r = r
+pub moment_is : (hs : List Happening) → moment_in hs ≡ now_of (told_in hs).grants
+moment_is [] = refl
+moment_is (Happening.Ticked moment ∷ hs) = refl
+moment_is (Happening.Told fact ∷ hs) = now_told fact.group fact.place fact.moment fact.packet hs (moment_is hs)
+moment_is (Happening.Entered mode ∷ hs) = moment_is hs ∙ now_by_mode (deleting item.Authority mode) (told_in hs).grants
+moment_is (other ∷ hs) = moment_is hs
 
-moment_linked : (entry : LinkEntry) (hs : List Happening) (es : List AuthorityEntry) → moment_as hs es → moment_as (Happening.Linked entry ∷ hs) es
-moment_linked entry hs es r = r
+-- ---- what its timers have seen, where each look was at the moment that it tells
 
-moment_closed : (outcomes : List Outcome) (hs : List Happening) (es : List AuthorityEntry) → moment_as hs es →
-    moment_as (and_closed outcomes hs) (after_told after_authority outcomes es)
-moment_closed =
-    closed_in_one moment_as after_authority
-    (λ fact hs es r. moment_first fact.group fact.place fact.moment fact.packet hs es r)
-    (λ fact hs es r. moment_later fact.group fact.place fact.moment fact.packet hs es r)
-    (past_judged moment_as moment_linked (λ group hs es r. r) (λ group fix hs es r. r))
+abbrev IsInTime : List Happening → Type 0
+IsInTime [] = Unit {0}
+IsInTime (Happening.Seen sight ∷ hs) = (sight.moment ≡ moment_in hs) × IsInTime hs
+IsInTime (happening ∷ hs) = IsInTime hs
 
--- ---- all three
+look_told : (group : GroupIdentity) (place : ℤ) (moment : ℕ) (packet : Packet) (told : TrackTold) →
+    Follows look (λ t. sights t.grants) (Happening.Told (fact_with group place moment packet)) told
+look_told g p m (packets.MovementAuthority q) told = lost_all (sights told.grants)
+look_told g p m (packets.Linking q) told = past_links look (λ a. refl) g p q (sights told.grants)
+look_told g p m (packets.LevelTransition q) told =
+    past_level look (λ a. refl) (level_told (fact_with g p m (packets.LevelTransition q))) (sights told.grants)
+look_told g p m other told = kept_all (sights told.grants)
 
-record IsKnown (hs : List Happening) (es : List AuthorityEntry) : Type 0 where
-  granted_is : grant_as hs es
-  looks_are : look_as hs es
-  moment_is : moment_as hs es
+looks_in_time : (hs : List Happening) → IsInTime hs → value look hs ≡ sights (told_in hs).grants
+looks_in_time [] t = refl
+looks_in_time (Happening.Seen sight ∷ hs) t =
+    let seen = (told_in hs).grants in
+    step_to look (Happening.Seen sight) hs (sights seen) (looks_in_time hs t.1)
+    ∙ (ap (λ xs. sight ∷ xs) (kept_all (sights seen))
+    ∙ ap (λ (at : ℕ). (let s : Sight = record { moment = at; train = sight.train } in s) ∷ sights seen) (t.0 ∙ moment_is hs))
+looks_in_time (Happening.Told fact ∷ hs) t =
+    step_to look (Happening.Told fact) hs (sights (told_in hs).grants) (looks_in_time hs t)
+    ∙ look_told fact.group fact.place fact.moment fact.packet (told_in hs)
+looks_in_time (Happening.Linked entry ∷ hs) t =
+    step_to look (Happening.Linked entry) hs (sights (told_in hs).grants) (looks_in_time hs t)
+    ∙ past_linked look refl entry (sights (told_in hs).grants)
+looks_in_time (Happening.Entered mode ∷ hs) t =
+    step_to look (Happening.Entered mode) hs (sights (told_in hs).grants) (looks_in_time hs t)
+    ∙ by_mode look sights authority_deleted (λ xs. refl) (deleting item.Authority mode) (told_in hs).grants
+looks_in_time (other ∷ hs) t =
+    step_to look other hs (sights (told_in hs).grants) (looks_in_time hs t) ∙ kept_all (sights (told_in hs).grants)
 
-clocked : (clock : Option ℕ) (hs : List Happening) (es : List AuthorityEntry) → IsKnown hs es → IsKnown (and_ticked clock hs) (after_clock clock es)
-clocked None hs es k = k
-clocked (Some moment) hs es k = record {
-  granted_is = ticked grant (Some moment) hs ∙ k.granted_is;
-  looks_are = ticked look (Some moment) hs ∙ k.looks_are;
-  moment_is = refl;
-}
+-- so it is in a life
 
-moved_all : (reading : Option Reading) (hs : List Happening) (es : List AuthorityEntry) → IsKnown hs es → IsKnown (and_moved reading hs) es
-moved_all None hs es k = k
-moved_all (Some reading) hs es k = record {
-  granted_is = moved grant (Some reading) hs ∙ k.granted_is;
-  looks_are = moved look (Some reading) hs ∙ k.looks_are;
-  moment_is = k.moment_is;
-}
+ticked : (clock : Option ℕ) (hs : List Happening) → IsInTime hs → IsInTime (and_ticked clock hs)
+ticked None hs t = t
+ticked (Some moment) hs t = t
 
-missed_all : (announcements : List Announcement) (hs : List Happening) (es : List AuthorityEntry) → IsKnown hs es → IsKnown (and_missed announcements hs) es
-missed_all announcements hs es k = record {
-  granted_is = missed grant refl (λ entry x. refl) announcements hs ∙ k.granted_is;
-  looks_are = missed look refl (λ entry x. refl) announcements hs ∙ k.looks_are;
-  moment_is = past_missed moment_as moment_linked announcements hs es k.moment_is;
-}
+moved : (reading : Option Reading) (hs : List Happening) → IsInTime hs → IsInTime (and_moved reading hs)
+moved None hs t = t
+moved (Some reading) hs t = t
 
-closed_all : (outcomes : List Outcome) (hs : List Happening) (es : List AuthorityEntry) → IsKnown hs es →
-    IsKnown (and_closed outcomes hs) (after_told after_authority outcomes es)
-closed_all outcomes hs es k = record {
-  granted_is = grant_closed outcomes hs es k.granted_is;
-  looks_are = look_closed outcomes hs es k.looks_are;
-  moment_is = moment_closed outcomes hs es k.moment_is;
-}
+closed : (outcomes : List Outcome) (hs : List Happening) → IsInTime hs → IsInTime (and_closed outcomes hs)
+closed [] hs t = t
+closed (o ∷ os) hs t =
+    past_used IsInTime (λ fact hs t. t) (facts_in o) (and_judged o (and_closed os hs))
+    (past_judged IsInTime (λ entry hs t. t) (λ group hs t. t) (λ group fix hs t. t) o (and_closed os hs) (closed os hs t))
 
-seen_all : (train : Option Span) (hs : List Happening) (es : List AuthorityEntry) → IsKnown hs es → IsKnown (and_seen train hs) (after_train train es)
-seen_all None hs es k = k
-seen_all (Some train) hs es k =
-    let sight : Sight = record { moment = moment_in hs; train = train } in
-    record {
-      granted_is = seen grant (λ s. refl) (λ s x. refl) (Some train) hs ∙ k.granted_is;
-      looks_are =
-          step_to look (Happening.Seen sight) hs (sights es) k.looks_are
-          ∙ (ap (λ xs. sight ∷ xs) (kept_all (sights es))
-          ∙ ap (λ (at : ℕ). (let s : Sight = record { moment = at; train = train } in s) ∷ sights es) k.moment_is);
-      moment_is = k.moment_is;
-    }
+seen : (train : Option Span) (hs : List Happening) → IsInTime hs → IsInTime (and_seen train hs)
+seen None hs t = t
+seen (Some train) hs t = (refl, t)
 
-now_column : (deleted : Bool) (es : List AuthorityEntry) → now_of (cond deleted (authority_deleted es) es) ≡ now_of es
-now_column true es = refl
-now_column false es = refl
+entered : (mode : Option Mode) (hs : List Happening) → IsInTime hs → IsInTime (and_entered mode hs)
+entered None hs t = t
+entered (Some mode) hs t = t
 
-now_entered : (mode : Option Mode) (hs : List Happening) (es : List AuthorityEntry) → moment_as hs es →
-    moment_as (and_entered mode hs) (after_column item.Authority authority_deleted mode es)
-now_entered None hs es r = r
-now_entered (Some mode) hs es r = r ∙ sym (now_column (is_deleted (status_on item.Authority mode)) es)
+marked : (mark : Option ℤ) (hs : List Happening) → IsInTime hs → IsInTime (and_marked mark hs)
+marked None hs t = t
+marked (Some mark) hs t = t
 
-entered_all : (mode : Option Mode) (hs : List Happening) (es : List AuthorityEntry) → IsKnown hs es →
-    IsKnown (and_entered mode hs) (after_column item.Authority authority_deleted mode es)
-entered_all mode hs es k = record {
-  granted_is = column grant granted authority_deleted (λ xs. refl) item.Authority (λ mode x. refl) mode hs es k.granted_is;
-  looks_are = column look sights authority_deleted (λ xs. refl) item.Authority (λ mode x. refl) mode hs es k.looks_are;
-  moment_is = now_entered mode hs es k.moment_is;
-}
-
-now_marked : (mark : Option ℤ) (hs : List Happening) → moment_in (and_marked mark hs) ≡ moment_in hs
-now_marked None hs = refl
-now_marked (Some mark) hs = refl
-
-marked_all : (mark : Option ℤ) (hs : List Happening) (es : List AuthorityEntry) → IsKnown hs es → IsKnown (and_marked mark hs) es
-marked_all mark hs es k = record {
-  granted_is = marked grant mark hs ∙ k.granted_is;
-  looks_are = marked look mark hs ∙ k.looks_are;
-  moment_is = now_marked mark hs ∙ k.moment_is;
-}
-
-known_all : (events : List TrackEntry) → IsKnown (happenings events) (authorities events)
-known_all [] = record { granted_is = refl; looks_are = refl; moment_is = refl }
-known_all (e ∷ es) =
+in_time : (events : List TrackEntry) → IsInTime (happenings events)
+in_time [] = tt
+in_time (e ∷ es) =
     let ticked_now = and_ticked e.begun.clock (happenings es) in
     let moved_now = and_moved e.begun.reading ticked_now in
     let begun = and_missed e.begun.missed moved_now in
-    let closed = and_closed e.used.groups begun in
-    let clocked_now = after_clock e.begun.clock (authorities es) in
-    let told_now = after_told after_authority e.used.groups clocked_now in
-    marked_all e.mark (and_entered e.entered (and_seen e.train closed))
-    (after_column item.Authority authority_deleted e.entered (after_train e.train told_now))
-    (entered_all e.entered (and_seen e.train closed) (after_train e.train told_now)
-    (seen_all e.train closed told_now
-    (closed_all e.used.groups begun clocked_now
-    (missed_all e.begun.missed moved_now clocked_now
-    (moved_all e.begun.reading ticked_now clocked_now
-    (clocked e.begun.clock (happenings es) (authorities es) (known_all es)))))))
+    let closed_now = and_closed e.used.groups begun in
+    let seen_now = and_seen e.train closed_now in
+    marked e.mark (and_entered e.entered seen_now) (entered e.entered seen_now (seen e.train closed_now (closed e.used.groups begun
+    (past_missed IsInTime (λ entry hs t. t) e.begun.missed moved_now (moved e.begun.reading ticked_now (ticked e.begun.clock (happenings es) (in_time es)))))))
 
-pub granted_all : (events : List TrackEntry) → value grant (happenings events) ≡ listed (accepted (authorities events))
-granted_all events = (known_all events).granted_is
-
-pub looks_all : (events : List TrackEntry) → value look (happenings events) ≡ sights (authorities events)
-looks_all events = (known_all events).looks_are
-
-pub moment_all : (events : List TrackEntry) → moment_in (happenings events) ≡ now_of (authorities events)
-moment_all events = (known_all events).moment_is
+pub looks_are : (events : List TrackEntry) → value look (happenings events) ≡ sights (told_in (happenings events)).grants
+looks_are events = looks_in_time (happenings events) (in_time events)

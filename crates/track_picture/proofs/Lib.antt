@@ -5,13 +5,12 @@ pub mod Walking
 pub mod Wanting
 pub mod Marking
 pub mod Idling
+pub mod Moving
 pub mod Judging
-pub mod Picture
 pub mod Growing
 pub mod OneKind
 pub mod EachKind
 pub mod Profile
-pub mod Mark
 pub mod Granted
 pub mod Zones
 pub mod Announced

@@ -1,4 +1,4 @@
--- The mark of the restrictions is that of the entries: no packet changes it.
+-- The mark of the restrictions is that which is kept beside them: no packet changes it.
 use Rattle.std.proofs.Common.{◌≡◌, ◌≤ℤ◌, ℤ, List, [], ◌∷◌, Option, Some, None, refl, ap, ◌∙◌, arith}
 use Rattle.std.proofs.lemmas.Int.{ints}
 use Rattle.std.specs.Int.{int_max}
@@ -6,15 +6,9 @@ use Rattle.std.specs.Option.{option_map_or}
 use Rattle.packets.specs.Packets.{as_speed_restriction, as_revocation}
 use Rattle.track_store.specs.Restrictions as track
 use Rattle.track_store.specs.Restrictions.RestrictionEntry.{Restricted, Revoked}
-use Rattle.track_picture.specs.Entry.{TrackEntry, Fact, Outcome, facts_in}
-use Rattle.track_picture.specs.Columns.{after_facts, after_restriction, after_revocation, after_messages, after_mark, restrictions, mark_of}
-use Rattle.track_picture.specs.Live.{restriction_of}
-
-facts_unmarked : (tell : Fact → List track.RestrictionEntry → List track.RestrictionEntry) →
-    ((fact : Fact) (told : List track.RestrictionEntry) → track.mark_of (tell fact told) ≡ track.mark_of told) →
-    (facts : List Fact) (told : List track.RestrictionEntry) → track.mark_of (after_facts tell facts told) ≡ track.mark_of told
-facts_unmarked tell same [] told = refl
-facts_unmarked tell same (fact ∷ facts) told = facts_unmarked tell same facts (tell fact told) ∙ same fact told
+use Rattle.track_picture.specs.Entry.{Fact}
+use Rattle.track_picture.specs.Columns.{TrackTold, told_in, earlier_told, later_told, after_restriction, after_revocation}
+use Rattle.track_picture.specs.Live.{Happening, restriction_of}
 
 maybe_unmarked : {P : Type 0} (entry : P → track.RestrictionEntry) (packet : Option P) (told : List track.RestrictionEntry) →
     ((p : P) → track.mark_of (entry p ∷ told) ≡ track.mark_of told) →
@@ -31,23 +25,15 @@ revocation_unmarked fact told = maybe_unmarked (λ p. Revoked p.number) (as_revo
 
 -- ---- of a whole life
 
-messages_unmarked : (outcomes : List Outcome) (told : List track.RestrictionEntry) → track.mark_of (after_messages outcomes told) ≡ track.mark_of told
-messages_unmarked [] told = refl
-messages_unmarked (outcome ∷ outcomes) told =
-    facts_unmarked after_revocation revocation_unmarked (facts_in outcome) (after_facts after_restriction (facts_in outcome) (after_messages outcomes told))
-    ∙ facts_unmarked after_restriction restriction_unmarked (facts_in outcome) (after_messages outcomes told)
-    ∙ messages_unmarked outcomes told
+told_unmarked : (fact : Fact) (told : TrackTold) → track.mark_of (later_told fact (earlier_told fact told)).restrictions ≡ track.mark_of told.restrictions
+told_unmarked fact told =
+    revocation_unmarked fact (after_restriction fact told.restrictions) ∙ restriction_unmarked fact told.restrictions
 
-marked : (o : Option ℤ) (told : List track.RestrictionEntry) (mark : ℤ) → track.mark_of told ≡ mark →
-    track.mark_of (after_mark o told) ≡ option_map_or (λ m. int_max m mark) o mark
-marked None told mark is = is
-marked (Some m) told mark is = ap (int_max m) is
-
-pub one_mark : (entries : List TrackEntry) → track.mark_of (restrictions entries) ≡ mark_of entries
+pub one_mark : (hs : List Happening) → track.mark_of (told_in hs).restrictions ≡ (told_in hs).mark
 one_mark [] = refl
-one_mark (entry ∷ entries) =
-    marked entry.mark (after_messages entry.used.groups (restrictions entries)) (mark_of entries)
-    (messages_unmarked entry.used.groups (restrictions entries) ∙ one_mark entries)
+one_mark (Happening.Marked mark ∷ hs) = ap (int_max mark) (one_mark hs)
+one_mark (Happening.Told fact ∷ hs) = told_unmarked fact (told_in hs) ∙ one_mark hs
+one_mark (other ∷ hs) = one_mark hs
 
 -- a mark that isn't ahead changes nothing
 pub kept_mark : (mark before : ℤ) → mark ≤ℤ before → int_max mark before ≡ before

@@ -39,10 +39,10 @@ module _ (group : Option GroupIdentity) where
 
   used : (outcome : Outcome) (hs : List Happening) (es : List PlaceEntry) → same hs es → same (and_used (facts_in outcome) hs) es
   used outcome hs es k =
-      past_used same (λ fact hs es k. record { places_are = k.places_are; group_is = k.group_is }) (facts_in outcome) hs es k
+      past_used (λ gs. same gs es) (λ fact hs k. record { places_are = k.places_are; group_is = k.group_is }) (facts_in outcome) hs k
 
   passed : (announcements : List Announcement) (hs : List Happening) (es : List PlaceEntry) → same hs es → same (and_missed announcements hs) es
-  passed announcements hs es k = past_missed same linked announcements hs es k
+  passed announcements hs es k = past_missed (λ gs. same gs es) (λ entry hs k. linked entry hs es k) announcements hs k
 
   ticked : (clock : Option ℕ) (hs : List Happening) (es : List PlaceEntry) → same hs es → same (and_ticked clock hs) es
   ticked None hs es k = k

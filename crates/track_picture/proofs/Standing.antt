@@ -1,7 +1,7 @@
 -- What stands for a life, by what is inside.
 use Rattle.std.proofs.Common.{◌≡◌, ap, sym, subst}
 use Rattle.track_picture.specs.StandsFor.{Knowledge, Life, StandsForLife}
-use Rattle.track_picture.specs.Columns.{StandsForColumns}
+use Rattle.track_picture.specs.Columns.{TrackTold, StandsForTold, StandsForColumns}
 use Rattle.track_picture.specs.Stores.{Stores}
 
 -- what two stores give, where these are the same
@@ -20,3 +20,7 @@ module _ {G S : Type 0} {stores : Stores G S} where
   pub seen_columns : {inside known : Knowledge G S} {life : Life} →
       inside ≡ known → StandsForColumns stores known life → StandsForColumns stores inside life
   seen_columns {life = life} is s = subst (λ k. StandsForColumns stores k life) (sym is) s
+
+  pub told_as : {known : Knowledge G S} {life : Life} {told other : TrackTold} →
+      told ≡ other → StandsForTold stores known life told → StandsForTold stores known life other
+  told_as {known} {life} is s = subst (λ t. StandsForTold stores known life t) is s

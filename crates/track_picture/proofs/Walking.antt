@@ -10,7 +10,7 @@ use Rattle.track_picture.specs.Entry.{Fact}
 use Rattle.track_picture.specs.Columns.{after_facts}
 use Rattle.track_picture.specs.Sentences.{is_used}
 use Rattle.track_picture.specs.Steps.{fact_of, facts}
-use Rattle.track_picture.specs.Told.{TrackTold, after_later}
+use Rattle.track_picture.specs.Told.{Walked, after_later}
 use Rattle.track_picture.specs.Happenings.{comes_later}
 
 module _ {A : Type 0} (tell : Fact → A → A) (used : Use) (packet : Packet) (rest : List Packet) (told : A) where
@@ -39,21 +39,22 @@ nothing_told : {A B : Type 0} (tell : A → B) (o : Option A) (told : B) → is_
 nothing_told tell None told h = refl
 nothing_told tell (Some a) told h = cc
 
-stays : (fact : Fact) (told : TrackTold) → comes_later fact.packet ≡ false → after_later fact told ≡ told
-stays fact told h =
+stays : (fact : Fact) (walked : Walked) → comes_later fact.packet ≡ false → after_later fact walked ≡ walked
+stays fact walked h =
+    let told = walked.told in
     let revocation = nothing_told _ (as_revocation fact.packet) told.restrictions (or_left _ _ h) in
     let areas = nothing_told _ (as_mode_profile fact.packet) told.areas (or_right _ _ h) in
-    (λ i. record told { restrictions = revocation i; areas = areas i })
+    (λ i. record walked { told = record told { restrictions = revocation i; areas = areas i } })
 
-stays_so : (fact : Fact) (told : TrackTold) → comes_later fact.packet ≡ false → (b : Bool) → cond b (after_later fact told) told ≡ told
-stays_so fact told h true = stays fact told h
-stays_so fact told h false = refl
+stays_so : (fact : Fact) (walked : Walked) → comes_later fact.packet ≡ false → (b : Bool) → cond b (after_later fact walked) walked ≡ walked
+stays_so fact walked h true = stays fact walked h
+stays_so fact walked h false = refl
 
-pub none_later : (used : Use) (packets : List Packet) (told : TrackTold) → list_any comes_later packets ≡ false →
-    after_facts after_later (facts used packets) told ≡ told
-none_later used [] told h = refl
-none_later used (packet ∷ packets) told h =
-    one_packet after_later used packet packets told
+pub none_later : (used : Use) (packets : List Packet) (walked : Walked) → list_any comes_later packets ≡ false →
+    after_facts after_later (facts used packets) walked ≡ walked
+none_later used [] walked h = refl
+none_later used (packet ∷ packets) walked h =
+    one_packet after_later used packet packets walked
     ∙ ap (after_facts after_later (facts used packets))
-    (stays_so (fact_of used packet) told (or_left (comes_later packet) (list_any comes_later packets) h) (is_used used.mode used.direction packet))
-    ∙ none_later used packets told (or_right (comes_later packet) (list_any comes_later packets) h)
+    (stays_so (fact_of used packet) walked (or_left (comes_later packet) (list_any comes_later packets) h) (is_used used.mode used.direction packet))
+    ∙ none_later used packets walked (or_right (comes_later packet) (list_any comes_later packets) h)

@@ -12,7 +12,7 @@ ghost use Rattle.track_picture.specs.Entry.Outcome.{Accepted, Broken as NoMessag
 ghost use Rattle.track_picture.specs.Sentences.{group_read, accepted, outcome_at_first, outcome, after_group, with_closed};
 ghost use Rattle.track_picture.specs.Steps.{facts};
 ghost use Rattle.track_picture.specs.StandsFor.{Life, SameTrack, grown, grown_so_far, room_in};
-ghost use Rattle.track_picture.specs.Columns.{StandsForColumns, columns_of};
+ghost use Rattle.track_picture.specs.Columns.{TrackTold, StandsForColumns, known_by, after_judging, after_breaking};
 
 use crate::parts::Parts;
 use crate::state::TracksideOver;
@@ -40,9 +40,10 @@ impl Parts {
     // country.
     fn judge(&mut self, message: &Message) -> Verdict
         ensures answer { result ≡ (judgement self.old.links (group_read self.old.place message.now)).verdict }
-        ensures stands { (life : Life) (begun : Begun) (used : Used) → self.old ≡ columns_of (grown_so_far life begun used)
+        ensures stands { (life : Life) (begun : Begun) (used : Used) (told : TrackTold) → self.old ≡ known_by (grown_so_far life begun used) told
             → (let j = judgement self.old.links (group_read self.old.place message.now) in
-            self.new ≡ columns_of (grown_so_far life begun (added (outcome_at_first message.now j.verdict) (asking_for j.effect used)))) }
+            self.new ≡ known_by (grown_so_far life begun (added (outcome_at_first message.now j.verdict) (asking_for j.effect used)))
+            (after_judging j.verdict message.now told)) }
     {
         let group = self.group_read(message);
         let judgement = self.links.judge(&group);
@@ -55,9 +56,9 @@ impl Parts {
 
     // A broken group: what linking asks for it.
     fn give_up(&mut self, group: &Broken)
-        ensures { (life : Life) (begun : Begun) (used : Used) → self.old ≡ columns_of (grown_so_far life begun used)
-            → self.new ≡ columns_of (grown_so_far life begun (added (NoMessage group.now)
-            (asking_for (broken_effect self.old.links group.now.group group.now.linked) used))) }
+        ensures { (life : Life) (begun : Begun) (used : Used) (told : TrackTold) → self.old ≡ known_by (grown_so_far life begun used) told
+            → self.new ≡ known_by (grown_so_far life begun (added (NoMessage group.now)
+            (asking_for (broken_effect self.old.links group.now.group group.now.linked) used))) (after_breaking self.old.links group.now told) }
     {
         let asked = self.links.broken(group.group, group.linked);
         self.happened = self.happened.asking(asked);

@@ -7,12 +7,11 @@ ghost use Rattle.authority.specs.Entries.{AuthorityEntry};
 ghost use Rattle.authority.specs.Known.{known as known_authority};
 ghost use Rattle.linking.specs.Linking.{LinkEntry, known as known_links};
 ghost use Rattle.mode_table.specs.declared.statuses.Item.TheVariants as item;
-ghost use Rattle.mode_table.specs.Statuses.{status_on};
 ghost use Rattle.track_store.specs.Facts.{MarkedFacts, profile_of};
 ghost use Rattle.track_store.specs.Profiles.{profile_with};
 ghost use Rattle.track_picture.specs.Entry.{TrackEntry};
-ghost use Rattle.track_picture.specs.Live.{is_deleted};
-ghost use Rattle.track_picture.specs.Columns.{after_column, links_deleted, authority_deleted, areas_deleted, level_deleted, none_told, columns_of};
+ghost use Rattle.track_picture.specs.Live.{deleting};
+ghost use Rattle.track_picture.specs.Columns.{after_mode, links_deleted, authority_deleted, areas_deleted, level_deleted, none_told, TrackTold, known_by, after_entering};
 ghost use Rattle.track_picture.specs.StandsFor.{Life, StandsForLife, grown, size_in};
 
 use crate::parts::Parts;
@@ -26,14 +25,14 @@ use track_store::ProfileStore;
 
 // Whether a mode deletes an item that is entered.
 fn is_deleted(item: Item, mode: Mode) -> bool
-    ensures { result ≡ is_deleted (status_on item mode) }
+    ensures { result ≡ deleting item mode }
 {
     matches!(status_on(item, mode), Fate::Deleted)
 }
 
 fn leave_links(links: &mut Links, mode: Mode)
     ensures { (entries : List LinkEntry) → links.old ≡ known_links entries
-        → links.new ≡ known_links (after_column item.Linking links_deleted (Some mode) entries) }
+        → links.new ≡ known_links (after_mode item.Linking links_deleted mode entries) }
 {
     if is_deleted(Item::Linking, mode) {
         links.clear();
@@ -42,7 +41,7 @@ fn leave_links(links: &mut Links, mode: Mode)
 
 fn leave_authority(authority: &mut Authority, mode: Mode)
     ensures { (entries : List AuthorityEntry) → authority.old ≡ known_authority entries
-        → authority.new ≡ known_authority (after_column item.Authority authority_deleted (Some mode) entries) }
+        → authority.new ≡ known_authority (after_mode item.Authority authority_deleted mode entries) }
 {
     if is_deleted(Item::Authority, mode) {
         authority.clear();
@@ -51,7 +50,7 @@ fn leave_authority(authority: &mut Authority, mode: Mode)
 
 fn leave_areas(areas: &mut Areas, mode: Mode)
     ensures { (entries : List AreaEntry) → areas.old ≡ stored entries
-        → areas.new ≡ stored (after_column item.ModeAreas areas_deleted (Some mode) entries) }
+        → areas.new ≡ stored (after_mode item.ModeAreas areas_deleted mode entries) }
 {
     if is_deleted(Item::ModeAreas, mode) {
         areas.clear();
@@ -60,7 +59,7 @@ fn leave_areas(areas: &mut Areas, mode: Mode)
 
 fn leave_level(level: &mut AnnouncedLevel, mode: Mode)
     ensures { (entries : List LevelEntry) → level.old ≡ waiting entries
-        → level.new ≡ waiting (after_column item.LevelAnnouncement level_deleted (Some mode) entries) }
+        → level.new ≡ waiting (after_mode item.LevelAnnouncement level_deleted mode entries) }
 {
     if is_deleted(Item::LevelAnnouncement, mode) {
         level.clear();
@@ -69,7 +68,7 @@ fn leave_level(level: &mut AnnouncedLevel, mode: Mode)
 
 fn leave_profile<T, P: ProfileStore<T>>(profile: &mut P, mode: Mode)
     ensures profile { (told : MarkedFacts T) → P.profile profile.old ≡ profile_of told
-        → P.profile profile.new ≡ profile_of (record told { facts = after_column item.Profiles none_told (Some mode) told.facts }) }
+        → P.profile profile.new ≡ profile_of (record told { facts = after_mode item.Profiles none_told mode told.facts }) }
     ensures size { P.size profile.new ≤ P.size profile.old }
 {
     if is_deleted(Item::Profiles, mode) {
@@ -80,8 +79,7 @@ fn leave_profile<T, P: ProfileStore<T>>(profile: &mut P, mode: Mode)
 impl Parts {
     // A mode is entered.
     fn enter(&mut self, mode: Mode)
-        ensures { (life : Life) (event : TrackEntry) → self.old ≡ columns_of (grown life (record event { entered = None }))
-            → self.new ≡ columns_of (grown life (record event { entered = Some mode })) }
+        ensures { (life : Life) (told : TrackTold) → self.old ≡ known_by life told → self.new ≡ known_by life (after_entering mode told) }
     {
         leave_links(&mut self.links, mode);
         leave_authority(&mut self.authority, mode);

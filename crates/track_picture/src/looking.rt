@@ -6,7 +6,7 @@ ghost use Rattle.track_picture.specs.Entry.{TrackEntry};
 ghost use Rattle.track_picture.specs.History.{announced_level};
 ghost use Rattle.track_picture.specs.Sentences.{span_with, mark_behind};
 ghost use Rattle.track_picture.specs.StandsFor.{Life, StandsForLife, grown, size_in};
-ghost use Rattle.track_picture.specs.Columns.{StandsForColumns, columns_of};
+ghost use Rattle.track_picture.specs.Columns.{TrackTold, StandsForColumns, known_by, after_look};
 
 use crate::parts::Parts;
 use crate::state::TracksideOver;
@@ -32,8 +32,7 @@ impl Parts {
     #[inline(always)]
     fn look(&mut self, train: &Stretch) -> Option<TrainLevel>
         ensures level { result ≡ coming train.now.max_front self.old.level }
-        ensures stands { (life : Life) (event : TrackEntry) → self.old ≡ columns_of (grown life (record event { train = None; entered = None }))
-            → self.new ≡ columns_of (grown life (record event { train = Some train.now; entered = None })) }
+        ensures stands { (life : Life) (told : TrackTold) → self.old ≡ known_by life told → self.new ≡ known_by life (after_look train.now told) }
     {
         self.authority.pass(train);
         self.national.reach(train.max_front());

@@ -8,7 +8,7 @@ ghost use Rattle.track_picture.specs.History.{groups_of};
 ghost use Rattle.track_picture.specs.Sentences.{heard, begun, closed_by, with_groups, used_by, received};
 ghost use Rattle.track_picture.specs.StandsFor.{Life, StandsForLife, SameTrack, grown, grown_so_far, room_in, size_in};
 ghost use Rattle.events.specs.declared.input.Input.TheVariants as inputs;
-ghost use Rattle.track_picture.specs.Columns.{StandsForColumns, columns_of, moved, happened_by, left_by, after_moving, still_reading};
+ghost use Rattle.track_picture.specs.Columns.{StandsForColumns, columns_of, moved, happened_by, left_by, known_moved, still_reading};
 ghost use Rattle.track_picture.specs.Steps.{packets_by, HasRoomFor};
 
 use crate::happened::Happened;
@@ -44,8 +44,7 @@ impl Parts {
         ensures none { (life : Life) → self.old ≡ columns_of life → result ≡ false → left_by life.entries reading.now ≡ None }
         ensures idle { is_none self.old.groups.current ≡ true → result ≡ false }
         ensures groups { self.new.groups ≡ self.old.groups }
-        ensures stands { (life : Life) → self.old ≡ columns_of life → result ≡ false
-            → self.new ≡ columns_of (grown_so_far life (moved life.entries reading.now) (after_moving life.entries reading.now)) }
+        ensures stands { (life : Life) → self.old ≡ columns_of life → result ≡ false → self.new ≡ known_moved life reading.now }
     {
         self.begin();
         self.speed = reading.speed;
@@ -58,8 +57,7 @@ impl Parts {
     /// The group being read is left, and ends.
     pub(crate) fn leave(&mut self) -> Option<Closed>
         ensures answer { (life : Life) (reading : Told) → self.old ≡ still_reading life reading → result ≡ left_by life.entries reading }
-        ensures stands { (life : Life) (reading : Told) → self.old ≡ still_reading life reading
-            → self.new ≡ columns_of (grown_so_far life (moved life.entries reading) (after_moving life.entries reading)) }
+        ensures stands { (life : Life) (reading : Told) → self.old ≡ still_reading life reading → self.new ≡ known_moved life reading }
         ensures packets { packets_of_closed result ≤ packets_in self.old.groups.readings }
     {
         self.groups.moved(self.place.sums().path())

@@ -8,7 +8,7 @@ ghost use Rattle.track_picture.specs.Columns.{after_facts};
 ghost use Rattle.track_picture.specs.Sentences.{is_valid, valid_in, is_used};
 ghost use Rattle.track_picture.specs.StandsFor.{room_in};
 ghost use Rattle.track_picture.specs.Steps.{fact_of, facts};
-ghost use Rattle.track_picture.specs.Told.{TrackTold, IsTold as IsAllTold, known_of, after_earlier, after_later};
+ghost use Rattle.track_picture.specs.Told.{Walked, IsTold as IsAllTold, known_of, after_earlier, after_later};
 ghost use Rattle.track_picture.specs.Happenings.{comes_later};
 
 mod gradients;
@@ -155,7 +155,7 @@ pub fn take_all<T, W: Walk<T>>(state: &mut T, packets: &GroupPackets, used: &Use
 impl Parts {
     // Takes what a packet has for one of these parts in the first walk.
     fn tell(&mut self, packet: &Packet<'_>, used: &Use)
-        ensures { (told : TrackTold) → self.old ≡ known_of told → self.new ≡ known_of (after_earlier (fact_of used.now packet.now) told) }
+        ensures { (told : Walked) → self.old ≡ known_of told → self.new ≡ known_of (after_earlier (fact_of used.now packet.now) told) }
     {
         values::take(&mut self.national, packet, used);
         links::take(&mut self.links, packet, used);
@@ -167,7 +167,7 @@ impl Parts {
 
     // .. and in the second.
     fn tell_later(&mut self, packet: &Packet<'_>, used: &Use)
-        ensures { (told : TrackTold) → self.old ≡ known_of told → self.new ≡ known_of (after_later (fact_of used.now packet.now) told) }
+        ensures { (told : Walked) → self.old ≡ known_of told → self.new ≡ known_of (after_later (fact_of used.now packet.now) told) }
     {
         mode_areas::take(&mut self.areas, packet, used);
     }
@@ -179,7 +179,7 @@ pub struct Earlier;
 impl<T: ProfileStores> Walk<TracksideOver<T>> for Earlier {
     ghost use Rattle.std.proofs.Common.{arith};
 
-    ghost Told = { TrackTold };
+    ghost Told = { Walked };
 
     ghost IsTold = { λ state told. IsAllTold T.stores state told };
 
@@ -203,7 +203,7 @@ impl<T: ProfileStores> Walk<TracksideOver<T>> for Earlier {
 pub struct Later;
 
 impl<T: ProfileStores> Walk<TracksideOver<T>> for Later {
-    ghost Told = { TrackTold };
+    ghost Told = { Walked };
 
     ghost IsTold = { λ state told. IsAllTold T.stores state told };
 

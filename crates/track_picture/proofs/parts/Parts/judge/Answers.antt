@@ -1,35 +1,33 @@
-use Rattle.std.proofs.Common.{◌∷◌, ap, sym, ◌∙◌}
+use Rattle.std.proofs.Common.{ap, sym, ◌∙◌}
 use Rattle.linking.specs.declared.judgement.GroupRead.{GroupRead}
 use Rattle.linking.specs.declared.judgement.Judgement.{Judgement}
 use Rattle.linking.specs.declared.judgement.Verdict.{Verdict}
 use Rattle.linking.specs.Judging.{judgement, after_verdict}
 use Rattle.linking.specs.Linking.{known as known_links}
 use Rattle.national.specs.InForce as national
-use Rattle.track_picture.specs.Entry.{TrackEntry, blank, added, asking, asking_for}
+use Rattle.track_picture.specs.Entry.{added, asking, asking_for}
 use Rattle.track_picture.specs.Sentences.{group_read, outcome_at_first}
 use Rattle.track_picture.specs.StandsFor.{KnownTrack, grown_so_far}
-use Rattle.track_picture.specs.Columns.{columns_of, links, national_entries}
-use Rattle.track_picture.proofs.Judging.{entered_by, not_entered, is_judged}
+use Rattle.track_picture.specs.Columns.{known_by, after_country, after_judging}
+use Rattle.track_picture.proofs.Judging.{not_entered, is_judged}
 use Rattle.track_picture.proofs.parts.Parts.judge.Goals as goal
 
 pub returns-in-Accept-clause-stands : goal.returns-in-Accept-clause-stands
-returns-in-Accept-clause-stands c life begun used s =
+returns-in-Accept-clause-stands c life begun used told s =
     let m = c.args.message.now in
     let parts = c.self.view_is ∙ s in
-    let entry : TrackEntry = record blank { begun = begun; used = used } in
-    let all = entry ∷ life.entries in
     let it = c.judge-judgement.result in
     let found = c.judge-judgement.ensures.answer
     ∙ ap (λ (r : GroupRead). judgement c.self.inside.links r) c.group_read-group.ensures
     ∙ ap (λ (k : KnownTrack). judgement k.links (group_read c.args.self.now.place m)) c.self.view_is in
-    let left = c.judge-judgement.ensures.stands (links all) (ap (λ (k : KnownTrack). k.links) parts)
-    ∙ ap (λ (x : Judgement). known_links (after_verdict x.verdict (links all))) (sym c.judge-judgement.ensures.answer) in
-    let values = c.enter.ensures.stands life.kept (national_entries all) (ap (λ (k : KnownTrack). k.national) parts)
-    ∙ ap (λ (v : Verdict). national.known life.kept (entered_by v m (national_entries all))) (sym c.in-Accept.is) in
+    let left = c.judge-judgement.ensures.stands told.links (ap (λ (k : KnownTrack). k.links) parts)
+    ∙ ap (λ (x : Judgement). known_links (after_verdict x.verdict told.links)) (sym c.judge-judgement.ensures.answer) in
+    let values = c.enter.ensures.stands life.kept told.values (ap (λ (k : KnownTrack). k.national) parts)
+    ∙ ap (λ (v : Verdict). national.known life.kept (after_country v m told.values)) (sym c.in-Accept.is) in
     let happened = c.asking-self-inside.ensures ∙ ap (λ (k : KnownTrack). asking k.happened it.effect) parts in
     (λ i. record (parts i) { links = left i; national = values i; happened = happened i })
-    ∙ is_judged life begun used it.effect m it.verdict
-    ∙ ap (λ (x : Judgement). columns_of (grown_so_far life begun (added (outcome_at_first m x.verdict) (asking_for x.effect used)))) found
+    ∙ is_judged life begun used told it.effect m it.verdict
+    ∙ ap (λ (x : Judgement). known_by (grown_so_far life begun (added (outcome_at_first m x.verdict) (asking_for x.effect used))) (after_judging x.verdict m told)) found
 
 pub returns-in_default : goal.returns-in_default
 returns-in_default c =
@@ -40,16 +38,14 @@ returns-in_default c =
     ∙ ap (λ (k : KnownTrack). judgement k.links (group_read c.args.self.now.place m)) c.self.view_is in
     record {
       answer = ap (λ (x : Judgement). x.verdict) found;
-      stands = λ life begun used s. (
+      stands = λ life begun used told s. (
           let parts = c.self.view_is ∙ s in
-          let entry : TrackEntry = record blank { begun = begun; used = used } in
-          let all = entry ∷ life.entries in
-          let left = c.judge-judgement.ensures.stands (links all) (ap (λ (k : KnownTrack). k.links) parts)
-          ∙ ap (λ (x : Judgement). known_links (after_verdict x.verdict (links all))) (sym c.judge-judgement.ensures.answer) in
+          let left = c.judge-judgement.ensures.stands told.links (ap (λ (k : KnownTrack). k.links) parts)
+          ∙ ap (λ (x : Judgement). known_links (after_verdict x.verdict told.links)) (sym c.judge-judgement.ensures.answer) in
           let values = ap (λ (k : KnownTrack). k.national) parts
-          ∙ ap (national.known life.kept) (sym (not_entered it.verdict m (national_entries all) c.in_default.not-Accept)) in
+          ∙ ap (national.known life.kept) (sym (not_entered it.verdict m told.values c.in_default.not-Accept)) in
           let happened = c.asking-self-inside.ensures ∙ ap (λ (k : KnownTrack). asking k.happened it.effect) parts in
           (λ i. record (parts i) { links = left i; national = values i; happened = happened i })
-          ∙ is_judged life begun used it.effect m it.verdict
-          ∙ ap (λ (x : Judgement). columns_of (grown_so_far life begun (added (outcome_at_first m x.verdict) (asking_for x.effect used)))) found);
+          ∙ is_judged life begun used told it.effect m it.verdict
+          ∙ ap (λ (x : Judgement). known_by (grown_so_far life begun (added (outcome_at_first m x.verdict) (asking_for x.effect used))) (after_judging x.verdict m told)) found);
     }

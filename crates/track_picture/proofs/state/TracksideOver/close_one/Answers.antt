@@ -2,19 +2,24 @@ use Rattle.std.proofs.Common.{ap, sym, subst, ◌∙◌}
 use Rattle.balise_groups.specs.declared.message.Closed.{Closed}
 use Rattle.linking.specs.declared.effect.Effect.{Effect}
 use Rattle.linking.specs.Judging.{broken_effect}
-use Rattle.track_picture.specs.Entry.{added, asking_for}
+use Rattle.linking.specs.Linking.{KnownLinks}
+use Rattle.track_picture.specs.Entry.{blank, added, asking_for}
 use Rattle.track_picture.specs.Entry.Outcome.{Broken as NoMessage}
 use Rattle.track_picture.specs.Sentences.{after_group}
 use Rattle.track_picture.specs.StandsFor.{KnownTrack, grown_so_far}
-use Rattle.track_picture.specs.Columns.{StandsForColumns}
+use Rattle.track_picture.specs.Columns.{StandsForColumns, told_in, after_breaking}
+use Rattle.track_picture.proofs.Chain.{links_are}
 use Rattle.track_picture.proofs.SameParts.{same_parts}
-use Rattle.track_picture.proofs.Standing.{seen_columns as seen}
+use Rattle.track_picture.proofs.Standing.{seen_columns as seen, told_as}
+use Rattle.track_picture.proofs.Telling.{up_to_groups, told_judged}
 use Rattle.track_picture.proofs.state.TracksideOver.close_one.Goals as goal
 
 pub returns-in-Broken-clause-stands : goal.returns-in-Broken-clause-stands
 returns-in-Broken-clause-stands g c life begun used s =
     let b = c.in-Broken.broken in
     let inside = seen c.self.view_is s in
+    let before = up_to_groups (record blank { begun = begun; used = used }) life.entries in
+    let links = ap (λ (k : KnownTrack). k.links) inside.parts_are ∙ sym (links_are before) in
     let asked = ap (λ (k : KnownTrack). broken_effect k.links b.group b.linked) (inside.parts_are ∙ sym (same_parts (grown_so_far life begun used))) in
     subst (λ (group : Closed). StandsForColumns g.T.ProfileStores.stores (record { parts = c.give_up.new.self; restrictions = c.self.inside.restrictions; gradients = c.self.inside.gradients; speeds = c.self.inside.speeds })
     (grown_so_far life begun (after_group c.args.mode life.entries begun used group)))
@@ -22,9 +27,9 @@ returns-in-Broken-clause-stands g c life begun used s =
     (subst (λ (effect : Effect). StandsForColumns g.T.ProfileStores.stores (record { parts = c.give_up.new.self; restrictions = c.self.inside.restrictions; gradients = c.self.inside.gradients; speeds = c.self.inside.speeds })
     (grown_so_far life begun (added (NoMessage b) (asking_for effect used))))
     asked
-    (record {
-      parts_are = c.give_up.ensures life begun used inside.parts_are;
+    (told_as (ap (λ (k : KnownLinks). after_breaking k b (told_in before)) links ∙ sym (told_judged (NoMessage b) before)) (record {
+      parts_are = c.give_up.ensures life begun used (told_in before) inside.parts_are;
       restrictions_are = inside.restrictions_are;
       gradients_are = inside.gradients_are;
       speeds_are = inside.speeds_are;
-    }))
+    })))

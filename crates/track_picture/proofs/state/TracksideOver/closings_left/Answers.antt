@@ -1,10 +1,14 @@
-use Rattle.std.proofs.Common.{[], Option, None, ap, ◌∙◌}
+use Rattle.std.proofs.Common.{[], ◌∷◌, Option, None, ap, sym, ◌∙◌}
 use Rattle.balise_groups.specs.declared.message.Closed.{Closed}
 use Rattle.track_picture.specs.Closings.{closings_in, listed}
-use Rattle.track_picture.specs.Columns.{moved, happened_by}
+use Rattle.track_picture.specs.Columns.{moved, happened_by, after_moving, known_by}
+use Rattle.track_picture.specs.Happenings.{happenings}
+use Rattle.track_picture.specs.Live.{Happening}
 use Rattle.track_picture.specs.Sentences.{with_closed}
+use Rattle.track_picture.specs.StandsFor.{grown_so_far}
 use Rattle.track_picture.proofs.OneGroup.{alone, one_if}
 use Rattle.track_picture.proofs.Standing.{seen_columns as seen}
+use Rattle.track_picture.proofs.Telling.{told_missed}
 use Rattle.track_picture.proofs.state.TracksideOver.closings_left.Goals as goal
 
 pub returns : goal.returns
@@ -12,9 +16,10 @@ returns g c life mode s =
     let reading = c.args.reading.now in
     let at = c.copy-parts.ensures ∙ (seen c.self.view_is s).parts_are in
     let went = c.go.ensures.moved life at in
-    let left = c.leave-ended.ensures.stands life reading went in
     let begun = moved life.entries reading in
     let happened = happened_by life.entries reading in
+    let left = c.leave-ended.ensures.stands life reading went
+    ∙ ap (known_by (grown_so_far life begun (after_moving life.entries reading))) (sym (told_missed begun.missed (Happening.Moved reading.movement ∷ happenings life.entries))) in
     alone c.closing_if.result
     ∙ ap listed c.closing_if.ensures
     ∙ one_if mode life begun happened c.leave-ended.new.self c.leave-ended.result left

@@ -1,46 +1,34 @@
-use Rattle.std.proofs.Common.{◌≡◌, ◌+◌, ◌-◌, ◌≤◌, List, ◌∷◌, [], Option, false, length, ap, sym, subst, ◌∙◌, arith}
+use Rattle.std.proofs.Common.{◌≡◌, ◌+◌, ◌-◌, ◌≤◌, List, ◌∷◌, [], Option, false, length, refl, sym, subst, ◌∙◌, arith}
 use Rattle.std.specs.List.{list_any}
 use Rattle.linking.specs.declared.announcement.Announcement.{Announcement}
 use Rattle.balise_groups.specs.declared.message.Message.{Message}
 use Rattle.odometry.specs.declared.fix.Fix.{Fix}
 use Rattle.track_picture.specs.Entry.{TrackEntry, Begun, Used, Fact, blank, added}
 use Rattle.track_picture.specs.Entry.Outcome.{Accepted}
-use Rattle.track_picture.specs.Columns.{after_facts, links, national_entries, authorities, is_stopped, all_areas, announced_levels, restrictions, mark_of, gradients, speeds, StandsForColumns, columns_of}
+use Rattle.track_picture.specs.Columns.{after_facts, StandsForColumns, told_of}
 use Rattle.track_picture.specs.Steps.{facts}
 use Rattle.track_picture.specs.StandsFor.{Life, Knowledge, grown, grown_so_far, room_in}
-use Rattle.track_picture.specs.Told.{TrackTold, IsTold, after_earlier, after_later}
-use Rattle.track_picture.specs.Happenings.{comes_later}
+use Rattle.track_picture.specs.Told.{Walked, IsTold, after_earlier, after_later}
+use Rattle.track_picture.specs.Happenings.{comes_later, happenings}
+use Rattle.track_picture.specs.History.{is_stopped}
 use Rattle.track_picture.specs.Stores.{Stores}
 use Rattle.track_picture.proofs.Marking.{one_mark}
-use Rattle.track_picture.proofs.Telling.{each_later, all_earlier, all_later}
+use Rattle.track_picture.proofs.Telling.{both_walks}
 use Rattle.track_picture.proofs.Walking.{none_later}
 use Rattle.track_picture.proofs.state.TracksideOver.take_packets.Goals as goal
 
 -- what was told before the packets
-abbrev before : Life → TrackEntry → TrackTold
+abbrev before : Life → TrackEntry → Walked
 before life entry =
     let all = entry ∷ life.entries in
-    record {
-      others = columns_of (grown life entry);
-      kept = life.kept;
-      values = national_entries all;
-      links = links all;
-      grants = authorities all;
-      stopped = is_stopped all;
-      areas = all_areas all;
-      levels = announced_levels all;
-      restrictions = restrictions all;
-      mark = mark_of all;
-      gradients = gradients all;
-      speeds = speeds all;
-    }
+    record { life = grown life entry; stopped = is_stopped all; told = told_of all }
 
 module _ {G S : Type 0} (stores : Stores G S) (known : Knowledge G S) (life : Life) where
   stood : (entry : TrackEntry) → StandsForColumns stores known (grown life entry) → IsTold stores known (before life entry)
   stood entry s = record {
     parts_are = s.parts_are;
     restrictions_are = s.restrictions_are;
-    mark_is = one_mark (entry ∷ life.entries);
+    mark_is = one_mark (happenings (entry ∷ life.entries));
     gradients_are = s.gradients_are;
     speeds_are = s.speeds_are;
   }
@@ -50,8 +38,8 @@ module _ {G S : Type 0} (stores : Stores G S) (known : Knowledge G S) (life : Li
       IsTold stores known (after_facts after_later told (after_facts after_earlier told (before life (record blank { begun = begun; used = added (Accepted message announced fix []) groups })))) →
       StandsForColumns stores known (grown_so_far life begun (added (Accepted message announced fix told) groups))
   stands told begun groups message announced fix t =
-      let was = before life (record blank { begun = begun; used = added (Accepted message announced fix []) groups }) in
-      let is = all_later told _ ∙ ap (each_later told) (all_earlier told was) in
+      let entry : TrackEntry = record blank { begun = begun; used = added (Accepted message announced fix []) groups } in
+      let is = both_walks told (before life entry) (happenings (entry ∷ life.entries)) refl in
       let after = subst (IsTold stores known) is t in
       record { parts_are = after.parts_are; restrictions_are = after.restrictions_are; gradients_are = after.gradients_are; speeds_are = after.speeds_are }
 

@@ -5,13 +5,13 @@ use Rattle.track_picture.proofs.Marking.{revocation_unmarked}
 use Rattle.track_picture.proofs.using.LaterWalkTracksideOver.take.Goals as goal
 
 pub returns-clause-told : goal.returns-clause-told
-returns-clause-told g c told s =
-    let before = subst (λ k. IsTold g.T.ProfileStores.stores k told) (sym c.state.view_is) s in
+returns-clause-told g c walked s =
+    let before = subst (λ k. IsTold g.T.ProfileStores.stores k walked) (sym c.state.view_is) s in
     let fact = fact_of c.args.used.now c.args.packet.now in
     record {
-      parts_are = c.tell_later.ensures told before.parts_are;
-      restrictions_are = c.take.ensures.track told.restrictions before.restrictions_are;
-      mark_is = revocation_unmarked fact told.restrictions ∙ before.mark_is;
+      parts_are = c.tell_later.ensures walked before.parts_are;
+      restrictions_are = c.take.ensures.track walked.told.restrictions before.restrictions_are;
+      mark_is = revocation_unmarked fact walked.told.restrictions ∙ before.mark_is;
       gradients_are = before.gradients_are;
       speeds_are = before.speeds_are;
     }

@@ -23,3 +23,4 @@ pub mod Alone
 pub mod Placed
 pub mod SameParts
 pub mod OneGroup
+pub mod Beginning

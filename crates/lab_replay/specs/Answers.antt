@@ -4,16 +4,10 @@ use Rattle.std.specs.Prelude.{ℕ, List, [], ◌∷◌, ◌++◌, codes, decimal
 use Rattle.std.specs.Fmt.{signed_decimal}
 use Rattle.blocks.specs.declared.records.BlockRecord.{BlockRecord}
 use Rattle.blocks.specs.declared.records.Situation.{Situation}
-use Rattle.mode_table.specs.declared.level.TrainLevel.{TrainLevel}
-use Rattle.mode_table.specs.declared.level.TrainLevel.TheVariants.{Level0, Level1}
 use Rattle.command_line.specs.OutputWords.{mode_text, brake_text}
 use Rattle.pieces.specs.Pieces.{joined}
 use Rattle.lab_events.specs.Signs.{signs_of}
-
-abbrev pub level_value : Option TrainLevel → List ℕ
-level_value None = codes "null"
-level_value (Some Level0) = codes "0"
-level_value (Some Level1) = codes "1"
+use Rattle.lab_events.specs.Words.{level_value}
 
 -- up to the list of the indications
 abbrev pub front_of : BlockRecord → List ℕ

@@ -1,5 +1,5 @@
 //! The packets of a group.
-ghost use Rattle.std.specs.Prelude.{◌≡◌, OnOk};
+ghost use Rattle.std.specs.Prelude.{◌≡◌, OnOk, false};
 ghost use Rattle.std.specs.Io.KnownBytes.{Appends};
 ghost use Rattle.pieces.specs.Pieces.{text_of, texts};
 ghost use Rattle.pieces.specs.declared.piece.Form.{Form as a_form};

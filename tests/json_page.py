@@ -280,6 +280,9 @@ def all_read(page, program, room):
     for _, image, *_ in [*why_rows.by_hand(), *islice(why_rows.more_lives(), 10)]:
         file.write_bytes(image)
         read(page, program, "why", "--json", file)
+    for _, image, asked, _ in why_rows.groups_by_hand():
+        file.write_bytes(image)
+        read(page, program, "why", "--json", file, str(asked))
     for path in sorted([*TOP.glob("tests/programs/*.json"), *TOP.glob("examples/*/*.json")]):
         read(page, program, "run", path)
         read(page, program, "lint", "--json", path)

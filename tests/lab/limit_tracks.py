@@ -64,7 +64,8 @@ BY_HAND = (
                      "move 2000 10000"),
      "; the limit is that of a temporary speed restriction over the train: 20000 m/h at 1000 cm, number 9 (3.11.5)\n"),
     ("restriction, in Staff Responsible", (*DRIVER, heard("65: NID_TSR 9, D_TSR 0, L_TSR 500, Q_FRONT 1, V_TSR 4")),
-     "; the limit is that of a temporary speed restriction over the train: 20000 m/h at 0 cm, number 9 (3.11.5)\n"),
+     "; the limit is that of a temporary speed restriction over the train: 20000 m/h at 0 cm, number 9 (3.11.5); group 1 2 in mode SR, "
+     "direction not known: accepted, linking not being in use (3.4.4), packet 65 Temporary Speed Restriction\n"),
     # An On Sight area of 30 km/h from 10 m on.
     ("mode_area", (heard(authority(3_000), LEVEL, FAST, "80: D_MAMODE 10, M_MAMODE 0, V_MAMODE 6, L_MAMODE 500, L_ACKMAMODE 0, N_ITER 0"),
                    *DRIVER, "move 2000 10000"),
@@ -76,7 +77,8 @@ BY_HAND = (
     # 181,440 * 19,500 = 3,538,080,000, the square of 59,481.7. A later packet 27 leaves the track unknown from 200 m on.
     ("unknown_speed_ahead", (heard(authority(3_000), LEVEL, FAST), *DRIVER, heard(statics((0, 24), (200, 127)), group=3)),
      "event 6: brake none, limit 59481 m/h, speed 0 m/h, rolled backward 0 cm of 200 cm; the limit is that of a stop where no static speed is "
-     "known: 0 m/h at 20000 cm (3.11.3, 3.13)\n"),
+     "known: 0 m/h at 20000 cm (3.11.3, 3.13); group 1 3 in mode FS, direction not known: accepted, linking "
+     "not being in use (3.4.4), packet 27 International Static Speed Profile\n"),
     ("restriction_ahead", (heard("65: NID_TSR 9, D_TSR 200, L_TSR 50, Q_FRONT 1, V_TSR 6", authority(3_000), LEVEL, FAST), *DRIVER),
      "event 5: brake none, limit 66618 m/h, speed 0 m/h, rolled backward 0 cm of 200 cm; the limit is that of a temporary speed restriction "
      "ahead: 30000 m/h at 20000 cm, number 9 (3.11.5, 3.13)\n"),

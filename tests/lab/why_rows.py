@@ -1,7 +1,8 @@
 #!/usr/bin/env python3
-"""Images of journals, and what `etcs_lab why` is to print of them. By hand, for each cause of a brake and each kind of what decides a limit, a
-life and the words that its line has; beside the plain program (tests/plain/why.py) all lines of the examples, of pseudo-random lives, of all
-formats, and of damaged journals; and tracks from which what decides the limit is taken away: then the limit is a greater one.
+"""Images of journals, and what `etcs_lab why` is to print of them. By hand, for each cause of a brake, each kind of what decides a limit and
+each outcome of a balise group, a life and the words that its line has; beside the plain program (tests/plain/why.py) all lines of the
+examples, of pseudo-random lives, of all formats, and of damaged journals; and tracks from which what decides the limit is taken away: then
+the limit is a greater one.
 
     tests/lab/why_rows.py PROGRAM..     runs the program on each image, and compares
 """
@@ -14,6 +15,8 @@ from pathlib import Path
 HERE = Path(__file__).resolve().parent
 sys.path[:0] = [str(HERE), *(str(HERE.parents[1] / part) for part in ("tests", "tests/plain", "tests/hostile"))]
 from compared import Compared, run  # noqa: E402
+from group_rows import GROUPS_AS_JSON, GROUPS_BY_HAND  # noqa: E402
+from group_words import KINDS as GROUP_KINDS  # noqa: E402
 from journal import COLD  # noqa: E402
 from limit_reasons import KINDS  # noqa: E402
 from limit_tracks import BY_HAND as LIMITS_BY_HAND, FAST, LEVEL, TRAIN, authority, forces, heard, inputs_of, tracks, unanswered, without  # noqa: E402
@@ -58,7 +61,8 @@ TRIPS_BY_HAND = (
                                  authority(3_000), LEVEL, FAST), *SR, "move 3000 20000"), 6,
      "; the train was tripped: linking or a balise group asked for it (event 6, 3.4.4, 3.16.2); no train may run in this mode: 0 m/h (4.4)\n"),
     ("V_MAIN 0", (*SUPERVISED, heard(authority(3_000, main=0), group=3)), 6,
-     "; the train was tripped: an authority with V_MAIN 0 was used (event 6, 3.11.6); no train may run in this mode: 0 m/h (4.4)\n"),
+     "; the train was tripped: an authority with V_MAIN 0 was used (event 6, 3.11.6); no train may run in this mode: 0 m/h (4.4); group 1 3 in "
+     "mode FS, direction not known: accepted, linking not being in use (3.4.4), packet 12 Level 1 Movement Authority\n"),
     # D_NVSTFF is 40 m: a path of 4,000 cm isn't above it, one of 4,001 cm is.
     ("too far in Staff Responsible", (*SR, heard(NATIONAL, group=9), "move 4000 10000", "move 1 10000"), 7,
      "; the train was tripped: the path in Staff Responsible was above D_NVSTFF (event 7, 4.4); no train may run in this mode: 0 m/h (4.4)\n"),
@@ -68,7 +72,8 @@ TRIPS_BY_HAND = (
     ("level 1 in Unfitted", ("enter-identity A 1", "choose-level 0", TRAIN, "start",
                              heard("41: D_LEVELTR 32767, M_LEVELTR 2, L_ACKLEVELTR 0, N_ITER 0")), 5,
      "; the train was tripped: the level was 1, and the authority or the track ahead was not known (event 5, 5.10); no train may run in this "
-     "mode: 0 m/h (4.4)\n"),
+     "mode: 0 m/h (4.4); group 1 2 in mode UN, direction not known: accepted, linking not being in use (3.4.4), packet 41 Level Transition "
+     "Order\n"),
     # It stays told while the trip is owed.
     ("the event behind a trip", (*SUPERVISED, heard(authority(3_000, main=0), group=3), "move 10 0"), 7,
      "; the train was tripped: an authority with V_MAIN 0 was used (event 6, 3.11.6); no train may run in this mode: 0 m/h (4.4)\n"),
@@ -103,6 +108,11 @@ def by_hand():
     made = dict(examples())
     for name, asked, says in IN_EXAMPLES:
         yield f"{name}, event {asked}", made[f"example {name}"], asked, says
+
+
+def groups_by_hand():
+    for name, inputs, asked, says in GROUPS_BY_HAND:
+        yield name, image_of(64, blocks_of([("unknown", inputs)], 3)), asked, says
 
 
 def more_lives():
@@ -146,6 +156,16 @@ class Tried(Compared):
             self.met.update(f"trip {why}" for why, (sentence, _) in TRIPS.items() if f"tripped: {sentence} (" in says)
             status, text = self.run(data, "@", str(asked))
             self.unless(status == 0 and says in text, f"by hand: {name}: status {status}, {text}--- wanted in it\n{says}")
+
+    def groups_by_hand(self):
+        for name, data, asked, says in groups_by_hand():
+            status, text = self.run(data, "@", str(asked))
+            told = "".join(text.partition("; group")[1:])
+            self.unless(status == 0 and told == says + "\n" * bool(says), f"groups by hand: {name}: status {status}, {text}--- wanted in it\n{says}")
+            self.met.update(f"group {kind}" for kind, (sentence, _) in GROUP_KINDS.items() if f": {sentence}" in says)
+        _, data, asked, _ = next(groups_by_hand())
+        status, text = self.run(data, "--json", "@", str(asked))
+        self.unless(status == 0 and json.loads(text)["groups"] == GROUPS_AS_JSON, f"groups as JSON: status {status}, {text}")
 
     def beside_the_plain(self):
         for number, (name, data) in enumerate(images()):
@@ -196,12 +216,14 @@ class Tried(Compared):
 
     def judged(self):
         self.by_hand()
+        self.groups_by_hand()
         self.beside_the_plain()
         counted = self.taken_away()
         print(f"why: {self.count} comparisons, {self.lines} lines with what decides a limit, {self.differ} differ")
         print(f"tracks without what decides: limit greater {counted['greater']}, another of equal force {counted['of equal force']}, left out "
               f"{counted['of more than one thing']}")
-        for word in [*(word for word, *_ in WORDS.values()), *KINDS, *(f"trip {why}" for why in TRIPS), *LEFT_OUT]:
+        kinds = [*KINDS, *(f"trip {why}" for why in TRIPS), *(f"group {kind}" for kind in GROUP_KINDS)]
+        for word in [*(word for word, *_ in WORDS.values()), *kinds, *LEFT_OUT]:
             if not self.met[word] and word not in UNMET:
                 self.tell(f"no image has {word}")
         if self.count < LEAST or self.lines < LEAST_LINES or counted["greater"] < LEAST_RAISED:

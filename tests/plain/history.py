@@ -31,6 +31,7 @@ class Entry:
     moved: int = 0
     overrun: bool = False
     verdicts: list = field(default_factory=list)
+    groups: list = field(default_factory=list)  # those that closed, each with its verdict and the mode of then
     accepted: tuple = None  # an action's word and value
     path: int = 0
     values: object = None  # the national values in force as the event began

@@ -134,10 +134,10 @@ class Life(History):
 
     def use(self, closed, used):
         if closed.cause:
-            self.now.verdicts.append(self.links.broken(closed))
+            self.judged(closed, self.links.broken(closed))
             return
         verdict = self.links.judge(closed, self.fix.max_front(closed.sums))
-        self.now.verdicts.append(verdict)
+        self.judged(closed, verdict)
         if verdict.kind != links.ACCEPT:
             return
         place = self.fixed(closed, verdict.entry)
@@ -148,6 +148,10 @@ class Life(History):
         taken = [p for p in closed.packets if p.kind in used and (p.direction == 2 or p.direction == nominal)]
         for packet in sorted(taken, key=lambda packet: packet.kind):
             self.tell(Fact(packet, closed.group, place, self.moment(), len(self.entries) - 1))
+
+    def judged(self, closed, verdict):
+        self.now.verdicts.append(verdict)
+        self.now.groups.append((closed, verdict, self.mode()))
 
     def fixed(self, closed, entry):
         """An announced group makes a fix at its announced place, another one at its own place where nothing lies at a known

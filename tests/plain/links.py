@@ -12,6 +12,7 @@ class Entry:
     accuracy: int
     nominal: int
     reaction: int
+    number: int = 0  # in its list, from 0
 
     def first_place(self):
         return self.place - self.accuracy
@@ -35,7 +36,7 @@ def entries_of(packet, group, place):
     for link in packet.links:
         place += link.distance * packet.scale_cm
         country = country if link.country is None else link.country
-        entries.append(Entry((country, link.number), place, 100 * link.accuracy_m, link.nominal, link.reaction))
+        entries.append(Entry((country, link.number), place, 100 * link.accuracy_m, link.nominal, link.reaction, len(entries)))
     return entries
 
 

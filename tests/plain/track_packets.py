@@ -6,11 +6,23 @@ writes it.
 A layout is a text of names. `(N_ITER ..)` has a counter and what comes so often; `[Q_NEWCOUNTRY=1 ..]` what comes where that
 field has this number."""
 import re
+from functools import cache
+from pathlib import Path
 
 from decoded import LONGEST, Fault, Fields, packet
 from named import INSTALLED, WIDTH
 
 HEADER_BITS, HEAD_BITS, MOST = 50, 23, 34
+PAGE = Path(__file__).resolve().parents[2] / "docs/PACKETS.md"
+
+
+@cache
+def names():
+    """The names of packets by their numbers, as docs/PACKETS.md has them."""
+    section = PAGE.read_text(encoding="utf-8").split("## Names")[1].split("\n## ")[0]
+    rows = [[cell.strip() for cell in line.strip("|").split("|")] for line in section.splitlines() if line.startswith("|")]
+    return {int(row[0]): row[1] for row in rows if row[0].isdigit()}
+
 
 WIDTHS = WIDTH | {name: width for width, names in {
     1: "Q_NVSRBKTRG Q_NVEMRRLS M_NVDERUN Q_NVDRIVER_ADHES Q_RBC Q_SLEEPSESSION Q_TRACKINIT Q_LGTLOC M_ADHESION Q_TEXTDISPLAY Q_MPOSITION "

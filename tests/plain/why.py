@@ -9,6 +9,7 @@ import sys
 from pathlib import Path
 
 import output
+import group_words
 from limit_reasons import KINDS, limit_cause
 from replay import Walk, text
 
@@ -83,6 +84,7 @@ class Reasons:
             **dict(zip(("trip_cause", "trip_cause_event", "trip_cause_section"), (*self.trip, TRIPS[self.trip[0]][1]) if self.trip else (None,) * 3)),
             "limit_cause": decides.kind, "limit_cause_speed_m_per_h": decides.speed, "limit_cause_place_cm": decides.place,
             "limit_cause_number": decides.number, "limit_cause_section": KINDS[decides.kind][1],
+            **({"groups": [group_words.members(*group) for group in self.life.now.groups]} if self.life.now.groups else {}),
         }
 
     def line(self, number):
@@ -93,9 +95,10 @@ class Reasons:
             causes.append(f"; the train was tripped: {why} (event {self.trip[1]}, {sections})")
         says, sections = KINDS[decides.kind]
         place = "" if decides.place is None else f" at {decides.place} cm"
+        groups = "".join(group_words.line(*group) for group in self.life.now.groups)
         named = "" if decides.number is None else f", number {decides.number}"
         return (f"event {number}: brake {answer.brake}, limit {answer.limit} m/h, speed {speed} m/h, rolled backward {backward} cm of "
-                f"{allowed} cm" + "".join(causes) + f"; {says}: {decides.speed} m/h{place}{named} ({sections})")
+                f"{allowed} cm" + "".join(causes) + f"; {says}: {decides.speed} m/h{place}{named} ({sections})" + groups)
 
 
 class Why(Walk):

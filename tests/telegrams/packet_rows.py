@@ -20,7 +20,7 @@ import told
 from compared import Compared, loaded, run, status_of_full
 from random_inputs import headed
 from test_track import telegram as installed
-from track_packets import fields_of, packets_in_order
+from track_packets import fields_of, names, packets_in_order
 
 RANDOM, SEED = 400, 66
 ENDS = {"end": "end_mark", "no end": "no_end", "cut": "cut_off", "length": "wrong_length", "many": "too_many"}
@@ -37,7 +37,7 @@ LEAST = {"telegrams": 500, "packets": 500, "faults": 50, "unused": 400}
 def packet_of(data, never, number, start, length):
     """A packet as JSON tells it."""
     fields, what = fields_of(data, number, start, length)
-    one = {"packet": number, "name": told.names().get(number), "bit": start, "bits": length, "why": never.get(start)}
+    one = {"packet": number, "name": names().get(number), "bit": start, "bits": length, "why": never.get(start)}
     if fields is not None:
         return one | {"fields": [[name, value] for name, _, _, value in fields], "rest_bits": what[1], "fault": None}
     if what[0] == "refused":

@@ -18,6 +18,7 @@ use Rattle.lives.specs.Steps.{Step}
 use Rattle.lives.specs.declared.visit.Unknown.{Unknown}
 use Rattle.lives.specs.declared.visit.Unknown.TheVariants as an_unknown
 use Rattle.pieces.specs.declared.piece.Form.{Form}
+use Rattle.reasons.specs.Closings.{judged_in, closings_of}
 use Rattle.reasons.specs.LimitWords.{limit_told, limit_word_of}
 use Rattle.reasons.specs.Runs.{runs_of}
 use Rattle.reasons.specs.Told.{Reasoned, Reasons}
@@ -66,6 +67,7 @@ HasLine None event (Some before) now = IsSo before now → ⊥
 abbrev pub line_at : Form → Story → ℕ → Shown → List ℕ
 line_at form story event shown =
     line_of form (answer_in story event (output_at story)) (told_of shown.runs) (trip_of story) shown.decides
+    (judged_in story) (closings_of story)
 
 -- known bytes grew by the line of an event that has one, which counts; else they are the same
 abbrev pub AddsLine : Option ℕ → Form → Story → ℕ → Option Shown → Shown → ℕ → ℕ → Option (List ℕ) → Option (List ℕ) → Type 0

@@ -16,6 +16,9 @@ use Rattle.reasons.specs.LimitWords.{limit_word_of, limit_sentence_of, limit_sec
 use Rattle.mode_control.specs.declared.tripping.TripCause.{TripCause}
 use Rattle.reasons.specs.declared.trips.TripTold.{TripTold}
 use Rattle.reasons.specs.TripWords.{trip_word_of, trip_sentence_of, trip_section_of}
+use Rattle.group_lines.specs.Groups.{groups_text}
+use Rattle.mode_table.specs.declared.mode.Mode.{Mode}
+use Rattle.track_picture.specs.declared.closings.Closing.{Closing}
 use Rattle.lab_why.specs.declared.lines.Answer.{Answer}
 use Rattle.lab_why.specs.declared.lines.Told.{Told}
 
@@ -89,12 +92,17 @@ section_text form kind =
 abbrev pub end_text : Form → List ℕ
 end_text form = text_in form (codes "\n") (codes "}\n")
 
--- behind the causes: the trip, what decides the limit, and the end of the line
-abbrev pub last_text : Form → Option TripTold → LimitTold → List ℕ
-last_text form trip told =
+-- after the causes: the trip and what decides the limit
+abbrev pub limit_text : Form → Option TripTold → LimitTold → List ℕ
+limit_text form trip told =
     trip_text form trip ++ decides_text form told.kind told.speed ++ place_text form told.place ++ number_text form told.number
-    ++ section_text form told.kind ++ end_text form
+    ++ section_text form told.kind
 
-abbrev pub line_of : Form → Answer → List Told → Option TripTold → LimitTold → List ℕ
-line_of form answer told trip decides =
-    front_text form answer ++ (flat_map (cause_text form) told ++ last_text form trip decides)
+-- .. and the groups that the event closed, which were judged in a mode, and the end of the line
+abbrev pub last_text : Form → Option TripTold → LimitTold → Mode → List Closing → List ℕ
+last_text form trip told mode closings =
+    limit_text form trip told ++ (groups_text form mode closings ++ end_text form)
+
+abbrev pub line_of : Form → Answer → List Told → Option TripTold → LimitTold → Mode → List Closing → List ℕ
+line_of form answer told trip decides mode closings =
+    front_text form answer ++ (flat_map (cause_text form) told ++ last_text form trip decides mode closings)

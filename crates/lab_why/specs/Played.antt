@@ -9,6 +9,7 @@ use Rattle.kernel.specs.Lives.{Story, past_at}
 use Rattle.kernel.specs.Output.{estimate_in, uncertainty_in}
 use Rattle.mode_control.specs.History.{tracks}
 use Rattle.mode_control.specs.Sentences.{values_of}
+use Rattle.mode_table.specs.declared.mode.Mode.{Mode}
 use Rattle.onboard.specs.Releases.{Release}
 use Rattle.command_line.specs.OutputWords.{mode_text}
 use Rattle.pieces.specs.Pieces.{joined}
@@ -17,6 +18,7 @@ use Rattle.reasons.specs.declared.limit_words.LimitTold.{LimitTold}
 use Rattle.reasons.specs.declared.trips.TripTold.{TripTold}
 use Rattle.lab_events.specs.Signs.{signs_of}
 use Rattle.lab_events.specs.Words.{level_value}
+use Rattle.track_picture.specs.declared.closings.Closing.{Closing}
 use Rattle.track_picture.specs.History.{speed_of}
 use Rattle.lab_why.specs.Lines.{front_text, cause_text, last_text}
 use Rattle.lab_why.specs.declared.lines.Answer.{Answer}
@@ -41,9 +43,9 @@ abbrev pub played_text : Answer → Played → List ℕ
 played_text answer p = front_text Json answer ++ output_text p
 
 -- the line: its members are those of `line_of`, and these
-abbrev pub played_line_of : Answer → Played → List Told → Option TripTold → LimitTold → List ℕ
-played_line_of answer played told trip decides =
-    played_text answer played ++ (flat_map (cause_text Json) told ++ last_text Json trip decides)
+abbrev pub played_line_of : Answer → Played → List Told → Option TripTold → LimitTold → Mode → List Closing → List ℕ
+played_line_of answer played told trip decides mode closings =
+    played_text answer played ++ (flat_map (cause_text Json) told ++ last_text Json trip decides mode closings)
 
 -- ---- the answer to the last event of a story
 

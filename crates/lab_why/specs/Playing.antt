@@ -20,6 +20,7 @@ use Rattle.onboard.specs.Stops.{step_of, begun_with, AllStand, Stopped}
 use Rattle.onboard.specs.declared.errors.LiveError.{LiveError}
 use Rattle.onboard.specs.declared.errors.LiveError.TheVariants as a_live
 use Rattle.onboard.specs.declared.errors.OpenError.TheVariants as an_open
+use Rattle.reasons.specs.Closings.{judged_in, closings_of}
 use Rattle.reasons.specs.LimitWords.{limit_told}
 use Rattle.reasons.specs.Runs.{runs_of}
 use Rattle.reasons.specs.Trips.{trip_of}
@@ -45,7 +46,8 @@ input_steps life = map (step_at life.ends.items) (inputs_from 0 life.steps.items
 abbrev pub IsLine : ℕ → Story → Release → List ℕ → Type 0
 IsLine step story one line =
     (cause : LimitCause) × IsLimitCause (past_at story).life (output_at story).limit cause
-    × (line ≡ played_line_of (answer_of story one) (played_of story one step) (told_of (runs_of story)) (trip_of story) (limit_told one.output.limit cause))
+    × (line ≡ played_line_of (answer_of story one) (played_of story one step) (told_of (runs_of story)) (trip_of story) (limit_told one.output.limit cause)
+    (judged_in story) (closings_of story))
 
 -- a text, and another one behind it
 pub record IsFollowed (Earlier Later : List ℕ → Type 0) (text : List ℕ) : Type 0 where

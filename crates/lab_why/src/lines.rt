@@ -3,15 +3,17 @@ ghost use Rattle.std.specs.Prelude.{◌≡◌, OnOk, flat_map};
 ghost use Rattle.std.specs.Io.KnownBytes.{Appends};
 ghost use Rattle.pieces.specs.Pieces.{texts};
 ghost use Rattle.pieces.specs.declared.piece.Form.{Form as a_form};
-ghost use Rattle.lab_why.specs.Lines.{front_text, held_text, free_text, cause_text, told_of, trip_known_text, trip_unknown_text, trip_text, decides_text, place_text, number_text, section_text, end_text, last_text, line_of};
+ghost use Rattle.track_picture.specs.Closings.{all_of};
+ghost use Rattle.lab_why.specs.Lines.{front_text, held_text, free_text, cause_text, told_of, trip_known_text, trip_unknown_text, trip_text, decides_text, place_text, number_text, section_text, end_text, limit_text, last_text, line_of};
 
 use command_line::brake_word;
 use events::Brake;
+use group_lines::write_groups;
 use kernel::{BrakeCause, TripCause};
 use pieces::{Form, Piece, both, write_parts, write_pieces};
 use reasons::{
-    LimitKind, LimitTold, Runs, TripTold, ending, limit_section, limit_sentence, limit_word,
-    sentence, trip_section, trip_sentence, trip_word, word,
+    GroupsTold, LimitKind, LimitTold, Runs, TripTold, ending, limit_section, limit_sentence,
+    limit_word, sentence, trip_section, trip_sentence, trip_word, word,
 };
 use std::io;
 use std::io::Write;
@@ -228,14 +230,14 @@ pub(crate) fn write_front<W: Write>(form: Form, answer: &Answer, out: &mut W) ->
     write_pieces(form, &front_pieces(answer), out)
 }
 
-/// Writes what follows the causes, up to the end of the line.
-pub(crate) fn write_last<W: Write>(
+// Writes the trip and what decides the limit.
+fn write_limit<W: Write>(
     form: Form,
     trip: &Option<TripTold>,
     told: &LimitTold,
     out: &mut W,
 ) -> io::Result<()>
-    ensures { OnOk result (Appends (W.contents out.old) (W.contents out.new) (last_text form trip.now told.now)) }
+    ensures { OnOk result (Appends (W.contents out.old) (W.contents out.new) (limit_text form trip.now told.now)) }
 {
     let speed = u64::from(told.speed.get());
     write_parts(
@@ -246,26 +248,43 @@ pub(crate) fn write_last<W: Write>(
             &place_pieces(told.place),
             &number_pieces(told.number),
             &section_pieces(told.kind),
-            &end_piece(),
         ],
         out,
     )
 }
 
-/// Writes the line of an event with these causes of its brake, with the trip that is owed, where it is known why, and
-/// with what decides its limit. The error is that of a write.
+/// Writes what follows the causes, up to the end of the line.
+pub(crate) fn write_last<W: Write>(
+    form: Form,
+    trip: &Option<TripTold>,
+    told: &LimitTold,
+    groups: &GroupsTold,
+    out: &mut W,
+) -> io::Result<()>
+    ensures { OnOk result (Appends (W.contents out.old) (W.contents out.new)
+        (last_text form trip.now told.now groups.now.mode (all_of groups.now.closings))) }
+{
+    write_limit(form, trip, told, out)?;
+    write_groups(form, groups, out)?;
+    write_pieces(form, &end_piece(), out)
+}
+
+/// Writes the line of an event with these causes of its brake, with the trip that is owed, where it is known why, with
+/// what decides its limit, and with the balise groups that it closed. The error is that of a write.
 pub fn write_line<W: Write>(
     form: Form,
     answer: &Answer,
     told: &[Told],
     trip: &Option<TripTold>,
     decides: &LimitTold,
+    groups: &GroupsTold,
     out: &mut W,
 ) -> io::Result<()>
-    ensures { OnOk result (Appends (W.contents out.old) (W.contents out.new) (line_of form answer.now told.now trip.now decides.now)) }
+    ensures { OnOk result (Appends (W.contents out.old) (W.contents out.new)
+        (line_of form answer.now told.now trip.now decides.now groups.now.mode (all_of groups.now.closings))) }
 {
     write_front(form, answer, out)?;
     write_causes(form, told, out)?;
-    write_last(form, trip, decides, out)?;
+    write_last(form, trip, decides, groups, out)?;
     Ok(())
 }

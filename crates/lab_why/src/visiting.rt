@@ -88,7 +88,15 @@ fn write_event<W: Write>(
 {
     let answer = answer_in(life, event, output);
     let told = told_of(&shown.runs);
-    write_line(form, &answer, &told, &life.trip(), &shown.decides, out)?;
+    write_line(
+        form,
+        &answer,
+        &told,
+        &life.trip(),
+        &shown.decides,
+        life.groups(),
+        out,
+    )?;
     Ok(())
 }
 

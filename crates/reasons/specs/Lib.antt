@@ -1,6 +1,8 @@
 pub mod Runs
+pub mod Closings
 pub mod Told
 pub mod Words
 pub mod LimitWords
+pub mod GroupWords
 pub mod Trips
 pub mod TripWords

@@ -5,18 +5,21 @@ use Rattle.kernel.specs.StandsFor.{Knowledge, StandsAt}
 use Rattle.speed_profile.specs.declared.told.CategorySpeeds.{CategorySpeeds}
 use Rattle.track_store.specs.Segments.{Segmented}
 use Rattle.track_picture.specs.Stores.{segment_stores}
+use Rattle.reasons.specs.Closings.{AreGroups}
+use Rattle.reasons.specs.declared.closings.GroupsTold.{GroupsTold}
 use Rattle.reasons.specs.declared.runs.Runs.{Runs}
 use Rattle.reasons.specs.Runs.{number_behind, runs_of}
 use Rattle.reasons.specs.declared.trips.TripTold.{TripTold}
 use Rattle.reasons.specs.Trips.{trip_of}
 
--- what the kernel knows, the number of the next event, from which event on each cause has held, and the trip that is
--- owed
+-- what the kernel knows, the number of the next event, from which event on each cause has held, the trip that is owed,
+-- and the groups that the last event closed
 pub record Reasoned : Type 0 where
   pub state : Knowledge (Segmented ℤ) (Segmented CategorySpeeds)
   pub next : ℕ
   pub runs : Runs
   pub trip : Option TripTold
+  pub groups : GroupsTold
 
 -- it represents a story
 pub record Reasons (story : Story) (known : Reasoned) : Type 0 where
@@ -24,3 +27,4 @@ pub record Reasons (story : Story) (known : Reasoned) : Type 0 where
   pub numbered : known.next ≡ number_behind story
   pub runs_are : known.runs ≡ runs_of story
   pub trip_is : known.trip ≡ trip_of story
+  pub groups_are : AreGroups story known.groups

@@ -3,12 +3,18 @@
 //! from 0, over all lives.
 #![tactic(auto)]
 
+mod closings;
+mod group_words;
 mod limit_words;
 mod reasoning;
 mod runs;
 mod trips;
 mod words;
 
+pub use closings::GroupsTold;
+pub use group_words::{
+    GroupKind, GroupTold, group_section, group_sentence, group_told, group_word, is_accepted,
+};
 pub use limit_words::{
     LimitKind, LimitTold, limit_section, limit_sentence, limit_told, limit_word,
 };

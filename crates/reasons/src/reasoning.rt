@@ -2,13 +2,16 @@
 ghost use Rattle.std.specs.Prelude.{◌≡◌, IfOk, OnOk, OnErr};
 ghost use Rattle.events.specs.declared.input.Event.TheVariants.{PowerUp};
 ghost use Rattle.kernel.specs.Causes.{marked};
+ghost use Rattle.kernel.specs.Closings.{closings_after};
 ghost use Rattle.kernel.specs.Lives.{Story, onward, past_at, left_by};
 ghost use Rattle.kernel.specs.Output.{output_at};
 ghost use Rattle.kernel.specs.Trips.{trip_behind};
 ghost use Rattle.limit_causes.specs.Causes.{IsLimitCause};
+ghost use Rattle.reasons.specs.Closings.{AreTold, AreGroups, mode_before};
 ghost use Rattle.reasons.specs.Runs.{runs_of, causes_behind};
 ghost use Rattle.reasons.specs.Trips.{trip_of};
 
+use crate::closings::GroupsTold;
 use crate::runs::Runs;
 use crate::trips::{TripTold, trip_before, trip_held};
 use events::{Event, Kept, Output};
@@ -28,6 +31,7 @@ pub struct Reasoning {
     next: u64,
     runs: Runs,
     trip: Option<TripTold>,
+    groups: GroupsTold,
 }
 
 impl Model for Reasoning {
@@ -35,7 +39,7 @@ impl Model for Reasoning {
 
     ghost Value = { Reasoned };
 
-    ghost view = { λ r. record { state = r.state; next = r.next; runs = r.runs; trip = r.trip } };
+    ghost view = { λ r. record { state = r.state; next = r.next; runs = r.runs; trip = r.trip; groups = r.groups } };
 }
 
 impl Reasoning {
@@ -57,6 +61,7 @@ impl Reasoning {
             next: number.saturating_add(1),
             runs,
             trip: None,
+            groups: GroupsTold::NONE,
         };
         (reasoning, output)
     }
@@ -72,6 +77,20 @@ impl Reasoning {
         }
     }
 
+    // The groups that an event closes, as the next one.
+    fn groups_by(&self, alloc: Global, event: &Event) -> Result<GroupsTold, NoMemory>
+        ensures { IfOk result (λ told. (story : Story) → Reasons story self.now
+            → AreTold (mode_before (past_at story) event.now) (closings_after (past_at story) event.now) told) }
+    {
+        match event {
+            Event::PowerUp(_) => Ok(GroupsTold::NONE),
+            Event::Input(_) => Ok(GroupsTold {
+                mode: self.state.output().mode,
+                closings: self.state.closings_by(alloc, event)?,
+            }),
+        }
+    }
+
     /// Runs one event more, and answers it. NoMemory where memory is refused; then nothing changes.
     pub fn follow(&mut self, alloc: Global, event: &Event) -> Result<Output, NoMemory>
         ensures refused { OnErr result (self.new ≡ self.old) }
@@ -80,6 +99,9 @@ impl Reasoning {
             → IfOk result (λ output. output ≡ output_at (onward story event.now)) }
     {
         let Ok(entered) = self.trip_by(alloc, event) else {
+            return Err(NoMemory);
+        };
+        let Ok(groups) = self.groups_by(alloc, event) else {
             return Err(NoMemory);
         };
         let Ok(output) = self.state.apply(alloc, event) else {
@@ -91,6 +113,7 @@ impl Reasoning {
         let trip = trip_held(causes.holds(BrakeCause::OwesTrip), entered, before, number);
         self.runs = self.runs.after(event, &causes, number);
         self.trip = trip;
+        self.groups = groups;
         self.next = number.saturating_add(1);
         Ok(output)
     }
@@ -114,6 +137,13 @@ impl Reasoning {
         ensures { (story : Story) → Reasons story self.now → result ≡ trip_of story }
     {
         self.trip
+    }
+
+    /// The groups that the last event closed, and what became of each.
+    pub fn groups(&self) -> &GroupsTold
+        ensures { (story : Story) → Reasons story self.now → AreGroups story result.now }
+    {
+        &self.groups
     }
 
     /// What decides the limit that was answered to the last event.

@@ -22,6 +22,7 @@ returns-clause-stands c = λ story stands.
       numbered = omega (arith, at.numbered, one_more_behind story event);
       runs_are = c.after-self-inside.ensures story at.runs_are causes at.numbered;
       trip_is = c.trip_held-trip.ensures ∙ (λ i. trip_held (owes i) (entered i) (before i) (at.numbered i));
+      groups_are = c.in-Ok-groups_by.ensures story stands;
     }
 
 pub returns-clause-output : goal.returns-clause-output

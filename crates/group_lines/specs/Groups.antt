@@ -1,0 +1,123 @@
+-- What a line tells of the balise groups that its event closed, for people and as a JSON member (this project's
+-- profile; RFC 8259). Groups stand in the order in which they closed, packets in that of their message.
+use Rattle.std.specs.Prelude.{ℕ, Bool, true, false, if◌then◌else◌, Option, Some, None, List, [], ◌∷◌, ◌++◌, codes, decimal}
+use Rattle.command_line.specs.OutputWords.{mode_text}
+use Rattle.mode_table.specs.declared.mode.Mode.{Mode}
+use Rattle.packet_uses.specs.declared.fate.Fate.{Fate}
+use Rattle.packet_uses.specs.declared.fate.Fate.TheVariants as fates
+use Rattle.packet_uses.specs.Fates.{fate_told}
+use Rattle.packets.specs.declared.packet.Packet.{Packet}
+use Rattle.packets.specs.Packets.{number_of}
+use Rattle.pieces.specs.Pieces.{text_in, joined}
+use Rattle.pieces.specs.declared.piece.Form.{Form}
+use Rattle.reasons.specs.declared.group_words.GroupTold.{GroupTold}
+use Rattle.reasons.specs.GroupWords.{group_told, group_word_of, group_sentence_of, group_section_of, is_accepted}
+use Rattle.track_packets.specs.Kinds.{kind_told, name_text}
+use Rattle.track_packets.specs.declared.kind.Kind.{Kind}
+use Rattle.track_picture.specs.declared.closings.Closing.{Closing}
+use Rattle.track_picture.specs.declared.closings.Closing.TheVariants as closing
+use Rattle.vars.specs.declared.linking.LinkOrientation.{LinkOrientation}
+use Rattle.vars.specs.declared.linking.LinkOrientation.TheVariants as orientation
+use Rattle.vars.specs.declared.linking.LinkReaction.{LinkReaction}
+use Rattle.vars.specs.declared.linking.LinkReaction.TheVariants as reaction
+
+-- ---- a packet: its number, its name, and why it isn't used
+
+abbrev pub name_in : Form → Option Kind → List ℕ
+name_in form (Some kind) = joined (text_in form [] (codes "\"") ∷ name_text kind.name ∷ text_in form [] (codes "\"") ∷ [])
+name_in form None = joined (text_in form (codes "without a name") (codes "null") ∷ [])
+
+-- none of the packets of a group that isn't accepted is used
+abbrev pub why_in : Form → Bool → Fate → List ℕ
+why_in form false fate = text_in form [] (codes "\"group_not_accepted\"")
+why_in form true fates.Used = text_in form [] (codes "null")
+why_in form true fates.NotKnown = text_in form (codes " (not known)") (codes "\"not_known\"")
+why_in form true fates.Infill = text_in form (codes " (infill)") (codes "\"infill\"")
+why_in form true fates.NotInMode = text_in form (codes " (not in this mode)") (codes "\"not_in_mode\"")
+why_in form true fates.OtherDirection = text_in form (codes " (other direction)") (codes "\"other_direction\"")
+why_in form true fates.Refused = text_in form (codes " (refused)") (codes "\"refused\"")
+
+abbrev pub packet_begun : Form → Bool → List ℕ
+packet_begun form later =
+    text_in form (codes ", packet ") (if later then codes ",{\"packet\":" else codes "{\"packet\":")
+
+abbrev pub packet_front : Form → Bool → ℕ → List ℕ
+packet_front form later number =
+    joined (packet_begun form later ∷ decimal number ∷ text_in form (codes " ") (codes ",\"name\":") ∷ [])
+
+abbrev pub packet_back : Form → Bool → Fate → List ℕ
+packet_back form accepted fate =
+    joined (text_in form [] (codes ",\"why\":") ∷ why_in form accepted fate ∷ text_in form [] (codes "}") ∷ [])
+
+abbrev pub packet_text : Form → Bool → Bool → ℕ → Fate → List ℕ
+packet_text form accepted later number fate =
+    packet_front form later number ++ name_in form (kind_told number) ++ packet_back form accepted fate
+
+-- packets, each with what becomes of it in the mode and in the direction of its group
+abbrev pub packets_text : Form → Mode → GroupTold → Bool → List Packet → List ℕ
+packets_text form mode told later [] = []
+packets_text form mode told later (p ∷ ps) =
+    packet_text form (is_accepted told.kind) later (number_of p) (fate_told mode told.direction false p)
+    ++ packets_text form mode told true ps
+
+-- a broken group has no message
+abbrev pub packets_of : Closing → List Packet
+packets_of (closing.Whole message outcome) = message.packets
+packets_of (closing.Broken b announced) = []
+
+-- ---- a group
+
+abbrev pub direction_text : Form → Option LinkOrientation → List ℕ
+direction_text form (Some orientation.Nominal) = text_in form (codes "nominal") (codes "\"nominal\"")
+direction_text form (Some orientation.Reverse) = text_in form (codes "reverse") (codes "\"reverse\"")
+direction_text form None = text_in form (codes "not known") (codes "null")
+
+abbrev pub announcement_text : Form → Option ℕ → List ℕ
+announcement_text form (Some number) =
+    joined (text_in form (codes ", announcement ") (codes "\",\"announcement\":") ∷ decimal number ∷ [])
+announcement_text form None = joined (text_in form [] (codes "\",\"announcement\":null") ∷ [])
+
+abbrev pub reaction_text : Form → LinkReaction → List ℕ
+reaction_text form reaction.Trip = text_in form (codes ", asks for a trip") (codes ",\"reaction\":\"trip\"")
+reaction_text form reaction.ServiceBrake =
+    text_in form (codes ", asks for the service brake") (codes ",\"reaction\":\"service\"")
+reaction_text form reaction.NoReaction = text_in form [] (codes ",\"reaction\":null")
+
+abbrev pub group_begun : Form → Bool → List ℕ
+group_begun form later = text_in form (codes "; group ") (if later then codes ",{\"country\":" else codes "{\"country\":")
+
+abbrev pub group_front : Form → Bool → Mode → GroupTold → List ℕ
+group_front form later mode told =
+    joined (group_begun form later ∷ decimal told.group.country
+    ∷ text_in form (codes " ") (codes ",\"group\":") ∷ decimal told.group.number
+    ∷ text_in form (codes " in mode ") (codes ",\"mode\":\"") ∷ mode_text mode
+    ∷ text_in form (codes ", direction ") (codes "\",\"direction\":") ∷ direction_text form told.direction
+    ∷ text_in form (codes ": ") (codes ",\"outcome\":\"") ∷ text_in form (group_sentence_of told.kind) (group_word_of told.kind) ∷ [])
+
+abbrev pub group_back : Form → GroupTold → List ℕ
+group_back form told =
+    joined (reaction_text form told.reaction ∷ text_in form (codes " (") (codes ",\"section\":\"")
+    ∷ group_section_of told.kind ∷ text_in form (codes ")") (codes "\",\"packets\":[") ∷ [])
+
+-- up to its packets
+abbrev pub head_text : Form → Mode → Bool → GroupTold → List ℕ
+head_text form mode later told =
+    group_front form later mode told ++ announcement_text form told.announcement ++ group_back form told
+
+abbrev pub group_text : Form → Mode → Bool → Closing → List ℕ
+group_text form mode later one =
+    head_text form mode later (group_told one) ++ packets_text form mode (group_told one) false (packets_of one)
+    ++ text_in form [] (codes "]}")
+
+abbrev pub group_if : Form → Mode → Bool → Option Closing → List ℕ
+group_if form mode later None = []
+group_if form mode later (Some one) = group_text form mode later one
+
+abbrev pub groups_from : Form → Mode → Bool → List Closing → List ℕ
+groups_from form mode later [] = text_in form [] (codes "]")
+groups_from form mode later (one ∷ others) = group_text form mode later one ++ groups_from form mode true others
+
+-- all of an event; nothing where it closed none
+abbrev pub groups_text : Form → Mode → List Closing → List ℕ
+groups_text form mode [] = []
+groups_text form mode (one ∷ others) = text_in form [] (codes ",\"groups\":[") ++ groups_from form mode false (one ∷ others)

@@ -1,0 +1,134 @@
+//! The packets of a group.
+ghost use Rattle.std.specs.Prelude.{◌≡◌, OnOk, false};
+ghost use Rattle.std.specs.Io.KnownBytes.{Appends};
+ghost use Rattle.pieces.specs.Pieces.{text_of, texts};
+ghost use Rattle.pieces.specs.declared.piece.Form.{Form as a_form};
+ghost use Rattle.track_packets.specs.Kinds.{kind_told};
+ghost use Rattle.packet_uses.specs.Fates.{fate_told};
+ghost use Rattle.packets.specs.Packets.{number_of};
+ghost use Rattle.reasons.specs.GroupWords.{is_accepted};
+ghost use Rattle.group_lines.specs.Groups.{name_in, why_in, packet_begun, packet_back, packet_front, packet_text, packets_text};
+
+use balise_groups::GroupPackets;
+use mode_table::Mode;
+use packet_uses::{Fate, fate_of};
+use packets::Packet;
+use pieces::{Form, Piece, write_parts};
+use reasons::{GroupTold, is_accepted};
+use std::io;
+use std::io::Write;
+use track_packets::kind_of;
+
+fn begun_piece(later: bool) -> Piece
+    ensures { (form : a_form) → text_of form result ≡ packet_begun form later }
+{
+    if later {
+        Piece::Text(", packet ", ",{\"packet\":")
+    } else {
+        Piece::Text(", packet ", "{\"packet\":")
+    }
+}
+
+fn front_pieces(later: bool, number: u8) -> [Piece; 3]
+    ensures { (form : a_form) → texts form result ≡ packet_front form later number }
+{
+    [
+        begun_piece(later),
+        Piece::Number(u64::from(number)),
+        Piece::Text(" ", ",\"name\":"),
+    ]
+}
+
+fn name_pieces(number: u8) -> [Piece; 3]
+    ensures { (form : a_form) → texts form result ≡ name_in form (kind_told number) }
+{
+    match kind_of(number) {
+        Some(kind) => [
+            Piece::Text("", "\""),
+            Piece::Same(kind.name.text()),
+            Piece::Text("", "\""),
+        ],
+        None => [
+            Piece::Text("without a name", "null"),
+            Piece::Nothing,
+            Piece::Nothing,
+        ],
+    }
+}
+
+fn why_piece(accepted: bool, fate: Fate) -> Piece
+    ensures { (form : a_form) → text_of form result ≡ why_in form accepted fate }
+{
+    if !accepted {
+        return Piece::Text("", "\"group_not_accepted\"");
+    }
+    match fate {
+        Fate::Used => Piece::Text("", "null"),
+        Fate::NotKnown => Piece::Text(" (not known)", "\"not_known\""),
+        Fate::Infill => Piece::Text(" (infill)", "\"infill\""),
+        Fate::NotInMode => Piece::Text(" (not in this mode)", "\"not_in_mode\""),
+        Fate::OtherDirection => Piece::Text(" (other direction)", "\"other_direction\""),
+        Fate::Refused => Piece::Text(" (refused)", "\"refused\""),
+    }
+}
+
+fn back_pieces(accepted: bool, fate: Fate) -> [Piece; 3]
+    ensures { (form : a_form) → texts form result ≡ packet_back form accepted fate }
+{
+    [
+        Piece::Text("", ",\"why\":"),
+        why_piece(accepted, fate),
+        Piece::Text("", "}"),
+    ]
+}
+
+fn write_packet<W: Write>(
+    form: Form,
+    accepted: bool,
+    later: bool,
+    number: u8,
+    fate: Fate,
+    out: &mut W,
+) -> io::Result<()>
+    ensures { OnOk result (Appends (W.contents out.old) (W.contents out.new) (packet_text form accepted later number fate)) }
+{
+    let front = front_pieces(later, number);
+    let name = name_pieces(number);
+    let back = back_pieces(accepted, fate);
+    write_parts(form, &[&front, &name, &back], out)
+}
+
+// Writes a packet of a group in a mode.
+fn write_one<W: Write>(
+    form: Form,
+    mode: Mode,
+    told: &GroupTold,
+    later: bool,
+    packet: &Packet<'_>,
+    out: &mut W,
+) -> io::Result<()>
+    ensures { OnOk result (Appends (W.contents out.old) (W.contents out.new)
+        (packet_text form (is_accepted told.now.kind) later (number_of packet.now) (fate_told mode told.now.direction false packet.now))) }
+{
+    let fate = fate_of(packet, mode, told.direction, false);
+    let number = packet.number().get();
+    write_packet(form, is_accepted(told.kind), later, number, fate, out)
+}
+
+/// Writes the packets of a group that closed in a mode, in their order. The error is that of a write.
+pub(crate) fn write_packets<W: Write>(
+    form: Form,
+    mode: Mode,
+    told: &GroupTold,
+    packets: &GroupPackets,
+    out: &mut W,
+) -> io::Result<()>
+    ensures { OnOk result (Appends (W.contents out.old) (W.contents out.new) (packets_text form mode told.now false packets.now)) }
+{
+    let mut later = false;
+    for item in packets.iter() {
+        write_one(form, mode, told, later, item.packet(), out)?;
+        later = true;
+    }
+    Ok(())
+}

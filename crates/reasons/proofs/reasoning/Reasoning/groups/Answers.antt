@@ -1,0 +1,8 @@
+use Rattle.std.proofs.Common.{sym, subst}
+use Rattle.reasons.specs.Told.{Reasoned, Reasons}
+use Rattle.reasons.proofs.reasoning.Reasoning.groups.Goals as goal
+
+pub returns : goal.returns
+returns c = λ story stands.
+    let at = subst (λ (r : Reasoned). Reasons story r) (sym c.self.view_is) stands in
+    at.groups_are

@@ -3,12 +3,12 @@ ghost use Rattle.std.specs.Prelude.{◌≡◌, ◌+◌, ◌/◌, length, IsTrue,
 ghost use Rattle.disk.specs.State.{contents_of, AreSectors, Counted, Touches, Holds, IsSynced, AtEachMoment, SameBut};
 ghost use Rattle.disk.specs.Reserve.{Spends};
 
-use crate::{Disk, DiskFault};
+use crate::{DiskFault, WriteDisk};
 
 /// Writes whole sectors and syncs: at Ok they hold these bytes, and no sector is open (this project's profile). It
 /// stops at the first DiskFault, after which the sectors may hold any bytes. The caller owes sectors of this disk
 /// (`are_sectors`).
-pub fn put<D: Disk>(disk: &mut D, first: u64, bytes: &[u8]) -> Result<(), DiskFault>
+pub fn put<D: WriteDisk>(disk: &mut D, first: u64, bytes: &[u8]) -> Result<(), DiskFault>
     requires { AreSectors first (length bytes.now) (D.state disk.old).sectors }
 
     ensures counted { Counted (is_err result) (D.state disk.old) (D.state disk.new) }

@@ -1,7 +1,7 @@
 //! A disk that lies.
 ghost use Rattle.std.specs.Prelude.{◌≡◌, ◌+◌, ◌%◌, ◌^◌, false, if◌then◌else◌};
 
-use crate::{Disk, DiskFault};
+use crate::{Disk, DiskFault, WriteDisk};
 
 /// A disk that does not keep to the model (this project's profile). It keeps no more than one byte: a read gives the
 /// first byte that was last written anywhere, over and over, and each fourth call answers DiskFault. A sync does
@@ -47,7 +47,7 @@ impl Liar {
     }
 }
 
-impl Disk for Liar {
+impl WriteDisk for Liar {
     ghost use Rattle.disk.specs.Liar.{liar_state};
 
     ghost state = { liar_state };
@@ -56,14 +56,6 @@ impl Disk for Liar {
 
     fn sectors(&self) -> u64 {
         self.sectors
-    }
-
-    fn read(&mut self, _first: u64, bytes: &mut [u8]) -> Result<(), DiskFault> {
-        if self.fails() {
-            return Err(DiskFault);
-        }
-        bytes.fill(self.byte);
-        Ok(())
     }
 
     fn write(&mut self, _first: u64, bytes: &[u8]) -> Result<(), DiskFault> {
@@ -78,6 +70,16 @@ impl Disk for Liar {
         if self.fails() {
             return Err(DiskFault);
         }
+        Ok(())
+    }
+}
+
+impl Disk for Liar {
+    fn read(&mut self, _first: u64, bytes: &mut [u8]) -> Result<(), DiskFault> {
+        if self.fails() {
+            return Err(DiskFault);
+        }
+        bytes.fill(self.byte);
         Ok(())
     }
 }

@@ -7,7 +7,7 @@ use crate::readonly::opened_to_read;
 use crate::syncing::sync_folder;
 use crate::whole::{read_all, write_all};
 use crate::{RawFile, ReadOnlyFile};
-use disk::{Disk, DiskFault, SECTOR_BYTES};
+use disk::{Disk, DiskFault, SECTOR_BYTES, WriteDisk};
 use std::fs::{File, OpenOptions};
 use std::io::ErrorKind;
 use std::os::unix::fs::FileTypeExt;
@@ -43,8 +43,8 @@ impl FileDisk {
         path: &str,
         sectors: u64,
     ) -> Result<FileDisk, DiskFault>
-        ensures sectors { IfOk result (λ disk. (⟦<FileDisk<File> as Disk>⟧.state disk).sectors ≡ sectors) }
-        ensures faults { IfOk result (λ disk. (⟦<FileDisk<File> as Disk>⟧.state disk).faults ≡ 0) }
+        ensures sectors { IfOk result (λ disk. (⟦<FileDisk<File> as WriteDisk>⟧.state disk).sectors ≡ sectors) }
+        ensures faults { IfOk result (λ disk. (⟦<FileDisk<File> as WriteDisk>⟧.state disk).faults ≡ 0) }
         ensures too_many { 2 ^ 54 ≤ sectors → IsErr result }
     {
         if sectors > MOST_SECTORS {
@@ -70,7 +70,7 @@ impl FileDisk {
     /// may read what isn't on the medium: then its copies of the file's pages have to be dropped first, for which there
     /// is no call here.
     pub fn open<R: Files<File = File>>(rt: &R, path: &str) -> Result<FileDisk, DiskFault>
-        ensures faults { IfOk result (λ disk. (⟦<FileDisk<File> as Disk>⟧.state disk).faults ≡ 0) }
+        ensures faults { IfOk result (λ disk. (⟦<FileDisk<File> as WriteDisk>⟧.state disk).faults ≡ 0) }
     {
         let file = open_file(rt, path)?;
         locked(&file)?;
@@ -88,7 +88,7 @@ impl FileDisk<ReadOnlyFile> {
         rt: &R,
         path: &str,
     ) -> Result<FileDisk<ReadOnlyFile>, DiskFault>
-        ensures faults { IfOk result (λ disk. (⟦<FileDisk<ReadOnlyFile> as Disk>⟧.state disk).faults ≡ 0) }
+        ensures faults { IfOk result (λ disk. (⟦<FileDisk<ReadOnlyFile> as WriteDisk>⟧.state disk).faults ≡ 0) }
     {
         match ReadOnlyFile::open(rt, path) {
             Ok(file) => FileDisk::over(file),
@@ -129,9 +129,9 @@ fn is_device(file: &File) -> Result<bool, DiskFault> {
 impl<F: RawFile + Drop> FileDisk<F> {
     /// A disk over the whole sectors of a file, with no fault counted. DiskFault where its length can't be read.
     pub fn over(file: F) -> Result<FileDisk<F>, DiskFault>
-        ensures faults { IfOk result (λ disk. (⟦<FileDisk<F> as Disk>⟧.state disk).faults ≡ 0) }
-        ensures honest { IfOk result (λ disk. (⟦<FileDisk<F> as Disk>⟧.state disk).honest ≡ (F.state file).honest) }
-        ensures whole { IsTrue (F.state file).honest → IfOk result (λ disk. ⟦<FileDisk<F> as Disk>⟧.state disk ≡ whole_disk (F.state file)) }
+        ensures faults { IfOk result (λ disk. (⟦<FileDisk<F> as WriteDisk>⟧.state disk).faults ≡ 0) }
+        ensures honest { IfOk result (λ disk. (⟦<FileDisk<F> as WriteDisk>⟧.state disk).honest ≡ (F.state file).honest) }
+        ensures whole { IsTrue (F.state file).honest → IfOk result (λ disk. ⟦<FileDisk<F> as WriteDisk>⟧.state disk ≡ whole_disk (F.state file)) }
     {
         let sectors = file.length()? / SECTOR_BYTES as u64;
         Ok(FileDisk {
@@ -143,8 +143,8 @@ impl<F: RawFile + Drop> FileDisk<F> {
 
     // A disk over a file that has just so many sectors, and else DiskFault.
     fn of_size(file: F, sectors: u64) -> Result<FileDisk<F>, DiskFault>
-        ensures sectors { IfOk result (λ disk. (⟦<FileDisk<F> as Disk>⟧.state disk).sectors ≡ sectors) }
-        ensures faults { IfOk result (λ disk. (⟦<FileDisk<F> as Disk>⟧.state disk).faults ≡ 0) }
+        ensures sectors { IfOk result (λ disk. (⟦<FileDisk<F> as WriteDisk>⟧.state disk).sectors ≡ sectors) }
+        ensures faults { IfOk result (λ disk. (⟦<FileDisk<F> as WriteDisk>⟧.state disk).faults ≡ 0) }
     {
         let disk = FileDisk::over(file)?;
         if disk.sectors != sectors {
@@ -157,11 +157,11 @@ impl<F: RawFile + Drop> FileDisk<F> {
     /// the file may hold any bytes. The caller owes fewer than 2^54 sectors.
     pub fn fill(file: F, sectors: u64) -> Result<FileDisk<F>, DiskFault>
         requires { sectors < 2 ^ 54 }
-        ensures sectors { IfOk result (λ disk. (⟦<FileDisk<F> as Disk>⟧.state disk).sectors ≡ sectors) }
-        ensures faults { IfOk result (λ disk. (⟦<FileDisk<F> as Disk>⟧.state disk).faults ≡ 0) }
-        ensures honest { IfOk result (λ disk. (⟦<FileDisk<F> as Disk>⟧.state disk).honest ≡ (F.state file).honest) }
-        ensures zeros { IsTrue (F.state file).honest → IfOk result (λ disk. HoldsZeros sectors (contents_of (⟦<FileDisk<F> as Disk>⟧.state disk))) }
-        ensures synced { IsTrue (F.state file).honest → IfOk result (λ disk. IsSynced (⟦<FileDisk<F> as Disk>⟧.state disk)) }
+        ensures sectors { IfOk result (λ disk. (⟦<FileDisk<F> as WriteDisk>⟧.state disk).sectors ≡ sectors) }
+        ensures faults { IfOk result (λ disk. (⟦<FileDisk<F> as WriteDisk>⟧.state disk).faults ≡ 0) }
+        ensures honest { IfOk result (λ disk. (⟦<FileDisk<F> as WriteDisk>⟧.state disk).honest ≡ (F.state file).honest) }
+        ensures zeros { IsTrue (F.state file).honest → IfOk result (λ disk. HoldsZeros sectors (contents_of (⟦<FileDisk<F> as WriteDisk>⟧.state disk))) }
+        ensures synced { IsTrue (F.state file).honest → IfOk result (λ disk. IsSynced (⟦<FileDisk<F> as WriteDisk>⟧.state disk)) }
     {
         let mut file = file;
         file.set_length(0)?;
@@ -190,18 +190,13 @@ impl<F: RawFile> FileDisk<F> {
     }
 }
 
-impl<F: RawFile> Disk for FileDisk<F> {
+impl<F: RawFile> WriteDisk for FileDisk<F> {
     ghost state = { λ disk. disk_over disk.sectors disk.faults (F.state disk.file) };
 
     ghost reserve = { λ _. 0 };
 
     fn sectors(&self) -> u64 {
         self.sectors
-    }
-
-    fn read(&mut self, first: u64, bytes: &mut [u8]) -> Result<(), DiskFault> {
-        let answer = read_all(&self.file, first, bytes);
-        self.counted(answer)
     }
 
     fn write(&mut self, first: u64, bytes: &[u8]) -> Result<(), DiskFault> {
@@ -211,6 +206,13 @@ impl<F: RawFile> Disk for FileDisk<F> {
 
     fn sync(&mut self) -> Result<(), DiskFault> {
         let answer = self.file.sync();
+        self.counted(answer)
+    }
+}
+
+impl<F: RawFile> Disk for FileDisk<F> {
+    fn read(&mut self, first: u64, bytes: &mut [u8]) -> Result<(), DiskFault> {
+        let answer = read_all(&self.file, first, bytes);
         self.counted(answer)
     }
 }

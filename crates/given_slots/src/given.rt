@@ -6,7 +6,7 @@ ghost use Rattle.blocks.specs.FirstSector.{least_slots, most_slots};
 ghost use Rattle.given_slots.specs.Given.{laid_over, ReadsAs, IsGiven};
 
 use blocks::write_first_sector;
-use disk::{Disk, DiskFault, SECTOR_BYTES};
+use disk::{Disk, DiskFault, SECTOR_BYTES, WriteDisk};
 
 /// A disk for reading alone. Where a number of slots is given, its first sector reads as the one that is written for so
 /// many; all else reads as it is. A write is DiskFault and reaches nothing.
@@ -59,9 +59,9 @@ impl<D: Disk> GivenSlots<D> {
     /// A disk that is read as one of so many slots, or as it is where none is given. The caller owes 2 to 1,048,576.
     pub fn over(disk: D, slots: Option<u32>) -> GivenSlots<D>
         requires { ForSome slots (λ n. (least_slots ≤ n) × (n ≤ most_slots)) }
-        ensures sectors { (⟦<GivenSlots<D> as Disk>⟧.state result).sectors ≡ (D.state disk).sectors }
-        ensures honest { (⟦<GivenSlots<D> as Disk>⟧.state result).honest ≡ (D.state disk).honest }
-        ensures reads { ReadsAs slots (contents_of (D.state disk)) (contents_of (⟦<GivenSlots<D> as Disk>⟧.state result)) }
+        ensures sectors { (⟦<GivenSlots<D> as WriteDisk>⟧.state result).sectors ≡ (D.state disk).sectors }
+        ensures honest { (⟦<GivenSlots<D> as WriteDisk>⟧.state result).honest ≡ (D.state disk).honest }
+        ensures reads { ReadsAs slots (contents_of (D.state disk)) (contents_of (⟦<GivenSlots<D> as WriteDisk>⟧.state result)) }
     {
         let first = first_sector_of(slots);
         GivenSlots {
@@ -72,7 +72,7 @@ impl<D: Disk> GivenSlots<D> {
     }
 }
 
-impl<D: Disk> Disk for GivenSlots<D> {
+impl<D: Disk> WriteDisk for GivenSlots<D> {
     ghost use Rattle.given_slots.specs.Given.{given_state};
 
     ghost state = { λ it. given_state it.first it.faults (D.state it.disk) };
@@ -83,13 +83,6 @@ impl<D: Disk> Disk for GivenSlots<D> {
         self.disk.sectors()
     }
 
-    fn read(&mut self, first: u64, bytes: &mut [u8]) -> Result<(), DiskFault> {
-        let answer = self.disk.read(first, bytes);
-        lay_over(&self.first, first, bytes);
-        self.faults = counted(self.faults, &answer);
-        answer
-    }
-
     fn write(&mut self, _first: u64, _bytes: &[u8]) -> Result<(), DiskFault> {
         self.faults = self.faults.wrapping_add(1);
         Err(DiskFault)
@@ -97,6 +90,15 @@ impl<D: Disk> Disk for GivenSlots<D> {
 
     fn sync(&mut self) -> Result<(), DiskFault> {
         let answer = self.disk.sync();
+        self.faults = counted(self.faults, &answer);
+        answer
+    }
+}
+
+impl<D: Disk> Disk for GivenSlots<D> {
+    fn read(&mut self, first: u64, bytes: &mut [u8]) -> Result<(), DiskFault> {
+        let answer = self.disk.read(first, bytes);
+        lay_over(&self.first, first, bytes);
         self.faults = counted(self.faults, &answer);
         answer
     }

@@ -2,7 +2,7 @@
 ghost use Rattle.std.specs.Prelude.{◌≡◌, ◌+◌, ◌%◌, ◌^◌, Some, None, unwrap_or};
 ghost use Rattle.image_calls.specs.ImageDisk.{Imaged, faults_of};
 
-use disk::{Disk, DiskFault, SECTOR_BYTES};
+use disk::{Disk, DiskFault, SECTOR_BYTES, WriteDisk};
 use std::marker::Model;
 
 /// A disk over bytes that are lent, which can't be written (this project's profile): a write answers DiskFault, and
@@ -53,7 +53,7 @@ impl<'a> ImageDisk<'a> {
     }
 }
 
-impl<'a> Disk for ImageDisk<'a> {
+impl<'a> WriteDisk for ImageDisk<'a> {
     ghost use Rattle.image_calls.specs.ImageDisk.{imaged_state};
 
     ghost state = { imaged_state };
@@ -62,14 +62,6 @@ impl<'a> Disk for ImageDisk<'a> {
 
     fn sectors(&self) -> u64 {
         (self.bytes.len() / SECTOR_BYTES) as u64
-    }
-
-    fn read(&mut self, first: u64, bytes: &mut [u8]) -> Result<(), DiskFault> {
-        // That a place in the bytes fits its type.
-        let _len = self.bytes.len();
-        let from = SECTOR_BYTES * first as usize;
-        bytes.copy_from_slice(&self.bytes[from..from + bytes.len()]);
-        Ok(())
     }
 
     fn write(&mut self, first: u64, _bytes: &[u8]) -> Result<(), DiskFault> {
@@ -81,5 +73,15 @@ impl<'a> Disk for ImageDisk<'a> {
             None => Ok(()),
             Some(sector) => Err(self.refuse(sector)),
         }
+    }
+}
+
+impl<'a> Disk for ImageDisk<'a> {
+    fn read(&mut self, first: u64, bytes: &mut [u8]) -> Result<(), DiskFault> {
+        // That a place in the bytes fits its type.
+        let _len = self.bytes.len();
+        let from = SECTOR_BYTES * first as usize;
+        bytes.copy_from_slice(&self.bytes[from..from + bytes.len()]);
+        Ok(())
     }
 }

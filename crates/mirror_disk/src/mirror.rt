@@ -6,7 +6,7 @@ ghost use Rattle.disk.specs.Record.{IsWithin, trace_of};
 
 use crate::carrying::carry;
 use crate::record::sector_in;
-use disk::{Call, Disk, DiskFault, SECTOR_BYTES, Span};
+use disk::{Call, Disk, DiskFault, SECTOR_BYTES, Span, WriteDisk};
 use std::alloc::Global;
 use std::marker::Model;
 use units::NoMemory;
@@ -191,7 +191,7 @@ impl MirrorDisk {
     }
 }
 
-impl Disk for MirrorDisk {
+impl WriteDisk for MirrorDisk {
     ghost use Rattle.mirror_disk.specs.Mirror.{mirror_state, mirror_reserve, IsNoted, has_room_for, write_of};
     ghost use Rattle.disk.specs.declared.record.Call.TheVariants.{Synced};
 
@@ -201,22 +201,6 @@ impl Disk for MirrorDisk {
 
     fn sectors(&self) -> u64 {
         self.sectors
-    }
-
-    fn read(&mut self, first: u64, bytes: &mut [u8]) -> Result<(), DiskFault>
-        requires { AreSectors first (length bytes.old) (mirror_state self.old).sectors }
-        ensures counted { Counted (is_err result) (mirror_state self.old) (mirror_state self.new) }
-        ensures spent { Spends 0 (is_err result) (mirror_reserve self.old) (mirror_reserve self.new) }
-        ensures moments { Touches 0 0 (mirror_state self.old) (mirror_state self.new) }
-        ensures same_open { SameOpen (mirror_state self.old) (mirror_state self.new) }
-        ensures bytes { OnOk result (Holds (contents_of (mirror_state self.old)) first bytes.new) }
-
-        // It is no request, and never fails.
-        ensures still { self.new ≡ self.old }
-        ensures runs { is_err result ≡ false }
-    {
-        self.copy(first, bytes);
-        Ok(())
     }
 
     fn write(&mut self, first: u64, bytes: &[u8]) -> Result<(), DiskFault>
@@ -262,6 +246,26 @@ impl Disk for MirrorDisk {
             return Err(self.fault());
         }
         self.note(Call::Synced, &[]);
+        Ok(())
+    }
+}
+
+impl Disk for MirrorDisk {
+    ghost use Rattle.mirror_disk.specs.Mirror.{mirror_state, mirror_reserve};
+
+    fn read(&mut self, first: u64, bytes: &mut [u8]) -> Result<(), DiskFault>
+        requires { AreSectors first (length bytes.old) (mirror_state self.old).sectors }
+        ensures counted { Counted (is_err result) (mirror_state self.old) (mirror_state self.new) }
+        ensures spent { Spends 0 (is_err result) (mirror_reserve self.old) (mirror_reserve self.new) }
+        ensures moments { Touches 0 0 (mirror_state self.old) (mirror_state self.new) }
+        ensures same_open { SameOpen (mirror_state self.old) (mirror_state self.new) }
+        ensures bytes { OnOk result (Holds (contents_of (mirror_state self.old)) first bytes.new) }
+
+        // It is no request, and never fails.
+        ensures still { self.new ≡ self.old }
+        ensures runs { is_err result ≡ false }
+    {
+        self.copy(first, bytes);
         Ok(())
     }
 }

@@ -4,7 +4,7 @@ ghost use Rattle.disk.specs.State.{contents_of, AreSectors, Counted, Touches, Ho
 ghost use Rattle.disk.specs.Reserve.{Spends};
 ghost use Rattle.relayed_unit.specs.Absent.{absent_state};
 
-use disk::{Disk, DiskFault};
+use disk::{Disk, DiskFault, WriteDisk};
 
 /// A disk that isn't there: each call of it answers DiskFault (this project's profile). A unit lies on one while nobody
 /// flushes it, so that nothing can be released past the requests.
@@ -32,25 +32,13 @@ impl Absent {
     }
 }
 
-impl Disk for Absent {
+impl WriteDisk for Absent {
     ghost state = { absent_state };
 
     ghost reserve = { λ _. 0 };
 
     fn sectors(&self) -> u64 {
         self.sectors
-    }
-
-    fn read(&mut self, first: u64, bytes: &mut [u8]) -> Result<(), DiskFault>
-        requires { AreSectors first (length bytes.old) (absent_state self.old).sectors }
-        ensures counted { Counted (is_err result) (absent_state self.old) (absent_state self.new) }
-        ensures spent { Spends 0 (is_err result) 0 0 }
-        ensures moments { Touches 0 0 (absent_state self.old) (absent_state self.new) }
-        ensures same_open { SameOpen (absent_state self.old) (absent_state self.new) }
-        ensures bytes { OnOk result (Holds (contents_of (absent_state self.old)) first bytes.new) }
-        ensures fails { is_err result ≡ true }
-    {
-        Err(self.fault())
     }
 
     fn write(&mut self, first: u64, bytes: &[u8]) -> Result<(), DiskFault>
@@ -73,6 +61,20 @@ impl Disk for Absent {
         ensures moments { Touches 0 0 (absent_state self.old) (absent_state self.new) }
         ensures synced { OnOk result (IsSynced (absent_state self.new)) }
         ensures failed { OnErr result (SameOpen (absent_state self.old) (absent_state self.new)) }
+        ensures fails { is_err result ≡ true }
+    {
+        Err(self.fault())
+    }
+}
+
+impl Disk for Absent {
+    fn read(&mut self, first: u64, bytes: &mut [u8]) -> Result<(), DiskFault>
+        requires { AreSectors first (length bytes.old) (absent_state self.old).sectors }
+        ensures counted { Counted (is_err result) (absent_state self.old) (absent_state self.new) }
+        ensures spent { Spends 0 (is_err result) 0 0 }
+        ensures moments { Touches 0 0 (absent_state self.old) (absent_state self.new) }
+        ensures same_open { SameOpen (absent_state self.old) (absent_state self.new) }
+        ensures bytes { OnOk result (Holds (contents_of (absent_state self.old)) first bytes.new) }
         ensures fails { is_err result ≡ true }
     {
         Err(self.fault())

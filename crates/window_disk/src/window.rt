@@ -7,7 +7,7 @@ ghost use Rattle.disk.specs.Record.{IsWithin};
 use crate::known::{Known, MOST_KNOWN, add, place_in, renew};
 use crate::medium::Medium;
 use crate::requests::found;
-use disk::{Call, Disk, DiskFault, SECTOR_BYTES, Span};
+use disk::{Call, Disk, DiskFault, SECTOR_BYTES, Span, WriteDisk};
 use mirror_disk::{MOST_BYTES, MOST_REQUESTS};
 use std::alloc::Global;
 use std::marker::Model;
@@ -258,7 +258,7 @@ impl WindowDisk {
     }
 }
 
-impl Disk for WindowDisk {
+impl WriteDisk for WindowDisk {
     ghost use Rattle.mirror_disk.specs.Mirror.{has_room_for, write_of};
     ghost use Rattle.window_disk.specs.Window.{window_state, copy_of, KnowsAll, IsFirstUnknown, NotesRequest, Wants};
     ghost use Rattle.disk.specs.declared.record.Call.TheVariants.{Synced};
@@ -270,29 +270,6 @@ impl Disk for WindowDisk {
 
     fn sectors(&self) -> u64 {
         self.sectors
-    }
-
-    fn read(&mut self, first: u64, bytes: &mut [u8]) -> Result<(), DiskFault>
-        requires { AreSectors first (length bytes.old) (window_state self.old).sectors }
-        ensures counted { Counted (is_err result) (window_state self.old) (window_state self.new) }
-        ensures spent { Spends 0 (is_err result) 0 0 }
-        ensures moments { Touches 0 0 (window_state self.old) (window_state self.new) }
-        ensures same_open { SameOpen (window_state self.old) (window_state self.new) }
-        ensures bytes { OnOk result (Holds (contents_of (window_state self.old)) first bytes.new) }
-
-        // It is no request. It succeeds exactly where all sectors are known, and then nothing changes; else the first
-        // that isn't is wanted.
-        ensures still { OnOk result (self.new ≡ self.old) }
-        ensures known { OnOk result (KnowsAll first (length bytes.old) self.old) }
-        ensures wanted { OnErr result (Wants (IsFirstUnknown first (length bytes.old) self.old) self.old self.new) }
-    {
-        match self.copy(first, bytes) {
-            Ok(()) => Ok(()),
-            Err(sector) => {
-                self.wanted = Some(sector);
-                Err(self.fault())
-            }
-        }
     }
 
     fn write(&mut self, first: u64, bytes: &[u8]) -> Result<(), DiskFault>
@@ -340,5 +317,32 @@ impl Disk for WindowDisk {
         }
         self.note(Call::Synced, &[]);
         Ok(())
+    }
+}
+
+impl Disk for WindowDisk {
+    ghost use Rattle.window_disk.specs.Window.{window_state, KnowsAll, IsFirstUnknown, Wants};
+
+    fn read(&mut self, first: u64, bytes: &mut [u8]) -> Result<(), DiskFault>
+        requires { AreSectors first (length bytes.old) (window_state self.old).sectors }
+        ensures counted { Counted (is_err result) (window_state self.old) (window_state self.new) }
+        ensures spent { Spends 0 (is_err result) 0 0 }
+        ensures moments { Touches 0 0 (window_state self.old) (window_state self.new) }
+        ensures same_open { SameOpen (window_state self.old) (window_state self.new) }
+        ensures bytes { OnOk result (Holds (contents_of (window_state self.old)) first bytes.new) }
+
+        // It is no request. It succeeds exactly where all sectors are known, and then nothing changes; else the first
+        // that isn't is wanted.
+        ensures still { OnOk result (self.new ≡ self.old) }
+        ensures known { OnOk result (KnowsAll first (length bytes.old) self.old) }
+        ensures wanted { OnErr result (Wants (IsFirstUnknown first (length bytes.old) self.old) self.old self.new) }
+    {
+        match self.copy(first, bytes) {
+            Ok(()) => Ok(()),
+            Err(sector) => {
+                self.wanted = Some(sector);
+                Err(self.fault())
+            }
+        }
     }
 }

@@ -5,9 +5,9 @@ ghost use Rattle.disk.specs.State.{contents_of, AreSectors, Counted, Touches, Ho
 use crate::memory::Memory;
 use crate::plan::Fate;
 use crate::record::{Call, Span};
-use crate::{Disk, DiskFault, SECTOR_BYTES};
+use crate::{Disk, DiskFault, SECTOR_BYTES, WriteDisk};
 
-impl Disk for Memory {
+impl WriteDisk for Memory {
     ghost use Rattle.disk.specs.Memory.{memory_state, handed_of, has_room_for, fate_now, HasRun, SameHanded, SameContents};
 
     ghost state = { memory_state };
@@ -16,29 +16,6 @@ impl Disk for Memory {
 
     fn sectors(&self) -> u64 {
         self.sectors
-    }
-
-    fn read(&mut self, first: u64, bytes: &mut [u8]) -> Result<(), DiskFault>
-        requires { AreSectors first (length bytes.old) (memory_state self.old).sectors }
-        ensures counted { Counted (is_err result) (memory_state self.old) (memory_state self.new) }
-        ensures moments { Touches 0 0 (memory_state self.old) (memory_state self.new) }
-        ensures same_open { SameOpen (memory_state self.old) (memory_state self.new) }
-        ensures bytes { OnOk result (Holds (contents_of (memory_state self.old)) first bytes.new) }
-        ensures run { HasRun 0 result self.old self.new }
-        ensures handed { SameHanded self.old self.new }
-    {
-        if !self.has_room(0) {
-            return Err(self.fault());
-        }
-        let fate = self.fate();
-        self.note(Call::Quiet, &[]);
-        match fate {
-            Fate::Runs => {
-                self.copy(first, bytes);
-                Ok(())
-            }
-            Fate::Fails | Fate::Dead => Err(self.fault()),
-        }
     }
 
     fn write(&mut self, first: u64, bytes: &[u8]) -> Result<(), DiskFault>
@@ -106,6 +83,33 @@ impl Disk for Memory {
                 self.note(Call::Quiet, &[]);
                 Err(self.fault())
             }
+        }
+    }
+}
+
+impl Disk for Memory {
+    ghost use Rattle.disk.specs.Memory.{memory_state, HasRun, SameHanded};
+
+    fn read(&mut self, first: u64, bytes: &mut [u8]) -> Result<(), DiskFault>
+        requires { AreSectors first (length bytes.old) (memory_state self.old).sectors }
+        ensures counted { Counted (is_err result) (memory_state self.old) (memory_state self.new) }
+        ensures moments { Touches 0 0 (memory_state self.old) (memory_state self.new) }
+        ensures same_open { SameOpen (memory_state self.old) (memory_state self.new) }
+        ensures bytes { OnOk result (Holds (contents_of (memory_state self.old)) first bytes.new) }
+        ensures run { HasRun 0 result self.old self.new }
+        ensures handed { SameHanded self.old self.new }
+    {
+        if !self.has_room(0) {
+            return Err(self.fault());
+        }
+        let fate = self.fate();
+        self.note(Call::Quiet, &[]);
+        match fate {
+            Fate::Runs => {
+                self.copy(first, bytes);
+                Ok(())
+            }
+            Fate::Fails | Fate::Dead => Err(self.fault()),
         }
     }
 }

@@ -7,7 +7,7 @@ use Rattle.lab_why.proofs.walk.tell_why.Goals as goal
 
 pub returns-in-Ok-clause-lines : goal.returns-in-Ok-clause-lines
 returns-in-Ok-clause-lines g c = λ honest.
-    let before = g.D.Disk.state c.args.disk.now in
+    let before = g.D.WriteDisk.state c.args.disk.now in
     let contents = g.W.Write.contents in
     record {
       last = c.walk.new.visitor;

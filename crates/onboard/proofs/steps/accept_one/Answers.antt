@@ -17,8 +17,8 @@ use Rattle.onboard.proofs.steps.accept_one.Goals as goal
 
 pub returns-in-Ok-clause-stepped : goal.returns-in-Ok-clause-stepped
 returns-in-Ok-clause-stepped g c = λ whole_from durable accepted honest opened ahead.
-    let old : State = g.D.Disk.state c.args.unit.now.disk in
-    let same : g.D.Disk.state c.accept.new.self.disk ≡ old = ap g.D.Disk.state c.accept.ensures.device.0 in
+    let old : State = g.D.WriteDisk.state c.args.unit.now.disk in
+    let same : g.D.WriteDisk.state c.accept.new.self.disk ≡ old = ap g.D.WriteDisk.state c.accept.ensures.device.0 in
     let S : State → Type 0 = λ d. IsStepped whole_from (Accept c.args.input.now) durable accepted old d in
     let O : State → Type 0 = λ d. IsOpen c.accept.new.self.journal (account_of whole_from durable) d in
     let J : Journal → Type 0 = λ j. IsOpen j (account_of whole_from durable) old in
@@ -29,8 +29,8 @@ returns-in-Ok-clause-stepped g c = λ whole_from durable accepted honest opened 
 
 pub returns-in-Err-clause-stepped : goal.returns-in-Err-clause-stepped
 returns-in-Err-clause-stepped g c = λ whole_from durable accepted honest opened ahead.
-    let old : State = g.D.Disk.state c.args.unit.now.disk in
-    let same : g.D.Disk.state c.accept.new.self.disk ≡ old = ap g.D.Disk.state c.accept.ensures.device.0 in
+    let old : State = g.D.WriteDisk.state c.args.unit.now.disk in
+    let same : g.D.WriteDisk.state c.accept.new.self.disk ≡ old = ap g.D.WriteDisk.state c.accept.ensures.device.0 in
     let S : State → Type 0 = λ d. IsStepped whole_from (Accept c.args.input.now) durable accepted old d in
     (subst S (sym same) (quiet_step whole_from (Accept c.args.input.now) c.args.unit.now.journal durable accepted ahead.more old opened ahead.accepted_is), tt)
 
@@ -47,4 +47,4 @@ returns-in-Err-clause-stopped g c =
 pub returns-in-Ok-clause-last : goal.returns-in-Ok-clause-last
 returns-in-Ok-clause-last g c = λ whole_from earlier durable accepted honest opened ahead last.
     let L : State → Type 0 = λ s. IsLastWritten s.sectors earlier durable (contents_of s) in
-    subst L (sym (ap g.D.Disk.state c.accept.ensures.device.0)) last
+    subst L (sym (ap g.D.WriteDisk.state c.accept.ensures.device.0)) last

@@ -23,7 +23,7 @@ loop-k-init g c = record {
   going = λ whole_from s honest opened ahead. (
     [],
     g.met.S.ReleaseSink.none c.args.sink.now,
-    going_first whole_from s c.args.steps.now (g.D.Disk.state c.args.unit.now.disk) c.args.unit.now.journal c.args.unit.now.life opened ahead,
+    going_first whole_from s c.args.steps.now (g.D.WriteDisk.state c.args.unit.now.disk) c.args.unit.now.journal c.args.unit.now.life opened ahead,
   );
   last = λ whole_from earlier s honest opened ahead last. last;
 }
@@ -32,16 +32,16 @@ pub returns-in-Err-clause-ran : goal.returns-in-Err-clause-ran
 returns-in-Err-clause-ran g c = λ whole_from s honest opened ahead.
     let so = c.loop-k.invariant.going whole_from s honest opened ahead in
     let going = so.2 in
-    let still : IsTrue (g.D.Disk.state c.loop-k.unit.disk).honest = subst IsTrue (sym c.loop-k.invariant.honest) honest in
+    let still : IsTrue (g.D.WriteDisk.state c.loop-k.unit.disk).honest = subst IsTrue (sym c.loop-k.invariant.honest) honest in
     let step = c.in-Err.ensures.stepped whole_from going.durable (accepted_by s (take c.loop-k.k c.args.steps.now)) still going.opened going.ahead in
-    let end = stopped whole_from s c.args.steps.now c.loop-k.k c.loop-k-test.true c.index-steps-k.result _ c.index-steps-k.is (g.D.Disk.state c.args.unit.now.disk) (g.D.Disk.state c.loop-k.unit.disk) c.loop-k.invariant.sectors c.loop-k.unit.journal c.loop-k.unit.life so.0 going (g.D.Disk.state c.take.new.unit.disk) step.0 in
+    let end = stopped whole_from s c.args.steps.now c.loop-k.k c.loop-k-test.true c.index-steps-k.result _ c.index-steps-k.is (g.D.WriteDisk.state c.args.unit.now.disk) (g.D.WriteDisk.state c.loop-k.unit.disk) c.loop-k.invariant.sectors c.loop-k.unit.journal c.loop-k.unit.life so.0 going (g.D.WriteDisk.state c.take.new.unit.disk) step.0 in
     let G : List Released → Type 0 = λ l. g.S.ReleaseSink.Gave c.args.sink.now l c.take.new.sink in (
       so.0,
       subst G (append-nil so.0) (g.met.S.ReleaseSink.more c.args.sink.now c.loop-k.sink c.take.new.sink so.0 [] so.1 c.in-Err.ensures.nothing),
       end.0,
       done_before s c.args.steps.now c.loop-k.k c.in-Err.error _ _ _ _ c.in-Err.ensures.named end.1 end.2,
-      unflushed whole_from s c.args.steps.now c.loop-k.k (g.D.Disk.state c.args.unit.now.disk) (g.D.Disk.state c.loop-k.unit.disk) (g.D.Disk.state c.take.new.unit.disk) c.loop-k.unit.journal c.loop-k.unit.life so.0 c.in-Err.error
-          c.loop-k.invariant.sectors going c.in-Err.ensures.named (λ full. ap (λ (u : UnitState _). g.D.Disk.state u.disk) (c.in-Err.ensures.full full).1) end.0 (end.2.0 ∙ sym going.durable_is),
+      unflushed whole_from s c.args.steps.now c.loop-k.k (g.D.WriteDisk.state c.args.unit.now.disk) (g.D.WriteDisk.state c.loop-k.unit.disk) (g.D.WriteDisk.state c.take.new.unit.disk) c.loop-k.unit.journal c.loop-k.unit.life so.0 c.in-Err.error
+          c.loop-k.invariant.sectors going c.in-Err.ensures.named (λ full. ap (λ (u : UnitState _). g.D.WriteDisk.state u.disk) (c.in-Err.ensures.full full).1) end.0 (end.2.0 ∙ sym going.durable_is),
     )
 
 pub loop-k-preserved : goal.loop-k-preserved
@@ -54,17 +54,17 @@ loop-k-preserved g c = record {
   going = λ whole_from s honest opened ahead.
       let so = c.loop-k.invariant.going whole_from s honest opened ahead in
       let going = so.2 in
-      let still : IsTrue (g.D.Disk.state c.loop-k.unit.disk).honest = subst IsTrue (sym c.loop-k.invariant.honest) honest in
+      let still : IsTrue (g.D.WriteDisk.state c.loop-k.unit.disk).honest = subst IsTrue (sym c.loop-k.invariant.honest) honest in
       let step = c.in-Ok.ensures.stepped whole_from going.durable (accepted_by s (take c.loop-k.k c.args.steps.now)) still going.opened going.ahead in (
         so.0 ++ step.1.0,
         g.met.S.ReleaseSink.more c.args.sink.now c.loop-k.sink c.take.new.sink so.0 step.1.0 so.1 step.1.1,
-        stepped whole_from s c.args.steps.now c.loop-k.k c.loop-k-test.true c.index-steps-k.result _ c.index-steps-k.is (g.D.Disk.state c.args.unit.now.disk) (g.D.Disk.state c.loop-k.unit.disk) c.loop-k.invariant.sectors c.loop-k.unit.journal c.loop-k.unit.life so.0 going (g.D.Disk.state c.take.new.unit.disk) c.take.new.unit.journal c.take.new.unit.life step.1.0 (c.take.ensures.counted.sectors) step.0 step.1.2,
+        stepped whole_from s c.args.steps.now c.loop-k.k c.loop-k-test.true c.index-steps-k.result _ c.index-steps-k.is (g.D.WriteDisk.state c.args.unit.now.disk) (g.D.WriteDisk.state c.loop-k.unit.disk) c.loop-k.invariant.sectors c.loop-k.unit.journal c.loop-k.unit.life so.0 going (g.D.WriteDisk.state c.take.new.unit.disk) c.take.new.unit.journal c.take.new.unit.life step.1.0 (c.take.ensures.counted.sectors) step.0 step.1.2,
       );
   last = λ whole_from earlier s honest opened ahead last.
       let so = c.loop-k.invariant.going whole_from s honest opened ahead in
       let going = so.2 in
-      let old : State = g.D.Disk.state c.loop-k.unit.disk in
-      let new : State = g.D.Disk.state c.take.new.unit.disk in
+      let old : State = g.D.WriteDisk.state c.loop-k.unit.disk in
+      let new : State = g.D.WriteDisk.state c.take.new.unit.disk in
       let still : IsTrue old.honest = subst IsTrue (sym c.loop-k.invariant.honest) honest in
       let first = take c.loop-k.k c.args.steps.now in
       let here = accepted_by s first in
@@ -79,7 +79,7 @@ loop-k-preserved g c = record {
 pub returns-clause-ran : goal.returns-clause-ran
 returns-clause-ran g c = λ whole_from s honest opened ahead.
     let so = c.loop-k.invariant.going whole_from s honest opened ahead in
-    let end = finished whole_from s c.args.steps.now c.loop-k.k (g.D.Disk.state c.args.unit.now.disk) (g.D.Disk.state c.loop-k.unit.disk) c.loop-k.unit.journal c.loop-k.unit.life so.0 so.2 in
+    let end = finished whole_from s c.args.steps.now c.loop-k.k (g.D.WriteDisk.state c.args.unit.now.disk) (g.D.WriteDisk.state c.loop-k.unit.disk) c.loop-k.unit.journal c.loop-k.unit.life so.0 so.2 in
     let all = take_all c.loop-k.k c.args.steps.now (search rules) in
     (so.0, so.1, end.0, (end.1 ∙ search rules, subst (λ (l : List Step). AreBehind s l end.0.durable_at_end end.0.accepted_at_end end.0.released) all end.2), tt)
 
@@ -100,6 +100,6 @@ returns-in-Err-clause-named g c = λ none. (let clash : Some c.loop-k.k ≡ None
 
 pub returns-clause-last : goal.returns-clause-last
 returns-clause-last g c = λ whole_from earlier s honest opened ahead last.
-    let new : State = g.D.Disk.state c.loop-k.unit.disk in
+    let new : State = g.D.WriteDisk.state c.loop-k.unit.disk in
     let L : List Step → Type 0 = λ l. IsLastWritten new.sectors (earlier_by earlier s s l) (durable_by s l) (contents_of new) in
     subst L (take_all c.loop-k.k c.args.steps.now (search rules)) (c.loop-k.invariant.last whole_from earlier s honest opened ahead last)

@@ -12,7 +12,7 @@ returns-clause-moments g c = λ honest. touches_given c.args.self.now.first c.ar
 
 pub returns-clause-bytes : goal.returns-clause-bytes
 returns-clause-bytes g c = λ honest.
-    let image = contents_of (g.D.Disk.state c.args.self.now.disk) in
+    let image = contents_of (g.D.WriteDisk.state c.args.self.now.disk) in
     let room : 512 ≤ length c.read-answer.new.bytes = omega (arith, c.requires.whole, c.requires.some, c.read-answer.auto.bytes) in
     rw c.lay_over.ensures
     (on_ok_weaker c.read-answer.result (λ holds. holds_given c.args.self.now.first image c.args.first c.read-answer.new.bytes c.args.self.now.sized room holds) (c.read-answer.ensures.bytes honest))

@@ -2,7 +2,7 @@ use Rattle.std.proofs.Common.{rules, ◌≡◌, ℕ, ◌/◌, length, subst}
 use Rattle.disk.specs.declared.record.Call.TheVariants.{Written}
 use Rattle.mirror_disk.specs.Mirror.{IsNoted}
 use Rattle.mirror_disk.proofs.Noted.{write_touches, write_holds}
-use Rattle.mirror_disk.proofs.mirror.MirrorDiskDisk.write.Goals as goal
+use Rattle.mirror_disk.proofs.mirror.MirrorDiskWriteDisk.write.Goals as goal
 
 pub returns-clause-moments : goal.returns-clause-moments
 returns-clause-moments c =

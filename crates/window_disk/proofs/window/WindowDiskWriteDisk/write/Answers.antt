@@ -3,7 +3,7 @@ use Rattle.disk.specs.declared.record.Call.TheVariants.{Written}
 use Rattle.mirror_disk.specs.Mirror.{IsNoted}
 use Rattle.mirror_disk.proofs.Noted.{write_touches, write_holds}
 use Rattle.window_disk.specs.Window.{Windowing, copy_of}
-use Rattle.window_disk.proofs.window.WindowDiskDisk.write.Goals as goal
+use Rattle.window_disk.proofs.window.WindowDiskWriteDisk.write.Goals as goal
 
 pub returns-clause-moments : goal.returns-clause-moments
 returns-clause-moments c =

@@ -1,9 +1,9 @@
 use Rattle.std.proofs.Common.{inr, refl}
 use Rattle.given_slots.proofs.GivenSectors.{touches_same}
-use Rattle.given_slots.proofs.given.GivenSlotsDisk.write.Goals as goal
+use Rattle.given_slots.proofs.given.GivenSlotsWriteDisk.write.Goals as goal
 
 pub returns-clause-moments : goal.returns-clause-moments
-returns-clause-moments g c = λ honest. touches_same c.args.self.now.first c.args.self.now.faults _ c.args._first _ (g.D.Disk.state c.args.self.now.disk)
+returns-clause-moments g c = λ honest. touches_same c.args.self.now.first c.args.self.now.faults _ c.args._first _ (g.D.WriteDisk.state c.args.self.now.disk)
 
 pub returns-clause-failed : goal.returns-clause-failed
 returns-clause-failed g c = λ honest i inside. inr (refl, refl)

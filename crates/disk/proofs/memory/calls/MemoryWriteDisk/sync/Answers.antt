@@ -3,7 +3,7 @@ use Rattle.std.proofs.lemmas.Grind.{common_steps}
 use Rattle.disk.specs.declared.record.Call.TheVariants.{Quiet}
 use Rattle.disk.specs.Memory.{IsRecording}
 use Rattle.disk.proofs.Calls.{noted_still, quiet_to, leaves_quiet, within_quiet}
-use Rattle.disk.proofs.memory.calls.MemoryDisk.sync.Goals as goal
+use Rattle.disk.proofs.memory.calls.MemoryWriteDisk.sync.Goals as goal
 
 pub returns-in-Runs-clause-moments : goal.returns-in-Runs-clause-moments
 returns-in-Runs-clause-moments c = noted_still c.note.ensures c.has_room.ensures.kept tt

@@ -4,7 +4,7 @@ use Rattle.disk.specs.declared.record.Span.{Span}
 use Rattle.disk.specs.declared.record.Call.TheVariants.{Written, Torn, Quiet}
 use Rattle.disk.specs.Memory.{IsRecording}
 use Rattle.disk.proofs.Calls.{quiet_to, leaves_quiet, within_quiet, leaves_written_bytes, leaves_torn_bytes, touches_to, written_holds, hands_written, hands_torn, handed_holds, same_handed_written, same_handed_torn, others_handed, torn_contents}
-use Rattle.disk.proofs.memory.calls.MemoryDisk.write.Goals as goal
+use Rattle.disk.proofs.memory.calls.MemoryWriteDisk.write.Goals as goal
 
 pub returns-in-Runs-clause-moments : goal.returns-in-Runs-clause-moments
 returns-in-Runs-clause-moments c =

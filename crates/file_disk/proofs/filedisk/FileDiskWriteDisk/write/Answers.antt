@@ -1,7 +1,7 @@
 use Rattle.std.proofs.Common.{◌∙◌, ◌+◌, ◌*◌, ◌≤◌, length, ap, rules}
 use Rattle.file_disk.specs.Files.{bytes_of}
 use Rattle.file_disk.proofs.Parts.{written_holds, handed_on}
-use Rattle.file_disk.proofs.filedisk.FileDiskDisk.write.Goals as goal
+use Rattle.file_disk.proofs.filedisk.FileDiskWriteDisk.write.Goals as goal
 
 pub returns-clause-written : goal.returns-clause-written
 returns-clause-written g c = λ honest.

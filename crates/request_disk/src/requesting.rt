@@ -1,5 +1,5 @@
 //! The disk.
-ghost use Rattle.std.specs.Prelude.{◌≡◌, ℕ, ◌+◌, ◌*◌, ◌/◌, ◌%◌, ◌^◌, ◌<◌, ◌≤◌, ◌==◌, length, take, drop, List, ◌∷◌, ◌++◌, [], true, false, IsTrue, IfOk, IfErr, IfSome, OnOk, OnErr, Option, Some, None, MatchOption, MatchResult, is_err, is_some, if◌then◌else◌};
+ghost use Rattle.std.specs.Prelude.{◌≡◌, ℕ, ◌+◌, ◌*◌, ◌/◌, ◌%◌, ◌^◌, ◌<◌, ◌≤◌, ◌==◌, length, take, drop, List, ◌∷◌, ◌++◌, [], true, false, IsTrue, IfOk, IfErr, IfSome, OnOk, OnErr, Option, Some, None, MatchOption, MatchResult, is_err, is_some, is_none, if◌then◌else◌};
 ghost use Rattle.disk.specs.State.{contents_of, sector_of, AreSectors, Counted, Touches, Holds, AreOpen, OpenOrSame, SameOpenOutside, SameOpen, IsSynced};
 ghost use Rattle.disk.specs.Reserve.{Spends};
 ghost use Rattle.disk.specs.Record.{IsWithin};
@@ -94,6 +94,13 @@ impl RequestDisk {
             faults: 0,
             wanted: None,
         })
+    }
+
+    /// Whether all of the medium is held.
+    pub fn is_whole(&self) -> bool
+        ensures { result ≡ is_none self.now.known }
+    {
+        matches!(self.held, Held::Whole(_))
     }
 
     /// The sector that the last read wanted that failed, until one is handed in.

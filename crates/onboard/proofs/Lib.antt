@@ -1,5 +1,7 @@
+pub mod Behind
 pub mod Chains
 pub mod Damage
+pub mod GateRead
 pub mod Greatest
 pub mod InParts
 pub mod LastBlock

@@ -1,4 +1,0 @@
-pub mod Carried
-pub mod Found
-pub mod Noted
-pub mod Shut

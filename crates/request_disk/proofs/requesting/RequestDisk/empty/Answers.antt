@@ -1,0 +1,49 @@
+use Rattle.std.proofs.Common.{◌≡◌, ℕ, List, length, sym, ◌∙◌, ap, subst, rules, vec_len}
+use Rattle.std.specs.Prelude.{All}
+use Rattle.std.proofs.lemmas.List.Elements.{All-nil}
+use Rattle.disk.specs.State.{sector_of, contents_of}
+use Rattle.disk.specs.Record.{IsWithin}
+use Rattle.disk.specs.declared.record.Call.{Call}
+use Rattle.disk.proofs.Settling.{fresh_contents}
+use Rattle.request_disk.specs.Held.{AreHeld}
+use Rattle.request_disk.specs.Medium.{carried}
+use Rattle.request_disk.specs.Requests.{IsRequest}
+use Rattle.request_disk.specs.Requesting.{Requesting, request_state}
+use Rattle.request_disk.proofs.Carried.{carried_now, carried_size}
+use Rattle.request_disk.proofs.requesting.RequestDisk.empty.Goals as goal
+
+module _ (c : goal.After-clear-2) where
+  abbrev calls : List Call
+  calls = c.self.inside.requests.items
+
+  abbrev bytes : List ℕ
+  bytes = c.self.inside.written.items
+
+  within : All (IsWithin c.self.inside.sectors (length bytes)) calls
+  within = search rules
+
+  carries : c.carry.new.self.bytes ≡ carried bytes c.self.inside.medium.bytes calls
+  carries = search rules
+
+pub invariant_of-self : goal.invariant_of-self
+invariant_of-self c =
+    let m = c.self.inside in
+    let held : AreHeld m.sectors (carried (bytes c) m.medium.bytes (calls c)) c.carry-2.new.self = search rules in
+    record {
+      whole = ap length (carries c) ∙ carried_size m.sectors m.medium.bytes (bytes c) (calls c) (within c) c.self.invariant.whole;
+      held = subst (λ (medium : List ℕ). AreHeld m.sectors medium c.carry-2.new.self) (sym (carries c)) held;
+      held_fit = c.carry-2.ensures.room c.self.invariant.held_fit;
+      within = subst (λ (l : List Call). All (IsWithin m.sectors (vec_len c.clear-2.new.self)) l) (sym c.clear.ensures.items) (All-nil (IsWithin m.sectors (vec_len c.clear-2.new.self)));
+      only = subst (λ (l : List Call). All IsRequest l) (sym c.clear.ensures.items) (All-nil IsRequest);
+      none = λ _. c.clear-2.ensures.len;
+      requests_fit = search rules;
+      bytes_fit = search rules;
+    }
+
+pub returns-clause-contents : goal.returns-clause-contents
+returns-clause-contents c = λ s.
+    let m = c.self.inside in
+    fresh_contents _ _ _ s c.clear.ensures.items
+    ∙ ap (λ (l : List ℕ). sector_of l s) (carries c)
+    ∙ carried_now m.sectors m.medium.bytes (bytes c) (calls c) (within c) c.self.invariant.whole s
+    ∙ ap (λ (w : Requesting). contents_of (request_state w) s) c.self.view_is

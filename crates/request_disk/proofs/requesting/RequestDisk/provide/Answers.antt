@@ -1,0 +1,86 @@
+use Rattle.std.proofs.Common.{◌≡◌, ℕ, ◌<◌, false, List, length, Option, is_some, sym, ◌∙◌, ap, subst, rules}
+use Rattle.disk.specs.State.{State, contents_of}
+use Rattle.disk.specs.Record.{state_of}
+use Rattle.request_disk.specs.Requests.{found_in}
+use Rattle.request_disk.specs.Held.{known_of, is_held, AreHeld}
+use Rattle.request_disk.specs.Known.{IsHeld}
+use Rattle.request_disk.specs.Medium.{with_sectors}
+use Rattle.request_disk.specs.Requesting.{Requesting, request_state, knows}
+use Rattle.request_disk.specs.declared.known.Known.{Known}
+use Rattle.request_disk.proofs.Carried.{put_size, put_other, put_one}
+use Rattle.request_disk.proofs.Holding.{has_added, or_right, unknown_held, told_put, told_others, same_medium}
+use Rattle.request_disk.proofs.requesting.RequestDisk.provide.Goals as goal
+
+module _ (c : goal.After-add) where
+  -- the disk as its fields say it
+  abbrev w : Requesting
+  w = record {
+    sectors = c.self.inside.sectors;
+    medium = c.self.inside.medium.bytes;
+    known = known_of c.self.inside.held;
+    requests = c.self.inside.requests.items;
+    written = c.self.inside.written.items;
+    faults = c.self.inside.faults;
+    wanted = c.self.inside.wanted;
+  }
+
+  unknown : knows c.args.sector w ≡ false
+  unknown = let it : knows c.args.sector c.args.self.now ≡ false = search rules in ap (λ (v : Requesting). knows c.args.sector v) c.self.view_is ∙ it
+
+  below : c.args.sector < w.sectors
+  below = subst (λ (v : Requesting). c.args.sector < v.sectors) (sym c.self.view_is) c.requires
+
+  size : length c.args.bytes.now ≡ 512
+  size = search rules
+
+  abbrev next : List ℕ
+  next = with_sectors c.args.bytes.now w.medium (record { first = c.args.sector; sectors = 1; from = 0 })
+
+  carries : c.carry.new.self.bytes ≡ next
+  carries = c.carry.ensures
+
+  abbrev it : Known
+  it = record { sector = c.args.sector; bytes = c.args.bytes.now }
+
+pub invariant_of-self-2 : goal.invariant_of-self-2
+invariant_of-self-2 c =
+    let m = c.self.inside in let s = c.args.sector in
+    let one : IsHeld m.sectors (next c) (it c) = record { below = below c; bytes = sym (put_one m.sectors m.medium.bytes c.args.bytes.now s (below c) (size c) c.self.invariant.whole) } in
+    let held : AreHeld m.sectors (next c) c.add.new.self =
+    c.add.ensures.held m.sectors m.medium.bytes (next c) (unknown_held s (w c) (unknown c))
+    (put_other m.sectors m.medium.bytes c.args.bytes.now s (below c) (size c) c.self.invariant.whole) one c.self.invariant.held in
+    record {
+      whole = ap length (carries c) ∙ put_size m.sectors m.medium.bytes c.args.bytes.now s (below c) (size c) c.self.invariant.whole;
+      held = subst (λ (medium : List ℕ). AreHeld m.sectors medium c.add.new.self) (sym (carries c)) held;
+      held_fit = c.add.ensures.room;
+      within = c.self.invariant.within;
+      only = c.self.invariant.only;
+      none = c.self.invariant.none;
+      requests_fit = c.self.invariant.requests_fit;
+      bytes_fit = c.self.invariant.bytes_fit;
+    }
+
+pub returns-clause-same : goal.returns-clause-same
+returns-clause-same c = λ is.
+    let held : c.args.bytes.now ≡ contents_of (request_state (w c)) c.args.sector = is ∙ sym (ap (λ (v : Requesting). contents_of (request_state v) c.args.sector) c.self.view_is) in
+    let S : List ℕ → State = λ medium. state_of (w c).sectors (w c).faults medium (w c).written (w c).requests in
+    ap S (carries c ∙ same_medium (w c) c.args.sector c.args.bytes.now (below c) (size c) c.self.invariant.whole (unknown c) held)
+    ∙ ap (λ (v : Requesting). request_state v) c.self.view_is
+
+pub returns-clause-told : goal.returns-clause-told
+returns-clause-told c = λ _.
+    let s = c.args.sector in
+    ap (λ (medium : List ℕ). contents_of (state_of (w c).sectors (w c).faults medium (w c).written (w c).requests) s) (carries c)
+    ∙ told_put (w c) s c.args.bytes.now (below c) (size c) c.self.invariant.whole (unknown c)
+
+pub returns-clause-others : goal.returns-clause-others
+returns-clause-others c = λ s other.
+    ap (λ (medium : List ℕ). contents_of (state_of (w c).sectors (w c).faults medium (w c).written (w c).requests) s) (carries c)
+    ∙ told_others (w c) c.args.sector c.args.bytes.now (below c) (size c) c.self.invariant.whole (unknown c) s other
+    ∙ ap (λ (v : Requesting). contents_of (request_state v) s) c.self.view_is
+
+pub returns-clause-known : goal.returns-clause-known
+returns-clause-known c =
+    let s = c.args.sector in
+    or_right (is_some (found_in s c.self.inside.requests.items)) (is_held s (known_of c.add.new.self))
+    (ap (λ (o : Option (List ℕ)). is_held s o) c.add.ensures.known ∙ has_added s (known_of c.self.inside.held))

@@ -1,0 +1,5 @@
+pub mod Held
+pub mod Known
+pub mod Medium
+pub mod Requesting
+pub mod Requests

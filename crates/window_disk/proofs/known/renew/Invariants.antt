@@ -1,6 +1,0 @@
-use Rattle.std.proofs.Common.{◌≡◌, ◌++◌, map, take, drop}
-use Rattle.window_disk.specs.Known.{renewed}
-use Rattle.window_disk.proofs.known.renew.Given as goal
-
-abbrev pub invariant-loop-i : goal.invariant-loop-i
-invariant-loop-i l = l.known ≡ map (renewed l.written l.requests) (take l.i l.initial.known) ++ drop l.i l.initial.known

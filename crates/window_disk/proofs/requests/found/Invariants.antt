@@ -1,6 +1,0 @@
-use Rattle.std.proofs.Common.{◌≡◌, take}
-use Rattle.mirror_disk.specs.Mirror.{found_in}
-use Rattle.window_disk.proofs.requests.found.Given as goal
-
-abbrev pub invariant-loop-request : goal.invariant-loop-request
-invariant-loop-request l = l.at ≡ found_in l.sector (take l.request-index l.requests)

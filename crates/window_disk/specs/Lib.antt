@@ -1,3 +1,0 @@
-pub mod Medium
-pub mod Known
-pub mod Window

@@ -100,13 +100,15 @@ pub fn read_gradients<'a>(
     ensures { Gives (λ told. (told, out.new)) result reader.new (read (kind (as_packet packets.Gradients) as_gradients gradients_layout) reader.old) }
 {
     let (direction, told, scale) = ok!(read_head(reader));
-    let mut gradients: ArrayVec<Gradient, 32> = ArrayVec::new();
-    ok!(read_from_first(reader, &mut gradients));
     *out = Packet::Gradients(Gradients {
         direction,
         scale,
-        gradients,
+        gradients: ArrayVec::new(),
     });
+    let Packet::Gradients(Gradients { gradients, .. }) = out else {
+        return Err(PacketFault::OutOfRange);
+    };
+    ok!(read_from_first(reader, gradients));
     Ok(told)
 }
 

@@ -148,14 +148,16 @@ pub fn read_level_transition<'a>(
 {
     let (direction, told, scale) = ok!(read_head(reader));
     let start = ok!(field(reader));
-    let mut orders: ArrayVec<LevelOrder, 32> = ArrayVec::new();
-    ok!(read_from_first(reader, &mut orders));
     *out = Packet::LevelTransition(LevelTransition {
         direction,
         scale,
         start,
-        orders,
+        orders: ArrayVec::new(),
     });
+    let Packet::LevelTransition(LevelTransition { orders, .. }) = out else {
+        return Err(PacketFault::OutOfRange);
+    };
+    ok!(read_from_first(reader, orders));
     Ok(told)
 }
 

@@ -127,13 +127,15 @@ pub fn read_linking<'a>(
     ensures { Gives (λ told. (told, out.new)) result reader.new (read (kind (as_packet packets.Linking) as_linking linking_layout) reader.old) }
 {
     let (direction, told, scale) = ok!(read_head(reader));
-    let mut links: ArrayVec<Link, 32> = ArrayVec::new();
-    ok!(read_from_first(reader, &mut links));
     *out = Packet::Linking(Linking {
         direction,
         scale,
-        links,
+        links: ArrayVec::new(),
     });
+    let Packet::Linking(Linking { links, .. }) = out else {
+        return Err(PacketFault::OutOfRange);
+    };
+    ok!(read_from_first(reader, links));
     Ok(told)
 }
 

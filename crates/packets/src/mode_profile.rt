@@ -117,13 +117,15 @@ pub fn read_mode_profile<'a>(
     ensures { Gives (λ told. (told, out.new)) result reader.new (read (kind (as_packet packets.ModeProfile) as_mode_profile mode_profile) reader.old) }
 {
     let (direction, told, scale) = ok!(read_head(reader));
-    let mut areas: ArrayVec<ModeArea, 32> = ArrayVec::new();
-    ok!(read_from_first(reader, &mut areas));
     *out = Packet::ModeProfile(ModeProfile {
         direction,
         scale,
-        areas,
+        areas: ArrayVec::new(),
     });
+    let Packet::ModeProfile(ModeProfile { areas, .. }) = out else {
+        return Err(PacketFault::OutOfRange);
+    };
+    ok!(read_from_first(reader, areas));
     Ok(told)
 }
 

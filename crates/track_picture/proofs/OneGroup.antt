@@ -3,7 +3,6 @@ use Rattle.std.proofs.Common.{◌≡◌, List, [], ◌∷◌, ◌++◌, Option, 
 use Rattle.balise_groups.specs.declared.message.Closed.{Closed}
 use Rattle.balise_groups.specs.declared.message.Closed.TheVariants as closed
 use Rattle.balise_groups.specs.declared.message.Message.{Message}
-use Rattle.linking.specs.declared.announcement.Announcement.{Announcement}
 use Rattle.linking.specs.declared.judgement.Verdict.{Verdict}
 use Rattle.linking.specs.declared.judgement.Verdict.TheVariants.{Accept, Ignore, Reaction}
 use Rattle.linking.specs.Judging.{judgement}

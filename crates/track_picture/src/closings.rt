@@ -206,6 +206,9 @@ impl<T: ProfileStores> TracksideOver<T> {
             → all_of result ≡ closings_in life.entries (moved life.entries reading.now)
             (with_groups mode life.entries (moved life.entries reading.now) (happened_by life.entries reading.now)).groups }
     {
+        if self.parts.is_idle() {
+            return Closings::NONE;
+        }
         let mut parts = self.parts.copy();
         if !parts.go(reading) {
             return Closings::NONE;

@@ -54,6 +54,13 @@ impl Parts {
         self.groups.is_leaving(self.place.sums().path())
     }
 
+    /// Whether no group is being read, so that no movement closes one.
+    pub(crate) fn is_idle(&self) -> bool
+        ensures { (life : Life) (reading : Told) → self.now ≡ columns_of life → result ≡ true → left_by life.entries reading ≡ None }
+    {
+        self.groups.is_idle()
+    }
+
     /// The group being read is left, and ends.
     pub(crate) fn leave(&mut self) -> Option<Closed>
         ensures answer { (life : Life) (reading : Told) → self.old ≡ still_reading life reading → result ≡ left_by life.entries reading }

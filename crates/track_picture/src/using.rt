@@ -27,6 +27,7 @@ use crate::stores::ProfileStores;
 use balise_groups::GroupPackets;
 use mode_table::{Mode, uses};
 use packets::Packet;
+use telegram::PacketInPlace;
 use units::{GroupPlace, Ms};
 use vars::{GroupIdentity, LinkOrientation, ValidityDirection, Variable};
 
@@ -145,7 +146,9 @@ pub fn take_all<T, W: Walk<T>>(state: &mut T, packets: &GroupPackets, used: &Use
     ensures none { length packets.now ≡ 0 → state.new ≡ state.old }
 {
     let mut later = false;
-    for item in packets.iter() {
+    let mut walk = packets.iter();
+    let mut item = PacketInPlace::new();
+    'packets: while walk.next_into(&mut item) {
         take_one::<T, W>(state, item.packet(), used);
         later = met_later(later, item.packet());
     }

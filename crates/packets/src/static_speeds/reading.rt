@@ -65,15 +65,17 @@ pub fn read_static_speeds<'a>(
     ensures { Gives (λ told. (told, out.new)) result reader.new (read (kind (as_packet packets.StaticSpeeds) as_static_speeds static_speeds) reader.old) }
 {
     let (direction, told, scale) = ok!(read_head(reader));
-    let mut speeds = StaticSpeeds {
+    *out = Packet::StaticSpeeds(StaticSpeeds {
         direction,
         scale,
         steps: ArrayVec::new(),
         differences: ArrayVec::new(),
+    });
+    let Packet::StaticSpeeds(speeds) = out else {
+        return Err(PacketFault::OutOfRange);
     };
-    ok!(read_step(reader, &mut speeds));
+    ok!(read_step(reader, speeds));
     let more: Iterations = ok!(field(reader));
-    ok!(read_steps(reader, &mut speeds, more.count()));
-    *out = Packet::StaticSpeeds(speeds);
+    ok!(read_steps(reader, speeds, more.count()));
     Ok(told)
 }

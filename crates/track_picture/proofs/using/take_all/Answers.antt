@@ -15,32 +15,40 @@ or_next false b c = refl
 -- one packet more is still to come
 pub take_one-requires : goal.take_one-requires
 take_one-requires g c =
-    let one : length c.loop-item.item-iterator ≡ length c.next.new.self + 1 = rw add-one (ap length c.in-Some.ensures.steps) in
-    (length c.next.new.self, subst (λ (n : ℕ). g.W.Walk.HasRoom n 0 c.loop-item.state) one (c.loop-item.invariant.1 0 c.requires))
+    let next : c.packets.walk ≡ c.next_into.new.item.packet ∷ c.next_into.new.self = rw c.packets-test.true at c.next_into.ensures.some in
+    let one : length c.packets.walk ≡ length c.next_into.new.self + 1 = rw add-one (ap length next) in
+    (length c.next_into.new.self, subst (λ (n : ℕ). g.W.Walk.HasRoom n 0 c.packets.state) one (c.packets.invariant.1 0 c.requires))
 
-pub loop-item-preserved : goal.loop-item-preserved
-loop-item-preserved g c =
-    let one : length c.loop-item.item-iterator ≡ length c.next.new.self + 1 = rw add-one (ap length c.in-Some.ensures.steps) in (
-      λ told s. (let before = c.loop-item.invariant.0 told s in
+pub packets-smaller : goal.packets-smaller
+packets-smaller g c =
+    let next : c.packets.walk ≡ c.next_into.new.item.packet ∷ c.next_into.new.self = rw c.packets-test.true at c.next_into.ensures.some in
+    let one : length c.packets.walk ≡ length c.next_into.new.self + 1 = rw add-one (ap length next) in
+    omega (arith, one)
+
+pub packets-preserved : goal.packets-preserved
+packets-preserved g c =
+    let next : c.packets.walk ≡ c.next_into.new.item.packet ∷ c.next_into.new.self = rw c.packets-test.true at c.next_into.ensures.some in
+    let one : length c.packets.walk ≡ length c.next_into.new.self + 1 = rw add-one (ap length next) in (
+      λ told s. (let before = c.packets.invariant.0 told s in
           let used = c.args.used.now in
-          let rest = c.next.new.self in
+          let rest = c.next_into.new.self in
           let packet = c.packet.result.now in (
             _,
             c.take_one.ensures.told before.0 before.1,
             sym (one_packet g.W.Walk.after used packet rest before.0)
                 ∙ ap (λ (p : Packet). after_facts g.W.Walk.after (facts used (p ∷ rest)) before.0) c.packet.ensures
-                ∙ sym (ap (λ (ps : List Packet). after_facts g.W.Walk.after (facts used ps) before.0) c.in-Some.ensures.steps)
+                ∙ sym (ap (λ (ps : List Packet). after_facts g.W.Walk.after (facts used ps) before.0) next)
                 ∙ before.2,
           )),
-      λ behind room. c.take_one.ensures.room (length c.next.new.self) behind
-          (subst (λ (n : ℕ). g.W.Walk.HasRoom n behind c.loop-item.state) one (c.loop-item.invariant.1 behind room)),
-      (let rest = c.next.new.self in
-          let packet = c.packet-in-loop-item.result.now in
-          c.loop-item.invariant.2
-          ∙ ap (λ (ps : List Packet). c.loop-item.later || list_any comes_later ps) c.in-Some.ensures.steps
-          ∙ ap (λ (p : Packet). c.loop-item.later || (comes_later p || list_any comes_later rest)) (sym c.packet-in-loop-item.ensures)
-          ∙ or_next c.loop-item.later (comes_later packet) (list_any comes_later rest)
+      λ behind room. c.take_one.ensures.room (length c.next_into.new.self) behind
+          (subst (λ (n : ℕ). g.W.Walk.HasRoom n behind c.packets.state) one (c.packets.invariant.1 behind room)),
+      (let rest = c.next_into.new.self in
+          let packet = c.packet-in-packets.result.now in
+          c.packets.invariant.2
+          ∙ ap (λ (ps : List Packet). c.packets.later || list_any comes_later ps) next
+          ∙ ap (λ (p : Packet). c.packets.later || (comes_later p || list_any comes_later rest)) (sym c.packet-in-packets.ensures)
+          ∙ or_next c.packets.later (comes_later packet) (list_any comes_later rest)
           ∙ ap (λ (b : Bool). b || list_any comes_later rest) (sym c.met_later-later.ensures)),
-      omega (arith, one, c.loop-item.invariant.3),
-      λ none. absurd (omega (arith, one, none, c.loop-item.invariant.3)),
+      omega (arith, one, c.packets.invariant.3),
+      λ none. absurd (omega (arith, one, none, c.packets.invariant.3)),
     )

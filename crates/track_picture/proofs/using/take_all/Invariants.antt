@@ -8,11 +8,14 @@ use Rattle.track_picture.proofs.using.take_all.Given as goal
 
 -- what the packets still to come make of what was told now is what all of them make of what was told before; the room
 -- that is left is for them; those met so far and those to come are all; and without packets nothing changes
-abbrev pub invariant-loop-item : goal.invariant-loop-item
-invariant-loop-item g l =
+abbrev pub invariant-packets : goal.invariant-packets
+invariant-packets g l =
     ((told : g.W.Walk.Told) → g.W.Walk.IsTold l.fn.state told → (now : g.W.Walk.Told) × (g.W.Walk.IsTold l.state now)
-    × (after_facts g.W.Walk.after (facts l.used l.item-iterator) now ≡ after_facts g.W.Walk.after (facts l.used l.fn.packets) told))
-    × ((behind : ℕ) → g.W.Walk.HasRoom (length l.fn.packets) behind l.fn.state → g.W.Walk.HasRoom (length l.item-iterator) behind l.state)
-    × (list_any comes_later l.fn.packets ≡ (l.later || list_any comes_later l.item-iterator))
-    × (length l.item-iterator ≤ length l.fn.packets)
+    × (after_facts g.W.Walk.after (facts l.used l.walk) now ≡ after_facts g.W.Walk.after (facts l.used l.fn.packets) told))
+    × ((behind : ℕ) → g.W.Walk.HasRoom (length l.fn.packets) behind l.fn.state → g.W.Walk.HasRoom (length l.walk) behind l.state)
+    × (list_any comes_later l.fn.packets ≡ (l.later || list_any comes_later l.walk))
+    × (length l.walk ≤ length l.fn.packets)
     × (length l.fn.packets ≡ 0 → l.state ≡ l.fn.state)
+
+abbrev pub decreases-packets : goal.decreases-packets
+decreases-packets g l = length l.walk

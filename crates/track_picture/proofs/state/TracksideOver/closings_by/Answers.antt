@@ -1,6 +1,5 @@
 use Rattle.std.proofs.Common.{◌≡◌, ℕ, List, ap, sym, ◌∙◌}
 use Rattle.std.proofs.lemmas.Result.{IfOk-weaker}
-use Rattle.events.specs.declared.input.Input.{Input}
 use Rattle.events.specs.declared.input.Input.TheVariants as inputs
 use Rattle.track_picture.specs.declared.closings.Closings.{Closings}
 use Rattle.track_picture.specs.Closings.{closings_in, closings_by, all_of}

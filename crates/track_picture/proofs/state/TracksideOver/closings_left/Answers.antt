@@ -1,4 +1,4 @@
-use Rattle.std.proofs.Common.{[], ◌∷◌, Option, None, ap, sym, ◌∙◌}
+use Rattle.std.proofs.Common.{[], ◌∷◌, Option, ap, sym, ◌∙◌}
 use Rattle.balise_groups.specs.declared.message.Closed.{Closed}
 use Rattle.track_picture.specs.Closings.{closings_in, listed}
 use Rattle.track_picture.specs.Columns.{moved, happened_by, after_moving, known_by}

@@ -22,7 +22,7 @@ use Rattle.authority.proofs.Places.{now_sooner}
 over_later : (time start now later : ℕ) → now ≤ later → has_run_out time start now ≡ true → has_run_out time start later ≡ true
 over_later time start now later o h = grind (arith, nat_tests)
 
-section_later : (start now later : ℕ) (seen : List Sight) (section : TimedSection) → now ≤ later →
+pub section_later : (start now later : ℕ) (seen : List Sight) (section : TimedSection) → now ≤ later →
     section_has_run_out start now seen section ≡ true → section_has_run_out start later seen section ≡ true
 section_later start now later seen section o h =
     let parts = and_parts (has_run_out section.time start now) (not (was_stopped start seen section)) h in
@@ -32,7 +32,7 @@ stopped_no_more : (a b c : Bool) → b ≡ true → c ≡ false → ((a && not b
 stopped_no_more true b c e f = rw (e, f) refl
 stopped_no_more false b c e f = f
 
-section_seen : (start : ℕ) (sight : Sight) (seen : List Sight) (section : TimedSection) →
+pub section_seen : (start : ℕ) (sight : Sight) (seen : List Sight) (section : TimedSection) →
     section_has_run_out start sight.moment seen section ≡ true → section_has_run_out start sight.moment (sight ∷ seen) section ≡ true
 section_seen start sight seen section h =
     let parts = and_parts (has_run_out section.time start sight.moment) (not (was_stopped start seen section)) h in
@@ -44,7 +44,7 @@ started_later : (time now later : ℕ) (started : Option ℕ) → now ≤ later 
 started_later time now later None o h = h
 started_later time now later (Some start) o h = over_later time start now later o h
 
-timer_later : (end : ℤ) (scale : Scale) (now later : ℕ) (seen : List Sight) (timer : Option EndTimer) → now ≤ later →
+pub timer_later : (end : ℤ) (scale : Scale) (now later : ℕ) (seen : List Sight) (timer : Option EndTimer) → now ≤ later →
     end_timer_has_run_out end scale now seen timer ≡ true → end_timer_has_run_out end scale later seen timer ≡ true
 timer_later end scale now later seen None o h = h
 timer_later end scale now later seen (Some timer) o h = started_later timer.time now later (started_before end scale timer.start seen) o h
@@ -53,7 +53,7 @@ started_kept : (time now : ℕ) (before more : Option ℕ) → started_has_run_o
 started_kept time now None more h = absurd (cc)
 started_kept time now (Some start) more h = h
 
-timer_seen : (end : ℤ) (scale : Scale) (now : ℕ) (sight : Sight) (seen : List Sight) (timer : Option EndTimer) →
+pub timer_seen : (end : ℤ) (scale : Scale) (now : ℕ) (sight : Sight) (seen : List Sight) (timer : Option EndTimer) →
     end_timer_has_run_out end scale now seen timer ≡ true → end_timer_has_run_out end scale now (sight ∷ seen) timer ≡ true
 timer_seen end scale now sight seen None h = h
 timer_seen end scale now sight seen (Some timer) h = started_kept timer.time now (started_before end scale timer.start seen) _ h

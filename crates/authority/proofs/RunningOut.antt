@@ -5,6 +5,7 @@ use Rattle.std.specs.Option.{option_or}
 use Rattle.std.proofs.lemmas.Int.{ints}
 use Rattle.std.proofs.lemmas.Bool.{and_parts, and_from, or_parts, not-true, not_from_false}
 use Rattle.std.proofs.lemmas.Bool.Decides.{nat_tests}
+use Rattle.std.proofs.Math.Bool.{and-false}
 use Rattle.authority.specs.declared.timers.TimedSection.{TimedSection}
 use Rattle.authority.specs.Timers.{has_run_out}
 use Rattle.authority.specs.Entries.{Sight}
@@ -40,10 +41,6 @@ was_short start (first ∷ seen) section h sight there early =
 still : (time start now : ℕ) → time ≢ 1023 → has_run_out time start now ≡ false → now < start + 1000 * time
 still time start now n e = grind (arith, nat_tests)
 
-none_held : (a : Bool) → (a && false) ≡ false
-none_held true = refl
-none_held false = refl
-
 short_held : (front place : ℤ) → front <ℤ place → (reaches front place && not false) ≡ false
 short_held front place o = grind (arith, ints)
 
@@ -55,7 +52,7 @@ never_stopped start (sight ∷ seen) section n h =
     let rest = never_stopped start seen section n (λ s there early. h s (inr there) early) in
     let here : (b : Bool) → has_run_out section.time start sight.moment ≡ b → (reaches sight.train.min_front section.stop_at && not b) ≡ false =
     elim [
-      | true ↦ λ e. none_held (reaches sight.train.min_front section.stop_at)
+      | true ↦ λ e. and-false (reaches sight.train.min_front section.stop_at)
       | false ↦ λ e. short_held sight.train.min_front section.stop_at (h sight (inl refl) (still section.time start sight.moment n e))
     ] in
     rw (here (has_run_out section.time start sight.moment) refl) rest

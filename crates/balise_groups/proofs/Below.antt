@@ -1,11 +1,8 @@
 -- One place that fails the test of all places.
-use Rattle.std.proofs.Common.{◌≡◌, ℕ, zero, suc, ◌<◌, Bool, true, false, ◌⊎◌, inl, inr, refl, ap, sym, ◌∙◌, arith}
+use Rattle.std.proofs.Common.{◌≡◌, ℕ, zero, suc, ◌<◌, Bool, false, ◌⊎◌, inl, inr, ap, sym, ◌∙◌, arith}
 use Rattle.std.specs.Prelude.{◌&&◌}
+use Rattle.std.proofs.Math.Bool.{and-false}
 use Rattle.balise_groups.specs.Closing.{all_below}
-
-and_false : (a : Bool) → (a && false) ≡ false
-and_false true = refl
-and_false false = refl
 
 same_or_less : (k n : ℕ) → k < suc n → (k ≡ n) ⊎ (k < n)
 same_or_less k n h = grind arith
@@ -14,6 +11,6 @@ pub one_fails : (n : ℕ) (test : ℕ → Bool) (k : ℕ) → k < n → test k �
 one_fails zero test k h e = absurd (omega arith)
 one_fails (suc n) test k h e =
     elim (same_or_less k n h) [
-      | inl same ↦ ap (λ b. all_below n test && b) (sym (ap test same) ∙ e) ∙ and_false (all_below n test)
+      | inl same ↦ ap (λ b. all_below n test && b) (sym (ap test same) ∙ e) ∙ and-false (all_below n test)
       | inr less ↦ ap (λ b. b && test n) (one_fails n test k less e)
     ]

@@ -1,17 +1,16 @@
 -- Readings of different places below n are at most n.
-use Rattle.std.proofs.Common.{◌≡◌, ℕ, zero, suc, ◌+◌, ◌<◌, ◌≤◌, List, [], ◌∷◌, ◌++◌, length, take, drop, Bool, true, false, cond, refl, ap, sym, ◌∙◌, subst, arith, length-append}
+use Rattle.std.proofs.Common.{◌≡◌, ℕ, zero, suc, ◌+◌, ◌<◌, ◌≤◌, List, [], ◌∷◌, ◌++◌, length, Bool, true, false, cond, refl, ap, sym, ◌∙◌, arith, length-append}
 use Rattle.std.specs.Prelude.{◌||◌}
 use Rattle.std.proofs.lemmas.Bool.Decides.{nat_tests}
-use Rattle.std.proofs.lemmas.List.{take-append-drop}
 use Rattle.balise_groups.specs.declared.reading.Reading.{Reading}
 use Rattle.balise_groups.specs.Closing.{is_at, is_read}
 use Rattle.balise_groups.specs.Places.{Differ, AllBelow, HaveOwnPlaces}
 
-or_left : (a b : Bool) → (a || b) ≡ false → a ≡ false
+pub or_left : (a b : Bool) → (a || b) ≡ false → a ≡ false
 or_left true b h = cc
 or_left false b h = refl
 
-or_right : (a b : Bool) → (a || b) ≡ false → b ≡ false
+pub or_right : (a b : Bool) → (a || b) ≡ false → b ≡ false
 or_right true b h = cc
 or_right false b h = h
 
@@ -108,26 +107,3 @@ has_room rs r f b h =
     let short = at_most 8 (rs ++ r ∷ []) more.below more.differ in
     let one = length-append rs (r ∷ []) in
     omega (arith, short, one)
-
--- the first ones fit
-unread_before : (rs qs : List Reading) (place : ℕ) → is_read (rs ++ qs) place ≡ false → is_read rs place ≡ false
-unread_before [] qs place h = refl
-unread_before (r ∷ rs) qs place h =
-    ap (λ b. b || is_read rs place) (or_left (is_at place r) (is_read (rs ++ qs) place) h)
-    ∙ unread_before rs qs place (or_right (is_at place r) (is_read (rs ++ qs) place) h)
-
-differ_before : (rs qs : List Reading) → Differ (rs ++ qs) → Differ rs
-differ_before [] qs d = tt
-differ_before (r ∷ rs) qs d = (unread_before rs qs r.telegram.header.position d.0, differ_before rs qs d.1)
-
-below_before : (n : ℕ) (rs qs : List Reading) → AllBelow n (rs ++ qs) → AllBelow n rs
-below_before n [] qs b = tt
-below_before n (r ∷ rs) qs b = (b.0, below_before n rs qs b.1)
-
-pub fit_take : (n : ℕ) (rs : List Reading) → HaveOwnPlaces rs → HaveOwnPlaces (take n rs)
-fit_take n rs f =
-    let whole : HaveOwnPlaces (take n rs ++ drop n rs) = let P : List Reading → Type 0 = λ xs. HaveOwnPlaces xs in subst P (sym (take-append-drop n rs)) f in
-    record {
-      differ = differ_before (take n rs) (drop n rs) whole.differ;
-      below = below_before 8 (take n rs) (drop n rs) whole.below;
-    }

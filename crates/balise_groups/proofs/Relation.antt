@@ -3,19 +3,13 @@ use Rattle.std.proofs.Common.{◌≡◌, ℕ, zero, suc, ◌+◌, ◌<◌, List,
 use Rattle.std.specs.Prelude.{◌||◌, ◌&&◌, ◌==◌, not}
 use Rattle.std.specs.List.{list_any}
 use Rattle.std.proofs.lemmas.Bool.Decides.{nat_tests}
+use Rattle.std.proofs.lemmas.Option.{same_Some}
 use Rattle.balise_groups.specs.declared.reading.Reading.{Reading}
 use Rattle.balise_groups.specs.declared.message.Closed.{Closed}
 use Rattle.balise_groups.specs.declared.message.Cause.TheVariants.{Missing, Counter, Mixed}
 use Rattle.balise_groups.specs.Closing.{same_flag, differs, disagrees, is_refused, is_covered, is_read, is_at, covers, all_below, cause_of, closed_as, close_of}
 use Rattle.balise_groups.specs.Relation.{Has, AreOfOneGroup, HaveOneCounter, Covers, CoverAll, Closes}
-
-or_left : (a b : Bool) → (a || b) ≡ false → a ≡ false
-or_left true b h = cc
-or_left false b h = refl
-
-or_right : (a b : Bool) → (a || b) ≡ false → b ≡ false
-or_right true b h = cc
-or_right false b h = h
+use Rattle.balise_groups.proofs.Places.{or_left, or_right}
 
 -- one passes a test, or none does
 some_passes : {X : Type 0} (p : X → Bool) (xs : List X) → list_any p xs ≡ true → (x : X) × Has xs x × (p x ≡ true)
@@ -164,8 +158,5 @@ closes_so first rs =
     ] in
     cases (list_any (differs first) rs) (list_any (is_refused rs) rs) (all_below (first.telegram.header.last_position + 1) (is_covered rs)) refl refl refl
 
-the_same : {X : Type 0} (a b : X) → Some a ≡ Some b → a ≡ b
-the_same a b h = cc
-
 pub closes : (first : Reading) (rs : List Reading) (c : Closed) → close_of (first ∷ rs) ≡ Some c → Closes first (first ∷ rs) c
-closes first rs c h = let P : Closed → Type 0 = λ c. Closes first (first ∷ rs) c in subst P (the_same _ c h) (closes_so first (first ∷ rs))
+closes first rs c h = let P : Closed → Type 0 = λ c. Closes first (first ∷ rs) c in subst P (same_Some _ c h) (closes_so first (first ∷ rs))

@@ -5,13 +5,12 @@ use Rattle.std.proofs.lemmas.List.{length-append}
 use Rattle.packets.specs.declared.packet.Packet.{Packet}
 use Rattle.packets.specs.Packets.{number_of}
 use Rattle.telegram.specs.declared.message.Telegram.{Telegram}
-use Rattle.balise_groups.specs.declared.assembler.Taken.{Taken}
 use Rattle.balise_groups.specs.declared.message.Cause.{Cause}
 use Rattle.balise_groups.specs.declared.message.Closed.{Closed}
 use Rattle.balise_groups.specs.declared.reading.Reading.{Reading}
 use Rattle.balise_groups.specs.Telling.{infill, before_infill, told_by}
 use Rattle.balise_groups.specs.Closing.{is_at, is_read, is_whole, telegrams_at, telegrams_below, cause_of, closed_as, close_of}
-use Rattle.balise_groups.specs.Groups.{KnownGroups, with_reading, close_if_whole, goes_on, is_behind, taken_by, ended_by}
+use Rattle.balise_groups.specs.Groups.{with_reading, close_if_whole}
 use Rattle.balise_groups.specs.Rooms.{packets_at, packets_in, packets_of_closed}
 
 shorter : (ps : List Packet) → length (before_infill ps) ≤ length ps
@@ -127,28 +126,3 @@ closing_room closed rs same = omega (arith, ap packets_of_closed same, closed_ro
 
 pub joined_room : (closed : Option Closed) (rs : List Reading) (r : Reading) → closed ≡ close_if_whole (with_reading rs r) → packets_of_closed closed ≤ packets_in rs + packets_at r
 joined_room closed rs r same = omega (arith, ap packets_of_closed same, whole_room (with_reading rs r), joined rs r)
-
--- .. what closes at a reading
-abbrev pub IsWithin : ℕ → Taken → Type 0
-IsWithin most taken = packets_of_closed taken.ended + packets_of_closed taken.whole ≤ most
-
-pub taken_room : (reading : Reading) (known : KnownGroups) → IsWithin (packets_in known.readings + packets_at reading) (taken_by reading known)
-taken_room reading known =
-    let more = whole_room (with_reading known.readings reading) in
-    let longer = joined known.readings reading in
-    let ended = closed_room known.readings in
-    let own = whole_room (with_reading [] reading) in
-    let alone = joined [] reading in
-    let cases : (a b : Bool) → IsWithin (packets_in known.readings + packets_at reading)
-    (cond a (record { ended = None; whole = None })
-    (cond b (record { ended = None; whole = close_if_whole (with_reading known.readings reading) })
-    (record { ended = close_of known.readings; whole = close_if_whole (with_reading [] reading) }))) =
-    elim [ true ↦ λ b. omega arith | false ↦ elim [ true ↦ omega arith | false ↦ omega arith ] ] in
-    cases (goes_on reading known.last) (goes_on reading known.current)
-
--- .. and at a movement
-pub ended_room : (path : ℕ) (known : KnownGroups) → packets_of_closed (ended_by path known) ≤ packets_in known.readings
-ended_room path known =
-    let k = closed_room known.readings in
-    let cases : (b : Bool) → packets_of_closed (cond b (close_of known.readings) None) ≤ packets_in known.readings = elim [ true ↦ k | false ↦ omega arith ] in
-    cases (is_behind path known.current)

@@ -1,9 +1,9 @@
 -- A train that is told one target after another.
-use Rattle.std.proofs.Common.{◌≡◌, ℕ, ℤ, List, [], ◌∷◌, refl, inr, ap, ◌∙◌, sym, subst, true, arith}
+use Rattle.std.proofs.Common.{◌≡◌, ℤ, List, [], ◌∷◌, refl, inr, ap, ◌∙◌, sym, subst, true, arith}
 use Rattle.std.specs.Prelude.{Option}
 use Rattle.braking.specs.declared.target.Target.{Target}
 use Rattle.braking.specs.declared.summed.Summed.{Summed}
-use Rattle.braking.specs.Braking.{fits, greatest, IsSummed}
+use Rattle.braking.specs.Braking.{fits, IsSummed}
 use Rattle.braking.specs.Approaches.{Course, at_speed, lowered, lowered_by}
 use Rattle.braking.proofs.Slower.{one_more}
 use Rattle.braking.proofs.Greatest.{greatest_is, greatest_all}
@@ -20,10 +20,6 @@ module _ {G : Type 0} (value : G → ℤ → Option ℤ) where
   pub lowered_from : (targets : List Target) (old new : Course G) → old ≡ new →
       lowered_by (value old.gradient) targets old ≡ lowered_by (value new.gradient) targets new
   lowered_from targets old new is = ap (λ (x : Course G). lowered_by (value x.gradient) targets x) is
-
-  pub lowered_is : (t : Target) (old new : Course G) (speed : ℕ) → old ≡ new →
-      speed ≡ greatest (fits old.front (value old.gradient) old.brakes t) old.speed → at_speed old speed ≡ lowered (value new.gradient) t new
-  lowered_is t old new speed same is = ap (at_speed old) is ∙ ap (λ (x : Course G). lowered (value x.gradient) t x) same
 
   -- no target, or one that the speed fits, changes nothing
   pub lowered_by_none : (course : Course G) → lowered_by (value course.gradient) [] course ≡ course

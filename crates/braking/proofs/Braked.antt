@@ -2,11 +2,12 @@
 use Rattle.std.proofs.Common.{◌≡◌, ℕ, zero, suc, ◌+◌, ◌*◌, ◌^◌, ◌≤◌, ℤ, pos, ◌+ℤ◌, ◌-ℤ◌, ◌≤ℤ◌, ◌<ℤ◌, ◌⊎◌, inl, inr, refl, ap, ◌∙◌, arith}
 use Rattle.std.specs.Prelude.{Option}
 use Rattle.std.proofs.lemmas.Int.{ints}
+use Rattle.track_store.proofs.Jumps.{natural_is}
 use Rattle.units.specs.Stretches.{natural}
 use Rattle.brakes.specs.Brakes.{slowing_on}
 use Rattle.braking.specs.declared.summed.Summed.{Summed}
 use Rattle.braking.specs.Braking.{braked, IsSummed}
-use Rattle.braking.proofs.Naturals.{natural_is, parts}
+use Rattle.braking.proofs.Naturals.{parts}
 
 module _ (gradient : ℤ → Option ℤ) (deceleration : ℕ) where
   pub braked_none : (place : ℤ) → braked gradient deceleration place 0 ≡ 0
@@ -69,19 +70,6 @@ module _ (gradient : ℤ → Option ℤ) (deceleration : ℕ) where
         braked_parts from n (natural (to -ℤ middle)),
         ap (λ (z : ℤ). braked gradient deceleration z (natural (to -ℤ middle))) there,
       )
-
-  -- from one change of the gradient to the next
-  pub braked_stretch : (place end to : ℤ) → place ≤ℤ end → end ≤ℤ to →
-      ((later : ℤ) → place ≤ℤ later → later <ℤ end → gradient later ≡ gradient place) →
-      braked gradient deceleration place (natural (to -ℤ place))
-      ≡ 2592 * slowing_on deceleration (gradient place) * natural (end -ℤ place)
-      + braked gradient deceleration end (natural (to -ℤ end))
-  braked_stretch place end to a b same =
-      let n : ℕ = natural (end -ℤ place) in
-      let count : pos n ≡ end -ℤ place = natural_is (end -ℤ place) (omega (arith, ints)) in
-      let there : place +ℤ pos n ≡ end = rw count (omega (arith, ints)) in
-      let even = braked_same (gradient place) place n (λ later c d. same later c (rw there at d)) in
-      omega (arith, braked_over place end to a b, even)
 
   -- .. and on one gradient
   pub braked_even : (place end : ℤ) → place ≤ℤ end → ((later : ℤ) → place ≤ℤ later → later <ℤ end → gradient later ≡ gradient place) →

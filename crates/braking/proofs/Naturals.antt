@@ -3,11 +3,8 @@ use Rattle.std.proofs.Common.{◌≡◌, ℕ, ◌*◌, ◌≤◌, ◌<◌, ◌^�
 use Rattle.std.specs.Int.RustNames.{unsigned_abs}
 use Rattle.std.proofs.lemmas.Int.{ints}
 use Rattle.std.proofs.Math.Nat.{mul-le-mul}
+use Rattle.track_store.proofs.Jumps.{natural_is, natural_none}
 use Rattle.units.specs.Stretches.{natural}
-
-pub natural_is : (z : ℤ) → pos 0 ≤ℤ z → pos (natural z) ≡ z
-natural_is (pos n) h = refl
-natural_is (negsuc n) h = absurd (omega (arith, ints))
 
 pub absolute_is : (z : ℤ) → pos 0 ≤ℤ z → unsigned_abs z ≡ natural z
 absolute_is (pos n) h = refl
@@ -34,7 +31,4 @@ parts from middle to a b =
     omega (arith, ints, whole, first, second)
 
 pub none_between : (place : ℤ) (to : ℤ) → to ≤ℤ place → natural (to -ℤ place) ≡ 0
-none_between place to h = small (to -ℤ place) (omega (arith, ints)) where
-  small : (z : ℤ) → z ≤ℤ pos 0 → natural z ≡ 0
-  small (pos n) h = omega (arith, ints)
-  small (negsuc n) h = refl
+none_between place to h = natural_none (to -ℤ place) (omega (arith, ints))

@@ -3,12 +3,12 @@ use Rattle.std.proofs.Common.{◌≡◌, ℕ, ℤ, pos, negsuc, ◌⊎◌, inl, 
 use Rattle.std.specs.Prelude.{IsTrue, nat_le, nat_lt, ◌&&◌, ◌||◌, Option}
 use Rattle.std.proofs.lemmas.Bool.Decides.{nat_tests}
 use Rattle.std.proofs.lemmas.Int.{ints}
+use Rattle.track_store.proofs.Jumps.{natural_is}
 use Rattle.brakes.specs.declared.brakes.Brakes.{Brakes}
 use Rattle.braking.specs.declared.target.Target.{Target}
 use Rattle.units.specs.Stretches.{natural}
 use Rattle.brakes.specs.Brakes.{reaction_way}
 use Rattle.braking.specs.Braking.{braked, distance_to, fits, fits_all, greatest, IsSummed}
-use Rattle.braking.proofs.Naturals.{natural_is}
 use Rattle.braking.specs.declared.summed.Summed.{Summed}
 use Rattle.braking.proofs.Greatest.{greatest_both}
 use Rattle.braking.proofs.Roots.{square_less}

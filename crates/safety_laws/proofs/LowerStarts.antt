@@ -10,12 +10,11 @@ use Rattle.authority.specs.declared.answers.End.{End}
 use Rattle.brakes.specs.declared.brakes.Brakes.{Brakes}
 use Rattle.braking.specs.declared.target.Target.{Target}
 use Rattle.braking.specs.Braking.{greatest}
-use Rattle.braking.proofs.Naturals.{natural_is}
 use Rattle.restriction.specs.declared.restriction.Restriction.{Restriction}
 use Rattle.restriction.specs.Covering.{covers}
 use Rattle.speed_profile.proofs.Asking.{covered_ask, nothing_more, through, joined, back, equal, same}
 use Rattle.speed_profile.proofs.Farther.{IsNoNearer}
-use Rattle.speed_profile.proofs.Members.{in_either, one_passed}
+use Rattle.speed_profile.proofs.Members.{one_passed, in_either}
 use Rattle.speed_profile.proofs.Reaching.{restriction_asks, no_restriction_asks, area_asks, no_area_asks}
 use Rattle.speed_profile.proofs.Together.{told_ask}
 use Rattle.speed_profile.specs.Ahead.{greatest_place, over_ahead, targets_ahead, targets_at, static_target, static_targets, unknown_target, restriction_targets, area_targets, is_inside, permitted_by, permitted_ahead}
@@ -24,14 +23,13 @@ use Rattle.speed_profile.specs.declared.told.CategorySpeeds.{CategorySpeeds}
 use Rattle.speed_profile.specs.Starts.{first_target, first_in_area}
 use Rattle.speed_profile.specs.Targets.{AskTheSame}
 use Rattle.speed_profile.specs.Track.{TrackSpeeds}
+use Rattle.speed_profile.proofs.There.{at_place}
 use Rattle.track_store.specs.Profiles.{listed}
+use Rattle.track_store.proofs.Jumps.{least_below, natural_is}
 use Rattle.units.proofs.Gathering.{IsIn, over_at, in_over}
 use Rattle.units.specs.Stretches.{natural, least}
 use Rattle.safety_laws.specs.Starts.{least_asked, asked_before, is_lower, lower_start, lower_starts, starts_by_kind}
-use Rattle.safety_laws.proofs.Lessening.{least_within, least_of}
-
-abbrev at_place : ℤ → ℕ → Target
-at_place place speed = record { place = place; speed = speed }
+use Rattle.safety_laws.proofs.Lessening.{least_of}
 
 abbrev speeds : List Target → List ℕ
 speeds targets = map (λ (t : Target). t.speed) targets
@@ -73,7 +71,7 @@ no_lower_one (x ∷ targets) t there = (
   least x.speed (speeds targets),
   refl,
   elim there [
-    | inl first ↦ (let same : t.speed ≡ x.speed = ap (λ (y : Target). y.speed) first in omega (arith, same, least_within x.speed (speeds targets)))
+    | inl first ↦ (let same : t.speed ≡ x.speed = ap (λ (y : Target). y.speed) first in omega (arith, same, least_below x.speed (speeds targets)))
     | inr later ↦ least_of x.speed (speeds targets) t.speed (in_speeds t targets later)
   ],
 )

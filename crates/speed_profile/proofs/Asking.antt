@@ -2,6 +2,8 @@
 use Rattle.std.proofs.Common.{◌≡◌, ℕ, zero, suc, ◌≤◌, ℤ, List, [], ◌∷◌, ◌++◌, ◌⊎◌, inl, inr, Bool, true, false, cond, refl, ap, sym, ◌∙◌, arith}
 use Rattle.std.specs.Prelude.{Option, None, Some, is_some, ◌&&◌}
 use Rattle.std.specs.Iterator.{Drains}
+use Rattle.std.proofs.lemmas.Option.{same_Some}
+use Rattle.std.proofs.lemmas.Bool.{and_parts}
 use Rattle.units.proofs.Gathering.{IsIn}
 use Rattle.track_store.specs.Profiles.{listed}
 use Rattle.brakes.specs.declared.brakes.Brakes.{Brakes}
@@ -13,8 +15,8 @@ use Rattle.braking.proofs.Greatest.{greatest_is}
 use Rattle.braking.proofs.Slower.{slower_fits}
 use Rattle.speed_profile.specs.Ahead.{permitted_by}
 use Rattle.speed_profile.specs.Targets.{AskTheSame, AskTheSameOf, AskNothing, AskTheSameBeyond, Left, Tells}
-use Rattle.speed_profile.proofs.Members.{in_left, in_right, in_either}
 use Rattle.speed_profile.proofs.Farther.{IsNoNearer, farther_fits}
+use Rattle.speed_profile.proofs.Members.{in_left, in_right, in_either}
 
 -- the targets of both lists are among all, and each of all is no nearer than one of theirs
 pub record AreCovered (first second all : List Target) : Type 0 where
@@ -27,16 +29,12 @@ same_test true b there back = sym (there refl)
 same_test false true there back = back refl
 same_test false false there back = refl
 
-both_true : (a b : Bool) → (a && b) ≡ true → (a ≡ true) × (b ≡ true)
-both_true true b h = (refl, h)
-both_true false b h = absurd (let no : false ≡ true = h in cc)
-
 module _ (front : ℤ) (gradient : ℤ → Option ℤ) (brakes : Brakes) where
   fit_each : (targets : List Target) (v : ℕ) → fits_all front gradient brakes targets v ≡ true → (t : Target) → IsIn t targets →
       fits front gradient brakes t v ≡ true
   fit_each [] v h t there = absurd there
   fit_each (target ∷ targets) v h t there =
-      let parts = both_true (fits front gradient brakes target v) (fits_all front gradient brakes targets v) h in
+      let parts = and_parts (fits front gradient brakes target v) (fits_all front gradient brakes targets v) h in
       elim there [
         | inl same ↦ ap (λ (x : Target). fits front gradient brakes x v) same ∙ parts.0
         | inr k ↦ fit_each targets v parts.1 t k
@@ -153,9 +151,6 @@ greatest_same p q (suc n) h =
     let below = greatest_same p q n (λ v less. h v (omega arith)) in
     λ i. cond (h (suc n) (omega arith) i) (suc n) (below i)
 
-some_same : {A : Type 0} (x y : A) → Some x ≡ Some y → x ≡ y
-some_same x y is = let same : x ≡ y = cc in same
-
 module _ {G : Type 0} (value : G → ℤ → Option ℤ) where
   pub lowered_same : (some others : List Target) (course : Course G) → AskTheSame some others →
       lowered_by (value course.gradient) some course ≡ lowered_by (value course.gradient) others course
@@ -188,7 +183,7 @@ module _ {G : Type 0} (value : G → ℤ → Option ℤ) where
   lowered_beyond None at some others course h is stops = lowered_same some others course h
   lowered_beyond (Some place) at some others course h is stops =
       let there : Target = record { place = place; speed = 0 } in
-      let stop : fits course.front (value course.gradient) course.brakes there course.speed ≡ true = rw (some_same place at is) stops in
+      let stop : fits course.front (value course.gradient) course.brakes there course.speed ≡ true = rw (same_Some place at is) stops in
       ap (at_speed course) (greatest_same (fits_all course.front (value course.gradient) course.brakes some)
       (fits_all course.front (value course.gradient) course.brakes others) course.speed
       (λ v below. h course.front (value course.gradient) course.brakes v

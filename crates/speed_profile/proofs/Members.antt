@@ -1,8 +1,6 @@
 -- What is in lists.
-use Rattle.std.proofs.Common.{◌≡◌, List, [], ◌∷◌, ◌++◌, length, ◌⊎◌, inl, inr, Bool, true, false, cond, refl, ap, sym, ◌∙◌, arith}
-use Rattle.std.specs.Prelude.{filter, map, ◌==◌}
-use Rattle.std.proofs.lemmas.Bool.Decides.{nat_tests}
-use Rattle.std.proofs.lemmas.List.{nil_from_length}
+use Rattle.std.proofs.Common.{◌≡◌, List, [], ◌∷◌, ◌++◌, ◌⊎◌, inl, inr, Bool, true, false, cond, refl, ap, sym, ◌∙◌}
+use Rattle.std.specs.Prelude.{filter, map}
 use Rattle.units.proofs.Gathering.{IsIn}
 
 pub in_left : {A : Type 0} (x : A) (xs ys : List A) → IsIn x xs → IsIn x (xs ++ ys)
@@ -39,7 +37,3 @@ passes f p (y ∷ xs) x h e =
       | false ↦ λ is. elim h [ inl same ↦ absurd (let k : true ≡ false = sym e ∙ ap p same ∙ is in cc) | inr there ↦ passes f p xs x there e ]
     ] in
     cases (p y) refl
-
--- a list that is found empty
-pub none_left : {A : Type 0} (xs : List A) (empty : Bool) → empty ≡ (length xs == 0) → empty ≡ true → xs ≡ []
-none_left xs empty is h = nil_from_length xs (grind (arith, nat_tests))

@@ -5,9 +5,8 @@ use Rattle.std.proofs.lemmas.Int.{ints, by_lt_z}
 use Rattle.units.specs.Stretches.{over, natural}
 use Rattle.units.proofs.Gathering.{IsIn, over_at, in_over}
 use Rattle.track_store.specs.Profiles.{Lasts, listed}
-use Rattle.track_store.proofs.Jumps.{none_over, fewer_left}
+use Rattle.track_store.proofs.Jumps.{none_over, fewer_left, natural_is}
 use Rattle.track_store.proofs.Lasting.{IsAhead}
-use Rattle.braking.proofs.Naturals.{natural_is}
 use Rattle.authority.specs.declared.answers.End.{End}
 use Rattle.braking.specs.declared.target.Target.{Target}
 use Rattle.speed_profile.specs.declared.told.CategorySpeeds.{CategorySpeeds}

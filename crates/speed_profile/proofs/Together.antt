@@ -11,8 +11,8 @@ use Rattle.speed_profile.specs.Ahead.{greatest_place, over_ahead, static_targets
 use Rattle.speed_profile.specs.Targets.{AskTheSame}
 use Rattle.speed_profile.specs.Track.{TrackSpeeds}
 use Rattle.speed_profile.proofs.Asking.{covered_ask, back, through, joined, same, fit_both}
-use Rattle.speed_profile.proofs.Members.{in_left, in_right, in_either}
 use Rattle.speed_profile.proofs.Starting.{itself}
+use Rattle.speed_profile.proofs.Members.{in_left, in_right, in_either}
 
 -- two kinds at each centimetre, or one kind after the other
 both_ask : (f g : ℤ → List Target) (from to : ℤ) → AskTheSame (over (λ c. f c ++ g c) from to) (over f from to ++ over g from to)

@@ -8,7 +8,7 @@ use Rattle.std.proofs.Math.ListN.{set}
 use Rattle.track_store.specs.Facts.{given_by, from_mark}
 use Rattle.track_store.specs.Remembered.{Remembered, forgotten, value_remembered}
 
-none_below : {A : Type 0} (below : Bool) (value : Option A) → value ≡ None → value ≡ cond below None None
+pub none_below : {A : Type 0} (below : Bool) (value : Option A) → value ≡ None → value ≡ cond below None None
 none_below true value is = is
 none_below false value is = is
 

@@ -6,7 +6,7 @@ use Rattle.units.specs.Stretches.{over, gathered, least, natural, count_between}
 use Rattle.units.proofs.Gathering.{IsIn, least_is, over_at, in_over}
 use Rattle.track_store.specs.Profiles.{listed, lesser, is_any}
 
-least_below : (limit : ℕ) (vs : List ℕ) → least limit vs ≤ limit
+pub least_below : (limit : ℕ) (vs : List ℕ) → least limit vs ≤ limit
 least_below limit [] = omega arith
 least_below limit (v ∷ vs) = omega (arith, least_below limit vs)
 
@@ -14,7 +14,7 @@ least_below_each : (limit : ℕ) (vs : List ℕ) (w : ℕ) → IsIn w vs → lea
 least_below_each limit [] w h = absurd h
 least_below_each limit (v ∷ vs) w h = elim h [ inl e ↦ omega arith | inr k ↦ omega (arith, least_below_each limit vs w k) ]
 
-least_one_of : (limit : ℕ) (vs : List ℕ) → (least limit vs ≡ limit) ⊎ IsIn (least limit vs) vs
+pub least_one_of : (limit : ℕ) (vs : List ℕ) → (least limit vs ≡ limit) ⊎ IsIn (least limit vs) vs
 least_one_of limit [] = inl refl
 least_one_of limit (v ∷ vs) =
     let least_two : (a b : ℕ) → (min a b ≡ a) ⊎ (min a b ≡ b) = λ a b. grind arith in
@@ -26,7 +26,7 @@ least_one_of limit (v ∷ vs) =
       ]
     ]
 
-lesser_below : (limit : ℕ) (value : Option ℕ) → lesser limit value ≤ limit
+pub lesser_below : (limit : ℕ) (value : Option ℕ) → lesser limit value ≤ limit
 lesser_below limit None = omega arith
 lesser_below limit (Some v) = omega arith
 
@@ -40,11 +40,11 @@ lesser_one_of limit (Some v) =
     let least_two : (min v limit ≡ limit) ⊎ (min v limit ≡ v) = grind arith in
     elim least_two [ inl e ↦ inl e | inr e ↦ inr (inl e) ]
 
-natural_is : (z : ℤ) → pos 0 ≤ℤ z → pos (natural z) ≡ z
+pub natural_is : (z : ℤ) → pos 0 ≤ℤ z → pos (natural z) ≡ z
 natural_is (pos n) h = refl
 natural_is (negsuc n) h = absurd (omega (arith, ints))
 
-natural_none : (z : ℤ) → z ≤ℤ pos 0 → natural z ≡ 0
+pub natural_none : (z : ℤ) → z ≤ℤ pos 0 → natural z ≡ 0
 natural_none (pos n) h = omega (arith, ints)
 natural_none (negsuc n) h = refl
 
@@ -109,10 +109,6 @@ module _ (value : ℤ → Option ℕ) (limit : ℕ) (place to : ℤ) (here : pla
 any_in : {A : Type 0} (x : A) (xs : List A) → IsIn x xs → is_any xs ≡ true
 any_in x [] h = absurd h
 any_in x (y ∷ xs) h = refl
-
-one_of_any : {A : Type 0} (xs : List A) → is_any xs ≡ true → (x : A) × IsIn x xs
-one_of_any [] h = absurd cc
-one_of_any (x ∷ xs) h = (x, inl refl)
 
 one_of_some : {A : Type 0} (value : Option A) → is_some value ≡ true → (v : A) × IsIn v (listed value)
 one_of_some None h = absurd cc

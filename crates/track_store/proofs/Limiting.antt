@@ -26,14 +26,14 @@ step_is true v limit = grind arith
 step_is false v limit = inl refl
 
 -- at a centimetre of the stretch a restriction from start to end limits only where it is met
-limits_met : (delay : TrainLengthDelay) (mark : ℤ) (train : Span) (c start end : ℤ) → train.rear ≤ℤ c → c ≤ℤ train.max_front →
+pub limits_met : (delay : TrainLengthDelay) (mark : ℤ) (train : Span) (c start end : ℤ) → train.rear ≤ℤ c → c ≤ℤ train.max_front →
     (not (int_lt c mark) && not (int_lt c start) && int_lt c end && not (int_lt c (train_start train.rear train.min_front delay))) ≡ true →
     not (int_lt (int_min train.max_front (end -ℤ pos 1)) (int_max (from_where (int_max mark train.rear) train delay) start)) ≡ true
 limits_met Applied mark train c start end low high h = grind (arith, ints)
 limits_met NotApplied mark train c start end low high h = grind (arith, ints)
 
 -- where it is met, it limits at the first centimetre at which it may
-met_limits : (delay : TrainLengthDelay) (mark : ℤ) (train : Span) (start end : ℤ) →
+pub met_limits : (delay : TrainLengthDelay) (mark : ℤ) (train : Span) (start end : ℤ) →
     not (int_lt (int_min train.max_front (end -ℤ pos 1)) (int_max (from_where (int_max mark train.rear) train delay) start)) ≡ true →
     (c : ℤ) × (train.rear ≤ℤ c) × (c ≤ℤ train.max_front)
     × ((not (int_lt c mark) && not (int_lt c start) && int_lt c end && not (int_lt c (train_start train.rear train.min_front delay))) ≡ true)

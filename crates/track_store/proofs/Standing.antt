@@ -27,7 +27,7 @@ one_later entry later (Restricted r ∷ entries) =
     rw (list_any-append (λ f. ends f r) later (entry ∷ []))
     (one_ended (λ r. not (ends entry r)) (list_any (λ f. ends f r) later) (ends entry r) r _ _ refl (one_later entry (Restricted r ∷ later) entries))
 
-filter-true : {X : Type 0} (xs : List X) → filter (λ x. true) xs ≡ xs
+pub filter-true : {X : Type 0} (xs : List X) → filter (λ x. true) xs ≡ xs
 filter-true [] = refl
 filter-true (x ∷ xs) = ap (λ ys. x ∷ ys) (filter-true xs)
 

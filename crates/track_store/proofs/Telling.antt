@@ -1,19 +1,15 @@
 -- A profile that is read off what was told of it stays so.
-use Rattle.std.proofs.Common.{◌≡◌, ℤ, Bool, true, false, ◌∷◌, [], cond, refl, ap, ◌∙◌, arith}
+use Rattle.std.proofs.Common.{◌≡◌, ℤ, Bool, true, false, [], cond, refl, ap, ◌∙◌, arith}
 use Rattle.std.proofs.Math.Path.{fun_ext}
 use Rattle.std.proofs.lemmas.Int.{ints}
 use Rattle.std.specs.Prelude.{int_lt, Option, None}
 use Rattle.std.specs.Int.{int_max}
 use Rattle.track_store.specs.Profiles.{Profile}
-use Rattle.track_store.specs.Facts.{MarkedFacts, Fact, latest, given_by, from_mark, replaced, profile_of}
+use Rattle.track_store.specs.Facts.{MarkedFacts, latest, from_mark, profile_of}
+use Rattle.track_store.proofs.Forgetting.{none_below}
 
 same_profile : {A : Type 0} (p q : Profile A) → p.value ≡ q.value → p ≡ q
 same_profile p q value = λ i. record { value = value i }
-
-marked_once : {A : Type 0} (below before : Bool) (old new : Option A) →
-    cond below None (cond before (cond below None old) new) ≡ cond below None (cond before old new)
-marked_once true before old new = refl
-marked_once false before old new = refl
 
 marked_twice : {A : Type 0} (below before after : Bool) (value : Option A) → after ≡ cond below true before →
     cond below None (cond before None value) ≡ cond after None value
@@ -24,16 +20,6 @@ below_greater : (place a b : ℤ) → int_lt place (int_max a b) ≡ cond (int_l
 below_greater place a b = grind (arith, ints)
 
 module _ {A : Type 0} (old new : Profile A) (told : MarkedFacts A) (is : old ≡ profile_of told) where
-  -- one fact more, without what lies below the mark
-  pub one_more : (fact : Fact A) →
-      ((place : ℤ) → new.value place ≡ from_mark told.mark (replaced old.value fact.start fact.steps) place) →
-      new ≡ profile_of (record told { facts = fact ∷ told.facts })
-  one_more fact values =
-      same_profile new (profile_of (record told { facts = fact ∷ told.facts }))
-      (fun_ext (λ place. values place
-      ∙ ap (λ (p : Profile A). from_mark told.mark (replaced p.value fact.start fact.steps) place) is
-      ∙ marked_once (int_lt place told.mark) (int_lt place fact.start) (latest told.facts place) (given_by fact.steps place)))
-
   -- a mark ahead
   pub marked_at : (mark : ℤ) → ((place : ℤ) → new.value place ≡ from_mark mark old.value place) →
       new ≡ profile_of (record told { mark = int_max mark told.mark })
@@ -44,13 +30,9 @@ module _ {A : Type 0} (old new : Profile A) (told : MarkedFacts A) (is : old ≡
       ∙ marked_twice (int_lt place mark) (int_lt place told.mark) (int_lt place (int_max mark told.mark)) (latest told.facts place)
       (below_greater place mark told.mark)))
 
-same_none : {A : Type 0} (below : Bool) (value : Option A) → value ≡ None → value ≡ cond below None None
-same_none true value is = is
-same_none false value is = is
-
 -- nothing told
 pub none_told : {A : Type 0} (new : Profile A) (mark : ℤ) → ((place : ℤ) → new.value place ≡ None) →
     new ≡ profile_of (record { mark = mark; facts = [] })
 none_told new mark values =
     same_profile new (profile_of (record { mark = mark; facts = [] }))
-    (fun_ext (λ place. same_none (int_lt place mark) (new.value place) (values place)))
+    (fun_ext (λ place. none_below (int_lt place mark) (new.value place) (values place)))

@@ -8,7 +8,7 @@ use std::alloc::Global;
 /// What an image has at first sight.
 #[unsafe(no_mangle)]
 pub extern "C" fn etcs_image_facts_(image: &[u8], abi: u32, facts: &mut EtcsImage) -> u32 {
-    facts_call(image, abi, facts)
+    facts_call(image, abi, facts).number()
 }
 
 /// What a slot holds, where the newest block has this number.
@@ -20,7 +20,7 @@ pub extern "C" fn etcs_image_slot_(
     slot: u64,
     told: &mut EtcsSlot,
 ) -> u32 {
-    slot_call(image, abi, newest, slot, told)
+    slot_call(image, abi, newest, slot, told).number()
 }
 
 /// What the head of the block of this number tells.
@@ -31,7 +31,7 @@ pub extern "C" fn etcs_image_block_(
     number: u64,
     block: &mut EtcsBlock,
 ) -> u32 {
-    block_call(image, abi, number, block)
+    block_call(image, abi, number, block).number()
 }
 
 /// A record of the block of this number, from 0 on.
@@ -43,13 +43,13 @@ pub extern "C" fn etcs_image_record_(
     index: u32,
     record: &mut EtcsRecord,
 ) -> u32 {
-    record_call(image, abi, number, index, record)
+    record_call(image, abi, number, index, record).number()
 }
 
 /// Opens the journal of an image.
 #[unsafe(no_mangle)]
 pub extern "C" fn etcs_journal_open_(image: &[u8], abi: u32, journal: &mut EtcsJournal) -> u32 {
-    journal_call(image, abi, journal)
+    journal_call(image, abi, journal).number()
 }
 
 /// Gives the next record of a journal.
@@ -59,7 +59,7 @@ pub extern "C" fn etcs_journal_next_(
     journal: &mut EtcsJournal,
     record: &mut EtcsRecord,
 ) -> u32 {
-    next_call(image, journal, record)
+    next_call(image, journal, record).number()
 }
 
 /// Runs the life that a journal is at through the kernel again, and goes on behind it.
@@ -71,7 +71,7 @@ pub extern "C" fn etcs_image_replay_(
     journal: &mut EtcsJournal,
     replay: &mut EtcsReplay,
 ) -> u32 {
-    replay_call(alloc, image, abi, journal, replay)
+    replay_call(alloc, image, abi, journal, replay).number()
 }
 
 /// Why an event of the block of this number was answered so.
@@ -84,5 +84,5 @@ pub extern "C" fn etcs_image_why_(
     event: u64,
     why: &mut EtcsWhy,
 ) -> u32 {
-    why_call(alloc, image, abi, number, event, why)
+    why_call(alloc, image, abi, number, event, why).number()
 }

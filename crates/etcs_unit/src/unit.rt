@@ -11,7 +11,7 @@ use unit_calls::{
 /// Takes the bytes that a balise sent.
 #[unsafe(no_mangle)]
 pub extern "C" fn etcs_unit_telegram_(alloc: Global, unit: &mut EtcsUnit, bytes: &[u8]) -> u32 {
-    telegram_call(alloc, unit, bytes)
+    telegram_call(alloc, unit, bytes).number()
 }
 
 /// Takes a reading of the odometer, in centimetres and metres per hour.
@@ -22,25 +22,25 @@ pub extern "C" fn etcs_unit_odometer_(
     movement: i64,
     speed: u32,
 ) -> u32 {
-    odometer_call(alloc, unit, movement, speed)
+    odometer_call(alloc, unit, movement, speed).number()
 }
 
 /// Takes a moment, in milliseconds.
 #[unsafe(no_mangle)]
 pub extern "C" fn etcs_unit_clock_(alloc: Global, unit: &mut EtcsUnit, moment: u64) -> u32 {
-    clock_call(alloc, unit, moment)
+    clock_call(alloc, unit, moment).number()
 }
 
 /// Takes an action of the driver, 1 to 15.
 #[unsafe(no_mangle)]
 pub extern "C" fn etcs_unit_action_(alloc: Global, unit: &mut EtcsUnit, action: u32) -> u32 {
-    action_call(alloc, unit, action)
+    action_call(alloc, unit, action).number()
 }
 
 /// Takes an identity that the driver enters.
 #[unsafe(no_mangle)]
 pub extern "C" fn etcs_unit_identity_(alloc: Global, unit: &mut EtcsUnit, bytes: &[u8]) -> u32 {
-    identity_call(alloc, unit, bytes)
+    identity_call(alloc, unit, bytes).number()
 }
 
 /// Takes a running number that the driver enters.
@@ -50,7 +50,7 @@ pub extern "C" fn etcs_unit_running_number_(
     unit: &mut EtcsUnit,
     number: u32,
 ) -> u32 {
-    running_number_call(alloc, unit, number)
+    running_number_call(alloc, unit, number).number()
 }
 
 /// Takes train data that the driver enters.
@@ -60,13 +60,13 @@ pub extern "C" fn etcs_unit_train_data_(
     unit: &mut EtcsUnit,
     train: &EtcsTrainData,
 ) -> u32 {
-    train_data_call(alloc, unit, train)
+    train_data_call(alloc, unit, train).number()
 }
 
 /// Puts what is pending onto the copy.
 #[unsafe(no_mangle)]
 pub extern "C" fn etcs_unit_prepare_(alloc: Global, unit: &mut EtcsUnit) -> u32 {
-    prepare_call(alloc, unit)
+    prepare_call(alloc, unit).number()
 }
 
 /// Tells a request of the list, from 0 on, and the bytes that it writes.
@@ -78,19 +78,19 @@ pub extern "C" fn etcs_unit_request_(
     request: &mut EtcsRequest,
     bytes: &mut [u8],
 ) -> u32 {
-    request_call(alloc, unit, index, request, bytes)
+    request_call(alloc, unit, index, request, bytes).number()
 }
 
 /// Says that so many requests, from the first on, are done.
 #[unsafe(no_mangle)]
 pub extern "C" fn etcs_unit_done_(alloc: Global, unit: &mut EtcsUnit, count: u32) -> u32 {
-    done_call(alloc, unit, count)
+    done_call(alloc, unit, count).number()
 }
 
 /// Says that the medium failed.
 #[unsafe(no_mangle)]
 pub extern "C" fn etcs_unit_fail_(alloc: Global, unit: &mut EtcsUnit) -> u32 {
-    fail_call(alloc, unit)
+    fail_call(alloc, unit).number()
 }
 
 /// Releases what was held back, all of it, into room for eight.
@@ -101,7 +101,7 @@ pub extern "C" fn etcs_unit_release_(
     outputs: &mut [EtcsOutput],
     count: &mut u32,
 ) -> u32 {
-    release_call(alloc, unit, outputs, count)
+    release_call(alloc, unit, outputs, count).number()
 }
 
 /// Tells how far the unit is.
@@ -111,13 +111,13 @@ pub extern "C" fn etcs_unit_state_(
     unit: &mut EtcsUnit,
     state: &mut EtcsState,
 ) -> u32 {
-    state_call(alloc, unit, state)
+    state_call(alloc, unit, state).number()
 }
 
 /// Tells why the newest released output is what it is.
 #[unsafe(no_mangle)]
 pub extern "C" fn etcs_unit_why_(alloc: Global, unit: &mut EtcsUnit, why: &mut EtcsUnitWhy) -> u32 {
-    unit_why_call(alloc, unit, why)
+    unit_why_call(alloc, unit, why).number()
 }
 
 /// The number of this interface.
@@ -129,7 +129,7 @@ pub extern "C" fn etcs_abi() -> u32 {
 /// Writes the version of the product into room for it.
 #[unsafe(no_mangle)]
 pub extern "C" fn etcs_version_(out: &mut [u8], len: &mut u32) -> u32 {
-    version_call(out, len)
+    version_call(out, len).number()
 }
 
 /// Powers up on these sectors.
@@ -141,13 +141,13 @@ pub extern "C" fn etcs_unit_open_(
     cold: u32,
     abi: u32,
 ) -> u32 {
-    open_call(alloc, unit, image, cold, abi)
+    open_call(alloc, unit, image, cold, abi).number()
 }
 
 /// Closes it.
 #[unsafe(no_mangle)]
 pub extern "C" fn etcs_unit_close_(alloc: Global, unit: &mut EtcsUnit) -> u32 {
-    close_call(alloc, unit)
+    close_call(alloc, unit).number()
 }
 
 /// Tells what is to be done, from 0 on, to make a medium of 1 + 6 * slots sectors an empty journal: each gate is closed
@@ -159,5 +159,5 @@ pub extern "C" fn etcs_unit_format_request_(
     request: &mut EtcsRequest,
     bytes: &mut [u8],
 ) -> u32 {
-    format_request_call(slots, index, request, bytes)
+    format_request_call(slots, index, request, bytes).number()
 }

@@ -21,10 +21,6 @@ answer_number an_answer.OutOfRange = 255
 abbrev pub this_abi : ℕ
 this_abi = 4
 
--- the number is that of an answer of which this holds
-abbrev pub IsAnswered : ℕ → (Answer → Type 0) → Type 0
-IsAnswered number So = (answer : Answer) × (number ≡ answer_number answer) × So answer
-
 -- the first where this is so, else the second
 abbrev pub Where : Bool → Type 0 → Type 0 → Type 0
 Where true So Else = So

@@ -1,5 +1,5 @@
 //! What an image has at first sight.
-ghost use Rattle.image_calls.specs.Answers.{IsAnswered, ByAbi};
+ghost use Rattle.image_calls.specs.Answers.{ByAbi};
 ghost use Rattle.image_calls.specs.Facts.{AsksFacts, TellsFacts};
 
 use crate::answer::Answer;
@@ -38,11 +38,11 @@ fn tell(survey: Survey, out: &mut EtcsImage) -> Answer
 }
 
 /// What an image has at first sight.
-pub fn facts_call(image: &[u8], abi: u32, out: &mut EtcsImage) -> u32
-    ensures { IsAnswered result (λ answer. ByAbi abi out.old out.new answer (AsksFacts image.now out.old out.new answer)) }
+pub fn facts_call(image: &[u8], abi: u32, out: &mut EtcsImage) -> Answer
+    ensures { ByAbi abi out.old out.new result (AsksFacts image.now out.old out.new result) }
 {
     if abi != ABI {
-        return Answer::OtherAbi.number();
+        return Answer::OtherAbi;
     }
-    tell(survey_in(image), out).number()
+    tell(survey_in(image), out)
 }

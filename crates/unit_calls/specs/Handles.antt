@@ -29,7 +29,7 @@ use Rattle.relayed_unit.specs.declared.life_now.LifeNow.{LifeNow}
 use Rattle.ring.specs.Account.{Account}
 use Rattle.unit_calls.specs.Outputs.{told_of, last_of, AreHanded}
 use Rattle.unit_calls.specs.Requests.{Where}
-use Rattle.unit_calls.specs.Statuses.{status_number, of_open, of_accept, of_prepare, of_release}
+use Rattle.unit_calls.specs.Statuses.{of_open, of_accept, of_prepare, of_release}
 use Rattle.unit_calls.specs.Words.{word_by}
 use Rattle.unit_calls.specs.declared.outputs.EtcsOutput.{EtcsOutput}
 use Rattle.unit_calls.specs.declared.outputs.EtcsState.{EtcsState}
@@ -51,10 +51,6 @@ OnHandleInto AsTheyWere None None status So = (status ≡ a_status.NotOpen) × A
 OnHandleInto AsTheyWere None (Some after) status So = ⊥
 OnHandleInto AsTheyWere (Some before) None status So = ⊥
 OnHandleInto AsTheyWere (Some before) (Some after) status So = So before after status
-
--- the number is that of a status of which this holds
-abbrev pub IsTold : ℕ → (Status → Type 0) → Type 0
-IsTold number So = (status : Status) × (number ≡ status_number status) × So status
 
 -- what `RelayedUnit::accept` promises of an answer
 pub record Accepts (input : Input) (before after : Relayed) (told : Result ⊤ AcceptError) : Type 0 where

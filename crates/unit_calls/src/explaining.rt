@@ -1,6 +1,6 @@
 //! Why the newest released output is what it is.
 ghost use Rattle.std.specs.Prelude.{◌≡◌};
-ghost use Rattle.unit_calls.specs.Handles.{OnHandleInto, IsTold};
+ghost use Rattle.unit_calls.specs.Handles.{OnHandleInto};
 ghost use Rattle.unit_calls.specs.Whys.{AsksUnitWhy};
 
 use crate::handle::{EtcsUnit, Opened, handle_of, taken};
@@ -24,14 +24,14 @@ fn explain(opened: &Opened, why: &mut EtcsUnitWhy) -> Status
 
 /// Why the newest released output is what it is, and what a display shows of it: NotReleased while an event is pending
 /// or requests aren't released, and then nothing is written. Nothing changes.
-pub fn unit_why_call(alloc: Global, unit: &mut EtcsUnit, why: &mut EtcsUnitWhy) -> u32
-    ensures { IsTold result (λ status. OnHandleInto (why.new ≡ why.old) unit.old.raw.value unit.new.raw.value status
-        (λ before after told. (after ≡ before) × AsksUnitWhy before why.old why.new told)) }
+pub fn unit_why_call(alloc: Global, unit: &mut EtcsUnit, why: &mut EtcsUnitWhy) -> Status
+    ensures { OnHandleInto (why.new ≡ why.old) unit.old.raw.value unit.new.raw.value result
+        (λ before after told. (after ≡ before) × AsksUnitWhy before why.old why.new told) }
 {
     let Some(opened) = taken(alloc, unit) else {
-        return Status::NotOpen.number();
+        return Status::NotOpen;
     };
     let status = explain(&opened, why);
     *unit = handle_of(Some(opened));
-    status.number()
+    status
 }

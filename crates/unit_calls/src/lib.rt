@@ -29,6 +29,7 @@ pub use laws::{format_empties, handed_out_is_on_medium};
 pub use opening::{close_call, open_call};
 pub use outputs::{EtcsOutput, EtcsState};
 pub use relaying::{done_call, fail_call, prepare_call, release_call, request_call, state_call};
+pub use status::Status;
 pub use version::version_call;
 pub use why::EtcsUnitWhy;
 pub use words::EtcsRequest;

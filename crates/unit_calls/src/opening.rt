@@ -1,7 +1,6 @@
 //! Opening and closing.
 ghost use Rattle.std.specs.Prelude.{◌≡◌, None};
-ghost use Rattle.unit_calls.specs.Handles.{IsTold, IsLeft, OpensFrom, PowersUp, closing};
-ghost use Rattle.unit_calls.specs.Statuses.{status_number};
+ghost use Rattle.unit_calls.specs.Handles.{IsLeft, OpensFrom, PowersUp, closing};
 
 use crate::handle::{EtcsUnit, Opened, handle_of, taken};
 use crate::status::{Status, of_open};
@@ -43,40 +42,27 @@ fn power_up(alloc: Global, handle: &mut EtcsUnit, image: &[u8], cold: Option<Col
     put(alloc, handle, told)
 }
 
-// The same, from a header of this interface.
-fn power_up_handle(
-    alloc: Global,
-    handle: &mut EtcsUnit,
-    image: &[u8],
-    cold: u32,
-    abi: u32,
-) -> Status
-    ensures { OpensFrom image.now cold abi handle.old.raw.value handle.new.raw.value result }
+/// Powers up on these sectors.
+pub fn open_call(alloc: Global, unit: &mut EtcsUnit, image: &[u8], cold: u32, abi: u32) -> Status
+    ensures { OpensFrom image.now cold abi unit.old.raw.value unit.new.raw.value result }
 {
-    if let Some(before) = taken(alloc, handle) {
-        *handle = handle_of(Some(before));
+    if let Some(before) = taken(alloc, unit) {
+        *unit = handle_of(Some(before));
         return Status::IsOpen;
     }
     if abi != ABI {
         return Status::OtherAbi;
     }
-    power_up(alloc, handle, image, word_of(cold))
-}
-
-/// Powers up on these sectors.
-pub fn open_call(alloc: Global, unit: &mut EtcsUnit, image: &[u8], cold: u32, abi: u32) -> u32
-    ensures { IsTold result (OpensFrom image.now cold abi unit.old.raw.value unit.new.raw.value) }
-{
-    power_up_handle(alloc, unit, image, cold, abi).number()
+    power_up(alloc, unit, image, word_of(cold))
 }
 
 /// Closes it.
-pub fn close_call(alloc: Global, unit: &mut EtcsUnit) -> u32
+pub fn close_call(alloc: Global, unit: &mut EtcsUnit) -> Status
     ensures closed { unit.new.raw.value ≡ None }
-    ensures told { result ≡ status_number (closing unit.old.raw.value) }
+    ensures told { result ≡ closing unit.old.raw.value }
 {
     match taken(alloc, unit) {
-        Some(_) => Status::Done.number(),
-        None => Status::NotOpen.number(),
+        Some(_) => Status::Done,
+        None => Status::NotOpen,
     }
 }

@@ -1,6 +1,6 @@
 //! From inputs to outputs: preparing, requests, releasing.
 ghost use Rattle.std.specs.Prelude.{◌≡◌};
-ghost use Rattle.unit_calls.specs.Handles.{OnHandle, OnHandleInto, IsTold, Prepares, Says, Fails, Releases, TellsState};
+ghost use Rattle.unit_calls.specs.Handles.{OnHandle, OnHandleInto, Prepares, Says, Fails, Releases, TellsState};
 ghost use Rattle.unit_calls.specs.Outputs.{last_of};
 ghost use Rattle.unit_calls.specs.declared.status.Status.TheVariants.{Done};
 ghost use Rattle.unit_calls.specs.Requests.{TellsRequest};
@@ -22,15 +22,15 @@ fn prepare(opened: &mut Opened) -> Status
 }
 
 /// Puts what is pending onto the copy.
-pub fn prepare_call(alloc: Global, unit: &mut EtcsUnit) -> u32
-    ensures { IsTold result (λ status. OnHandle unit.old.raw.value unit.new.raw.value status Prepares) }
+pub fn prepare_call(alloc: Global, unit: &mut EtcsUnit) -> Status
+    ensures { OnHandle unit.old.raw.value unit.new.raw.value result Prepares }
 {
     let Some(mut opened) = taken(alloc, unit) else {
-        return Status::NotOpen.number();
+        return Status::NotOpen;
     };
     let status = prepare(&mut opened);
     *unit = handle_of(Some(opened));
-    status.number()
+    status
 }
 
 // Tells a request of a unit.
@@ -63,17 +63,17 @@ pub fn request_call(
     index: u32,
     request: &mut EtcsRequest,
     bytes: &mut [u8],
-) -> u32
-    ensures { IsTold result (λ status. OnHandleInto ((request.new ≡ request.old) × (bytes.new ≡ bytes.old))
-        unit.old.raw.value unit.new.raw.value status (λ before after told. (after ≡ before) × TellsRequest index before
-        (record { request = request.old; told = request.new; room = bytes.old; bytes = bytes.new; status = told }))) }
+) -> Status
+    ensures { OnHandleInto ((request.new ≡ request.old) × (bytes.new ≡ bytes.old))
+        unit.old.raw.value unit.new.raw.value result (λ before after told. (after ≡ before) × TellsRequest index before
+        (record { request = request.old; told = request.new; room = bytes.old; bytes = bytes.new; status = told })) }
 {
     let Some(opened) = taken(alloc, unit) else {
-        return Status::NotOpen.number();
+        return Status::NotOpen;
     };
     let status = tell(&opened, index, request, bytes);
     *unit = handle_of(Some(opened));
-    status.number()
+    status
 }
 
 // Says that so many requests, from the first on, are done.
@@ -88,15 +88,15 @@ fn say(opened: &mut Opened, count: u32) -> Status
 }
 
 /// Says that so many requests, from the first on, are done.
-pub fn done_call(alloc: Global, unit: &mut EtcsUnit, count: u32) -> u32
-    ensures { IsTold result (λ status. OnHandle unit.old.raw.value unit.new.raw.value status (Says count)) }
+pub fn done_call(alloc: Global, unit: &mut EtcsUnit, count: u32) -> Status
+    ensures { OnHandle unit.old.raw.value unit.new.raw.value result (Says count) }
 {
     let Some(mut opened) = taken(alloc, unit) else {
-        return Status::NotOpen.number();
+        return Status::NotOpen;
     };
     let status = say(&mut opened, count);
     *unit = handle_of(Some(opened));
-    status.number()
+    status
 }
 
 // Says that the medium failed.
@@ -108,15 +108,15 @@ fn fail(opened: &mut Opened) -> Status
 }
 
 /// Says that the medium failed.
-pub fn fail_call(alloc: Global, unit: &mut EtcsUnit) -> u32
-    ensures { IsTold result (λ status. OnHandle unit.old.raw.value unit.new.raw.value status Fails) }
+pub fn fail_call(alloc: Global, unit: &mut EtcsUnit) -> Status
+    ensures { OnHandle unit.old.raw.value unit.new.raw.value result Fails }
 {
     let Some(mut opened) = taken(alloc, unit) else {
-        return Status::NotOpen.number();
+        return Status::NotOpen;
     };
     let status = fail(&mut opened);
     *unit = handle_of(Some(opened));
-    status.number()
+    status
 }
 
 // The last output, or the one before.
@@ -154,17 +154,17 @@ pub fn release_call(
     unit: &mut EtcsUnit,
     outputs: &mut [EtcsOutput],
     count: &mut u32,
-) -> u32
-    ensures { IsTold result (λ status. OnHandleInto ((outputs.new ≡ outputs.old) × (count.new ≡ count.old))
-        unit.old.raw.value unit.new.raw.value status (λ before after told. Releases before after
-        (record { places = outputs.old; handed = outputs.new; counted = count.old; count = count.new; status = told }))) }
+) -> Status
+    ensures { OnHandleInto ((outputs.new ≡ outputs.old) × (count.new ≡ count.old))
+        unit.old.raw.value unit.new.raw.value result (λ before after told. Releases before after
+        (record { places = outputs.old; handed = outputs.new; counted = count.old; count = count.new; status = told })) }
 {
     let Some(mut opened) = taken(alloc, unit) else {
-        return Status::NotOpen.number();
+        return Status::NotOpen;
     };
     let status = release(&mut opened, outputs, count);
     *unit = handle_of(Some(opened));
-    status.number()
+    status
 }
 
 // How far this unit is.
@@ -194,14 +194,14 @@ fn tell_state(opened: &Opened, state: &mut EtcsState) -> Status
 }
 
 /// Tells how far the unit is.
-pub fn state_call(alloc: Global, unit: &mut EtcsUnit, state: &mut EtcsState) -> u32
-    ensures { IsTold result (λ status. OnHandleInto (state.new ≡ state.old) unit.old.raw.value unit.new.raw.value status
-        (λ before after told. (after ≡ before) × (told ≡ Done) × TellsState before state.new)) }
+pub fn state_call(alloc: Global, unit: &mut EtcsUnit, state: &mut EtcsState) -> Status
+    ensures { OnHandleInto (state.new ≡ state.old) unit.old.raw.value unit.new.raw.value result
+        (λ before after told. (after ≡ before) × (told ≡ Done) × TellsState before state.new) }
 {
     let Some(opened) = taken(alloc, unit) else {
-        return Status::NotOpen.number();
+        return Status::NotOpen;
     };
     let status = tell_state(&opened, state);
     *unit = handle_of(Some(opened));
-    status.number()
+    status
 }

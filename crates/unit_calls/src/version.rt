@@ -1,6 +1,5 @@
 //! Which library this is.
 ghost use Rattle.std.specs.Prelude.{◌≡◌};
-ghost use Rattle.unit_calls.specs.Handles.{IsTold};
 ghost use Rattle.unit_calls.specs.Versions.{TellsVersion};
 
 use crate::status::Status;
@@ -8,8 +7,8 @@ use crate::status::Status;
 /// How many bytes the version has.
 const VERSION_BYTES: usize = 5;
 
-// Writes the version of the product into room for it.
-fn tell_version(out: &mut [u8], len: &mut u32) -> Status
+/// Writes the version of the product into room for it, and how many bytes it has.
+pub fn version_call(out: &mut [u8], len: &mut u32) -> Status
     ensures { TellsVersion out.old out.new len.old len.new result }
 {
     if out.len() < VERSION_BYTES {
@@ -18,11 +17,4 @@ fn tell_version(out: &mut [u8], len: &mut u32) -> Status
     out[..VERSION_BYTES].copy_from_slice(b"0.1.0");
     *len = 5;
     Status::Done
-}
-
-/// Writes the version of the product into room for it, and how many bytes it has.
-pub fn version_call(out: &mut [u8], len: &mut u32) -> u32
-    ensures { IsTold result (TellsVersion out.old out.new len.old len.new) }
-{
-    tell_version(out, len).number()
 }

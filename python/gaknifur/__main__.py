@@ -5,13 +5,15 @@ import argparse
 import sys
 from collections.abc import Callable, Mapping, Sequence
 from importlib import import_module
-from typing import NoReturn, Protocol, cast
+from typing import TYPE_CHECKING, NoReturn, Protocol, cast
 
 from .last_net import caught, say
 from .program import Failed, version
 from .progress import Terminal
-from .reading import Progress
 from .shown import shown
+
+if TYPE_CHECKING:
+    from .reading import Progress
 
 Word = Callable[[str, str, str], argparse.ArgumentParser]
 PARTS: dict[str, tuple[str, ...]] = {
@@ -52,7 +54,7 @@ class Version(argparse.Action):
 class Part(Protocol):
     """A module that has words."""
 
-    WORDS: Mapping[str, Callable[[argparse.Namespace, Progress], int | None]]
+    WORDS: "Mapping[str, Callable[[argparse.Namespace, Progress], int | None]]"
     """What does each of them, and answers the status, or nothing for 0."""
 
     def add_words(self, word: Word) -> None:

@@ -8,9 +8,6 @@ import gc
 import hashlib
 import os
 import random
-import socket
-import tempfile
-import time
 from collections import Counter
 from collections.abc import Callable, Iterable, Iterator
 from concurrent.futures import FIRST_COMPLETED, Future, ProcessPoolExecutor, wait
@@ -19,13 +16,12 @@ from dataclasses import dataclass
 from pathlib import Path
 from typing import Any
 
-from . import case_files, program, sound
-from .program import Failed
-from .reading import Json, read
+from . import case_files
 from .shown import shown
 
 Row = dict[str, Any]
-Take = Callable[[Row], None]
+Take = Callable[[list[Row]], None]
+"""What takes the rows of jobs that were played together."""
 
 COLUMNS = ("name", "job_sha256", "kind", "ended", "image_sha256", "events", "lives", "mode", "brake", "limit_m_per_h",
            "place_cm", "emergencies", "trips", "tests", "missed", "first_missed", "sound", "seconds", "worker")
@@ -61,13 +57,14 @@ def of_folder(folder: Path, slots: int) -> Iterator[Job]:
     of_cases, scenarios = case_files.below(folder)
     if of_cases:
         from . import playing  # noqa: F401 (what plays them is loaded once, before there are processes that play)
+    above = len(folder.parts)
     for path in of_cases:
         found = case_files.files_of(path)
         root = Path(os.path.commonpath([one.parent for one in found]))
-        yield Job(shown(path.relative_to(folder).as_posix()), "case",
+        yield Job(shown("/".join(path.parts[above:])), "case",
                   tuple((one.relative_to(root).as_posix(), one.read_bytes()) for one in found), slots)
     for path in scenarios:
-        yield Job(shown(path.relative_to(folder).as_posix()), "scenario", (("scenario.json", path.read_bytes()),), slots)
+        yield Job(shown("/".join(path.parts[above:])), "scenario", (("scenario.json", path.read_bytes()),), slots)
 
 
 def at_random(count: int, seed: int, slots: int) -> Iterator[Job]:
@@ -78,100 +75,7 @@ def at_random(count: int, seed: int, slots: int) -> Iterator[Job]:
                   (("scenario.json", random_lives.scenario(random.Random(f"{seed}/{number}"))),), slots)
 
 
-# ---- a job
-
-def play(job: Job, room: Path) -> Row:
-    """Plays a job in a folder, in which another one may have been played, and answers its row. Whatever goes wrong is told there."""
-    begun = time.perf_counter()
-    row = row_without(job, "carried out")
-    try:
-        row |= play_case(job, room) if job.kind == "case" else play_scenario(job, room)
-    except Failed as failed:
-        row |= {"ended": f"failed: {failed}", "sound": 0}
-    except Exception as error:  # a row tells of it, and the campaign goes on
-        row |= {"ended": f"failed: {type(error).__name__}: {error}", "sound": 0}
-    return row | {"seconds": round(time.perf_counter() - begun, 4), "worker": player()}
-
-
-def player() -> str:
-    """Who plays: the machine and the process."""
-    return f"{socket.gethostname()}/{os.getpid()}"
-
-
-def play_scenario(job: Job, room: Path) -> Row:
-    """Plays one life on a fresh image."""
-    scenario, image = room / "scenario.json", room / "image"
-    scenario.write_bytes(job.files[0][1])
-    program.format_image(image, job.slots)
-    status, printed = program.etcs("run", "--", str(scenario), str(image))
-    ended = "carried out" if status == 0 else printed[-1] if printed else f"status {status}"
-    journal = read(image, replay=True, is_own=True)
-    row: Row = {"ended": ended, "image_sha256": journal.sha256, "sound": 1}
-    try:
-        sound.check_image(journal)
-        sound.check_released(printed, journal.records)
-    except sound.Missed as missed:
-        row |= {"first_missed": str(missed), "sound": 0}
-    return row | told_of(journal.records)
-
-
-def told_of(told: Iterable[Json]) -> Row:
-    """What the records come to."""
-    records = list(told)
-    if not records:
-        return {"events": 0, "lives": 0}
-    last, brakes, modes = records[-1], [record["brake"] for record in records], [record["mode"] for record in records]
-    return {"events": len(records), "lives": len({record["life"] for record in records}), "mode": last["mode"], "brake": last["brake"],
-            "limit_m_per_h": last["limit_m_per_h"], "place_cm": last["place_cm"], "emergencies": begun(brakes, "emergency"),
-            "trips": begun(modes, "TR")}
-
-
-def begun(values: list[str], value: str) -> int:
-    """How often a value came after another one."""
-    return sum(now == value != before for before, now in zip(values, values[1:])) if value in values else 0
-
-
-def play_case(job: Job, room: Path) -> Row:
-    """Plays the cases of a file, and judges what they expect."""
-    with tempfile.TemporaryDirectory(dir=room) as folder:
-        for name, data in job.files:
-            path = Path(folder, name)
-            path.parent.mkdir(parents=True, exist_ok=True)
-            path.write_bytes(data)
-        return judged(Path(folder, job.files[0][0]))
-
-
-def judged(path: Path) -> Row:
-    """What the cases of a file come to."""
-    from . import cases, mode_rows, playing
-    tests = missed = 0
-    first = None
-    records: list[Json] = []
-    for case in cases.read(path):
-        try:
-            played = playing.play(case)
-        except playing.Missed as told:
-            tests, missed, first = tests + 1, missed + 1, first or f"{case.name}: {told}"
-            continue
-        records += played.records
-        tests += not case.expected
-        for expected in case.expected:
-            tests += 1
-            try:
-                playing.judge(expected, played, mode_rows.mode_table())
-            except playing.Missed as told:
-                missed, first = missed + 1, first or f"{case.name}, line {expected.at.line}: {told}"
-    return {"image_sha256": None, "tests": tests, "missed": missed, "first_missed": first, "sound": int(not missed)} | told_of(records)
-
-
-def play_all(jobs: list[Job]) -> list[Row]:
-    """Plays jobs in turn, in one folder."""
-    try:
-        with program.room(max(job.slots for job in jobs)) as room:
-            return [play(job, Path(room)) for job in jobs]
-    except OSError as error:
-        return [row_without(job, f"failed: {type(error).__name__}: {error}") | {"seconds": 0.0, "worker": player()} for job in jobs]
-
+# ---- how they are handed out
 
 class Batches:
     """The jobs as they are handed out, since handing out one costs as much as a program does: the first ones alone, so that each
@@ -234,6 +138,7 @@ def lost(job: Job) -> Row:
 
 def here(jobs: Iterable[Job], count: int, workers: int, take: Take) -> None:
     """Plays so many jobs by processes of this machine."""
+    from . import campaign_jobs  # noqa: F401 (what plays them is loaded once, before there are processes that play)
     left, losses, running = Batches(jobs, count, workers), Counter[str](), dict[Future[list[Row]], list[Job]]()
     pool = ProcessPoolExecutor(workers, initializer=gc.freeze)
     try:
@@ -249,8 +154,7 @@ def here(jobs: Iterable[Job], count: int, workers: int, take: Take) -> None:
                 except BrokenProcessPool:
                     broken, is_broken = broken + batch, True
                     continue
-                for row in rows:
-                    take(row)
+                take(rows)
             if is_broken:
                 broken += [job for batch in running.values() for job in batch]
                 running.clear()
@@ -263,6 +167,7 @@ def here(jobs: Iterable[Job], count: int, workers: int, take: Take) -> None:
 
 def hand_out(left: Batches, running: dict[Future[list[Row]], list[Job]], pool: ProcessPoolExecutor, workers: int) -> bool:
     """Hands jobs to the processes; whether none of these was lost meanwhile."""
+    from .campaign_jobs import play_all
     while len(running) < (1 if left.again else AHEAD * workers) and (batch := left.next()):
         try:
             running[pool.submit(play_all, batch)] = batch
@@ -278,6 +183,6 @@ def again(jobs: list[Job], left: Batches, losses: Counter[str], take: Take) -> N
     for job in jobs:
         losses[job.name] += 1
         if losses[job.name] >= MOST_LOSSES:
-            take(lost(job))
+            take([lost(job)])
         else:
             left.again.append(job)

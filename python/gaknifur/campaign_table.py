@@ -4,12 +4,13 @@ import io
 import sqlite3
 import time
 from collections.abc import Iterator
+from operator import itemgetter
 from pathlib import Path
 
 from . import files, program
 from .campaign import COLUMNS, NOT_COMPARED, Job, Row
+from .digests import digest
 from .program import DEVICE, REFUSED, Failed
-from .reading import digest
 
 COMMIT_SECONDS = 0.25
 INSERT = f"INSERT OR REPLACE INTO result ({', '.join(COLUMNS)}) VALUES ({', '.join('?' * len(COLUMNS))})"
@@ -61,10 +62,10 @@ class Table:
         found = self.connection.execute("SELECT job_sha256, ended FROM result WHERE name = ?", (job.name,)).fetchone()
         return found is not None and found[0] == job.sha256 and not found[1].startswith("failed")
 
-    def take(self, row: Row) -> None:
-        """Adds a row, or puts it in the place of the one with its name. It is on the disk within a second."""
+    def take(self, rows: list[Row]) -> None:
+        """Adds rows, each in the place of the one with its name, where there is one. They are on the disk within a second."""
         try:
-            self.connection.execute(INSERT, [row[name] for name in COLUMNS])
+            self.connection.executemany(INSERT, map(itemgetter(*COLUMNS), rows))
             if time.monotonic() - self.written > COMMIT_SECONDS:
                 self.connection.execute("COMMIT")
                 self.connection.execute("BEGIN IMMEDIATE")

@@ -5,11 +5,14 @@ import os
 import re
 from collections.abc import Callable
 from pathlib import Path
+from typing import TYPE_CHECKING
 
 from . import campaign, campaign_table, files
 from .program import NOT_WHOLE, REFUSED, WRONG_WORDS, Failed
-from .reading import Progress
 from .shown import shown
+
+if TYPE_CHECKING:
+    from .reading import Progress
 
 Word = Callable[[str, str, str], argparse.ArgumentParser]
 SHOWN = 10
@@ -42,7 +45,7 @@ def natural(text: str) -> int:
     return int(text)
 
 
-def play_campaign(told: argparse.Namespace, progress: Progress) -> int:
+def play_campaign(told: argparse.Namespace, progress: "Progress") -> int:
     """The word `campaign`."""
     if told.folder is None and not told.random:
         raise Failed("a campaign needs a folder or --random", WRONG_WORDS)
@@ -52,10 +55,10 @@ def play_campaign(told: argparse.Namespace, progress: Progress) -> int:
     table = campaign_table.Table(told.out, campaign_table.settings_of())
     played = 0
 
-    def take(row: campaign.Row) -> None:
+    def take(rows: list[campaign.Row]) -> None:
         nonlocal played
-        table.take(row)
-        played += 1
+        table.take(rows)
+        played += len(rows)
         progress("campaign", played, count)
 
     left = [job for job in jobs if not table.is_there(job)]
@@ -80,7 +83,7 @@ def play_campaign(told: argparse.Namespace, progress: Progress) -> int:
     return NOT_WHOLE if bad else 0
 
 
-def compare_campaigns(told: argparse.Namespace, progress: Progress) -> int:
+def compare_campaigns(told: argparse.Namespace, progress: "Progress") -> int:
     """The word `compare`."""
     found = list(campaign_table.differences(told.first, told.second))
     for line in found:

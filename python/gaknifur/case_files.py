@@ -1,4 +1,5 @@
 """The files of test cases below a folder, and what they name."""
+import os
 from pathlib import Path
 
 from .program import DEVICE, Failed
@@ -34,7 +35,8 @@ def below(folder: Path) -> tuple[list[Path], list[Path]]:
     """The files of cases below a folder, and the scenarios in JSON that none of them names."""
     if not folder.is_dir():
         raise Failed(f"{folder}: there is no such folder", DEVICE)
-    paths = sorted((path for path in folder.rglob("*") if path.suffix in SUFFIXES and path.is_file()), key=lambda path: path.parts)
+    named_so = (Path(at, name) for at, _, names in os.walk(folder) for name in names if os.path.splitext(name)[1] in SUFFIXES)
+    paths = sorted((path for path in named_so if os.path.isfile(path)), key=lambda path: path.parts)
     case_files = [path for path in paths if is_case_file(path)]
     named = {other for path in case_files for other in files_of(path)}
     return case_files, [path for path in paths if path.suffix == ".json" and (not named or path.resolve() not in named)]

@@ -11,8 +11,9 @@ from pathlib import Path
 from typing import Any
 
 from . import layout
+from .digests import digest
 from .program import DEVICE, NOT_WHOLE, WHOLE, Failed
-from .reading import Json, digest, examine, objects
+from .reading import Json, examine, objects
 from .shown import shown
 
 VERDICTS = {

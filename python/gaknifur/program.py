@@ -5,6 +5,7 @@ there is a proved program of these sources: then that is run. Else the one is th
 unproved, and keeps; it says so on standard error. The scripts are those of this repository; of a package that is
 installed, those beside it, or else on the PATH.
 """
+import contextlib
 import fcntl
 import functools
 import os
@@ -12,7 +13,7 @@ import shutil
 import signal
 import subprocess
 import tempfile
-from collections.abc import Generator, Sequence
+from collections.abc import Generator, Iterator, Sequence
 from dataclasses import dataclass
 from pathlib import Path
 
@@ -138,12 +139,31 @@ def ran(words: Sequence[str]) -> Ran:
     millisecond shows."""
     output, said = memory_file("output"), memory_file("said")
     try:
-        process = os.posix_spawnp(words[0], list(words), dict(os.environb), setsigdef=(signal.SIGPIPE, signal.SIGXFSZ), file_actions=(
+        process = os.posix_spawnp(words[0], list(words), environment(), setsigdef=(signal.SIGPIPE, signal.SIGXFSZ), file_actions=(
             (os.POSIX_SPAWN_OPEN, 0, os.devnull, os.O_RDONLY, 0), (os.POSIX_SPAWN_DUP2, output, 1), (os.POSIX_SPAWN_DUP2, said, 2)))
         return Ran(ended(process), all_of(output), all_of(said))
     finally:
         os.close(output)
         os.close(said)
+
+
+kept_environment: dict[bytes, bytes] | None = None
+
+
+def environment() -> dict[bytes, bytes]:
+    """The environment of programs."""
+    return dict(os.environb) if kept_environment is None else kept_environment
+
+
+@contextlib.contextmanager
+def same_environment() -> Iterator[None]:
+    """While this lasts, the environment isn't looked up for each program, which takes as long as to begin one."""
+    global kept_environment
+    before, kept_environment = kept_environment, environment()
+    try:
+        yield
+    finally:
+        kept_environment = before
 
 
 def memory_file(name: str) -> int:
@@ -199,14 +219,18 @@ class Run:
             errors.seek(0)
             self.said = os.fsdecode(errors.read()).split("\n")[:-1]
 
-    def all_lines(self) -> list[str]:
-        """All lines of standard output at once, of a run that tells little."""
+    def all_text(self) -> str:
+        """All of standard output at once, of a run that tells little."""
         try:
             done = ran(self.words)
         except OSError as error:
             raise Failed(f"{self.words[0]}: {error.strerror}", DEVICE) from error
         self.status, self.said = done.status, os.fsdecode(done.said).split("\n")[:-1]
-        lines = done.output.decode(errors="replace").split("\n")
+        return done.output.decode(errors="replace")
+
+    def all_lines(self) -> list[str]:
+        """Its lines."""
+        lines = self.all_text().split("\n")
         return lines if lines[-1] else lines[:-1]
 
     def last_said(self) -> str:

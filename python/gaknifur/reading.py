@@ -1,7 +1,6 @@
 """A journal as `etcs_lab` tells it: the examination of its image, its records and their replay."""
 import contextlib
 import gc
-import hashlib
 import itertools
 import json
 import marshal
@@ -11,6 +10,7 @@ from dataclasses import dataclass, field
 from pathlib import Path
 from typing import TYPE_CHECKING, Any, overload
 
+from .digests import digest
 from .program import DEVICE, NOT_WHOLE, REFUSED, WHOLE, Failed, Run
 from .shown import shown
 
@@ -147,15 +147,6 @@ class Journal:
     def not_replayed(self) -> list[Json]:
         """Runs of events that can't be replayed."""
         return [line for line in self.replay if line.get("replay") == "not_replayed"]
-
-
-def digest(path: Path) -> str:
-    """The SHA-256 of a file."""
-    try:
-        with path.open("rb") as file:
-            return hashlib.file_digest(file, "sha256").hexdigest()
-    except OSError as error:
-        raise Failed(f"{path}: {error.strerror}", DEVICE) from error
 
 
 def parsed(line: str, what: str) -> Json:

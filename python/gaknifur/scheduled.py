@@ -19,8 +19,10 @@ from .program import DEVICE, Failed
 
 LEAST_PLAYERS, PATIENCE = 4, "30s"
 """For how many workers jobs are handed out at the least; and how long a scheduler may take to answer."""
-UNUSED = ("jinja2", "numpy", "distributed.comm.ucx")
-"""What Dask loads where it is there: for its pages, for large arrays, and for networks of InfiniBand."""
+UNUSED: dict[str, ModuleType | None] = {"jinja2": None, "numpy": None, "distributed.comm.ucx": None,
+                                        "distributed.comm.ws": ModuleType("distributed.comm.ws")}
+"""What Dask loads where it is there, for its pages, for large arrays, and for networks of InfiniBand; and what it always loads, for
+connections by WebSocket."""
 TOLD = ("numpy", "pandas")
 """The packages that a client loads to tell their versions."""
 NO_CERTIFICATES = {"SSL_CERT_FILE": os.devnull, "SSL_CERT_DIR": os.devnull}
@@ -31,7 +33,8 @@ SETTINGS = {"distributed.diagnostics.computations.ignore-modules": ["."]}
 
 def played(packed: bytes) -> bytes:
     """Plays jobs in turn, and answers their rows; both are packed."""
-    return pickle.dumps(campaign.play_all(pickle.loads(packed)))
+    from . import campaign_jobs  # (a worker plays, and a client only hands out)
+    return pickle.dumps(campaign_jobs.play_all(pickle.loads(packed)))
 
 
 @contextmanager
@@ -73,6 +76,19 @@ def nothing_given_back() -> Iterator[None]:
         gc.enable()
 
 
+@contextmanager
+def libyaml() -> Iterator[None]:
+    """While this lasts, YAML is read by libyaml, where Python has it: Dask reads its settings, which takes a tenth of the time then."""
+    import yaml
+    loader = "SafeLoader"
+    before = getattr(yaml, loader)
+    setattr(yaml, loader, getattr(yaml, f"C{loader}", before))
+    try:
+        yield
+    finally:
+        setattr(yaml, loader, before)
+
+
 def version_alone(name: str) -> ModuleType | None:
     """A module that tells the version of a package, and nothing else; None where there is none."""
     module = ModuleType(name)
@@ -87,7 +103,7 @@ def connected(scheduler: str) -> tuple[Any, Any]:
     """A client of a scheduler, and what answers its futures as they end."""
     with nothing_given_back():
         try:
-            with instead(dict.fromkeys(UNUSED)), environment(NO_CERTIFICATES):
+            with instead(UNUSED), environment(NO_CERTIFICATES), libyaml():
                 from dask import config
                 from distributed import Client, as_completed
         except ImportError as error:
@@ -130,5 +146,4 @@ def by_scheduler(jobs: Iterable[Job], count: int, scheduler: str, take: Take) ->
                 left.again += batch if len(batch) > 1 else []
             future.release()
             hand_out()
-            for row in rows:
-                take(row)
+            take(rows)

@@ -15,4 +15,7 @@ def spelled(character: str) -> str:
 
 def shown(text: object) -> str:
     """A text on one line, with each character that can't be seen spelled."""
-    return "".join(spelled(one) if unicodedata.category(one) in HIDDEN else one for one in str(text))
+    told = str(text)
+    if told.isascii() and told.isprintable():
+        return told
+    return "".join(spelled(one) if unicodedata.category(one) in HIDDEN else one for one in told)

@@ -1,6 +1,6 @@
 """Whether a journal is sound: the image is whole, the kernel answers as it tells, and what was released is what it tells."""
 import re
-from collections.abc import Iterable
+from collections.abc import Iterable, Sequence
 
 from ._header import Indication
 from .reading import Journal, Json
@@ -42,17 +42,21 @@ def check_image(journal: Journal) -> None:
         raise Missed("a journal that can be read", journal.refusal)
     if not journal.is_whole:
         raise Missed("a whole image", "etcs_lab examine says that something is lost, damaged or contradicts")
-    if not journal.records:
-        return
-    if not journal.replay:
+    if journal.records:
+        check_replay(journal.replay)
+
+
+def check_replay(lines: Sequence[Json]) -> None:
+    """The kernel answers as the journal tells, by the lines of a replay."""
+    if not lines:
         raise Missed("a replay of the journal", "etcs_lab replay refused it")
-    for line in journal.replay:
+    for line in lines:
         if line.get("replay", "agrees") not in ("agrees", "not_replayed"):
             raise Missed("a replay that agrees with the journal", f"etcs_lab replay says: {line}")
         if line.get("replay") == "not_replayed" and line.get("reason") != "before_oldest_block":
             raise Missed("a replay of all records", f"etcs_lab replay says: {line}")
-    if journal.replay[-1].get("end") != "nothing_differs":
-        raise Missed("a replay in which nothing differs", str(journal.replay[-1]))
+    if lines[-1].get("end") != "nothing_differs":
+        raise Missed("a replay in which nothing differs", str(lines[-1]))
 
 
 def output_text(record: Json) -> str:

@@ -2,19 +2,23 @@
 import json
 import os
 import pickle
+import random
+import re
 import sys
 import tempfile
 import types
 import unittest
+from collections import Counter
 from collections.abc import Callable, Iterator
 from pathlib import Path
 from typing import Any, Self
 from unittest.mock import patch
 
-from gaknifur import campaign, scheduled
+from gaknifur import campaign, campaign_jobs, outputs, scheduled, sound
 from gaknifur.campaign import MOST_AT_ONCE, Batches, Job, Row
+from gaknifur.reading import Json
 
-from .samples import journal, record
+from .samples import AUTHORITY, journal, record
 
 LOST = ("12", "13", "14", "16")
 
@@ -67,8 +71,8 @@ class Lost(unittest.TestCase):
 
     def test_take_no_others_with_them(self) -> None:
         taken: list[Row] = []
-        with patch.object(campaign, "play", row_of):
-            campaign.here(jobs_of(60), 60, 3, taken.append)
+        with patch.object(campaign_jobs, "play", row_of):
+            campaign.here(jobs_of(60), 60, 3, taken.extend)
         self.assertEqual(sorted(int(row["name"]) for row in taken), list(range(60)))
         self.assertEqual({row["name"]: row["ended"] for row in taken if row["ended"] != "carried out"},
                          dict.fromkeys(LOST, f"failed: its worker was lost {campaign.MOST_LOSSES} times"))
@@ -153,8 +157,8 @@ class Scheduled(unittest.TestCase):
     def test_given_back_and_lost(self) -> None:
         taken: list[Row] = []
         dask = Scheduler({"0", "20", "40"})
-        with patch.dict(sys.modules, dask=dask.module(), distributed=dask.module()), patch.object(campaign, "play", played_of):
-            scheduled.by_scheduler(jobs_of(80, 100), 80, "tcp://none", taken.append)
+        with patch.dict(sys.modules, dask=dask.module(), distributed=dask.module()), patch.object(campaign_jobs, "play", played_of):
+            scheduled.by_scheduler(jobs_of(80, 100), 80, "tcp://none", taken.extend)
         self.assertEqual(sorted(int(row["name"]) for row in taken), list(range(80)))
         self.assertEqual({row["name"]: row["ended"] for row in taken if row["ended"] != "carried out"},
                          dict.fromkeys(LOST, f"failed: its worker was lost {campaign.MOST_LOSSES} times"))
@@ -189,7 +193,7 @@ class Judged(unittest.TestCase):
             jobs = [Job(brake, "scenario", (("scenario.json", brake.encode()),), 64) for brake in ("none", "service", "none")]
             with patch.dict(os.environ, GAKNIFUR_ETCS=f"{folder}/etcs", GAKNIFUR_ETCS_LAB=f"{folder}/lab", TMPDIR=room), \
                     patch.object(tempfile, "tempdir", room):
-                rows = campaign.play_all(jobs)
+                rows = campaign_jobs.play_all(jobs)
             self.assertEqual(os.listdir(room), [])
         self.assertEqual([(row["name"], row["ended"], row["events"], row["sound"]) for row in rows],
                          [("none", "carried out", 2, 1), ("service", "carried out", 2, 0), ("none", "carried out", 2, 1)])
@@ -199,9 +203,103 @@ class Judged(unittest.TestCase):
 
     def test_no_room(self) -> None:
         with patch.dict(os.environ, TMPDIR="/none"), patch.object(tempfile, "tempdir", "/none"):
-            rows = campaign.play_all(jobs_of(3))
+            rows = campaign_jobs.play_all(jobs_of(3))
         self.assertEqual([(row["name"], row["sound"]) for row in rows], [("0", 0), ("1", 0), ("2", 0)])
         self.assertRegex(rows[0]["ended"], "^failed: FileNotFoundError")
+
+
+LINES = ('{"image":{"sectors":25,"slots":4,"first_block":1,"newest_block":1}}', '{"end":"done"}')
+NO_RECORDS = ('{"unreadable":{"block":1}}', "{", json.dumps(record(9)), json.dumps({"byte": 0} | record(9), separators=(",", ":")))
+
+
+def lines_of(*records: Json, first: str = LINES[0], last: str = LINES[1] + "\n") -> str:
+    """The lines that `etcs_lab events` prints of records."""
+    told = [json.dumps({"block": one["block"], "byte": 0, **one}, separators=(",", ":")) for one in records]
+    return "\n".join([first, *told, last])
+
+
+def random_records(numbers: random.Random) -> list[Json]:
+    """Records of one or two lives, from any event on, in which states hold for a while."""
+    found, state, first = list[Json](), dict[str, Any](), numbers.choice((0, 7, 998))
+    for event in range(first, first + numbers.randrange(1, 20)):
+        if not state or numbers.random() < 0.3:
+            state = {"mode": numbers.choice(("FS", "SB", "TR")), "level": numbers.choice((None, 0, 1)), "limit_m_per_h": numbers.randrange(3),
+                     "brake": numbers.choice(("none", "service", "emergency")), "life": 1 + (event > first + 9),
+                     "indications": numbers.choice(([], ["trip"], ["level_0", "overspeed"]))}
+        kind = numbers.choice(("clock", "telegram"))
+        found.append(record(event, kind, place_cm=numbers.randrange(-9, 9), **state, **({"decoded": AUTHORITY} if kind == "telegram" else {})))
+    return found
+
+
+def altered(lines: list[str], numbers: random.Random) -> list[str]:
+    """The lines of outputs, of which something may be another, missing, or there too."""
+    at, other = numbers.randrange(len(lines)), numbers.choice(("mode SH", "brake other", "limit 77", "ind 64", "event 77"))
+    changed = re.sub(f"{other.split()[0]} [^ ]+", other, lines[at])
+    return numbers.choice(([*lines], [*lines[:at], changed, *lines[at + 1:]], [*lines[:at], *lines[at + 1:]], [*lines, changed],
+                           [changed, *lines], [*lines, "stopped 1 PowerLost"], lines[numbers.randrange(len(lines)):]))
+
+
+class OutputsAlone(unittest.TestCase):
+    """Outputs that are read off the form of lines, beside all records as JSON."""
+
+    def test_are_judged_as_records_are(self) -> None:
+        numbers, found = random.Random(1), Counter[bool]()
+        for _ in range(2000):
+            records = random_records(numbers)
+            older = [sound.output_text(record(event)) for event in range(records[0]["event"])][-30:]
+            printed = altered([*older, *map(sound.output_text, records)], numbers)
+            told = outputs.of_lines(lines_of(*records))
+            assert told is not None
+            self.assertEqual(campaign_jobs.told_of(told.changes()) | {"events": len(records)}, campaign_jobs.told_of(records))
+            try:
+                sound.check_released(printed, records)
+                is_sound = True
+            except sound.Missed:
+                is_sound = False
+            self.assertEqual(told.are_those(printed), is_sound, (printed, records))
+            found[is_sound] += 1
+        self.assertGreater(min(found[True], found[False]), 300)
+
+    def test_one_that_is_told_twice_is_left_to_the_records(self) -> None:
+        records = [record(event) for event in (5, 6)]
+        told, lines = outputs.of_lines(lines_of(*records)), list(map(sound.output_text, records))
+        assert told is not None
+        for others, wanted in ((lines[:0], True), ([sound.output_text(record(4))], True), (lines[:1], False)):
+            self.assertEqual(told.are_those([*others, *lines]), wanted)
+
+    def test_lines_of_another_form(self) -> None:
+        self.assertIsNotNone(outputs.of_lines(lines_of(record(8))))
+        self.assertIsNone(outputs.of_lines(lines_of()))
+        self.assertIsNone(outputs.of_lines(lines_of(record(8), last="")))
+        self.assertIsNone(outputs.of_lines(lines_of(record(8), first="{}")))
+        self.assertIsNone(outputs.of_lines(lines_of(record(8, place_cm=None, limit_m_per_h=None))))
+        self.assertIsNone(outputs.of_lines(lines_of(record(8, indications=["a b"]))))
+        for line in NO_RECORDS:
+            self.assertIsNone(outputs.of_lines(lines_of(record(8), last=f"{line}\n{LINES[1]}\n")), line)
+
+
+CHECKED = (f'{{"image":{{"bytes":12800,"sha256":"{"ab" * 32}","slots":4}},"slots":[{{"slot":0}}],"whole":true}}',
+           '{"life":1,"replay":"not_replayed","reason":"before_oldest_block"}', '{"life":2,"replay":"agrees"}',
+           '{"end":"nothing_differs"}', '{"check":{"whole":true,"replay":"nothing_differs"}}')
+UNSOUND = (('"whole":true', '"whole":false'), ("before_oldest_block", "gap"), ('"agrees"', '"record_differs"'), ("nothing_differs", "differs_or_lost"),
+           ('{"end":"nothing_differs"}\n', ""), ('"life":2', "life"), ("ab" * 32, "ab"))
+
+
+class Checked(unittest.TestCase):
+    """What `etcs_lab check` tells of an image that is sound."""
+
+    def digest(self, text: str | None) -> str | None:
+        """The digest that is read of what is told."""
+        with patch.object(outputs, "told", lambda words, image: text):
+            return outputs.digest_of_sound(Path("image"))
+
+    def test_the_digest(self) -> None:
+        text = "\n".join([*CHECKED, ""])
+        self.assertEqual((self.digest(text), self.digest(None), self.digest("")), ("ab" * 32, None, None))
+        for one, other in UNSOUND:
+            self.assertIn(one, text)
+            self.assertIsNone(self.digest(text.replace(one, other)), other)
+            self.assertIsNone(self.digest(text.replace(one, other, 1)), other)
 
 
 def played_of(job: Job, room: Path) -> dict[str, Any]:

@@ -1,5 +1,5 @@
 -- A call on what a handle holds, step by step.
-use Rattle.std.proofs.Common.{◌≡◌, Option, Some, None, refl, sym, subst}
+use Rattle.std.proofs.Common.{◌≡◌, Option, None, refl, sym, subst}
 use Rattle.unit_calls.specs.Handles.{OnHandle, OnHandleInto}
 use Rattle.unit_calls.specs.declared.handle.Opened.{Opened}
 use Rattle.unit_calls.specs.declared.status.Status.{Status}
@@ -19,12 +19,4 @@ not_open_into old new AsTheyWere So was is same =
     let N : Option Opened → Type 0 = λ n. OnHandleInto AsTheyWere old n a_status.NotOpen So in
     let O : Option Opened → Type 0 = λ o. OnHandleInto AsTheyWere o None a_status.NotOpen So in
     let so : OnHandleInto AsTheyWere None None a_status.NotOpen So = (refl, same) in
-    subst N (sym is) (subst O (sym was) so)
-
--- one is, and stays open
-pub on_open : (old new : Option Opened) (before after : Opened) (status : Status) (So : Opened → Opened → Status → Type 0)
-    → old ≡ Some before → new ≡ Some after → So before after status → OnHandle old new status So
-on_open old new before after status So was is so =
-    let N : Option Opened → Type 0 = λ n. OnHandle old n status So in
-    let O : Option Opened → Type 0 = λ o. OnHandle o (Some after) status So in
     subst N (sym is) (subst O (sym was) so)

@@ -1,6 +1,6 @@
 -- What is put part after part, in one chain; lists of pairs in two forms.
 use Rattle.std.proofs.Common.{◌≡◌, ◌⊎◌, inl, inr, ℕ, ◌+◌, ◌-◌, ◌*◌, ◌/◌, ◌%◌, ◌^◌, ◌<◌, ◌≤◌, Bool, true, false, List, [], ◌∷◌, ◌++◌, Result, Ok, Err, Some, length, map, take, drop, replicate, refl, sym, ap, ◌∙◌, arith, append_assoc, length-append}
-use Rattle.std.specs.Prelude.{codes, nat_eq, is_ok, OnOk, IfErr, IsTrue}
+use Rattle.std.specs.Prelude.{codes, nat_eq, is_ok, OnOk, IsTrue}
 use Rattle.std.proofs.lemmas.Bool.{eqb-true}
 use Rattle.std.specs.Bool.{OnTrue}
 use Rattle.std.proofs.lemmas.List.{append-nil, drop_at, take_at}
@@ -32,9 +32,6 @@ on_ok (Err e) P ok h = absurd cc
 pub on_true : (b : Bool) (P : Type 0) → b ≡ true → OnTrue b P → P
 on_true true P e h = h
 on_true false P e h = absurd cc
-
-pub some_same : {A : Type 0} (x y : A) → Some x ≡ Some y → x ≡ y
-some_same x y e = cc
 
 -- ---- numbers in so many bits
 
@@ -169,7 +166,3 @@ pub none_bits : (xs ys : List ℕ) → length xs ≡ 0 → (IsTrue (nat_eq (leng
 none_bits [] [] none = (λ _. refl, λ _. refl)
 none_bits [] (y ∷ ys) none = (λ h. absurd (omega (arith, eqb-true (length (y ∷ ys)) 0 h)), λ e. absurd (omega (arith, ap length e, length-bits_of (y ∷ ys))))
 none_bits (x ∷ xs) ys none = absurd (omega arith)
-
-pub if_err : {A E : Type 0} (r : Result A E) (P : E → Type 0) → ((e : E) → r ≡ Err e → P e) → IfErr r P
-if_err (Ok x) P h = tt
-if_err (Err e) P h = h e refl

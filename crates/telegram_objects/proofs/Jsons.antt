@@ -1,9 +1,7 @@
 -- Lists of values and pairs.
-use Rattle.std.proofs.Common.{◌≡◌, ℕ, ◌<◌, Bool, true, false, List, [], ◌∷◌, Option, Some, length, map, refl, sym, ap, subst, ◌∙◌}
-use Rattle.std.specs.Prelude.{◌&&◌, nat_eq, nat_lt, bytes_eq, if◌then◌else◌, IsTrue, option_map}
-use Rattle.std.proofs.lemmas.Bool.{and_parts, ltb-true, eqb-true, eq-eqb}
-use Rattle.bits.specs.Names.{name_text}
-use Rattle.bits.specs.declared.name.VariableName.{VariableName}
+use Rattle.std.proofs.Common.{◌≡◌, ℕ, List, [], ◌∷◌, Some, length, map, refl, sym, ap, ◌∙◌}
+use Rattle.std.specs.Prelude.{nat_eq, IsTrue, option_map}
+use Rattle.std.proofs.lemmas.Bool.{eqb-true, eq-eqb}
 use Rattle.serde_json.specs.Data.{Data, array}
 use Rattle.serde_json.specs.Events.{members_len}
 use Rattle.serde_json.specs.Find.{as_array, as_object}
@@ -11,7 +9,6 @@ use Rattle.serde_json.specs.View.{view, items_of, items_view, members_view}
 use Rattle.serde_json.proofs.Views.{Entry, members_len-members_view}
 use Rattle.serde_json.specs.declared.value.Value.{Value}
 use Rattle.telegram_objects.specs.Telling.{pair_of, HasCount}
-use Rattle.telegram_objects.specs.Widths.{widths, width_in, HasWidth}
 use Rattle.decoding.specs.declared.fields.FieldValue.{FieldValue}
 
 pub items_same : (ds es : List Data) → items_of ds ≡ items_of es → ds ≡ es
@@ -26,11 +23,6 @@ items_same (x ∷ ds) (y ∷ es) e =
 
 pub arrays_same : (ds es : List Data) → array (items_of ds) ≡ array (items_of es) → ds ≡ es
 arrays_same ds es e =
-    let same : items_of ds ≡ items_of es = cc in
-    items_same ds es same
-
-pub some_arrays_same : (ds es : List Data) → Some (array (items_of ds)) ≡ Some (array (items_of es)) → ds ≡ es
-some_arrays_same ds es e =
     let same : items_of ds ≡ items_of es = cc in
     items_same ds es same
 
@@ -52,32 +44,7 @@ pub next_pair : (x : Data) (xs : List Data) (fields : List FieldValue) → x ∷
 next_pair x xs [] e = absurd cc
 next_pair x xs (f ∷ fields) e = record { first = f; others = fields; fields_are = refl; first_is = cc; others_are = cc }
 
-pub no_pair : (fields : List FieldValue) → [] ≡ map pair_of fields → fields ≡ []
-no_pair [] e = refl
-no_pair (f ∷ fields) e = absurd cc
-
 -- ---- widths
-
-all_small : List (VariableName × ℕ) → Bool
-all_small [] = true
-all_small (row ∷ rows) = nat_lt row.1 64 && all_small rows
-
-small_at : (b : Bool) (n w : ℕ) (others : Option ℕ) → n < 64 → (others ≡ Some w → w < 64) → (if b then Some n else others) ≡ Some w → w < 64
-small_at true n w others small more e =
-    let same : n ≡ w = cc in
-    subst (λ (k : ℕ). k < 64) same small
-small_at false n w others small more e = more e
-
-small_in : (rows : List (VariableName × ℕ)) (text : List ℕ) (w : ℕ) → all_small rows ≡ true → width_in rows text ≡ Some w → w < 64
-unfolding all_small
-small_in [] text w all e = absurd cc
-small_in (row ∷ rows) text w all e =
-    let parts = and_parts (nat_lt row.1 64) (all_small rows) all in
-    small_at (bytes_eq text (name_text row.0)) row.1 w (width_in rows text) (ltb-true row.1 64 parts.0) (small_in rows text w parts.1) e
-
-pub width_small : (name : VariableName) (w : ℕ) → HasWidth name w → w < 64
-unfolding all_small
-width_small name w h = small_in widths (name_text name) w refl h
 
 -- ---- lists and objects of values
 

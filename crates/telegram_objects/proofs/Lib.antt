@@ -14,4 +14,4 @@ mod PieceTexts
 mod PlainNames
 mod ReadAgain
 mod RefusalText
-mod UniqueNames
+pub mod UniqueNames

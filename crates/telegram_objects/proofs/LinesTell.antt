@@ -8,7 +8,7 @@ use Rattle.json.proofs.Printed.Utf8.{IsUtf8-are_ascii}
 use Rattle.packets.specs.Packets.{length_of, number_of}
 use Rattle.packets.specs.declared.packet.Packet.{Packet}
 use Rattle.packets.specs.declared.packet.Packet.TheVariants as packets
-use Rattle.serde_json.specs.Data.{unsigned, Data, number, array, object, Items, item, Members, no_members, member, depth, items_depth, members_depth}
+use Rattle.serde_json.specs.Data.{Data, number, array, object, Items, item, Members, no_members, depth, items_depth, members_depth}
 use Rattle.serde_json.specs.Read.{max_depth}
 use Rattle.serde_json.specs.View.{items_of}
 use Rattle.serde_json.specs.Written.{outline}
@@ -27,7 +27,7 @@ use Rattle.telegram_objects.proofs.PlainNames.{plain_name}
 use Rattle.decoding.proofs.Lengths.{packets_short}
 use Rattle.telegram_objects.proofs.ReadAgain.{stored, items_stored, IsWritable, AreWritable, MembersAreWritable, line_in_utf8, line_read, line_document}
 use Rattle.telegram_objects.proofs.Shapes.{shape}
-use Rattle.telegram_objects.proofs.UniqueNames.{telegram_unique}
+use Rattle.telegram_objects.proofs.UniqueNames.{telegram_unique, with_behind}
 
 -- ---- it tells the telegram
 
@@ -41,10 +41,6 @@ pairs_stored fields = ap array (items_stored-map pair_of fields)
 tells_header : (h : Header) → TellsHeader (stored (object (members_of (header_fields h)))) h
 unfolding header
 tells_header h = (refl, (refl, (refl, (refl, (refl, (refl, (refl, (refl, (refl, (refl, (refl, tt)))))))))))
-
--- a packet with these members behind its fields
-abbrev with_behind : Packet → Members → Data
-with_behind p ms = object (member (codes "packet") (number (unsigned (number_of p))) (member (codes "fields") (pairs_of (packet_fields p)) ms))
 
 without_body : (p : Packet) → members_behind p ≡ no_members → ((d : Data) → TellsBody d p) → TellsPacket (stored (packet_object p)) p
 without_body p none body = subst (λ (ms : Members). TellsPacket (stored (with_behind p ms)) p) (sym none) (record {
@@ -124,16 +120,8 @@ writable_body bits short = (
 )
 
 writable_behind : (p : Packet) → length_of p ≤ 832 → MembersAreWritable (members_behind p)
-writable_behind (packets.NationalValues p) short = tt
-writable_behind (packets.Linking p) short = tt
-writable_behind (packets.MovementAuthority p) short = tt
-writable_behind (packets.Gradients p) short = tt
-writable_behind (packets.StaticSpeeds p) short = tt
-writable_behind (packets.LevelTransition p) short = tt
-writable_behind (packets.SpeedRestriction p) short = tt
-writable_behind (packets.RestrictionRevocation p) short = tt
-writable_behind (packets.ModeProfile p) short = tt
 writable_behind (packets.Other p) short = writable_body p.body (other_short p short)
+writable_behind other short = tt
 
 writable_packet : (p : Packet) → AreSmall (packet_fields p) → length_of p ≤ 832 → IsWritable (packet_object p)
 writable_packet p small short = (
@@ -165,15 +153,7 @@ depth-pairs (f ∷ fields) = omega (arith, depth-pairs fields)
 
 depth-behind : (p : Packet) → members_depth (members_behind p) ≡ 0
 depth-behind (packets.NationalValues p) = refl
-depth-behind (packets.Linking p) = refl
-depth-behind (packets.MovementAuthority p) = refl
-depth-behind (packets.Gradients p) = refl
-depth-behind (packets.StaticSpeeds p) = refl
-depth-behind (packets.LevelTransition p) = refl
-depth-behind (packets.SpeedRestriction p) = refl
-depth-behind (packets.RestrictionRevocation p) = refl
-depth-behind (packets.ModeProfile p) = refl
-depth-behind (packets.Other p) = refl
+depth-behind other = refl
 
 depth-packets : (ps : List Packet) → items_depth (items_of (map packet_object ps)) ≤ 3
 depth-packets [] = omega arith

@@ -1,13 +1,13 @@
 -- A text in which no name comes twice in one object is JSON, and has no name that comes again.
 use Rattle.std.proofs.Common.{◌≡◌, ℕ, List, Some, None, subst, sym, ◌∙◌}
-use Rattle.json.specs.Json.{Json, document}
+use Rattle.std.proofs.lemmas.Option.{same_Some}
+use Rattle.json.specs.Json.{document}
 use Rattle.json.specs.Strict.{HasUniqueKeys}
 use Rattle.json_places.specs.Names.{HasUniqueNames, HasRepeats}
-use Rattle.telegram_objects.proofs.Chains.{some_same}
 
 pub unique_alone : (text : List ℕ) → HasUniqueNames text → HasRepeats text → ⊥
 unique_alone text u r =
-    let same : u.0 ≡ r.0 = some_same u.0 r.0 (sym u.1 ∙ r.1) in
+    let same : u.0 ≡ r.0 = same_Some u.0 r.0 (sym u.1 ∙ r.1) in
     r.2 (subst HasUniqueKeys same u.2)
 
 pub unique_is_json : (text : List ℕ) → HasUniqueNames text → document text ≡ None → ⊥

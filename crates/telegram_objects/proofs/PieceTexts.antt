@@ -1,5 +1,5 @@
 -- The pieces of an object are its text, one after another.
-use Rattle.std.proofs.Common.{◌≡◌, ℕ, List, [], ◌∷◌, ◌++◌, true, false, Option, arith, codes, decimal, length, map, ◌+◌, refl, sym, ap, subst, ◌∙◌, append_assoc, append-nil}
+use Rattle.std.proofs.Common.{◌≡◌, ℕ, List, [], ◌∷◌, ◌++◌, true, false, Option, codes, decimal, map, ◌+◌, refl, sym, ap, subst, ◌∙◌, append_assoc, append-nil}
 use Rattle.std.specs.Io.KnownBytes.{Appends}
 use Rattle.std.proofs.KnownBytes.{Appends-trans}
 use Rattle.bits.specs.Names.{name_text}
@@ -22,10 +22,6 @@ same_text x y a b one e = subst (λ (t : List ℕ). Appends x y t) e one
 
 pub appended : (x y z : Option (List ℕ)) (a b c : List ℕ) → Appends x y a → Appends y z b → a ++ b ≡ c → Appends x z c
 appended x y z a b c one two e = same_text x z (a ++ b) c (Appends-trans x y z a b one two) e
-
-pub none_left : (xs : List ℕ) → length xs ≡ 0 → xs ≡ []
-none_left [] e = refl
-none_left (x ∷ xs) e = absurd (omega arith)
 
 quoted_name : (name : VariableName) → quoted (name_text name) ≡ 34 ∷ (name_text name ++ 34 ∷ [])
 quoted_name name = ap (λ (s : List ℕ). 34 ∷ (s ++ 34 ∷ [])) (plain_name name).0

@@ -1,11 +1,8 @@
 -- What is put of a telegram, part after part, spells it.
-use Rattle.std.proofs.Common.{◌≡◌, ℕ, ◌/◌, ◌%◌, ◌^◌, ◌<◌, ◌≤◌, Bool, false, List, [], ◌∷◌, ◌++◌, length, take, replicate, refl, sym, ap, ◌∙◌, arith}
-use Rattle.std.proofs.lemmas.List.{take_at}
-use Rattle.std.proofs.lemmas.Nat.{div-add-mod'}
+use Rattle.std.proofs.Common.{◌≡◌, ℕ, ◌<◌, ◌≤◌, Bool, false, List, [], ◌∷◌, ◌++◌, length, replicate, refl, sym, ap, ◌∙◌, arith}
 use Rattle.bits.specs.Bits.{bits_of, number_bits}
 use Rattle.bits.specs.Layout.{Spells}
 use Rattle.bits.specs.Names.{name_text}
-use Rattle.bits.proofs.Numbers.{number_bits-low}
 use Rattle.packets.specs.declared.packet.Packet.{Packet}
 use Rattle.serde_json.specs.Data.{unsigned, Data, number}
 use Rattle.serde_json.specs.Find.{get}
@@ -21,9 +18,6 @@ use Rattle.telegram_objects.specs.Telling.{TellPackets, HasMembers}
 use Rattle.decoding.specs.declared.fields.FieldValue.{FieldValue}
 use Rattle.telegram_objects.proofs.Adding.{Plain, adds}
 use Rattle.telegram_objects.proofs.Laid.{laid}
-
-pub low_bits : (n v : ℕ) → number_bits n (v % 2 ^ n) ≡ number_bits n v
-low_bits n v = sym (number_bits-low n n (v / 2 ^ n) (v % 2 ^ n) (omega arith)) ∙ ap (number_bits n) (div-add-mod' v (2 ^ n))
 
 -- ---- packets
 
@@ -77,10 +71,6 @@ next_member d f fs (g ∷ gs) s h = record {
   members = h.1;
 }
 
-pub no_member : (told : List FieldValue) → SameVariables [] told → told ≡ []
-no_member [] s = refl
-no_member (g ∷ gs) s = absurd s
-
 pub headers_same : (g h : Header) → SameVariables (header_fields g) (header_fields h)
 unfolding header
 headers_same g h = (
@@ -104,9 +94,6 @@ header_spelled h bits s =
     found-header.is h [] bits s ∙ a.bits [] ∙ ap fields_bits (sym (a.fields []))
 
 -- ---- a body
-
-pub front_of : (body : List Bool) (n k : ℕ) (bits : List Bool) → bits ≡ body ++ replicate n false → k ≡ length body → take k bits ≡ body
-front_of body n k bits e long = ap (take k) e ∙ take_at body (replicate n false) k (sym long)
 
 -- ---- bytes
 

@@ -9,14 +9,7 @@ use Rattle.telegram_objects.specs.Lines.{refusal_of}
 plain_fault : (e : TelegramFault) → escape (name_of_fault e) ≡ name_of_fault e
 unfolding escape_byte
 plain_fault a_fault.Truncated = refl
-plain_fault a_fault.WrongLength = refl
-plain_fault a_fault.Spare = refl
-plain_fault a_fault.OutOfRange = refl
-plain_fault a_fault.WrongVersion = refl
-plain_fault a_fault.NotUplink = refl
-plain_fault a_fault.NotBalise = refl
-plain_fault a_fault.NoEnd = refl
-plain_fault a_fault.TooLong = refl
+plain_fault other = refl
 
 refusal_parts : (d n : List ℕ) → codes "{\"refused\":{\"number\":" ++ (d ++ (codes ",\"name\":\"" ++ (n ++ codes "\"}}")))
     ≡ codes "{\"refused\":" ++ ((codes "{\"number\":" ++ (d ++ (codes ",\"name\":\"" ++ ((n ++ 34 ∷ []) ++ 125 ∷ [])))) ++ 125 ∷ [])

@@ -1,5 +1,5 @@
 -- No object of the line of a telegram has a name twice.
-use Rattle.std.proofs.Common.{◌≡◌, ◌≢◌, ℕ, List, [], ◌∷◌, Bool, true, false, codes, map, refl, sym, subst, arith, ◌∙◌, true≢false}
+use Rattle.std.proofs.Common.{◌≡◌, ◌≢◌, ℕ, List, [], ◌∷◌, Bool, true, false, codes, map, refl, sym, subst, arith}
 use Rattle.std.specs.Prelude.{◌&&◌, not, All, bytes_eq}
 use Rattle.std.proofs.lemmas.Bool.{and_parts}
 use Rattle.std.proofs.lemmas.List.Elements.{All-nil, All-cons}
@@ -66,7 +66,7 @@ unfolding header differs distinct
 header_unique h = (are_distinct (keys (members_outline (members_of (header_fields h)))) refl, members_flat (header_fields h))
 
 -- a packet with these members behind its fields
-abbrev with_behind : Packet → Members → Data
+abbrev pub with_behind : Packet → Members → Data
 with_behind p ms = object (member (codes "packet") (number (unsigned (number_of p))) (member (codes "fields") (pairs_of (packet_fields p)) ms))
 
 bare_unique : (p : Packet) → members_behind p ≡ no_members → HasUniqueKeys (outline (packet_object p))
@@ -75,16 +75,8 @@ bare_unique p none = subst (λ (ms : Members). HasUniqueKeys (outline (with_behi
 
 packet_unique : (p : Packet) → HasUniqueKeys (outline (packet_object p))
 unfolding differs distinct
-packet_unique (packets.NationalValues p) = bare_unique (packets.NationalValues p) refl
-packet_unique (packets.Linking p) = bare_unique (packets.Linking p) refl
-packet_unique (packets.MovementAuthority p) = bare_unique (packets.MovementAuthority p) refl
-packet_unique (packets.Gradients p) = bare_unique (packets.Gradients p) refl
-packet_unique (packets.StaticSpeeds p) = bare_unique (packets.StaticSpeeds p) refl
-packet_unique (packets.LevelTransition p) = bare_unique (packets.LevelTransition p) refl
-packet_unique (packets.SpeedRestriction p) = bare_unique (packets.SpeedRestriction p) refl
-packet_unique (packets.RestrictionRevocation p) = bare_unique (packets.RestrictionRevocation p) refl
-packet_unique (packets.ModeProfile p) = bare_unique (packets.ModeProfile p) refl
 packet_unique (packets.Other p) = (are_distinct (codes "packet" ∷ codes "fields" ∷ codes "skipped_bits" ∷ codes "body" ∷ []) refl, (tt, (pairs_flat (packet_fields (packets.Other p)), (tt, (tt, tt)))))
+packet_unique other = bare_unique other refl
 
 packets_unique : (ps : List Packet) → ItemsHaveUniqueKeys (items_outline (items_of (map packet_object ps)))
 packets_unique [] = tt

@@ -1,9 +1,10 @@
 use Rattle.std.proofs.Common.{◌≡◌, ◌<◌, ◌++◌, ℕ, List, Bool, subst, sym, ap, ◌∙◌, arith}
+use Rattle.std.proofs.lemmas.Option.{same_Some}
 use Rattle.serde_json.specs.Find.{get}
 use Rattle.serde_json.specs.View.{view}
 use Rattle.telegram_objects.specs.Laying.{SameVariables}
 use Rattle.decoding.specs.declared.fields.FieldValue.{FieldValue}
-use Rattle.telegram_objects.proofs.Chains.{some_same, same_bits, put_next, room_first, room_next}
+use Rattle.telegram_objects.proofs.Chains.{same_bits, put_next, room_first, room_next}
 use Rattle.telegram_objects.proofs.Puts.{next_member}
 use Rattle.telegram_objects.proofs.putting.+put_members.Goals as goal
 
@@ -11,7 +12,7 @@ pub returns-then-put_low : goal.returns-then-put_low
 returns-then-put_low t c = λ told same members room.
     let d = view c.args.head.now in
     let m = next_member d c.in-Some.field.now c.in-Some.fields.now told (subst (λ (l : List FieldValue). SameVariables l told) c.in-Some.ensures.cases.0 same) members in
-    let number_is : c.in-Some-number_at.number ≡ m.first.number = some_same _ _ (c.in-Some-number_at.ensures.each m.first.number (ap (λ (k : List ℕ). get k d) c.text.ensures ∙ m.stands)) in
+    let number_is : c.in-Some-number_at.number ≡ m.first.number = same_Some _ _ (c.in-Some-number_at.ensures.each m.first.number (ap (λ (k : List ℕ). get k d) c.text.ensures ∙ m.stands)) in
     let narrow : c.in-Some.field.now.width < 64 = subst (λ (n : ℕ). n < 64) (sym m.width_is) m.small in
     let first_room = room_first c.args.writer.now m.first m.others told m.told_are room in
     let low = c.put_low.ensures narrow (omega (arith, first_room, m.width_is)) in

@@ -1,15 +1,15 @@
 use Rattle.std.proofs.Common.{◌≡◌, ◌+◌, ◌≤◌, ◌++◌, List, Bool, length, map, true≢false, subst, sym, ap, ◌∙◌, arith, length-append}
+use Rattle.std.proofs.lemmas.Option.{same_Some}
 use Rattle.serde_json.specs.Data.{Data}
 use Rattle.serde_json.specs.View.{view}
 use Rattle.decoding.specs.Fields.{header_fields}
 use Rattle.telegram_objects.specs.Telling.{HasMembers, TellPackets}
-use Rattle.telegram_objects.proofs.Chains.{some_same}
 use Rattle.telegram_objects.proofs.Puts.{header_spelled}
 use Rattle.telegram_objects.proofs.putting.put_telegram.Goals as goal
 
 pub returns-then-put_header : goal.returns-then-put_header
 returns-then-put_header c = λ t bits s told none short.
-    let head_is : view c.in-Some.head.now ≡ told.head = some_same _ _ (c.in-Some.ensures ∙ told.has_header) in
+    let head_is : view c.in-Some.head.now ≡ told.head = same_Some _ _ (c.in-Some.ensures ∙ told.has_header) in
     let packets_are : map view c.in-Some-list_at.packets.now ≡ told.items = c.in-Some-list_at.ensures.each told.items told.has_packets in
     let one = c.put_header.ensures t.header (subst (λ (d : Data). HasMembers d (header_fields t.header)) (sym head_is) told.header.1) none in
     let first : c.put_header.new.writer ≡ s.0 = one.1 ∙ sym (header_spelled t.header s.0 s.3) in
@@ -19,6 +19,6 @@ returns-then-put_header c = λ t bits s told none short.
 
 pub returns-else-put_header : goal.returns-else-put_header
 returns-else-put_header c = λ t bits s told none short.
-    let head_is : view c.in-Some.head.now ≡ told.head = some_same _ _ (c.in-Some.ensures ∙ told.has_header) in
+    let head_is : view c.in-Some.head.now ≡ told.head = same_Some _ _ (c.in-Some.ensures ∙ told.has_header) in
     let one = c.put_header.ensures t.header (subst (λ (d : Data). HasMembers d (header_fields t.header)) (sym head_is) told.header.1) none in
     absurd (true≢false (sym one.0 ∙ c.if-put_header.false))

@@ -1,5 +1,6 @@
 use Rattle.std.proofs.Common.{◌≡◌, ◌≢◌, ℕ, List, Result, Ok, Err, IfErr, subst, sym, ◌∙◌}
 use Rattle.std.specs.Prelude.{IsUtf8}
+use Rattle.std.proofs.lemmas.Option.{same_Some}
 use Rattle.json_places.specs.Names.{HasUniqueNames}
 use Rattle.serde_json.specs.Data.{Data}
 use Rattle.serde_json.specs.View.{view}
@@ -8,7 +9,6 @@ use Rattle.telegram.specs.declared.message.Telegram.{Telegram}
 use Rattle.telegram_objects.specs.Telling.{TellsTelegram, TellsText}
 use Rattle.telegram_objects.specs.declared.faults.ObjectFault.{ObjectFault}
 use Rattle.telegram_objects.specs.declared.faults.Reason.TheVariants as a_reason
-use Rattle.telegram_objects.proofs.Chains.{some_same}
 use Rattle.telegram_objects.proofs.spelling.bytes_of_text.Goals as goal
 
 -- of an error something is so, where it is so by what is known later
@@ -18,7 +18,7 @@ later (Err e) A P Q so given = so e given
 
 pub returns-in-Ok-clause-each : goal.returns-in-Ok-clause-each
 returns-in-Ok-clause-each c = λ t bytes it told.
-    let same : told.2.0 ≡ view c.in-Ok.object = some_same _ _ (sym told.2.1 ∙ c.in-Ok.ensures.ok.1) in
+    let same : told.2.0 ≡ view c.in-Ok.object = same_Some _ _ (sym told.2.1 ∙ c.in-Ok.ensures.ok.1) in
     c.bytes_of_unique.ensures.each told.0 told.1 t bytes it (subst (λ (d : Data). TellsTelegram d t) same told.2.2)
 
 pub returns-in-Ok-clause-refused : goal.returns-in-Ok-clause-refused
@@ -29,7 +29,7 @@ returns-in-Ok-clause-refused c =
     let Q : ObjectFault → Type 0 = λ fault. fault.reason ≢ a_reason.NoMemory → (t : Telegram) (bytes : List ℕ) → Carries bytes t → TellsText text t → ⊥ in
     later c.bytes_of_unique.result (IsUtf8 text × HasUniqueNames text) P Q
     (λ fault given memory t bytes it told.
-    let same : told.2.0 ≡ object = some_same _ _ (sym told.2.1 ∙ c.in-Ok.ensures.ok.1) in
+    let same : told.2.0 ≡ object = same_Some _ _ (sym told.2.1 ∙ c.in-Ok.ensures.ok.1) in
     given (told.0, told.1) memory t bytes it (subst (λ (d : Data). TellsTelegram d t) same told.2.2))
     (λ u. c.bytes_of_unique.ensures.refused u.0 u.1)
 

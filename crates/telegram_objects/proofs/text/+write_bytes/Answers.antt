@@ -1,9 +1,10 @@
 use Rattle.std.proofs.Common.{◌≡◌, ◌∷◌, refl, arith}
 use Rattle.std.proofs.KnownBytes.{Appends-nil}
 use Rattle.std.proofs.lemmas.Result.{on_ok_weaker}
+use Rattle.std.proofs.lemmas.List.{nil_from_length}
 use Rattle.hex.specs.Hex.{encode_with}
 use Rattle.telegram_objects.proofs.BodyBytes.{one_more}
-use Rattle.telegram_objects.proofs.PieceTexts.{appended, none_left}
+use Rattle.telegram_objects.proofs.PieceTexts.{appended}
 use Rattle.telegram_objects.proofs.text.+write_bytes.Goals as goal
 
 pub returns-in_ok-write_byte-in-Some : goal.returns-in_ok-write_byte-in-Some
@@ -20,4 +21,4 @@ returns-in_ok-write_byte-in-Some g n c =
 pub returns-in-None : goal.returns-in-None
 unfolding encode_with
 returns-in-None g n c =
-    rw (none_left c.args.bytes.now c.in-None.ensures.cases) (Appends-nil (g.W.Write.contents c.args.out.now), λ i. omega arith)
+    rw (nil_from_length c.args.bytes.now c.in-None.ensures.cases) (Appends-nil (g.W.Write.contents c.args.out.now), λ i. omega arith)

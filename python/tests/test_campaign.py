@@ -75,7 +75,7 @@ class Folders(unittest.TestCase):
         room = tempfile.TemporaryDirectory()
         self.addCleanup(room.cleanup)
         self.folder, self.out = Path(room.name, "folder"), Path(room.name, "out.db")
-        self.names = ["0/b.json", "0/a/c.json", "1\u202e.json", "d.json", "a b.json"]
+        self.names = ["0/b.json", "0 c.json", "0/a/c.json", "1\u202e.json", "d.json", "a b.json"]
         for name in [*self.names, "no scenario.txt", ".json", "case.json/none"]:
             path = self.folder / name
             path.parent.mkdir(parents=True, exist_ok=True)
@@ -85,7 +85,7 @@ class Folders(unittest.TestCase):
 
     def test_in_order(self) -> None:
         found = campaign.Folder(self.folder, 64)
-        wanted = ["0/a/c.json", "0/b.json", "1\\u202e.json", "a b.json", "d.json"]
+        wanted = ["0/a/c.json", "0/b.json", "0 c.json", "1\\u202e.json", "a b.json", "d.json"]
         self.assertEqual(([job.name for job in found], len(found)), (wanted, len(wanted)))
         self.assertEqual({job.files[0][1].decode() for job in found}, set(self.names))
 

@@ -52,19 +52,30 @@ class Job:
 
 # ---- the jobs
 
-def of_folder(folder: Path, slots: int) -> Iterator[Job]:
-    """A job for each case file and each scenario below a folder, but for those that a case names."""
-    of_cases, scenarios = case_files.below(folder)
-    if of_cases:
-        from . import playing  # noqa: F401 (what plays them is loaded once, before there are processes that play)
-    above = len(folder.parts)
-    for path in of_cases:
-        found = case_files.files_of(path)
-        root = Path(os.path.commonpath([one.parent for one in found]))
-        yield Job(shown("/".join(path.parts[above:])), "case",
-                  tuple((one.relative_to(root).as_posix(), one.read_bytes()) for one in found), slots)
-    for path in scenarios:
-        yield Job(shown("/".join(path.parts[above:])), "scenario", (("scenario.json", path.read_bytes()),), slots)
+class Folder:
+    """A job for each case file and each scenario below a folder, but for those that a case names. How many there are is known at
+    once; a file is read when its job is asked for."""
+
+    def __init__(self, folder: Path, slots: int) -> None:
+        self.folder, self.slots = folder, slots
+        self.case_files, self.scenarios = case_files.below(folder)
+        if self.case_files:
+            from . import playing  # noqa: F401 (what plays them is loaded once, before there are processes that play)
+
+    def __len__(self) -> int:
+        return len(self.case_files) + len(self.scenarios)
+
+    def __iter__(self) -> Iterator[Job]:
+        for path in self.case_files:
+            found = case_files.files_of(path)
+            root = Path(os.path.commonpath([one.parent for one in found]))
+            yield self.job(path, "case", tuple((one.relative_to(root).as_posix(), one.read_bytes()) for one in found))
+        for path in self.scenarios:
+            yield self.job(path, "scenario", (("scenario.json", path.read_bytes()),))
+
+    def job(self, path: Path, kind: str, files: tuple[tuple[str, bytes], ...]) -> Job:
+        """The job of a file, which is named as it is below the folder."""
+        return Job(shown("/".join(path.parts[len(self.folder.parts):])), kind, files, self.slots)
 
 
 def at_random(count: int, seed: int, slots: int) -> Iterator[Job]:

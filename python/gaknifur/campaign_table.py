@@ -57,6 +57,10 @@ class Table:
             said = "another program writes to it; wait for its end, or take another file" if is_busy else error
             raise Failed(f"{self.path}: {said}", DEVICE) from error
 
+    def has_rows(self) -> bool:
+        """Whether any job was played already."""
+        return self.connection.execute("SELECT 1 FROM result LIMIT 1").fetchone() is not None
+
     def is_there(self, job: Job) -> bool:
         """Whether the table has the row of just this job."""
         found = self.connection.execute("SELECT job_sha256, ended FROM result WHERE name = ?", (job.name,)).fetchone()

@@ -51,7 +51,7 @@ def play_campaign(told: argparse.Namespace, progress: "Progress") -> int:
         raise Failed("a campaign needs a folder or --random", WRONG_WORDS)
     out = files.Out(told.csv, files.CAMPAIGN_TABLE, told.force) if told.csv else None
     files.check_all([out] if out else [], [told.out], [told.out])
-    jobs: list[campaign.Job] = list(campaign.of_folder(told.folder, told.slots)) if told.folder else []
+    jobs: campaign.Folder | list[campaign.Job] = campaign.Folder(told.folder, told.slots) if told.folder else []
     table = campaign_table.Table(told.out, campaign_table.settings_of())
     played = 0
 
@@ -61,7 +61,7 @@ def play_campaign(told: argparse.Namespace, progress: "Progress") -> int:
         played += len(rows)
         progress("campaign", played, count)
 
-    left = [job for job in jobs if not table.is_there(job)]
+    left = [job for job in jobs if not table.is_there(job)] if table.has_rows() else jobs
     count = len(left) + told.random
     lives = (job for job in campaign.at_random(told.random, told.seed, told.slots) if not table.is_there(job))
     try:
@@ -73,6 +73,9 @@ def play_campaign(told: argparse.Namespace, progress: "Progress") -> int:
     except KeyboardInterrupt:
         table.close()
         raise Failed(f"{played} played; the same command goes on", REFUSED) from None
+    except OSError:  # a file that can't be read any more
+        table.close()
+        raise
     table.close()
     rows, bad, first = campaign_table.unsound(told.out, SHOWN)
     if out:

@@ -35,7 +35,7 @@ def below(folder: Path) -> tuple[list[Path], list[Path]]:
     """The files of cases below a folder, and the scenarios in JSON that none of them names."""
     if not folder.is_dir():
         raise Failed(f"{folder}: there is no such folder", DEVICE)
-    named_so = (Path(at, name) for at, _, names in os.walk(folder) for name in names if os.path.splitext(name)[1] in SUFFIXES)
+    named_so = (Path(at, name) for at, _, names in os.walk(folder) for name in names if name.endswith(SUFFIXES))
     paths = sorted((path for path in named_so if os.path.isfile(path)), key=lambda path: path.parts)
     case_files = [path for path in paths if is_case_file(path)]
     named = {other for path in case_files for other in files_of(path)}

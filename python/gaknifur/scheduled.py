@@ -27,8 +27,9 @@ TOLD = ("numpy", "pandas")
 """The packages that a client loads to tell their versions."""
 NO_CERTIFICATES = {"SSL_CERT_FILE": os.devnull, "SSL_CERT_DIR": os.devnull}
 """Those of the system are read for connections to web servers, of which there are none."""
-SETTINGS = {"distributed.diagnostics.computations.ignore-modules": ["."]}
-"""Of no module the scheduler is sent the source: Python would look it up for each handing out."""
+SETTINGS = {"distributed.diagnostics.computations.ignore-modules": ["."], "distributed.comm.tcp.backend": "asyncio"}
+"""Of no module the scheduler is sent the source, since Python would look it up for each handing out; and connections are those of
+`dask.yaml`."""
 
 
 def played(packed: bytes) -> bytes:
@@ -105,11 +106,11 @@ def connected(scheduler: str) -> tuple[Any, Any]:
         try:
             with instead(UNUSED), environment(NO_CERTIFICATES), libyaml():
                 from dask import config
+                config.set(SETTINGS)
                 from distributed import Client, as_completed
         except ImportError as error:
             raise Failed("python3-distributed is missing; tools/python --campaigns installs it by Debian's packages",
                          DEVICE) from error
-        config.set(SETTINGS)
         try:
             with instead({name: version_alone(name) for name in TOLD}):
                 client = Client(scheduler, set_as_default=False, timeout=PATIENCE)

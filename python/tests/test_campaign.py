@@ -1,9 +1,11 @@
 """Campaigns: how jobs are handed out, and what comes of those whose worker is lost."""
+import argparse
 import json
 import os
 import pickle
 import random
 import re
+import shutil
 import sys
 import tempfile
 import types
@@ -14,7 +16,7 @@ from pathlib import Path
 from typing import Any, Self
 from unittest.mock import patch
 
-from gaknifur import campaign, campaign_jobs, outputs, scheduled, sound
+from gaknifur import campaign, campaign_jobs, campaign_table, campaign_words, outputs, scheduled, sound
 from gaknifur.campaign import MOST_AT_ONCE, Batches, Job, Row
 from gaknifur.reading import Json
 
@@ -64,6 +66,39 @@ class Handed(unittest.TestCase):
 
     def test_no_job(self) -> None:
         self.assertEqual(self.handed([], 1.0), [])
+
+
+class Folders(unittest.TestCase):
+    """The scenarios of a folder."""
+
+    def setUp(self) -> None:
+        room = tempfile.TemporaryDirectory()
+        self.addCleanup(room.cleanup)
+        self.folder, self.out = Path(room.name, "folder"), Path(room.name, "out.db")
+        self.names = ["0/b.json", "0 c.json", "0/a/c.json", "1\u202e.json", "d.json", "a b.json"]
+        for name in [*self.names, "no scenario.txt", ".json", "case.json/none"]:
+            path = self.folder / name
+            path.parent.mkdir(parents=True, exist_ok=True)
+            path.write_text(name)
+        (self.folder / "linked").symlink_to(self.folder / "0")
+        (self.folder / "away.json").symlink_to("nowhere")
+
+    def test_in_order(self) -> None:
+        found = campaign.Folder(self.folder, 64)
+        wanted = ["0/a/c.json", "0/b.json", "0 c.json", "1\\u202e.json", "a b.json", "d.json"]
+        self.assertEqual(([job.name for job in found], len(found)), (wanted, len(wanted)))
+        self.assertEqual({job.files[0][1].decode() for job in found}, set(self.names))
+
+    def test_a_file_that_goes_meanwhile(self) -> None:
+        def here(jobs: Iterator[Job], count: int, workers: int, take: Callable[[list[Row]], None]) -> None:
+            take([campaign.row_without(next(jobs), "carried out")])
+            shutil.rmtree(self.folder)
+            next(jobs)
+
+        told = argparse.Namespace(folder=self.folder, out=self.out, slots=64, random=0, seed=1, csv=None, scheduler=None, workers=1)
+        with patch.object(campaign, "here", here), patch.object(campaign_table, "settings_of", dict), self.assertRaises(FileNotFoundError):
+            campaign_words.play_campaign(told, lambda what, done, whole: None)
+        self.assertEqual(list(campaign_table.rows_of(self.out)), ["0/a/c.json"])
 
 
 class Lost(unittest.TestCase):

@@ -1,9 +1,11 @@
 -- What contracts see of a unit that hands out its requests (this project's profile). Requests are counted from the
 -- first of the list.
-use Rattle.std.specs.Prelude.{ℕ, ◌≤◌, Bool, true, false, ◌||◌, nat_lt, if◌then◌else◌, List, [], length, Option, Some, None, option_map, Result, Ok, Err}
+use Rattle.std.specs.Prelude.{◌≡◌, ℕ, ◌+◌, ◌%◌, ◌≤◌, Bool, true, false, not, ◌&&◌, ◌||◌, nat_lt, if◌then◌else◌, List, [], length, Option, Some, None, option_map, Result, Ok, Err}
+use Rattle.disk.specs.State.{contents_of}
 use Rattle.disk.specs.declared.record.Call.{Call}
-use Rattle.mirror_disk.specs.Mirror.{ends_in_sync}
-use Rattle.onboard.specs.Answers.{flush_refusal}
+use Rattle.request_disk.specs.Requests.{ends_in_sync}
+use Rattle.request_disk.specs.Requesting.{request_state, knows}
+use Rattle.onboard.specs.Answers.{flush_refusal, puts_block}
 use Rattle.onboard.specs.Releases.{Release}
 use Rattle.onboard.specs.declared.errors.FlushError.{FlushError}
 use Rattle.onboard.specs.declared.errors.FlushError.TheVariants as a_flush
@@ -12,8 +14,9 @@ use Rattle.relayed_unit.specs.declared.errors.PrepareError.TheVariants as a_prep
 use Rattle.relayed_unit.specs.declared.errors.ReleaseError.{ReleaseError}
 use Rattle.relayed_unit.specs.declared.errors.ReleaseError.TheVariants as a_release
 use Rattle.relayed_unit.specs.declared.moored.Moored.{Moored}
+use Rattle.ring.specs.Slots.{gate_at, next_is_closed}
 
--- The unit beside the copy of its medium, the outputs that are held back, how many requests are done, and whether the
+-- The unit beside the disk that hands out its requests, the outputs that are held back, how many requests are done, and whether the
 -- medium failed. There is always a unit, behind each call.
 pub record Relayed : Type 0 where
   pub moored : Option Moored
@@ -25,17 +28,17 @@ pub record Relayed : Type 0 where
 
 abbrev pub list_of : Option Moored → List Call
 list_of None = []
-list_of (Some moored) = moored.mirror.requests
+list_of (Some moored) = moored.reading.disk.requests
 
 -- the bytes that the requests write, one behind the other
 abbrev pub written_of : Option Moored → List ℕ
 written_of None = []
-written_of (Some moored) = moored.mirror.written
+written_of (Some moored) = moored.reading.disk.written
 
 -- how many sectors the medium has
 abbrev pub sectors_in : Option Moored → ℕ
 sectors_in None = 0
-sectors_in (Some moored) = moored.mirror.sectors
+sectors_in (Some moored) = moored.reading.disk.sectors
 
 -- how many requests the list has
 abbrev pub requests_of : Option Moored → ℕ
@@ -47,33 +50,63 @@ AllDone u = requests_of u.moored ≤ u.done
 
 -- ---- what a call leaves
 
--- a call turns the unit beside its copy into one to which it stands so
+-- a call turns the unit beside its disk into one to which it stands so
 abbrev pub Turns : Option Moored → Option Moored → (Moored → Moored → Type 0) → Type 0
 Turns None after So = Unit {0}
 Turns (Some before) None So = ⊥
 Turns (Some before) (Some after) So = So before after
 
+-- ---- the gate that a flush has to know
+
+-- a flush of now puts a block into the slot after the greatest number
+abbrev pub flush_puts : Moored → Bool
+flush_puts it = puts_block it.unit.journal.failed (length it.unit.life.records) it.unit.journal.newest
+
+-- the sector with the gate of that slot
+abbrev pub next_gate : Moored → ℕ
+next_gate it = gate_at ((it.unit.journal.newest + 1) % it.unit.journal.slots)
+
+-- a flush needs it, and it isn't known
+abbrev pub wants_gate : Moored → Bool
+wants_gate it = flush_puts it && not (knows (next_gate it) it.reading.disk)
+
+-- this is whether the gate is closed, where a flush needs it
+abbrev pub IsNextGate : Bool → Moored → Type 0
+IsNextGate is_shut it = flush_puts it ≡ true
+    → is_shut ≡ next_is_closed it.unit.journal.slots it.unit.journal.newest (contents_of (request_state it.reading.disk))
+
 -- ---- why calls are refused
 
--- what a flush of the copy is refused with
+-- what a flush onto the disk is refused with
 abbrev pub refused_as : FlushError → PrepareError
 refused_as a_flush.Failed = a_prepare.Failed
 refused_as a_flush.WornOut = a_prepare.WornOut
 refused_as a_flush.DeviceFault = a_prepare.Failed
 
--- why a flush isn't prepared, before the copy is touched: the first of these that holds
+-- why a flush isn't prepared, before the disk is written: the first of these that holds, and a flush that needs a gate is
+-- refused for nothing else
 abbrev pub prepare_refusal : Bool → Moored → Option PrepareError
 prepare_refusal failed it =
     if failed then Some a_prepare.Failed
-    else if nat_lt 0 (length it.mirror.requests) then Some a_prepare.RequestsOwed
+    else if nat_lt 0 (length it.reading.disk.requests) then Some a_prepare.RequestsOwed
+    else if wants_gate it then Some a_prepare.SectorWanted
     else option_map refused_as (flush_refusal it.unit.journal.failed (length it.unit.life.records) it.unit.journal.newest)
 
--- whether the unit can't go on behind this answer
+-- whether the unit can't go on after this answer
 abbrev pub prepare_failed : {T : Type 0} → Result T PrepareError → Bool
 prepare_failed (Ok x) = false
 prepare_failed (Err a_prepare.Failed) = true
 prepare_failed (Err a_prepare.RequestsOwed) = false
 prepare_failed (Err a_prepare.WornOut) = false
+prepare_failed (Err a_prepare.SectorWanted) = false
+
+-- what a refusal leaves: all as it was, but that the gate is wanted where it isn't known
+abbrev pub IsLeftBy : PrepareError → Option Moored → Option Moored → Type 0
+IsLeftBy a_prepare.Failed before after = after ≡ before
+IsLeftBy a_prepare.RequestsOwed before after = after ≡ before
+IsLeftBy a_prepare.WornOut before after = after ≡ before
+IsLeftBy a_prepare.SectorWanted before after = Turns before after (λ it next. (next.unit ≡ it.unit)
+    × (next.reading.disk ≡ record it.reading.disk { wanted = Some (next_gate it) }))
 
 -- why nothing is released: the first of these that holds
 abbrev pub release_refusal : Relayed → Option ReleaseError
@@ -87,4 +120,4 @@ release_refusal u =
 
 -- it isn't released yet: it is pending, or its requests are still in the list
 abbrev pub is_unreleased : Moored → Bool
-is_unreleased it = nat_lt 0 (length it.mirror.requests) || nat_lt 0 (length it.unit.life.records)
+is_unreleased it = nat_lt 0 (length it.reading.disk.requests) || nat_lt 0 (length it.unit.life.records)

@@ -13,6 +13,9 @@ pub enum PrepareError {
     /// The block of the greatest number has the last number, 2^40; nothing is asked for.
     #[error("WornOut")]
     WornOut,
+    /// The gate of the slot that the block goes into isn't known; its sector is wanted.
+    #[error("SectorWanted")]
+    SectorWanted,
 }
 
 /// Why nothing was released.

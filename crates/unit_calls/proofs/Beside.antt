@@ -11,14 +11,16 @@ use Rattle.events.specs.declared.input.Event.TheVariants.{Input as an_input}
 use Rattle.events.specs.declared.input.Input.{Input}
 use Rattle.journal.specs.JournalState.{JournalState}
 use Rattle.journal.specs.Journals.{IsOpen}
-use Rattle.mirror_disk.specs.Mirror.{Mirroring, mirror_state, ends_in_sync}
+use Rattle.request_disk.specs.Requests.{ends_in_sync}
+use Rattle.request_disk.specs.Requesting.{Requesting, request_state}
+use Rattle.request_disk.specs.declared.reading.Reading.{Reading}
 use Rattle.onboard.specs.Answers.{flush_refusal}
 use Rattle.onboard.specs.Events.{account_of, IsAhead}
 use Rattle.onboard.specs.Lives.{TellsEither}
 use Rattle.onboard.specs.Releases.{Release}
 use Rattle.onboard.specs.UnitState.{LifeState, UnitState}
 use Rattle.onboard.specs.declared.errors.AcceptError.{AcceptError}
-use Rattle.relayed_unit.specs.Relayed.{Relayed, refused_as, Turns, list_of, requests_of, release_refusal, prepare_refusal}
+use Rattle.relayed_unit.specs.Relayed.{Relayed, refused_as, Turns, list_of, requests_of, release_refusal, prepare_refusal, next_gate, wants_gate, IsLeftBy}
 use Rattle.relayed_unit.specs.declared.absent.Absent.{Absent}
 use Rattle.relayed_unit.specs.declared.errors.PrepareError.{PrepareError}
 use Rattle.relayed_unit.specs.declared.errors.PrepareError.TheVariants as a_prepare
@@ -35,7 +37,7 @@ use Rattle.unit_calls.specs.declared.handle.Opened.{Opened}
 use Rattle.unit_calls.specs.declared.outputs.EtcsOutput.{EtcsOutput}
 use Rattle.unit_calls.specs.declared.status.Status.{Status}
 use Rattle.unit_calls.specs.declared.status.Status.TheVariants as a_status
-use Rattle.unit_calls.proofs.Floating.{Floats, accepts, says, prepares, releases}
+use Rattle.unit_calls.proofs.Floating.{Floats, wants, accepts, says, prepares, releases}
 
 -- ---- parts of a unit
 
@@ -55,10 +57,10 @@ pub at_some : (P : Moored → Type 0) (it : Moored) (o : Option Moored) → o �
 at_some P it o there is = subst (λ (m : Option Moored). IfSome m P) there is
 
 module _ (whole_from sectors : ℕ) (handed : List EtcsOutput) (medium : Platter) (carried : ℕ) where
-  floats_as : (m m' : Mirroring) (j j' : JournalState) (l l' : LifeState) (o o' : List Release) (d d' : ℕ) → m' ≡ m → j' ≡ j → l' ≡ l → o' ≡ o → d' ≡ d
+  floats_as : (m m' : Requesting) (j j' : JournalState) (l l' : LifeState) (o o' : List Release) (d d' : ℕ) → m' ≡ m → j' ≡ j → l' ≡ l → o' ≡ o → d' ≡ d
       → Floats whole_from sectors handed medium carried m j l o d → Floats whole_from sectors handed medium carried m' j' l' o' d'
   floats_as m m' j j' l l' o o' d d' same_m same_j same_l same_o same_d it =
-      let M : Mirroring → Type 0 = λ x. Floats whole_from sectors handed medium carried x j' l' o' d' in
+      let M : Requesting → Type 0 = λ x. Floats whole_from sectors handed medium carried x j' l' o' d' in
       let J : JournalState → Type 0 = λ x. Floats whole_from sectors handed medium carried m x l' o' d' in
       let L : LifeState → Type 0 = λ x. Floats whole_from sectors handed medium carried m j x o' d' in
       let O : List Release → Type 0 = λ x. Floats whole_from sectors handed medium carried m j l x d' in
@@ -68,7 +70,7 @@ module _ (whole_from sectors : ℕ) (handed : List EtcsOutput) (medium : Platter
 -- a unit beside the medium
 abbrev pub IsUnder : ℕ → ℕ → List EtcsOutput → Platter → ℕ → Relayed → Type 0
 IsUnder whole_from sectors handed medium carried unit = (it : Moored) × (unit.moored ≡ Some it)
-    × Floats whole_from sectors handed medium carried it.mirror it.unit.journal it.unit.life unit.outputs unit.done
+    × Floats whole_from sectors handed medium carried it.reading.disk it.unit.journal it.unit.life unit.outputs unit.done
 
 abbrev pub Kept : ℕ → ℕ → Option Opened → List EtcsOutput → Platter → ℕ → Type 0
 Kept whole_from sectors None handed medium carried = AreOnMedium whole_from sectors handed medium
@@ -97,69 +99,87 @@ module _ (whole_from sectors : ℕ) (handed : List EtcsOutput) (medium : Platter
 
   -- the unit as it was, with other counts
   still : (before after : Relayed) → after.moored ≡ before.moored → after.outputs ≡ before.outputs → (it : Moored) → before.moored ≡ Some it
-      → Floats whole_from sectors handed medium carried it.mirror it.unit.journal it.unit.life before.outputs after.done → Under after
+      → Floats whole_from sectors handed medium carried it.reading.disk it.unit.journal it.unit.life before.outputs after.done → Under after
   still before after same outputs it there floats = (
     it,
     same ∙ there,
-    floats_as whole_from sectors handed medium carried it.mirror it.mirror it.unit.journal it.unit.journal it.unit.life it.unit.life before.outputs after.outputs after.done after.done
+    floats_as whole_from sectors handed medium carried it.reading.disk it.reading.disk it.unit.journal it.unit.journal it.unit.life it.unit.life before.outputs after.outputs after.done after.done
         refl refl refl outputs refl floats,
   )
 
   pub takes_on : (input : Input) (before after : Relayed) (told : Result ⊤ AcceptError) → Accepts input before after told → Under before → Under after
   takes_on input before after (Err e) its under = subst Under (sym its.refused) under
   takes_on input before after (Ok x) its (it, there, floats) =
-      let Copied : Moored → Moored → Type 0 = λ it next. (next.mirror ≡ it.mirror) × (next.unit.journal ≡ it.unit.journal) in
+      let Copied : Moored → Moored → Type 0 = λ it next. (next.reading ≡ it.reading) × (next.unit.journal ≡ it.unit.journal) in
       let Accepted : Moored → Moored → Type 0 = λ it next. (durable accepted : List Event) → IsAhead durable accepted it.unit.life → IsAhead durable (an_input input ∷ accepted) next.unit.life in
       let copied = turned Copied it before.moored after.moored there its.copy in
       let next : Moored = copied.0 in
       let accepted = turned_to Accepted it before.moored after.moored next there copied.1 its.accepted in (
         next,
         copied.1,
-        floats_as whole_from sectors handed medium carried it.mirror next.mirror it.unit.journal next.unit.journal next.unit.life next.unit.life before.outputs after.outputs before.done after.done
-            copied.2.0 copied.2.1 refl its.held.0 its.held.1
-            (accepts whole_from sectors handed medium carried it.mirror it.unit.journal it.unit.life before.outputs before.done floats
+        floats_as whole_from sectors handed medium carried it.reading.disk next.reading.disk it.unit.journal next.unit.journal next.unit.life next.unit.life before.outputs after.outputs before.done after.done
+            (ap (λ (r : Reading). r.disk) copied.2.0) copied.2.1 refl its.held.0 its.held.1
+            (accepts whole_from sectors handed medium carried it.reading.disk it.unit.journal it.unit.life before.outputs before.done floats
             (an_input input ∷ floats.accepted) next.unit.life (accepted floats.durable floats.accepted floats.ahead)),
+      )
+
+  -- what a refusal leaves
+  left_by : (e : PrepareError) (before after : Relayed) → IsLeftBy e before.moored after.moored → after.outputs ≡ before.outputs → (it : Moored) → before.moored ≡ Some it
+      → Floats whole_from sectors handed medium carried it.reading.disk it.unit.journal it.unit.life before.outputs after.done → Under after
+  left_by a_prepare.Failed before after same outputs it there floats = still before after same outputs it there floats
+  left_by a_prepare.RequestsOwed before after same outputs it there floats = still before after same outputs it there floats
+  left_by a_prepare.WornOut before after same outputs it there floats = still before after same outputs it there floats
+  left_by a_prepare.SectorWanted before after left outputs it there floats =
+      let Left : Moored → Moored → Type 0 = λ it next. (next.unit ≡ it.unit) × (next.reading.disk ≡ record it.reading.disk { wanted = Some (next_gate it) }) in
+      let now = turned Left it before.moored after.moored there left in
+      let next : Moored = now.0 in
+      let disk : Requesting = record it.reading.disk { wanted = Some (next_gate it) } in (
+        next,
+        now.1,
+        floats_as whole_from sectors handed medium carried disk next.reading.disk it.unit.journal next.unit.journal it.unit.life next.unit.life before.outputs after.outputs after.done after.done
+            now.2.1 (ap (λ (u : UnitState Absent). u.journal) now.2.0) (ap (λ (u : UnitState Absent). u.life) now.2.0) outputs refl
+            (wants whole_from sectors handed medium carried it.reading.disk it.unit.journal it.unit.life before.outputs after.done floats (Some (next_gate it))),
       )
 
   pub prepares_on : (before after : Relayed) (told : Result ⊤ PrepareError) → IsPrepared before after told → Under before → Under after
   prepares_on before after (Err e) its (it, there, floats) =
-      let D : ℕ → Type 0 = λ d. Floats whole_from sectors handed medium carried it.mirror it.unit.journal it.unit.life before.outputs d in
-      still before after its.undone its.held.0 it there (subst D (sym its.held.1) floats)
+      let D : ℕ → Type 0 = λ d. Floats whole_from sectors handed medium carried it.reading.disk it.unit.journal it.unit.life before.outputs d in
+      left_by e before after its.undone its.held.0 it there (subst D (sym its.held.1) floats)
   prepares_on before after (Ok x) its (it, there, floats) =
-      let Sized : Moored → Moored → Type 0 = λ it next. next.mirror.sectors ≡ it.mirror.sectors in
+      let Sized : Moored → Moored → Type 0 = λ it next. next.reading.disk.sectors ≡ it.reading.disk.sectors in
       let sized = turned Sized it before.moored after.moored there its.sectors in
       let next : Moored = sized.0 in
       let exact = at_some (λ m. let r : Result ⊤ PrepareError = Ok x in MatchOption (prepare_refusal before.failed m) (IsOk r) (λ e. r ≡ Err e)) it before.moored there its.exact in
-      let owed : nat_lt 0 (length it.mirror.requests) ≡ false = none_owed x before.failed (nat_lt 0 (length it.mirror.requests))
-      (option_map refused_as (flush_refusal it.unit.journal.failed (length it.unit.life.records) it.unit.journal.newest)) exact in
-      let least : length it.mirror.requests ≤ 0 = not_above 0 (length it.mirror.requests) owed in
-      let Moments : Moored → Moored → Type 0 = λ it next. (whole_from : ℕ) (durable accepted : List Event) → IsOpen it.unit.journal (account_of whole_from durable) (mirror_state it.mirror)
-      → IsAhead durable accepted it.unit.life → AtEachMoment (mirror_state it.mirror) (mirror_state next.mirror) (TellsEither whole_from it.mirror.sectors durable accepted) in
-      let Flushed : Moored → Moored → Type 0 = λ it next. (whole_from : ℕ) (durable accepted : List Event) → IsOpen it.unit.journal (account_of whole_from durable) (mirror_state it.mirror)
-      → IsAhead durable accepted it.unit.life → IsOpen next.unit.journal (account_of whole_from accepted) (mirror_state next.mirror) × IsAhead accepted accepted next.unit.life in
+      let owed : nat_lt 0 (length it.reading.disk.requests) ≡ false = none_owed x before.failed (nat_lt 0 (length it.reading.disk.requests))
+      (if wants_gate it then Some a_prepare.SectorWanted else option_map refused_as (flush_refusal it.unit.journal.failed (length it.unit.life.records) it.unit.journal.newest)) exact in
+      let least : length it.reading.disk.requests ≤ 0 = not_above 0 (length it.reading.disk.requests) owed in
+      let Moments : Moored → Moored → Type 0 = λ it next. (whole_from : ℕ) (durable accepted : List Event) → IsOpen it.unit.journal (account_of whole_from durable) (request_state it.reading.disk)
+      → IsAhead durable accepted it.unit.life → AtEachMoment (request_state it.reading.disk) (request_state next.reading.disk) (TellsEither whole_from it.reading.disk.sectors durable accepted) in
+      let Flushed : Moored → Moored → Type 0 = λ it next. (whole_from : ℕ) (durable accepted : List Event) → IsOpen it.unit.journal (account_of whole_from durable) (request_state it.reading.disk)
+      → IsAhead durable accepted it.unit.life → IsOpen next.unit.journal (account_of whole_from accepted) (request_state next.reading.disk) × IsAhead accepted accepted next.unit.life in
       let moments = turned_to Moments it before.moored after.moored next there sized.1 its.any_moment in
       let flushed = turned_to Flushed it before.moored after.moored next there sized.1 its.flushed in
       let behind = flushed whole_from floats.durable floats.accepted floats.opened floats.ahead in (
         next,
         sized.1,
-        floats_as whole_from sectors handed medium carried next.mirror next.mirror next.unit.journal next.unit.journal next.unit.life next.unit.life it.unit.life.pairs after.outputs 0 after.done
+        floats_as whole_from sectors handed medium carried next.reading.disk next.reading.disk next.unit.journal next.unit.journal next.unit.life next.unit.life it.unit.life.pairs after.outputs 0 after.done
             refl refl refl (at_some (λ m. after.outputs ≡ m.unit.life.pairs) it before.moored there its.pending) its.begun
-            (prepares whole_from sectors handed medium carried it.mirror it.unit.journal it.unit.life before.outputs before.done floats
-            (omega (arith, least)) next.mirror next.unit.journal next.unit.life sized.2 (moments whole_from floats.durable floats.accepted floats.opened floats.ahead) behind.0 behind.1),
+            (prepares whole_from sectors handed medium carried it.reading.disk it.unit.journal it.unit.life before.outputs before.done floats
+            (omega (arith, least)) next.reading.disk next.unit.journal next.unit.life sized.2 (moments whole_from floats.durable floats.accepted floats.opened floats.ahead) behind.0 behind.1),
       )
 
   pub says_on : (count : ℕ) (before after : Opened) (status : Status) → Says count before after status → (status ≡ a_status.Done → count ≤ carried) → Under before.unit → Under after.unit
   says_on count before after status (true, iff, answer, done, outputs, moored, failed, last) most (it, there, floats) =
-      let D : ℕ → Type 0 = λ d. Floats whole_from sectors handed medium carried it.mirror it.unit.journal it.unit.life before.unit.outputs d in
+      let D : ℕ → Type 0 = λ d. Floats whole_from sectors handed medium carried it.reading.disk it.unit.journal it.unit.life before.unit.outputs d in
       still before.unit after.unit moored outputs it there
-      (subst D (sym done) (says whole_from sectors handed medium carried it.mirror it.unit.journal it.unit.life before.unit.outputs before.unit.done floats count (most answer)))
+      (subst D (sym done) (says whole_from sectors handed medium carried it.reading.disk it.unit.journal it.unit.life before.unit.outputs before.unit.done floats count (most answer)))
   says_on count before after status (false, iff, answer, done, outputs, moored, failed, last) most (it, there, floats) =
-      let D : ℕ → Type 0 = λ d. Floats whole_from sectors handed medium carried it.mirror it.unit.journal it.unit.life before.unit.outputs d in
+      let D : ℕ → Type 0 = λ d. Floats whole_from sectors handed medium carried it.reading.disk it.unit.journal it.unit.life before.unit.outputs d in
       still before.unit after.unit moored outputs it there (subst D (sym done) floats)
 
   pub fails_on : (before after : Opened) (status : Status) → Fails before after status → Under before.unit → Under after.unit
   fails_on before after status (answer, failed, outputs, moored, done, last) (it, there, floats) =
-      let D : ℕ → Type 0 = λ d. Floats whole_from sectors handed medium carried it.mirror it.unit.journal it.unit.life before.unit.outputs d in
+      let D : ℕ → Type 0 = λ d. Floats whole_from sectors handed medium carried it.reading.disk it.unit.journal it.unit.life before.unit.outputs d in
       still before.unit after.unit moored outputs it there (subst D (sym done) floats)
 
 -- ---- a release
@@ -217,26 +237,26 @@ module _ (whole_from sectors : ℕ) (handed handed' : List EtcsOutput) (medium :
       let so = where_true (is_done h.status) HandedOut HandedNothing (ap is_done its.done) out in
       let same = turned (λ it next. next.unit ≡ it.unit) it was.unit.moored is.unit.moored there released.unit in
       let next : Moored = same.0 in
-      let size = turned_to (λ it next. next.mirror.sectors ≡ it.mirror.sectors) it was.unit.moored is.unit.moored next there same.1 released.sectors in
-      let Stands : Moored → Moored → Type 0 = λ it next. IsSynced (mirror_state it.mirror) × IsSynced (mirror_state next.mirror)
-      × ((s : ℕ) → contents_of (mirror_state next.mirror) s ≡ contents_of (mirror_state it.mirror) s)
-      × ((told : Account) → IsOpen it.unit.journal told (mirror_state it.mirror) → IsOpen next.unit.journal told (mirror_state next.mirror)) in
+      let size = turned_to (λ it next. next.reading.disk.sectors ≡ it.reading.disk.sectors) it was.unit.moored is.unit.moored next there same.1 released.sectors in
+      let Stands : Moored → Moored → Type 0 = λ it next. IsSynced (request_state it.reading.disk) × IsSynced (request_state next.reading.disk)
+      × ((s : ℕ) → contents_of (request_state next.reading.disk) s ≡ contents_of (request_state it.reading.disk) s)
+      × ((told : Account) → IsOpen it.unit.journal told (request_state it.reading.disk) → IsOpen next.unit.journal told (request_state next.reading.disk)) in
       let stands = turned_to Stands it was.unit.moored is.unit.moored next there same.1 released.stands in
       let owed = all_done was.unit.failed (nat_lt was.unit.done (requests_of was.unit.moored)) (ends_in_sync (list_of was.unit.moored)) none in
-      let all : length it.mirror.requests ≤ was.unit.done =
+      let all : length it.reading.disk.requests ≤ was.unit.done =
       subst (λ (m : Option Moored). requests_of m ≤ was.unit.done) there (not_above was.unit.done (requests_of was.unit.moored) owed) in
-      let empty : next.mirror.requests ≡ [] = sym (ap list_of same.1) ∙ released.emptied.2 in
-      let J : JournalState → Type 0 = λ j. IsOpen j (account_of whole_from under.2.durable) (mirror_state next.mirror) in
-      let stays : IsOpen it.unit.journal (account_of whole_from under.2.durable) (mirror_state next.mirror) =
+      let empty : next.reading.disk.requests ≡ [] = sym (ap list_of same.1) ∙ released.emptied.2 in
+      let J : JournalState → Type 0 = λ j. IsOpen j (account_of whole_from under.2.durable) (request_state next.reading.disk) in
+      let stays : IsOpen it.unit.journal (account_of whole_from under.2.durable) (request_state next.reading.disk) =
       subst J (ap (λ (u : UnitState Absent). u.journal) same.2) (stands.3 (account_of whole_from under.2.durable) under.2.opened) in
-      let floats = releases whole_from sectors handed medium carried it.mirror it.unit.journal it.unit.life was.unit.outputs was.unit.done under.2
-      all next.mirror empty size stands.0 stands.1 stands.2 stays in
+      let floats = releases whole_from sectors handed medium carried it.reading.disk it.unit.journal it.unit.life was.unit.outputs was.unit.done under.2
+      all next.reading.disk empty size stands.0 stands.1 stands.2 stays in
       let more : handed' ≡ handed ++ map told_of was.unit.outputs =
       so.0 ∙ ap (λ (l : List EtcsOutput). handed ++ l) (handed_out was.unit.outputs h.places h.handed h.count its.outputs its.counted) in
       let U : IsUnder whole_from sectors (handed ++ map told_of was.unit.outputs) medium 0 is.unit = (
         next,
         same.1,
-        floats_as whole_from sectors (handed ++ map told_of was.unit.outputs) medium 0 next.mirror next.mirror it.unit.journal next.unit.journal it.unit.life next.unit.life [] is.unit.outputs 0 is.unit.done
+        floats_as whole_from sectors (handed ++ map told_of was.unit.outputs) medium 0 next.reading.disk next.reading.disk it.unit.journal next.unit.journal it.unit.life next.unit.life [] is.unit.outputs 0 is.unit.done
             refl (ap (λ (u : UnitState Absent). u.journal) same.2) (ap (λ (u : UnitState Absent). u.life) same.2) released.emptied.0 released.emptied.1 floats,
       ) in
       let H : List EtcsOutput → Type 0 = λ l. IsUnder whole_from sectors l medium 0 is.unit in

@@ -11,7 +11,7 @@ use Rattle.disk.specs.declared.record.Place.{Place}
 use Rattle.disk.specs.declared.record.Place.TheVariants.{Record}
 use Rattle.disk.specs.declared.record.Span.{Span}
 use Rattle.disk.specs.declared.record.Trace.{Trace}
-use Rattle.mirror_disk.proofs.Carried.{front_sector}
+use Rattle.request_disk.proofs.Copied.{front_sector}
 use Rattle.unit_calls.specs.Mediums.{is_of, written_on, at_rest, carried_out}
 use Rattle.unit_calls.specs.Requests.{Where, Telling, Refuses, Syncs, IsAt, IsToldAs}
 use Rattle.unit_calls.specs.declared.status.Status.{Status}

@@ -1,12 +1,12 @@
 -- A unit that is open beside its caller's medium, call by call.
-use Rattle.std.proofs.Common.{◌≡◌, ◌⊎◌, inl, ⊎_elim, ℕ, ◌+◌, ◌<◌, ◌≤◌, List, [], ◌∷◌, ◌++◌, length, map, refl, sym, ◌∙◌, ap, subst, arith}
+use Rattle.std.proofs.Common.{◌≡◌, ◌⊎◌, inl, ⊎_elim, ℕ, ◌+◌, ◌<◌, ◌≤◌, List, [], ◌∷◌, ◌++◌, length, map, Option, refl, sym, ◌∙◌, ap, subst, arith}
 use Rattle.std.proofs.lemmas.List.{append-nil, map-append}
 use Rattle.disk.specs.State.{Platter, contents_of, IsImage, IsSynced, AtEachMoment}
 use Rattle.disk.specs.declared.record.Call.{Call}
 use Rattle.events.specs.declared.input.Event.{Event}
 use Rattle.journal.specs.JournalState.{JournalState}
 use Rattle.journal.specs.Journals.{IsOpen}
-use Rattle.mirror_disk.specs.Mirror.{Mirroring, mirror_state}
+use Rattle.request_disk.specs.Requesting.{Requesting, request_state}
 use Rattle.onboard.specs.Events.{pairs_of, account_of, IsAhead}
 use Rattle.onboard.specs.Lives.{Tells, TellsEither}
 use Rattle.onboard.specs.Releases.{Release}
@@ -19,43 +19,62 @@ use Rattle.unit_calls.proofs.Carrying.{IsThere, image_there}
 use Rattle.unit_calls.proofs.Parts.{part_both, part_front}
 
 -- The medium at a number of requests of the list.
-abbrev pub moment_of : Mirroring → ℕ → Platter
-moment_of mirror k = (mirror_state mirror).at k
+abbrev pub moment_of : Requesting → ℕ → Platter
+moment_of disk k = (request_state disk).at k
 
 -- What is so between two calls: of what was handed out, what is held back, the list, and how far it was carried out.
-pub record Floats (whole_from sectors : ℕ) (handed : List EtcsOutput) (medium : Platter) (carried : ℕ) (mirror : Mirroring) (journal : JournalState) (life : LifeState) (outputs : List Release) (done : ℕ) : Type 0 where
-  pub size : mirror.sectors ≡ sectors
+pub record Floats (whole_from sectors : ℕ) (handed : List EtcsOutput) (medium : Platter) (carried : ℕ) (disk : Requesting) (journal : JournalState) (life : LifeState) (outputs : List Release) (done : ℕ) : Type 0 where
+  pub size : disk.sectors ≡ sectors
   -- what the medium has where the list begins, what it has where the list ends, and what was accepted
   pub settled : List Event
   pub durable : List Event
   pub accepted : List Event
   pub more : List Event
   pub begins : durable ≡ more ++ settled
-  pub opened : IsOpen journal (account_of whole_from durable) (mirror_state mirror)
+  pub opened : IsOpen journal (account_of whole_from durable) (request_state disk)
   pub ahead : IsAhead durable accepted life
   pub given : IsPartOf handed (outputs_of settled)
   pub held : IsPartOf (handed ++ map told_of outputs) (outputs_of durable)
-  pub moments : (k : ℕ) → k ≤ length mirror.requests → (image : ℕ → List ℕ) → IsImage (moment_of mirror k) image → TellsEither whole_from sectors settled durable image
-  pub there : IsThere medium (moment_of mirror carried)
-  pub within : carried ≤ length mirror.requests
+  pub moments : (k : ℕ) → k ≤ length disk.requests → (image : ℕ → List ℕ) → IsImage (moment_of disk k) image → TellsEither whole_from sectors settled durable image
+  pub there : IsThere medium (moment_of disk carried)
+  pub within : carried ≤ length disk.requests
   pub said : done ≤ carried
 
 -- the medium has what was handed out
-pub on_medium : (whole_from sectors : ℕ) (handed : List EtcsOutput) (medium : Platter) (carried : ℕ) (mirror : Mirroring) (journal : JournalState) (life : LifeState) (outputs : List Release) (done : ℕ)
-    → Floats whole_from sectors handed medium carried mirror journal life outputs done → AreOnMedium whole_from sectors handed medium
-on_medium whole_from sectors handed medium carried mirror journal life outputs done it = record {
+pub on_medium : (whole_from sectors : ℕ) (handed : List EtcsOutput) (medium : Platter) (carried : ℕ) (disk : Requesting) (journal : JournalState) (life : LifeState) (outputs : List Release) (done : ℕ)
+    → Floats whole_from sectors handed medium carried disk journal life outputs done → AreOnMedium whole_from sectors handed medium
+on_medium whole_from sectors handed medium carried disk journal life outputs done it = record {
   durable = it.settled;
   outputs = it.given;
   each = λ image is. ⊎_elim
       (λ (tells : Tells whole_from sectors it.settled image). let so : HasAll whole_from sectors it.settled image = (it.settled, [], refl, tells) in so)
       (λ (tells : Tells whole_from sectors it.durable image). let so : HasAll whole_from sectors it.settled image = (it.durable, it.more, it.begins, tells) in so)
-      (it.moments carried it.within image (image_there medium (moment_of mirror carried) image it.there is));
+      (it.moments carried it.within image (image_there medium (moment_of disk carried) image it.there is));
 }
 
-module _ (whole_from sectors : ℕ) (handed : List EtcsOutput) (medium : Platter) (carried : ℕ) (mirror : Mirroring) (journal : JournalState) (life : LifeState) (outputs : List Release) (done : ℕ)
-    (it : Floats whole_from sectors handed medium carried mirror journal life outputs done) where
+module _ (whole_from sectors : ℕ) (handed : List EtcsOutput) (medium : Platter) (carried : ℕ) (disk : Requesting) (journal : JournalState) (life : LifeState) (outputs : List Release) (done : ℕ)
+    (it : Floats whole_from sectors handed medium carried disk journal life outputs done) where
+  -- a sector is wanted
+  pub wants : (wanted : Option ℕ) → Floats whole_from sectors handed medium carried (record disk { wanted = wanted }) journal life outputs done
+  wants wanted = record {
+    size = it.size;
+    settled = it.settled;
+    durable = it.durable;
+    accepted = it.accepted;
+    more = it.more;
+    begins = it.begins;
+    opened = it.opened;
+    ahead = it.ahead;
+    given = it.given;
+    held = it.held;
+    moments = it.moments;
+    there = it.there;
+    within = it.within;
+    said = it.said;
+  }
+
   -- an input was accepted
-  pub accepts : (accepted : List Event) (next : LifeState) → IsAhead it.durable accepted next → Floats whole_from sectors handed medium carried mirror journal next outputs done
+  pub accepts : (accepted : List Event) (next : LifeState) → IsAhead it.durable accepted next → Floats whole_from sectors handed medium carried disk journal next outputs done
   accepts accepted next ahead = record {
     size = it.size;
     settled = it.settled;
@@ -74,7 +93,7 @@ module _ (whole_from sectors : ℕ) (handed : List EtcsOutput) (medium : Platter
   }
 
   -- so many requests are said to be done
-  pub says : (count : ℕ) → count ≤ carried → Floats whole_from sectors handed medium carried mirror journal life outputs count
+  pub says : (count : ℕ) → count ≤ carried → Floats whole_from sectors handed medium carried disk journal life outputs count
   says count most = record {
     size = it.size;
     settled = it.settled;
@@ -93,7 +112,7 @@ module _ (whole_from sectors : ℕ) (handed : List EtcsOutput) (medium : Platter
   }
 
   -- the next request is carried out
-  pub carries : (after : Platter) → carried < length mirror.requests → IsThere after (moment_of mirror (carried + 1)) → Floats whole_from sectors handed after (carried + 1) mirror journal life outputs done
+  pub carries : (after : Platter) → carried < length disk.requests → IsThere after (moment_of disk (carried + 1)) → Floats whole_from sectors handed after (carried + 1) disk journal life outputs done
   carries after less there = let said = it.said in record {
     size = it.size;
     settled = it.settled;
@@ -112,9 +131,9 @@ module _ (whole_from sectors : ℕ) (handed : List EtcsOutput) (medium : Platter
   }
 
   -- a flush is prepared, where no request is left
-  pub prepares : length mirror.requests ≡ 0 → (next : Mirroring) (journal' : JournalState) (life' : LifeState) → next.sectors ≡ mirror.sectors
-      → AtEachMoment (mirror_state mirror) (mirror_state next) (TellsEither whole_from mirror.sectors it.durable it.accepted)
-      → IsOpen journal' (account_of whole_from it.accepted) (mirror_state next) → IsAhead it.accepted it.accepted life'
+  pub prepares : length disk.requests ≡ 0 → (next : Requesting) (journal' : JournalState) (life' : LifeState) → next.sectors ≡ disk.sectors
+      → AtEachMoment (request_state disk) (request_state next) (TellsEither whole_from disk.sectors it.durable it.accepted)
+      → IsOpen journal' (account_of whole_from it.accepted) (request_state next) → IsAhead it.accepted it.accepted life'
       → Floats whole_from sectors handed medium carried next journal' life' life.pairs 0
   prepares none next journal' life' same each opened ahead =
       let within = it.within in
@@ -140,18 +159,18 @@ module _ (whole_from sectors : ℕ) (handed : List EtcsOutput) (medium : Platter
       }
 
   -- what is held back is handed out, and the list is empty
-  pub releases : length mirror.requests ≤ done → (next : Mirroring) → next.requests ≡ [] → next.sectors ≡ mirror.sectors → IsSynced (mirror_state mirror)
-      → IsSynced (mirror_state next) → ((s : ℕ) → contents_of (mirror_state next) s ≡ contents_of (mirror_state mirror) s)
-      → IsOpen journal (account_of whole_from it.durable) (mirror_state next) → Floats whole_from sectors (handed ++ map told_of outputs) medium 0 next journal life [] 0
+  pub releases : length disk.requests ≤ done → (next : Requesting) → next.requests ≡ [] → next.sectors ≡ disk.sectors → IsSynced (request_state disk)
+      → IsSynced (request_state next) → ((s : ℕ) → contents_of (request_state next) s ≡ contents_of (request_state disk) s)
+      → IsOpen journal (account_of whole_from it.durable) (request_state next) → Floats whole_from sectors (handed ++ map told_of outputs) medium 0 next journal life [] 0
   releases all next none same closed shut contents opened =
       let within = it.within in
       let said = it.said in
-      let end : carried ≡ length mirror.requests = omega (arith, within, said, all) in
+      let end : carried ≡ length disk.requests = omega (arith, within, said, all) in
       let clock : length next.requests ≡ 0 = ap (λ (l : List Call). length l) none in
-      let C : ℕ → Type 0 = λ k. IsThere medium (moment_of mirror k) in
+      let C : ℕ → Type 0 = λ k. IsThere medium (moment_of disk k) in
       let N : ℕ → Type 0 = λ k. IsThere medium (moment_of next k) in
       let T : ℕ → (ℕ → List ℕ) → Type 0 = λ n image. Tells whole_from n it.durable image in
-      let last : IsThere medium (moment_of mirror (length mirror.requests)) = subst C end it.there in
+      let last : IsThere medium (moment_of disk (length disk.requests)) = subst C end it.there in
       let now : IsThere medium (moment_of next (length next.requests)) = record {
         contents = λ s. last.contents s ∙ sym (contents s);
         closed = λ s shut_there. last.closed s (closed s);
@@ -169,7 +188,7 @@ module _ (whole_from sectors : ℕ) (handed : List EtcsOutput) (medium : Platter
         moments = λ k most image is.
             let at : k ≡ length next.requests = omega (arith, most, clock) in
             let I : ℕ → Type 0 = λ n. IsImage (moment_of next n) image in
-            inl (subst (λ (n : ℕ). T n image) (same ∙ it.size) (rest_tells whole_from journal it.durable (mirror_state next) opened image (subst I at is)));
+            inl (subst (λ (n : ℕ). T n image) (same ∙ it.size) (rest_tells whole_from journal it.durable (request_state next) opened image (subst I at is)));
         there = subst N clock now;
         within = omega arith;
         said = omega arith;

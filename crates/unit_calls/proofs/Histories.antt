@@ -11,7 +11,7 @@ use Rattle.events.specs.declared.input.Event.TheVariants.{PowerUp}
 use Rattle.events.specs.declared.input.Input.{Input}
 use Rattle.image_calls.specs.Answers.{this_abi}
 use Rattle.journal.specs.Journals.{IsOpen}
-use Rattle.mirror_disk.specs.Mirror.{mirror_of, mirror_state}
+use Rattle.request_disk.specs.Requesting.{copy_of, request_state}
 use Rattle.mode_table.specs.declared.statuses.Cold.{Cold}
 use Rattle.onboard.specs.Events.{account_of, IsAhead}
 use Rattle.onboard.specs.Lives.{Tells, TellsEither, IsReady, Opens, IsOfOpening}
@@ -40,7 +40,7 @@ use Rattle.unit_calls.proofs.Beside.{at_some, IsUnder, Kept, takes_on, prepares_
 
 module _ (whole_from sectors : ℕ) (handed : List EtcsOutput) (medium : Platter) (image : List ℕ) (cold : Cold) (read : IsReadFrom sectors image medium) (on : AreOnMedium whole_from sectors handed medium) where
   abbrev copy : State
-  copy = mirror_state (mirror_of image)
+  copy = request_state (copy_of image)
 
   -- what the medium holds is one list
   held_list : HasAll whole_from sectors on.durable medium.contents
@@ -53,8 +53,8 @@ module _ (whole_from sectors : ℕ) (handed : List EtcsOutput) (medium : Platter
       ready_after whole_from sectors held_list.0 copy read.size (λ s. refl) (subst C same held_list.3)
 
   abbrev IsUp : Moored → Type 0
-  IsUp it = (found : List Event) × (power_up_word : Cold) × Opens whole_from held_list.0 held_list.0 found cold power_up_word copy (mirror_state it.mirror)
-      × IsOpen it.unit.journal (account_of whole_from (PowerUp power_up_word ∷ found)) (mirror_state it.mirror)
+  IsUp it = (found : List Event) × (power_up_word : Cold) × Opens whole_from held_list.0 held_list.0 found cold power_up_word copy (request_state it.reading.disk)
+      × IsOpen it.unit.journal (account_of whole_from (PowerUp power_up_word ∷ found)) (request_state it.reading.disk)
       × IsAhead (PowerUp power_up_word ∷ found) (PowerUp power_up_word ∷ found) it.unit.life
 
   found_all : (found : List Event) → (found ≡ held_list.0) ⊎ (found ≡ held_list.0) → found ≡ held_list.0
@@ -67,8 +67,8 @@ module _ (whole_from sectors : ℕ) (handed : List EtcsOutput) (medium : Platter
   of_opening found word c is (inl (inr tells)) = let T : List Event → Type 0 = λ l. Tells whole_from sectors l c in inl (subst T (sym is) tells)
   of_opening found word c is (inr tells) = inr tells
 
-  floats_up : (it : Moored) (outputs : List Release) (done carried : ℕ) → it.mirror.sectors ≡ length image / 512 → outputs ≡ [] → done ≡ 0 → carried ≡ 0 → IsUp it
-      → Floats whole_from sectors handed medium carried it.mirror it.unit.journal it.unit.life outputs done
+  floats_up : (it : Moored) (outputs : List Release) (done carried : ℕ) → it.reading.disk.sectors ≡ length image / 512 → outputs ≡ [] → done ≡ 0 → carried ≡ 0 → IsUp it
+      → Floats whole_from sectors handed medium carried it.reading.disk it.unit.journal it.unit.life outputs done
   floats_up it outputs done carried size none undone begins (found, word, opens, standing, ahead) =
       let is : found ≡ held_list.0 = found_all found opens.found_is in
       let each = opens.at_each_moment in
@@ -79,7 +79,7 @@ module _ (whole_from sectors : ℕ) (handed : List EtcsOutput) (medium : Platter
       let H : List Release → Type 0 = λ o. IsPartOf (handed ++ map told_of o) (outputs_of (PowerUp word ∷ found)) in
       let N : List EtcsOutput → Type 0 = λ l. IsPartOf l (outputs_of (PowerUp word ∷ found)) in
       let T : Platter → Type 0 = λ p. IsThere medium p in
-      let C : ℕ → Type 0 = λ k. IsThere medium (moment_of it.mirror k) in
+      let C : ℕ → Type 0 = λ k. IsThere medium (moment_of it.reading.disk k) in
       let first : IsThere medium (copy.at 0) = record { contents = read.contents; closed = λ s shut. read.synced s } in record {
         size = size ∙ read.size;
         settled = found;
@@ -102,7 +102,7 @@ module _ (whole_from sectors : ℕ) (handed : List EtcsOutput) (medium : Platter
   under_up u carried begins its (Some it) is = (
     it,
     is,
-    floats_up it u.outputs u.done carried (at_some (λ m. m.mirror.sectors ≡ length image / 512) it u.moored is its.sectors) its.fresh.0 its.fresh.1 begins
+    floats_up it u.outputs u.done carried (at_some (λ m. m.reading.disk.sectors ≡ length image / 512) it u.moored is its.sectors) its.fresh.0 its.fresh.1 begins
         (at_some IsUp it u.moored is (its.up whole_from held_list.0 held_list.0 ready)),
   )
 
@@ -143,7 +143,7 @@ module _ (whole_from sectors : ℕ) (handed : List EtcsOutput) (medium : Platter
 
   medium_of : (handle : Option Opened) → KeptBy handle → AreOnMedium whole_from sectors handed medium
   medium_of None kept = kept
-  medium_of (Some opened) (it, there, floats) = on_medium whole_from sectors handed medium carried it.mirror it.unit.journal it.unit.life opened.unit.outputs opened.unit.done floats
+  medium_of (Some opened) (it, there, floats) = on_medium whole_from sectors handed medium carried it.reading.disk it.unit.journal it.unit.life opened.unit.outputs opened.unit.done floats
 
 -- what is left where power is lost
 left_over : (whole_from sectors : ℕ) (handed : List EtcsOutput) (medium : Platter) (image : ℕ → List ℕ) → IsImage medium image → AreOnMedium whole_from sectors handed medium → AreOnMedium whole_from sectors handed (at_rest image)
@@ -197,13 +197,13 @@ carried_in : (whole_from sectors : ℕ) (handed : List EtcsOutput) (medium : Pla
 carried_in whole_from sectors handed medium carried opened t (found, at, whole, told) done (it, there, floats) =
     let A : List Call → Type 0 = λ l. IsAt carried l found in
     let W : List ℕ → Type 0 = λ w. IsToldAs w found t in
-    let so = carried_there it.mirror.sectors it.mirror.start it.mirror.written it.mirror.requests carried t done medium floats.there found
+    let so = carried_there it.reading.disk.sectors it.reading.disk.medium it.reading.disk.written it.reading.disk.requests carried t done medium floats.there found
     (subst A (ap list_of there) at)
     (λ request is. subst (λ (m : Option Moored). IsWithin (sectors_in m) (length (written_of m)) request) there (whole request is))
     (subst W (ap written_of there) told) in (
       it,
       there,
-      carries whole_from sectors handed medium carried it.mirror it.unit.journal it.unit.life opened.unit.outputs opened.unit.done floats (carried_out t.told t.bytes medium) so.0 so.1,
+      carries whole_from sectors handed medium carried it.reading.disk it.unit.journal it.unit.life opened.unit.outputs opened.unit.done floats (carried_out t.told t.bytes medium) so.0 so.1,
     )
 
 said_in : (whole_from sectors : ℕ) (handed : List EtcsOutput) (medium : Platter) (carried count : ℕ) (old new : Option Opened) (status : Status)

@@ -10,7 +10,7 @@ use Rattle.events.specs.declared.step.Step.TheVariants.{Accept, Flush}
 use Rattle.image_calls.specs.Answers.{this_abi}
 use Rattle.journal.specs.Journals.{IsOpen, IsWritten}
 use Rattle.kernel.specs.Lives.{kept_by}
-use Rattle.mirror_disk.specs.Mirror.{mirror_of, mirror_state}
+use Rattle.request_disk.specs.Requesting.{copy_of, request_state}
 use Rattle.mode_table.specs.declared.statuses.Cold.{Cold}
 use Rattle.onboard.specs.Answers.{is_device, refusal_of, HasRoom}
 use Rattle.onboard.specs.Events.{account_of, IsAhead}
@@ -23,7 +23,7 @@ use Rattle.onboard.specs.declared.errors.AcceptError.TheVariants as an_accept
 use Rattle.onboard.specs.declared.errors.OpenError.{OpenError}
 use Rattle.onboard.specs.declared.errors.OpenError.TheVariants as an_open
 use Rattle.relayed_unit.specs.LifeNow.{TellsLife}
-use Rattle.relayed_unit.specs.Relayed.{Relayed, Turns, list_of, requests_of, release_refusal, prepare_refusal, prepare_failed}
+use Rattle.relayed_unit.specs.Relayed.{Relayed, Turns, list_of, requests_of, release_refusal, prepare_refusal, prepare_failed, wants_gate, IsLeftBy}
 use Rattle.relayed_unit.specs.declared.errors.PrepareError.{PrepareError}
 use Rattle.relayed_unit.specs.declared.life_now.LifeNow.{LifeNow}
 use Rattle.ring.specs.Account.{Account}
@@ -64,8 +64,8 @@ pub record Accepts (input : Input) (before after : Relayed) (told : Result ⊤ A
       HasRoom it.unit.life.state input → IsOk told)
   -- a refusal changes nothing
   pub refused : OnErr told (after ≡ before)
-  -- the copy of the medium is as it was
-  pub copy : Turns before.moored after.moored (λ it next. (next.mirror ≡ it.mirror) × (next.unit.journal ≡ it.unit.journal))
+  -- the disk is as it was
+  pub copy : Turns before.moored after.moored (λ it next. (next.reading ≡ it.reading) × (next.unit.journal ≡ it.unit.journal))
   -- what the next refusal goes by has gone on by this input
   pub gone_on : OnOk told (Turns before.moored after.moored (λ it next.
       progress_of next.unit.journal next.unit.life ≡ go_on (progress_of it.unit.journal it.unit.life) (Accept input)))
@@ -93,34 +93,38 @@ pub record IsPrepared (before after : Relayed) (told : Result ⊤ PrepareError) 
   pub begun : OnOk told (after.done ≡ 0)
   -- a refusal holds nothing more back, and what was said of the requests stays
   pub held : OnErr told ((after.outputs ≡ before.outputs) × (after.done ≡ before.done))
-  -- and it leaves the unit and the copy of the medium as they were
-  pub undone : OnErr told (after.moored ≡ before.moored)
+  -- and it leaves the unit and the disk as they were, but that a sector may be wanted
+  pub undone : IfErr told (λ e. IsLeftBy e before.moored after.moored)
+  -- over a copy of the medium none is
+  pub whole : IfSome before.moored (λ it. it.reading.disk.known ≡ None → wants_gate it ≡ false)
+  -- and it stays one
+  pub known : Turns before.moored after.moored (λ it next. it.reading.disk.known ≡ None → next.reading.disk.known ≡ None)
   -- where nothing was pending there is no request
   pub nothing : OnOk told (Turns before.moored after.moored (λ it next.
-      length it.unit.life.records ≡ 0 → next.mirror ≡ it.mirror))
+      length it.unit.life.records ≡ 0 → next.reading ≡ it.reading))
   -- the medium has as many sectors as before
-  pub sectors : OnOk told (Turns before.moored after.moored (λ it next. next.mirror.sectors ≡ it.mirror.sectors))
+  pub sectors : OnOk told (Turns before.moored after.moored (λ it next. next.reading.disk.sectors ≡ it.reading.disk.sectors))
   -- what the next refusal goes by has gone on by this flush
   pub gone_on : OnOk told (Turns before.moored after.moored (λ it next.
       progress_of next.unit.journal next.unit.life ≡ go_on (progress_of it.unit.journal it.unit.life) Flush))
   -- behind each number of requests each image represents the durable events, or all accepted ones
   pub any_moment : OnOk told (Turns before.moored after.moored (λ it next. (whole_from : ℕ) (durable accepted : List Event) →
-      IsOpen it.unit.journal (account_of whole_from durable) (mirror_state it.mirror) → IsAhead durable accepted it.unit.life →
-      AtEachMoment (mirror_state it.mirror) (mirror_state next.mirror) (TellsEither whole_from it.mirror.sectors durable accepted)))
+      IsOpen it.unit.journal (account_of whole_from durable) (request_state it.reading.disk) → IsAhead durable accepted it.unit.life →
+      AtEachMoment (request_state it.reading.disk) (request_state next.reading.disk) (TellsEither whole_from it.reading.disk.sectors durable accepted)))
   -- behind all of them the newest slot has its gate, and behind it the block of exactly what was pending
   pub written : OnOk told (Turns before.moored after.moored (λ it next. (durable accepted : List Event) →
       IsAhead durable accepted it.unit.life → 0 < length it.unit.life.records →
       IsWritten next.unit.journal.slots next.unit.journal.newest it.unit.life.records (kept_by accepted)
-      (contents_of (mirror_state next.mirror))))
+      (contents_of (request_state next.reading.disk))))
   -- which is the block of the greatest number
   pub last : OnOk told (Turns before.moored after.moored (λ it next. (whole_from : ℕ) (durable accepted : List Event) →
-      IsOpen it.unit.journal (account_of whole_from durable) (mirror_state it.mirror) → IsAhead durable accepted it.unit.life →
-      0 < length it.unit.life.records → HasNewest next.mirror.sectors it.unit.life.records accepted
-      (contents_of (mirror_state next.mirror))))
+      IsOpen it.unit.journal (account_of whole_from durable) (request_state it.reading.disk) → IsAhead durable accepted it.unit.life →
+      0 < length it.unit.life.records → HasNewest next.reading.disk.sectors it.unit.life.records accepted
+      (contents_of (request_state next.reading.disk))))
   -- and each image represents all accepted ones
   pub flushed : OnOk told (Turns before.moored after.moored (λ it next. (whole_from : ℕ) (durable accepted : List Event) →
-      IsOpen it.unit.journal (account_of whole_from durable) (mirror_state it.mirror) → IsAhead durable accepted it.unit.life →
-      IsOpen next.unit.journal (account_of whole_from accepted) (mirror_state next.mirror) × IsAhead accepted accepted next.unit.life))
+      IsOpen it.unit.journal (account_of whole_from durable) (request_state it.reading.disk) → IsAhead durable accepted it.unit.life →
+      IsOpen next.unit.journal (account_of whole_from accepted) (request_state next.reading.disk) × IsAhead accepted accepted next.unit.life))
 
 abbrev pub Prepares : Opened → Opened → Status → Type 0
 Prepares before after status = (told : Result ⊤ PrepareError) × (status ≡ of_prepare told)
@@ -151,13 +155,15 @@ pub record IsReleased (before after : Relayed) : Type 0 where
   -- the unit is as it was: nothing was taken, and nothing was put on the copy
   pub unit : Turns before.moored after.moored (λ it next. next.unit ≡ it.unit)
   -- the medium has as many sectors as before
-  pub sectors : Turns before.moored after.moored (λ it next. next.mirror.sectors ≡ it.mirror.sectors)
+  pub sectors : Turns before.moored after.moored (λ it next. next.reading.disk.sectors ≡ it.reading.disk.sectors)
+  -- and as many of them are known
+  pub known : Turns before.moored after.moored (λ it next. next.reading.disk.known ≡ it.reading.disk.known)
   -- no sector of the medium is open; the copy holds what it held, and the journal stands over it as before
-  pub stands : Turns before.moored after.moored (λ it next. IsSynced (mirror_state it.mirror)
-      × IsSynced (mirror_state next.mirror)
-      × ((s : ℕ) → contents_of (mirror_state next.mirror) s ≡ contents_of (mirror_state it.mirror) s)
-      × ((told : Account) → IsOpen it.unit.journal told (mirror_state it.mirror) →
-      IsOpen next.unit.journal told (mirror_state next.mirror)))
+  pub stands : Turns before.moored after.moored (λ it next. IsSynced (request_state it.reading.disk)
+      × IsSynced (request_state next.reading.disk)
+      × ((s : ℕ) → contents_of (request_state next.reading.disk) s ≡ contents_of (request_state it.reading.disk) s)
+      × ((told : Account) → IsOpen it.unit.journal told (request_state it.reading.disk) →
+      IsOpen next.unit.journal told (request_state next.reading.disk)))
 
 -- The caller's places for outputs and for their count, before a release and behind it, and its status.
 pub record Handing : Type 0 where
@@ -216,23 +222,25 @@ pub record IsPoweredUp (image : List ℕ) (cold : Cold) (told : Result Relayed O
   pub fresh_unit : IfOk told (λ u. IfSome u.moored (λ it. (it.unit.life.records ≡ []) × (it.unit.life.pairs ≡ [])
       × (it.unit.life.moment ≡ 0) × (it.unit.journal.failed ≡ false)))
   -- the copy has the whole sectors of the bytes
-  pub sectors : IfOk told (λ u. IfSome u.moored (λ it. it.mirror.sectors ≡ length image / 512))
+  pub sectors : IfOk told (λ u. IfSome u.moored (λ it. it.reading.disk.sectors ≡ length image / 512))
+  -- and holds all of them
+  pub whole : IfOk told (λ u. IfSome u.moored (λ it. it.reading.disk.known ≡ None))
   -- each refusal but NoMemory has its cause
   pub refused : IfErr told (λ e. (e ≡ an_open.NoMemory)
-      ⊎ IsOpenRefusal (length image / 512) (contents_of (mirror_state (mirror_of image))) e)
+      ⊎ IsOpenRefusal (length image / 512) (contents_of (request_state (copy_of image))) e)
   -- the copy's room is never wanting
   pub room : IfErr told (λ e. is_device e ≡ false)
   -- where it is opened no refusal had one
-  pub no_cause : OnOk told (HasNoCause (length image / 512) (contents_of (mirror_state (mirror_of image))))
+  pub no_cause : OnOk told (HasNoCause (length image / 512) (contents_of (request_state (copy_of image))))
   -- where a refusal has one, and there is a sector, it comes, unless memory was refused
   pub exact : 0 < length image / 512 → (e : OpenError) →
-      IsOpenRefusal (length image / 512) (contents_of (mirror_state (mirror_of image))) e →
+      IsOpenRefusal (length image / 512) (contents_of (request_state (copy_of image))) e →
       (e ≡ an_open.DeviceFault) ⊎ MatchResult told (λ it. ⊥) (λ back. (back ≡ e) ⊎ (back ≡ an_open.NoMemory))
   -- behind each number of requests each image is one that a power-up may leave of these bytes
-  pub up : (whole_from : ℕ) (durable accepted : List Event) → IsReady whole_from durable accepted (mirror_state (mirror_of image)) →
+  pub up : (whole_from : ℕ) (durable accepted : List Event) → IsReady whole_from durable accepted (request_state (copy_of image)) →
       IfOk told (λ u. IfSome u.moored (λ it. (found : List Event) × (power_up_word : Cold)
-      × Opens whole_from durable accepted found cold power_up_word (mirror_state (mirror_of image)) (mirror_state it.mirror)
-      × IsOpen it.unit.journal (account_of whole_from (PowerUp power_up_word ∷ found)) (mirror_state it.mirror)
+      × Opens whole_from durable accepted found cold power_up_word (request_state (copy_of image)) (request_state it.reading.disk)
+      × IsOpen it.unit.journal (account_of whole_from (PowerUp power_up_word ∷ found)) (request_state it.reading.disk)
       × IsAhead (PowerUp power_up_word ∷ found) (PowerUp power_up_word ∷ found) it.unit.life))
 
 -- the unit is in the handle, or there was no memory for it there; a refusal leaves none

@@ -1,7 +1,7 @@
 -- What a caller does with his medium (this project's profile). Sectors have 512 bytes and are numbered from 0.
 use Rattle.std.specs.Prelude.{◌≡◌, ℕ, ◌-◌, ◌/◌, ◌==◌, ◌&&◌, nat_le, nat_lt, Bool, true, false, if◌then◌else◌, List, length}
 use Rattle.disk.specs.State.{Platter, IsImage, contents_of, sector_of}
-use Rattle.mirror_disk.specs.Mirror.{mirror_of, mirror_state}
+use Rattle.request_disk.specs.Requesting.{copy_of, request_state}
 use Rattle.unit_calls.specs.declared.words.EtcsRequest.{EtcsRequest}
 
 -- whether a write, as it is told, is of sector s
@@ -29,6 +29,6 @@ pub record IsReadFrom (sectors : ℕ) (image : List ℕ) (medium : Platter) : Ty
   -- all its sectors were read
   pub size : length image / 512 ≡ sectors
   -- each as it is
-  pub contents : (s : ℕ) → medium.contents s ≡ contents_of (mirror_state (mirror_of image)) s
+  pub contents : (s : ℕ) → medium.contents s ≡ contents_of (request_state (copy_of image)) s
   -- and none is open
   pub synced : (s : ℕ) → medium.is_open s ≡ false

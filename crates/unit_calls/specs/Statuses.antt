@@ -58,6 +58,7 @@ of_prepare (Ok x) = a_status.Done
 of_prepare (Err a_prepare.Failed) = a_status.Failed
 of_prepare (Err a_prepare.RequestsOwed) = a_status.RequestsOwed
 of_prepare (Err a_prepare.WornOut) = a_status.WornOut
+of_prepare (Err a_prepare.SectorWanted) = a_status.Failed
 
 abbrev pub of_release : ReleaseError → Status
 of_release a_release.Failed = a_status.Failed

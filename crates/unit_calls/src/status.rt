@@ -89,13 +89,13 @@ pub fn of_accept(told: Result<(), AcceptError>) -> Status
     }
 }
 
-/// Of a preparation.
+/// Of a preparation. No sector is ever wanted, since a unit of C lies over a copy of its medium.
 pub fn of_prepare(told: Result<(), PrepareError>) -> Status
     ensures { result ≡ of_prepare told }
 {
     match told {
         Ok(()) => Status::Done,
-        Err(PrepareError::Failed) => Status::Failed,
+        Err(PrepareError::Failed | PrepareError::SectorWanted) => Status::Failed,
         Err(PrepareError::RequestsOwed) => Status::RequestsOwed,
         Err(PrepareError::WornOut) => Status::WornOut,
     }

@@ -1,8 +1,9 @@
 -- The telegram that bytes carry is the one that is read in them.
-use Rattle.std.proofs.Common.{◌≡◌, ◌<◌, ◌≤◌, ℕ, zero, suc, Bool, true, false, List, [], ◌∷◌, length, Option, Some, None, Result, Ok, Err, refl, sym, ap, subst, ◌∙◌, cond, arith}
+use Rattle.std.proofs.Common.{◌≡◌, ◌<◌, ◌≤◌, ℕ, zero, suc, Bool, true, false, List, [], ◌∷◌, length, Option, Some, None, Result, Ok, Err, refl, ap, subst, cond, arith}
 use Rattle.std.specs.Prelude.{nat_le}
 use Rattle.std.specs.Option.{option_map}
 use Rattle.std.proofs.lemmas.Bool.Decides.{nat_tests}
+use Rattle.std.proofs.lemmas.Option.{same_Some, none-some}
 use Rattle.bits.specs.Bits.{bits_of}
 use Rattle.bits.specs.Layout.{read}
 use Rattle.bits.proofs.Laws.{found, begun}
@@ -12,17 +13,9 @@ use Rattle.telegram.specs.declared.header.Header.{Header}
 use Rattle.telegram.specs.declared.message.Telegram.{Telegram}
 use Rattle.telegram.specs.Sequences.{BeginsPackets}
 use Rattle.telegram.specs.Telegrams.{header, next_packet, Carries, RefusesBytes}
-use Rattle.telegram.specs.Walks.{Walk, IsWalkOf, packets_of}
 use Rattle.telegram.proofs.Answering.{carried, not_refused, read_carries}
 use Rattle.telegram.proofs.Lengths.{packets_take}
-use Rattle.telegram.proofs.Walking.{located_packets}
 use Rattle.track_picture.specs.Bytes.{telegram_in, packets_before_end, those_from, with_header}
-
-pub some_same : {A : Type 0} (x y : A) → Some x ≡ Some y → x ≡ y
-some_same x y e = cc
-
-pub none_or_some : {A : Type 0} (x : A) → None ≡ Some x → ⊥
-none_or_some x e = absurd cc
 
 -- ---- the packets before the end mark
 
@@ -38,21 +31,21 @@ Begun ps bits = (rest : List Bool) × BeginsPackets ps bits rest
 
 one_before : (p : Packet) (bits mid : List Bool) (o : Option (List Packet)) (ps : List Packet) → read next_packet bits ≡ Ok (Some p, mid)
     → option_map (λ (qs : List Packet). p ∷ qs) o ≡ Some ps → ((qs : List Packet) → o ≡ Some qs → Begun qs mid) → Begun ps bits
-one_before p bits mid None ps is same more = absurd (none_or_some ps same)
+one_before p bits mid None ps is same more = absurd (none-some ps same)
 one_before p bits mid (Some qs) ps is same more =
     let b = more qs refl in
-    subst (λ (rs : List Packet). Begun rs bits) (some_same (p ∷ qs) ps same) (b.0, (mid, found next_packet bits (Some p) mid is, b.1))
+    subst (λ (rs : List Packet). Begun rs bits) (same_Some (p ∷ qs) ps same) (b.0, (mid, found next_packet bits (Some p) mid is, b.1))
 
 from_read : (n : ℕ) (bits : List Bool) (r : Result (Option Packet × List Bool) TelegramFault) (ps : List Packet) → read next_packet bits ≡ r
     → those_from r (packets_before_end n) ≡ Some ps → ((mid : List Bool) (qs : List Packet) → packets_before_end n mid ≡ Some qs → Begun qs mid) → Begun ps bits
-from_read n bits (Err e) ps is same more = absurd (none_or_some ps same)
+from_read n bits (Err e) ps is same more = absurd (none-some ps same)
 from_read n bits (Ok (None, rest)) ps is same more =
-    subst (λ (rs : List Packet). Begun rs bits) (some_same [] ps same) (rest, found next_packet bits None rest is)
+    subst (λ (rs : List Packet). Begun rs bits) (same_Some [] ps same) (rest, found next_packet bits None rest is)
 from_read n bits (Ok (Some p, mid)) ps is same more = one_before p bits mid (packets_before_end n mid) ps is same (more mid)
 
 some_before_end : (n : ℕ) (bits : List Bool) (ps : List Packet) → packets_before_end n bits ≡ Some ps → Begun ps bits
 unfolding packets_before_end
-some_before_end zero bits ps e = absurd (none_or_some ps e)
+some_before_end zero bits ps e = absurd (none-some ps e)
 some_before_end (suc n) bits ps e = from_read n bits (read next_packet bits) ps refl e (some_before_end n)
 
 -- ---- the telegram
@@ -69,20 +62,20 @@ module _ (bytes : List ℕ) (small : length bytes ≤ 104) where
   behind_header : (h : Header) (behind : List Bool) (o : Option (List Packet)) (t : Telegram) → read header (bits_of bytes) ≡ Ok (h, behind)
       → option_map (λ (ps : List Packet). record { header = h; packets = record { items = ps } }) o ≡ Some t
       → ((ps : List Packet) → o ≡ Some ps → Begun ps behind) → Carries bytes t
-  behind_header h behind None t is same more = absurd (none_or_some t same)
+  behind_header h behind None t is same more = absurd (none-some t same)
   behind_header h behind (Some ps) t is same more =
       let u : Telegram = record { header = h; packets = record { items = ps } } in
       let b = more ps refl in
-      subst (λ (x : Telegram). Carries bytes x) (some_same u t same) (read_carries bytes u behind b.0 small is b.1)
+      subst (λ (x : Telegram). Carries bytes x) (same_Some u t same) (read_carries bytes u behind b.0 small is b.1)
 
   from_header : (r : Result (Header × List Bool) TelegramFault) (t : Telegram) → read header (bits_of bytes) ≡ r → with_header r ≡ Some t → Carries bytes t
-  from_header (Err e) t is same = absurd (none_or_some t same)
+  from_header (Err e) t is same = absurd (none-some t same)
   from_header (Ok (h, behind)) t is same =
       behind_header h behind (packets_before_end (length behind) behind) t is same (some_before_end (length behind) behind)
 
 if_small : (b : Bool) (o : Option Telegram) (t : Telegram) → cond b o None ≡ Some t → (b ≡ true) × (o ≡ Some t)
 if_small true o t e = (refl, e)
-if_small false o t e = absurd (none_or_some t e)
+if_small false o t e = absurd (none-some t e)
 
 pub in_carried : (bytes : List ℕ) (t : Telegram) → telegram_in bytes ≡ Some t → Carries bytes t
 unfolding telegram_in
@@ -91,17 +84,6 @@ in_carried bytes t e =
     let few = p.0 in
     let small : length bytes ≤ 104 = grind (arith, nat_tests) in
     from_header bytes small (read header (bits_of bytes)) t refl p.1
-
--- ---- what a walk tells
-
-abbrev pub told_by : Walk → Telegram
-told_by w = record { header = w.header; packets = record { items = packets_of w.items } }
-
-pub walk_told : (bytes : List ℕ) (w : Walk) → IsWalkOf bytes w → telegram_in bytes ≡ Some (told_by w)
-walk_told bytes w h =
-    let t = h.0 in
-    let same : told_by w ≡ t = ap told_by h.2 ∙ (λ i. record { header = t.header; packets = record { items = located_packets bytes 50 t.packets.items i } }) in
-    carried_in bytes t h.1 ∙ sym (ap (λ (u : Telegram). Some u) same)
 
 none_refused : (bytes : List ℕ) (e : TelegramFault) (o : Option Telegram) → RefusesBytes e bytes → telegram_in bytes ≡ o → o ≡ None
 none_refused bytes e None r is = refl

@@ -3,6 +3,9 @@ use Rattle.std.proofs.Common.{◌≡◌, ℕ, ℤ, List, [], ◌∷◌, ◌++◌
 use Rattle.std.specs.Prelude.{not, ◌||◌, map, filter, filter_map}
 use Rattle.std.specs.List.{list_any}
 use Rattle.std.proofs.lemmas.List.{append-nil}
+use Rattle.std.proofs.lemmas.List.Elements.{filter_agree}
+use Rattle.track_store.proofs.Standing.{filter-true}
+use Rattle.track_store.specs.Profiles.{is_any}
 use Rattle.vars.specs.declared.group.GroupIdentity.{GroupIdentity}
 use Rattle.linking.specs.declared.announcement.Announcement.{Announcement}
 use Rattle.linking.specs.Linking as linking
@@ -13,9 +16,9 @@ use Rattle.packets.specs.declared.packet.Packet.TheVariants as packets
 use Rattle.track_picture.specs.Announcing.{announcements_of}
 use Rattle.track_picture.specs.Columns.{TrackTold, told_in, after_links, links_deleted}
 use Rattle.track_picture.specs.Live.{Happening, TrackFact, level_told, deleting}
-use Rattle.track_picture.specs.Parts.{as_link, is_any, links_in}
+use Rattle.track_picture.specs.Parts.{as_link, links_in}
 use Rattle.track_picture.proofs.EachKind.{link, miss}
-use Rattle.track_picture.proofs.OneKind.{Follows, value, fact_with, kept_all, lost_all, kept_alike, filter_both, no_links, no_level, by_mode, step, unmoved, follows, past_level}
+use Rattle.track_picture.proofs.OneKind.{Follows, value, fact_with, lost_all, filter_both, no_links, no_level, by_mode, step, unmoved, follows, past_level}
 
 -- ---- the links that are left
 
@@ -31,7 +34,7 @@ left_less : (entry : LinkEntry) (es : List LinkEntry) →
     ≡ filter (λ a. not (takes entry a.number || list_any (λ e. takes e a.number) (since_announced es))) (announced es)
 left_less entry es =
     filter_both (λ (a : Announcement). takes entry a.number) (λ a. list_any (λ e. takes e a.number) (since_announced es)) (announced es)
-    ∙ kept_alike (λ a. not (list_any (λ e. takes e a.number) (since_announced es) || takes entry a.number))
+    ∙ filter_agree (λ a. not (list_any (λ e. takes e a.number) (since_announced es) || takes entry a.number))
     (λ a. not (takes entry a.number || list_any (λ e. takes e a.number) (since_announced es)))
     (λ a. swapped (list_any (λ e. takes e a.number) (since_announced es)) (takes entry a.number)) (announced es)
 
@@ -44,7 +47,7 @@ new_list : (announcements : List Announcement) (es : List LinkEntry) →
 new_list announcements es =
     ap (λ xs. filter_map as_link (map TrackFact.Link (numbered announcements)) ++ xs) (lost_all (left es))
     ∙ (append-nil (filter_map as_link (map TrackFact.Link (numbered announcements)))
-    ∙ (links_read (numbered announcements) ∙ sym (kept_all (numbered announcements))))
+    ∙ (links_read (numbered announcements) ∙ sym (filter-true (numbered announcements))))
 
 abbrev chain : TrackTold → List Announcement
 chain told = left told.links
@@ -54,19 +57,17 @@ link_told : (group : GroupIdentity) (place : ℤ) (moment : ℕ) (packet : Packe
 link_told g p m (packets.Linking q) told = new_list (announcements_of g p q) told.links
 link_told g p m (packets.LevelTransition q) told =
     past_level link (λ a. refl) (level_told (fact_with g p m (packets.LevelTransition q))) (chain told)
-link_told g p m other told = kept_all (chain told)
+link_told g p m other told = filter-true (chain told)
 
 link_linked : (entry : LinkEntry) (told : TrackTold) → Follows link chain (Happening.Linked entry) told
-link_linked (linking.LinkEntry.Announced announcements) told = kept_all (chain told)
-link_linked (linking.LinkEntry.Accepted number) told = left_less (linking.LinkEntry.Accepted number) told.links
-link_linked (linking.LinkEntry.Reacted number) told = left_less (linking.LinkEntry.Reacted number) told.links
-link_linked (linking.LinkEntry.Missed number) told = left_less (linking.LinkEntry.Missed number) told.links
+link_linked (linking.LinkEntry.Announced announcements) told = filter-true (chain told)
+link_linked other told = left_less other told.links
 
 link_one : (h : Happening) (told : TrackTold) → Follows link chain h told
 link_one (Happening.Told fact) told = link_told fact.group fact.place fact.moment fact.packet told
 link_one (Happening.Linked entry) told = link_linked entry told
 link_one (Happening.Entered mode) told = by_mode link left links_deleted (λ xs. refl) (deleting item.Linking mode) told.links
-link_one other told = kept_all (chain told)
+link_one other told = filter-true (chain told)
 
 -- ---- whether a group was missed
 

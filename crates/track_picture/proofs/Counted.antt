@@ -1,6 +1,7 @@
 -- The facts that count are those that came and that nothing later has ended.
 use Rattle.std.proofs.Common.{◌≡◌, List, [], ◌∷◌, ◌++◌, Bool, true, false, cond, refl, ap, sym, subst, ◌∙◌, ◌⊎◌, inl, inr}
 use Rattle.std.specs.Prelude.{not, filter}
+use Rattle.std.proofs.lemmas.Bool.{not-true}
 use Rattle.authority.specs.Laws.{IsAmong}
 use Rattle.track_picture.specs.Live.{Happening, TrackFact, brought, ends, live}
 use Rattle.track_picture.specs.Ending.{CameAndStays, CountsWhileNotEnded, CameAnew, EndedCountsNoMore}
@@ -55,10 +56,6 @@ passes : {X : Type 0} (p : X → Bool) (x : X) (xs : List X) → IsAmong x (filt
 passes p x [] h = absurd h
 passes p x (y ∷ xs) h = passes_one p (p y) x y xs (filter p xs) refl (passes p x xs) h
 
-not_true : (b : Bool) → not b ≡ true → b ≡ false
-not_true true e = absurd cc
-not_true false e = refl
-
 -- ---- a fact that counts came, and nothing later has ended it
 
 ends_none : (happening cause : Happening) (later : List Happening) (fact : TrackFact) → ends happening fact ≡ false →
@@ -84,7 +81,7 @@ came (happening ∷ earlier) fact h =
       | inl new ↦ record { later = []; cause = happening; earlier = earlier; in_turn = refl; came = new; not_ended = λ g among. absurd among }
       | inr old ↦
           (let kept = passes (λ f. not (ends happening f)) fact (live earlier) old in
-          one_more happening earlier fact (not_true (ends happening fact) kept.1) (came earlier fact kept.0))
+          one_more happening earlier fact (not-true (ends happening fact) kept.1) (came earlier fact kept.0))
     ]
 
 counts_behind : (later : List Happening) (cause : Happening) (earlier : List Happening) (fact : TrackFact) → IsAmong fact (brought cause) →

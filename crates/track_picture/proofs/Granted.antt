@@ -10,6 +10,7 @@ use Rattle.mode_table.specs.declared.statuses.Item.TheVariants as item
 use Rattle.packets.specs.declared.packet.Packet.{Packet}
 use Rattle.packets.specs.declared.packet.Packet.TheVariants as packets
 use Rattle.track_store.specs.Profiles.{listed}
+use Rattle.track_store.proofs.Standing.{filter-true}
 use Rattle.units.specs.Stretches.{Span}
 use Rattle.track_picture.specs.Columns.{TrackTold, told_in, authority_deleted}
 use Rattle.track_picture.specs.Entry.{TrackEntry, Outcome, facts_in}
@@ -18,7 +19,7 @@ use Rattle.track_picture.specs.Live.{Happening, level_told, deleting}
 use Rattle.track_picture.specs.Parts.{moment_in}
 use Rattle.track_picture.proofs.EachKind.{grant, look}
 use Rattle.track_picture.proofs.Growing.{past_missed, past_judged, past_used}
-use Rattle.track_picture.proofs.OneKind.{Follows, value, fact_with, kept_all, lost_all, by_mode, step_to, follows, past_linked, past_links, past_level}
+use Rattle.track_picture.proofs.OneKind.{Follows, value, fact_with, lost_all, by_mode, step_to, follows, past_linked, past_links, past_level}
 
 -- ---- the authority
 
@@ -34,13 +35,13 @@ grant_told g p m (packets.MovementAuthority q) told = ap (λ xs. authority.fact_
 grant_told g p m (packets.Linking q) told = past_links grant (λ a. refl) g p q (latest told)
 grant_told g p m (packets.LevelTransition q) told =
     past_level grant (λ a. refl) (level_told (fact_with g p m (packets.LevelTransition q))) (latest told)
-grant_told g p m other told = kept_all (latest told)
+grant_told g p m other told = filter-true (latest told)
 
 grant_one : (h : Happening) (told : TrackTold) → Follows grant latest h told
 grant_one (Happening.Told fact) told = grant_told fact.group fact.place fact.moment fact.packet told
 grant_one (Happening.Linked entry) told = past_linked grant refl entry (latest told)
 grant_one (Happening.Entered mode) told = by_mode grant granted authority_deleted (λ xs. refl) (deleting item.Authority mode) told.grants
-grant_one other told = kept_all (latest told)
+grant_one other told = filter-true (latest told)
 
 pub grants_are : (hs : List Happening) → value grant hs ≡ listed (accepted (told_in hs).grants)
 grants_are = follows grant latest refl grant_one
@@ -76,14 +77,14 @@ look_told g p m (packets.MovementAuthority q) told = lost_all (sights told.grant
 look_told g p m (packets.Linking q) told = past_links look (λ a. refl) g p q (sights told.grants)
 look_told g p m (packets.LevelTransition q) told =
     past_level look (λ a. refl) (level_told (fact_with g p m (packets.LevelTransition q))) (sights told.grants)
-look_told g p m other told = kept_all (sights told.grants)
+look_told g p m other told = filter-true (sights told.grants)
 
 looks_in_time : (hs : List Happening) → IsInTime hs → value look hs ≡ sights (told_in hs).grants
 looks_in_time [] t = refl
 looks_in_time (Happening.Seen sight ∷ hs) t =
     let seen = (told_in hs).grants in
     step_to look (Happening.Seen sight) hs (sights seen) (looks_in_time hs t.1)
-    ∙ (ap (λ xs. sight ∷ xs) (kept_all (sights seen))
+    ∙ (ap (λ xs. sight ∷ xs) (filter-true (sights seen))
     ∙ ap (λ (at : ℕ). (let s : Sight = record { moment = at; train = sight.train } in s) ∷ sights seen) (t.0 ∙ moment_is hs))
 looks_in_time (Happening.Told fact ∷ hs) t =
     step_to look (Happening.Told fact) hs (sights (told_in hs).grants) (looks_in_time hs t)
@@ -95,7 +96,7 @@ looks_in_time (Happening.Entered mode ∷ hs) t =
     step_to look (Happening.Entered mode) hs (sights (told_in hs).grants) (looks_in_time hs t)
     ∙ by_mode look sights authority_deleted (λ xs. refl) (deleting item.Authority mode) (told_in hs).grants
 looks_in_time (other ∷ hs) t =
-    step_to look other hs (sights (told_in hs).grants) (looks_in_time hs t) ∙ kept_all (sights (told_in hs).grants)
+    step_to look other hs (sights (told_in hs).grants) (looks_in_time hs t) ∙ filter-true (sights (told_in hs).grants)
 
 -- so it is in a life
 

@@ -14,12 +14,13 @@ use Rattle.restriction.specs.declared.restriction.Restriction.{Restriction}
 use Rattle.restriction.specs.Covering.{is_ended_by, reaches_past}
 use Rattle.track_store.specs.Restrictions as track
 use Rattle.track_store.specs.Restrictions.{RestrictionEntry, InForce, ends, standing_but_for, standing}
+use Rattle.track_store.proofs.Standing.{filter-true}
 use Rattle.track_picture.specs.Columns.{TrackTold, told_in}
 use Rattle.track_picture.specs.Live.{Happening, level_told, deleting}
 use Rattle.track_picture.specs.Parts.{restrictions_in}
 use Rattle.track_picture.proofs.EachKind.{restricted}
 use Rattle.track_picture.proofs.Marking.{one_mark}
-use Rattle.track_picture.proofs.OneKind.{Follows, value, fact_with, kept_all, follows, filter_both, past_linked, past_links, past_level}
+use Rattle.track_picture.proofs.OneKind.{Follows, value, fact_with, follows, filter_both, past_linked, past_links, past_level}
 use Rattle.track_picture.proofs.Profile.{mark_is}
 
 -- ---- the restrictions that no later entry ends, the newest first
@@ -49,21 +50,14 @@ stand later (track.RestrictionEntry.Revoked number ∷ es) =
 stand later (track.RestrictionEntry.Forgotten mark ∷ es) = stand (track.RestrictionEntry.Forgotten mark ∷ later) es
 
 all_stand : (es : List RestrictionEntry) → standing es ≡ reverse (alive es)
-all_stand es = stand [] es ∙ ap reverse (kept_all (alive es))
+all_stand es = stand [] es ∙ ap reverse (filter-true (alive es))
 
 -- ---- they are those that count
 
 -- no mode ends one
 pub none_deletes : (m : Mode) → deleting item.Restrictions m ≡ false
 none_deletes mode.StandBy = refl
-none_deletes mode.Shunting = refl
-none_deletes mode.StaffResponsible = refl
-none_deletes mode.Unfitted = refl
-none_deletes mode.FullSupervision = refl
-none_deletes mode.OnSight = refl
-none_deletes mode.Trip = refl
-none_deletes mode.PostTrip = refl
-none_deletes mode.SystemFailure = refl
+none_deletes other = refl
 
 abbrev left : TrackTold → List Restriction
 left told = alive told.restrictions
@@ -75,14 +69,14 @@ restricted_told g p m (packets.RestrictionRevocation q) told = refl
 restricted_told g p m (packets.Linking q) told = past_links restricted (λ a. refl) g p q (left told)
 restricted_told g p m (packets.LevelTransition q) told =
     past_level restricted (λ a. refl) (level_told (fact_with g p m (packets.LevelTransition q))) (left told)
-restricted_told g p m other told = kept_all (left told)
+restricted_told g p m other told = filter-true (left told)
 
 restricted_one : (h : Happening) (told : TrackTold) → Follows restricted left h told
 restricted_one (Happening.Told fact) told = restricted_told fact.group fact.place fact.moment fact.packet told
 restricted_one (Happening.Linked entry) told = past_linked restricted refl entry (left told)
 restricted_one (Happening.Entered m) told =
-    ap (λ b. filter (λ x. not b) (left told)) (none_deletes m) ∙ kept_all (left told)
-restricted_one other told = kept_all (left told)
+    ap (λ b. filter (λ x. not b) (left told)) (none_deletes m) ∙ filter-true (left told)
+restricted_one other told = filter-true (left told)
 
 alive_all : (hs : List Happening) → value restricted hs ≡ alive (told_in hs).restrictions
 alive_all = follows restricted left refl restricted_one

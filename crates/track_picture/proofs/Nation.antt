@@ -11,11 +11,12 @@ use Rattle.national.specs.Values.{ValuesFor}
 use Rattle.packets.specs.declared.packet.Packet.{Packet}
 use Rattle.packets.specs.declared.packet.Packet.TheVariants as packets
 use Rattle.track_store.specs.Profiles.{listed}
+use Rattle.track_store.proofs.Standing.{filter-true}
 use Rattle.track_picture.specs.Columns.{TrackTold, told_in, after_values}
 use Rattle.track_picture.specs.Live.{Happening, level_told, deleting}
 use Rattle.track_picture.specs.Parts.{newest, values_in, in_force_in}
 use Rattle.track_picture.proofs.EachKind.{values}
-use Rattle.track_picture.proofs.OneKind.{Follows, value, fact_with, newest_listed, kept_all, lost_all, follows, past_linked, past_links, past_level}
+use Rattle.track_picture.proofs.OneKind.{Follows, value, fact_with, newest_listed, lost_all, follows, past_linked, past_links, past_level}
 
 -- ---- what waits
 
@@ -37,14 +38,7 @@ entered_one country (Some fact) = refl
 -- no mode ends it
 pub none_deletes : (m : Mode) → deleting item.AnnouncedValues m ≡ false
 none_deletes mode.StandBy = refl
-none_deletes mode.Shunting = refl
-none_deletes mode.StaffResponsible = refl
-none_deletes mode.Unfitted = refl
-none_deletes mode.FullSupervision = refl
-none_deletes mode.OnSight = refl
-none_deletes mode.Trip = refl
-none_deletes mode.PostTrip = refl
-none_deletes mode.SystemFailure = refl
+none_deletes other = refl
 
 abbrev waits : TrackTold → List national.Fact
 waits told = listed (waiting told.values)
@@ -55,7 +49,7 @@ values_told g p m (packets.NationalValues q) told = ap (λ xs. national.fact_of 
 values_told g p m (packets.Linking q) told = past_links values (λ a. refl) g p q (waits told)
 values_told g p m (packets.LevelTransition q) told =
     past_level values (λ a. refl) (level_told (fact_with g p m (packets.LevelTransition q))) (waits told)
-values_told g p m other told = kept_all (waits told)
+values_told g p m other told = filter-true (waits told)
 
 values_one : (h : Happening) (told : TrackTold) → Follows values waits h told
 values_one (Happening.Told fact) told = values_told fact.group fact.place fact.moment fact.packet told
@@ -63,8 +57,8 @@ values_one (Happening.Linked entry) told = past_linked values refl entry (waits 
 values_one (Happening.Accepted group) told = entered_one group.country (waiting told.values)
 values_one (Happening.Seen sight) told = reached_one sight.train.max_front (waiting told.values)
 values_one (Happening.Entered m) told =
-    ap (λ b. filter (λ x. not b) (waits told)) (none_deletes m) ∙ kept_all (waits told)
-values_one other told = kept_all (waits told)
+    ap (λ b. filter (λ x. not b) (waits told)) (none_deletes m) ∙ filter-true (waits told)
+values_one other told = filter-true (waits told)
 
 pub waiting_are : (hs : List Happening) → value values hs ≡ listed (waiting (told_in hs).values)
 waiting_are = follows values waits refl values_one

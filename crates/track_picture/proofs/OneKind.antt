@@ -2,7 +2,7 @@
 use Rattle.std.proofs.Common.{◌≡◌, ℕ, ℤ, List, [], ◌∷◌, ◌++◌, Bool, true, false, cond, refl, ap, sym, ◌∙◌, ◌⊎◌, inl, inr}
 use Rattle.std.specs.Prelude.{◌||◌, Option, Some, None, not, map, filter, filter_map}
 use Rattle.std.specs.Option.{option_map_or}
-use Rattle.std.proofs.lemmas.List.Elements.{filter_map-append}
+use Rattle.std.proofs.lemmas.List.Elements.{filter_map-append, filter_agree}
 use Rattle.areas.specs.declared.announcement.Announcement.{Announcement as AnnouncedLevel}
 use Rattle.linking.specs.declared.announcement.Announcement.{Announcement}
 use Rattle.packets.specs.declared.linking.Linking.{Linking}
@@ -13,6 +13,7 @@ use Rattle.linking.specs.Linking.{LinkEntry}
 use Rattle.mode_table.specs.declared.mode.Mode.{Mode}
 use Rattle.mode_table.specs.declared.statuses.Item.{Item}
 use Rattle.track_store.specs.Profiles.{listed}
+use Rattle.track_store.proofs.Standing.{filter-true}
 use Rattle.track_picture.specs.Announcing.{announcements_of}
 use Rattle.track_picture.specs.Entry.{Fact}
 use Rattle.track_picture.specs.Columns.{TrackTold, nothing_told, after, told_in}
@@ -20,10 +21,6 @@ use Rattle.track_picture.specs.Live.{Happening, TrackFact, brought, missed_by, e
 use Rattle.track_picture.specs.Parts.{newest}
 
 -- ---- filters that keep all or nothing
-
-pub kept_all : {X : Type 0} (xs : List X) → filter (λ x. true) xs ≡ xs
-kept_all [] = refl
-kept_all (x ∷ xs) = ap (λ ys. x ∷ ys) (kept_all xs)
 
 pub lost_all : {X : Type 0} (xs : List X) → filter (λ x. false) xs ≡ []
 lost_all [] = refl
@@ -33,11 +30,6 @@ pub kept_if : {X : Type 0} (p : X → Bool) → ((x : X) → p x ≡ false) → 
 kept_if p none [] = refl
 kept_if p none (x ∷ xs) =
     ap (λ b. cond (not b) (x ∷ filter (λ y. not (p y)) xs) (filter (λ y. not (p y)) xs)) (none x) ∙ ap (λ ys. x ∷ ys) (kept_if p none xs)
-
-pub kept_alike : {X : Type 0} (p q : X → Bool) → ((x : X) → p x ≡ q x) → (xs : List X) → filter p xs ≡ filter q xs
-kept_alike p q same [] = refl
-kept_alike p q same (x ∷ xs) =
-    ap (λ b. cond b (x ∷ filter p xs) (filter p xs)) (same x) ∙ ap (λ ys. cond (q x) (x ∷ ys) ys) (kept_alike p q same xs)
 
 -- what one test and then another leave
 both_one : {X : Type 0} (p : X → Bool) (a : Bool) (x : X) (ys : List X) →
@@ -117,7 +109,7 @@ module _ {X : Type 0} (kind : Kind X) where
   -- facts of which none is of the kind add nothing
   dropped : (news : List TrackFact) (xs : List X) → filter_map kind.read news ≡ [] →
       filter_map kind.read news ++ filter (λ x. true) xs ≡ xs
-  dropped news xs none = ap (λ ys. ys ++ filter (λ x. true) xs) none ∙ kept_all xs
+  dropped news xs none = ap (λ ys. ys ++ filter (λ x. true) xs) none ∙ filter-true xs
 
   no_miss : kind.read TrackFact.Miss ≡ None → (entry : LinkEntry) → filter_map kind.read (missed_by entry) ≡ []
   no_miss n (linking.LinkEntry.Announced announcements) = refl
@@ -164,7 +156,7 @@ module _ {X : Type 0} (kind : Kind X) where
   pub by_mode : {E : Type 0} (inner : List E → List X) (clear : List E → List E) → ((es : List E) → inner (clear es) ≡ []) →
       (deleted : Bool) (es : List E) → filter (λ x. not deleted) (inner es) ≡ inner (cond deleted (clear es) es)
   by_mode inner clear cleared true es = lost_all (inner es) ∙ sym (cleared es)
-  by_mode inner clear cleared false es = kept_all (inner es)
+  by_mode inner clear cleared false es = filter-true (inner es)
 
   pub stays : (it : Item) → ((mode : Mode) → deleting it mode ≡ false) → ((mode : Mode) (x : X) → ended (Happening.Entered mode) x ≡ deleting it mode) →
       (mode : Mode) (hs : List Happening) → value (Happening.Entered mode ∷ hs) ≡ value hs
@@ -178,5 +170,5 @@ module _ {X : Type 0} (kind : Kind X) where
       (mode : Mode) (hs : List Happening) → deleting it mode ≡ true → value (Happening.Entered mode ∷ hs) ≡ []
   deleted it by_mode mode hs e =
       step (Happening.Entered mode) hs
-      ∙ (kept_alike (λ x. not (ended (Happening.Entered mode) x)) (λ x. not (deleting it mode)) (λ x. ap not (by_mode mode x)) (value hs)
+      ∙ (filter_agree (λ x. not (ended (Happening.Entered mode) x)) (λ x. not (deleting it mode)) (λ x. ap not (by_mode mode x)) (value hs)
       ∙ lost_if (deleting it mode) (value hs) e)

@@ -1,8 +1,9 @@
 -- One packet of a walk over the packets of a group, and a walk for which there is none.
 use Rattle.std.proofs.Common.{◌≡◌, Bool, true, false, Option, Some, None, List, [], ◌∷◌, cond, refl, ap, ◌∙◌}
-use Rattle.std.specs.Prelude.{map, filter, ◌||◌, is_some}
+use Rattle.std.specs.Prelude.{map, filter, is_some}
 use Rattle.std.specs.List.{list_any}
 use Rattle.std.specs.Option.{option_map_or}
+use Rattle.balise_groups.proofs.Places.{or_left, or_right}
 use Rattle.packets.specs.declared.packet.Packet.{Packet}
 use Rattle.packets.specs.Packets.{as_revocation, as_mode_profile}
 use Rattle.track_picture.specs.declared.using.Use.{Use}
@@ -26,14 +27,6 @@ module _ {A : Type 0} (tell : Fact → A → A) (used : Use) (packet : Packet) (
   one_packet = by_use (is_used used.mode used.direction packet)
 
 -- ---- a packet that isn't for the second walk tells it nothing
-
-or_left : (a b : Bool) → (a || b) ≡ false → a ≡ false
-or_left true b h = cc
-or_left false b h = refl
-
-or_right : (a b : Bool) → (a || b) ≡ false → b ≡ false
-or_right true b h = cc
-or_right false b h = h
 
 nothing_told : {A B : Type 0} (tell : A → B) (o : Option A) (told : B) → is_some o ≡ false → option_map_or tell o told ≡ told
 nothing_told tell None told h = refl

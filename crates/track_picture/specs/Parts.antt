@@ -2,7 +2,7 @@
 -- 3.18.2 and 5.10; the forgetting mark: this project's profile). Lists have the newest first. Places are centimetres,
 -- moments milliseconds. The place of the train isn't a fact that something ends: it is read off movements and
 -- fixes.
-use Rattle.std.specs.Prelude.{ℕ, ℤ, pos, neg_ℤ, Bool, true, false, Option, Some, None, List, [], ◌∷◌, reverse, filter, filter_map}
+use Rattle.std.specs.Prelude.{ℕ, ℤ, pos, neg_ℤ, Option, Some, None, List, [], ◌∷◌, reverse, filter, filter_map}
 use Rattle.std.specs.Int.{int_max}
 use Rattle.std.specs.Option.{option_map, option_map_or}
 use Rattle.units.specs.Limits.{outermost}
@@ -22,6 +22,7 @@ use Rattle.restriction.specs.Covering.{reaches_past}
 use Rattle.speed_profile.specs.declared.told.CategorySpeeds.{CategorySpeeds}
 use Rattle.track_store.specs.Facts as profiles
 use Rattle.track_store.specs.Restrictions.{InForce}
+use Rattle.track_store.specs.Profiles.{is_any}
 use Rattle.track_picture.specs.Live.{Happening, TrackFact, live}
 
 -- ---- the facts of one kind
@@ -69,10 +70,6 @@ as_areas fact = None
 abbrev pub newest : {X : Type 0} → List X → Option X
 newest [] = None
 newest (x ∷ xs) = Some x
-
-abbrev pub is_any : {X : Type 0} → List X → Bool
-is_any [] = false
-is_any (x ∷ xs) = true
 
 -- ---- each part
 

@@ -66,16 +66,12 @@ class Folder:
         return len(self.case_files) + len(self.scenarios)
 
     def __iter__(self) -> Iterator[Job]:
-        for path in self.case_files:
-            found = case_files.files_of(path)
+        for name in self.case_files:
+            found = case_files.files_of(self.folder / name)
             root = Path(os.path.commonpath([one.parent for one in found]))
-            yield self.job(path, "case", tuple((one.relative_to(root).as_posix(), one.read_bytes()) for one in found))
-        for path in self.scenarios:
-            yield self.job(path, "scenario", (("scenario.json", path.read_bytes()),))
-
-    def job(self, path: Path, kind: str, files: tuple[tuple[str, bytes], ...]) -> Job:
-        """The job of a file, which is named as it is below the folder."""
-        return Job(shown("/".join(path.parts[len(self.folder.parts):])), kind, files, self.slots)
+            yield Job(shown(name), "case", tuple((one.relative_to(root).as_posix(), one.read_bytes()) for one in found), self.slots)
+        for name in self.scenarios:
+            yield Job(shown(name), "scenario", (("scenario.json", (self.folder / name).read_bytes()),), self.slots)
 
 
 def at_random(count: int, seed: int, slots: int) -> Iterator[Job]:

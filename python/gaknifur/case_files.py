@@ -1,4 +1,5 @@
 """The files of test cases below a folder, and what they name."""
+import contextlib
 import os
 from pathlib import Path
 
@@ -26,17 +27,31 @@ def files_of(path: Path) -> list[Path]:
     return found
 
 
-def is_case_file(path: Path) -> bool:
+def is_case_file(name: str) -> bool:
     """Whether a file has test cases, by its name."""
-    return path.name == "case.yaml" or path.name.endswith(".case.yaml")
+    return name == "case.yaml" or name.endswith(".case.yaml")
 
 
-def below(folder: Path) -> tuple[list[Path], list[Path]]:
-    """The files of cases below a folder, and the scenarios in JSON that none of them names."""
+def names_below(folder: Path) -> list[str]:
+    """The names, as they are below a folder, of the files that may have a case or a scenario, in their order. A folder that may not
+    be looked into has none."""
+    found, within = list[str](), [""]
+    for at in within:
+        with contextlib.suppress(OSError), os.scandir(folder / at) as entries:
+            for entry in entries:
+                if entry.is_dir(follow_symlinks=False):
+                    within.append(f"{at}{entry.name}/")
+                elif entry.name.endswith(SUFFIXES) and entry.name not in SUFFIXES and entry.is_file():
+                    found.append(f"{at}{entry.name}")
+    return sorted(found, key=lambda name: name.split("/"))
+
+
+def below(folder: Path) -> tuple[list[str], list[str]]:
+    """The files of cases below a folder, and the scenarios in JSON that none of them names, by their names there."""
     if not folder.is_dir():
         raise Failed(f"{folder}: there is no such folder", DEVICE)
-    named_so = (Path(at, name) for at, _, names in os.walk(folder) for name in names if name.endswith(SUFFIXES))
-    paths = sorted((path for path in named_so if os.path.isfile(path)), key=lambda path: path.parts)
-    case_files = [path for path in paths if is_case_file(path)]
-    named = {other for path in case_files for other in files_of(path)}
-    return case_files, [path for path in paths if path.suffix == ".json" and (not named or path.resolve() not in named)]
+    names = names_below(folder)
+    case_files = [name for name in names if is_case_file(name.rpartition("/")[2])]
+    named = {other for name in case_files for other in files_of(folder / name)}
+    scenarios = [name for name in names if name.endswith(".json")]
+    return case_files, [name for name in scenarios if (folder / name).resolve() not in named] if named else scenarios

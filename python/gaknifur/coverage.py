@@ -80,7 +80,7 @@ def files(folder: Path) -> list[Path]:
         return [folder]
     if not folder.is_dir():
         raise Failed(f"{folder}: there is no such folder", DEVICE)
-    return sorted(path for path in folder.rglob("*.yaml") if case_files.is_case_file(path))
+    return sorted(path for path in folder.rglob("*.yaml") if case_files.is_case_file(path.name))
 
 
 def all_cases(folder: Path) -> list[Case]:

@@ -202,7 +202,7 @@ def of_cases(path: Path) -> Iterator[Subject]:
 
 def of_file(path: Path) -> Iterator[Subject]:
     """A file of cases, a scenario in YAML, or one in JSON."""
-    if case_files.is_case_file(path):
+    if case_files.is_case_file(path.name):
         yield from of_cases(path)
     elif path.suffix in (".yaml", ".yml"):
         at = document(path)
@@ -221,7 +221,7 @@ def paths_of(path: Path) -> list[Path]:
     found, others = case_files.below(path)
     if not found and not others:
         raise Failed(f"{path}: has no test case and no scenario", DEVICE)
-    return [*found, *others]
+    return [path / name for name in (*found, *others)]
 
 
 # ---- the word

@@ -52,7 +52,7 @@ def folder_of(config: pytest.Config) -> Path | None:
 
 def pytest_collect_file(file_path: Path, parent: pytest.Collector) -> "CaseFile | None":
     """The files of test cases."""
-    return CaseFile.from_parent(parent, path=file_path) if case_files.is_case_file(file_path) else None
+    return CaseFile.from_parent(parent, path=file_path) if case_files.is_case_file(file_path.name) else None
 
 
 class CaseFile(pytest.File):

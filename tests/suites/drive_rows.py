@@ -180,7 +180,7 @@ def main(etcs, etcs_lab):
     with tempfile.TemporaryDirectory() as folder:
         compared = Driven(Path(folder))
         for path in sorted(DRIVES.glob("*.yaml")):
-            if not case_files.is_case_file(path):
+            if not case_files.is_case_file(path.name):
                 compared.drive(path)
         compared.refusals()
         compared.table()

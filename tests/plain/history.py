@@ -2,7 +2,6 @@
 quantity is worked out anew from these (this project's profile)."""
 from collections import namedtuple
 from dataclasses import dataclass, field
-from functools import wraps
 
 import authority
 import driver
@@ -51,27 +50,8 @@ class Entry:
         return any(verdict.service for verdict in self.verdicts)
 
 
-def once(read):
-    """What is asked for again before anything else happened isn't worked out again: all entries but the newest one, and all facts,
-    stay as they are."""
-    @wraps(read)
-    def known(self, *words):
-        now = self.now
-        happened = len(self.entries), len(self.facts), now.accepted, now.came_in, now.entered
-        if self.known_of != happened:
-            self.known, self.known_of = {}, happened
-        asked = read, words
-        if asked not in self.known:
-            self.known[asked] = read(self, *words)
-        return self.known[asked]
-
-    return known
-
-
 class History:
     """The entries and facts of a life, and what they say."""
-
-    known_of = None
 
     # ---- what is read off the entries
 
@@ -88,7 +68,6 @@ class History:
     def mode(self):
         return next((entry.entered for entry in reversed(self.entries) if entry.entered), "SB")
 
-    @once
     def item(self, name):
         """What an accepted entry, a confirmation, a level that came into force and the modes entered made of an item."""
         item = self.begun.items[name]
@@ -105,7 +84,6 @@ class History:
                 item = met_by(item, fate(name, entry.entered))
         return item
 
-    @once
     def train(self):
         """None where its data are not valid."""
         item = self.item("train-data")
@@ -115,7 +93,6 @@ class History:
         item = self.item("level")
         return item.value if item.status == VALID else None
 
-    @once
     def is_tripped(self):
         """A trip is outstanding."""
         tripped = self.begun.kept.trip
@@ -126,7 +103,6 @@ class History:
                 tripped = True
         return tripped
 
-    @once
     def is_revalidated(self):
         accepted = [entry.accepted for entry in self.entries if entry.accepted]
         given = [at for at, (word, value) in enumerate(accepted)
@@ -170,7 +146,6 @@ class History:
 
     # ---- what is read off the facts
 
-    @once
     def facts_of(self, *kinds):
         """The live facts of some packets: those that no mode entered by their own or a later entry deletes."""
         found = [fact for fact in self.facts if fact.packet.kind in kinds]

@@ -72,9 +72,9 @@ PLANTS = (
     ),
     (
         "an edit that nobody names",
-        "crates/ring/must-fail/another.edit",
+        "crates/authority/must-fail/another.edit",
         None,
-        "file: src/laws.rt\nold: pub fn ring_is_endless()\nnew: x\n",
+        "file: src/laws.rt\nold: pub fn timers_start()\nnew: x\n",
         "no requirement names the must-fail edit another",
     ),
     (

@@ -18,28 +18,14 @@ fault_at n =
 fault_at-number : (e : TelegramFault) → fault_at (fault_number e) ≡ e
 unfolding fault_at
 fault_at-number Truncated = refl
-fault_at-number WrongLength = refl
-fault_at-number Spare = refl
-fault_at-number OutOfRange = refl
-fault_at-number WrongVersion = refl
-fault_at-number NotUplink = refl
-fault_at-number NotBalise = refl
-fault_at-number NoEnd = refl
-fault_at-number TooLong = refl
+fault_at-number other = refl
 
 pub number_once : (d e : TelegramFault) → fault_number d ≡ fault_number e → d ≡ e
 number_once d e same = sym (fault_at-number d) ∙ ap fault_at same ∙ fault_at-number e
 
 pub number_some : (e : TelegramFault) → 0 < fault_number e
 number_some Truncated = omega arith
-number_some WrongLength = omega arith
-number_some Spare = omega arith
-number_some OutOfRange = omega arith
-number_some WrongVersion = omega arith
-number_some NotUplink = omega arith
-number_some NotBalise = omega arith
-number_some NoEnd = omega arith
-number_some TooLong = omega arith
+number_some other = omega arith
 
 -- ---- walks
 

@@ -59,62 +59,22 @@ longer (then_ m f) c front =
 -- what a layout begins with stands in front
 abbrev First : {F C A : Type 0} → Layout F C A → C → List Bool → Type 0
 First (then_ m f) c front = Longer (appended m c front) (appended (then_ m f) c front)
-First (done x) c front = Unit {0}
-First (unless b f) c front = Unit {0}
-First (field name f g codes get) c front = Unit {0}
-First (run n f get) c front = Unit {0}
-First (choice b m n) c front = Unit {0}
-First (kind make get m) c front = Unit {0}
-First (part given m get) c front = Unit {0}
-First (inner m get) c front = Unit {0}
-First (measured f before m) c front = Unit {0}
-First (more n m before get) c front = Unit {0}
-First (told_as g m) c front = Unit {0}
+First other c front = Unit {0}
 
 first : {F C A : Type 0} (m : Layout F C A) (c : C) (front : List Bool) → First m c front
 first (then_ m f) c front =
     option_longer (λ x. appended (f x) c (appended m c front)) (value m c) (appended m c front) (appended m c front) (itself (appended m c front))
     (λ x. longer (f x) c (appended m c front))
-first (done x) c front = tt
-first (unless b f) c front = tt
-first (field name f g codes get) c front = tt
-first (run n f get) c front = tt
-first (choice b m n) c front = tt
-first (kind make get m) c front = tt
-first (part given m get) c front = tt
-first (inner m get) c front = tt
-first (measured f before m) c front = tt
-first (more n m before get) c front = tt
-first (told_as g m) c front = tt
+first other c front = tt
 
 -- what the layout behind its first part begins with
 abbrev Second : {F C A : Type 0} → Layout F C A → C → List Bool → Type 0
 Second (then_ m f) c front = (x : _) → value m c ≡ Some x → First (f x) c (appended m c front)
-Second (done x) c front = Unit {0}
-Second (unless b f) c front = Unit {0}
-Second (field name f g codes get) c front = Unit {0}
-Second (run n f get) c front = Unit {0}
-Second (choice b m n) c front = Unit {0}
-Second (kind make get m) c front = Unit {0}
-Second (part given m get) c front = Unit {0}
-Second (inner m get) c front = Unit {0}
-Second (measured f before m) c front = Unit {0}
-Second (more n m before get) c front = Unit {0}
-Second (told_as g m) c front = Unit {0}
+Second other c front = Unit {0}
 
 second : {F C A : Type 0} (m : Layout F C A) (c : C) (front : List Bool) → Second m c front
 second (then_ m f) c front = λ x e. first (f x) c (appended m c front)
-second (done x) c front = tt
-second (unless b f) c front = tt
-second (field name f g codes get) c front = tt
-second (run n f get) c front = tt
-second (choice b m n) c front = tt
-second (kind make get m) c front = tt
-second (part given m get) c front = tt
-second (inner m get) c front = tt
-second (measured f before m) c front = tt
-second (more n m before get) c front = tt
-second (told_as g m) c front = tt
+second other c front = tt
 
 -- ---- the head of a packet
 

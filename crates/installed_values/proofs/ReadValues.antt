@@ -78,68 +78,18 @@ length-countries : (cs : List ℕ) → length (flat_map (number_bits 10) cs) ≡
 length-countries [] = refl
 length-countries (c ∷ cs) = omega (arith, length-append (number_bits 10 c) (flat_map (number_bits 10) cs), length-number_bits 10 c, length-countries cs)
 
+-- the variable of a row, its bits, and the rows behind it
+row : {A B C : Type 0} → A → B → C → A × B × C
+row variable bits behind = (variable, bits, behind)
+
 fits : (v : NationalValues) → Fit (length v.countries.items) (own (rows_of 3)) (values_of v)
-fits v = (
-  refl,
-  length-number_bits 2 _,
-  (
-    refl,
-    length-number_bits 15 _,
-    (
-      refl,
-      length-number_bits 5 _,
-      (
-        refl,
-        length-countries v.countries.items,
-        (
-          refl,
-          length-number_bits 7 _,
-          (
-            refl,
-            length-number_bits 7 _,
-            (
-              refl,
-              length-number_bits 7 _,
-              (
-                refl,
-                length-number_bits 7 _,
-                (
-                  refl,
-                  length-number_bits 7 _,
-                  (
-                    refl,
-                    length-number_bits 15 _,
-                    (
-                      refl,
-                      length-number_bits 7 _,
-                      (
-                        refl,
-                        length-number_bits 7 _,
-                        (
-                          refl,
-                          length-number_bits 15 _,
-                          (
-                            refl,
-                            length-number_bits 8 _,
-                            (
-                              refl,
-                              length-number_bits 15 _,
-                              tt,
-                            ),
-                          ),
-                        ),
-                      ),
-                    ),
-                  ),
-                ),
-              ),
-            ),
-          ),
-        ),
-      ),
-    ),
-  ),
-)
+fits v =
+    row refl (length-number_bits 2 _) (row refl (length-number_bits 15 _) (row refl (length-number_bits 5 _) (
+    row refl (length-countries v.countries.items) (row refl (length-number_bits 7 _) (
+    row refl (length-number_bits 7 _) (row refl (length-number_bits 7 _) (row refl (length-number_bits 7 _) (
+    row refl (length-number_bits 7 _) (row refl (length-number_bits 15 _) (row refl (length-number_bits 7 _) (
+    row refl (length-number_bits 7 _) (row refl (length-number_bits 15 _) (row refl (length-number_bits 8 _) (
+    row refl (length-number_bits 15 _) tt))))))))))))))
 
 each_is : (cs : List ℕ) (s : List Bool) → each_taken (λ x left. appended country x left) cs s ≡ s ++ flat_map (number_bits 10) cs
 unfolding each_taken country

@@ -145,10 +145,7 @@ behind_mark n at z pad m =
 
 mark_of : (end : ListingEnd) → has_end end ≡ true → (k : ℕ) × (end ≡ EndMark k)
 mark_of (EndMark k) h = (k, refl)
-mark_of (NoEnd k) h = absurd cc
-mark_of (CutOff k) h = absurd cc
-mark_of (WrongLength k) h = absurd cc
-mark_of (TooMany k) h = absurd cc
+mark_of other h = absurd cc
 
 -- another end is no end mark
 no_other : (n at : ℕ) (bits : List Bool) → EndsElse at bits → ends_so (listed (suc n) at bits) ≡ true → ⊥

@@ -11,7 +11,7 @@ use Rattle.track_packets.specs.Layouts.{rows_of}
 use Rattle.track_packets.specs.Listing.{place_at, listed, listing_of, ended}
 use Rattle.track_packets.specs.declared.listing.Listing.{Listing}
 use Rattle.track_packets.specs.declared.listing.ListingEnd.{ListingEnd}
-use Rattle.track_packets.specs.declared.listing.ListingEnd.TheVariants.{EndMark, NoEnd, CutOff, WrongLength, TooMany}
+use Rattle.track_packets.specs.declared.listing.ListingEnd.TheVariants.{EndMark, CutOff, WrongLength}
 use Rattle.track_packets.specs.declared.listing.PacketPlace.{PacketPlace}
 use Rattle.installed_values.specs.Adapting.{Tells, adapted_bits, countries_at, found_in, has_end}
 use Rattle.installed_values.specs.Finding.{installed_in, of_installed}
@@ -239,10 +239,7 @@ others_stay p bytes written y pad is =
 
 end_stays : (e : ListingEnd) → has_end e ≡ true → has_end (end_back e) ≡ true
 end_stays (EndMark k) h = refl
-end_stays (NoEnd k) h = h
-end_stays (CutOff k) h = h
-end_stays (WrongLength k) h = h
-end_stays (TooMany k) h = h
+end_stays other h = h
 
 found_nothing : (p : PacketPlace) (bytes written : List ℕ) (y pad : List Bool) → IsFor p bytes written y pad → found_in written ≡ Nothing
 found_nothing p bytes written y pad is =

@@ -76,15 +76,7 @@ none_so false false h = (refl, refl)
 -- a list without a cause for either is empty
 each : (why : BrakeCause) → is_emergency (command_of why) ≡ false → is_service (command_of why) ≡ false → ⊥
 each cause.NotRevalidated e s = cc
-each cause.InTrip e s = cc
-each cause.InSystemFailure e s = cc
-each cause.OwesTrip e s = cc
-each cause.FarTooFast e s = cc
-each cause.RolledTooFar e s = cc
-each cause.AskedForService e s = cc
-each cause.TooFast e s = cc
-each cause.MustStand e s = cc
-each cause.OwesTooLong e s = cc
+each other e s = cc
 
 neither : (one other : Bool) → (one || other) ≡ false → one ≡ false
 neither true other h = h

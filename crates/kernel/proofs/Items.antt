@@ -63,7 +63,7 @@ behind_mode : (mode : Option Mode) (first rest : List DriverEntry) → after_mod
 behind_mode None first rest = refl
 behind_mode (Some mode) first rest = refl
 
-one_entry : (entry : SupervisionEntry) (entries : List SupervisionEntry) → deeds (entry ∷ entries) ≡ deeds (entry ∷ []) ++ deeds entries
+pub one_entry : (entry : SupervisionEntry) (entries : List SupervisionEntry) → deeds (entry ∷ entries) ≡ deeds (entry ∷ []) ++ deeds entries
 one_entry entry entries =
     let rest = deeds entries in
     ap (λ (es : List DriverEntry). after_mode entry.track.entered (after_level entry.level es)) (behind_deed entry.deed rest)
@@ -72,18 +72,15 @@ one_entry entry entries =
 
 -- ---- the value of a datum
 
+as_invalid : {A : Type 0} (one : Datum A) → value_of (met_by I one) ≡ value_of one
+as_invalid Unknown = refl
+as_invalid (Valid v) = refl
+as_invalid (Invalid v) = refl
+
 by_fate : {A : Type 0} (fate : Fate) (one other : Datum A) → value_of one ≡ value_of other → value_of (met_by fate one) ≡ value_of (met_by fate other)
 by_fate K one other same = same
 by_fate D one other same = refl
-by_fate I Unknown Unknown same = same
-by_fate I Unknown (Valid w) same = same
-by_fate I Unknown (Invalid w) same = same
-by_fate I (Valid v) Unknown same = same
-by_fate I (Valid v) (Valid w) same = same
-by_fate I (Valid v) (Invalid w) same = same
-by_fate I (Invalid v) Unknown same = same
-by_fate I (Invalid v) (Valid w) same = same
-by_fate I (Invalid v) (Invalid w) same = same
+by_fate I one other same = as_invalid one ∙ same ∙ sym (as_invalid other)
 
 as_confirmed : {A : Type 0} (one : Datum A) → value_of (confirmed one) ≡ value_of one
 as_confirmed Unknown = refl
@@ -102,15 +99,11 @@ still_invalid (Some v) = refl
 
 still_known : {A : Type 0} (c : Cold) (kept : Datum A) → value_of (met_by (power_up_status item.Level c) kept) ≡ value_of kept
 still_known cold.NotMoved kept = refl
-still_known cold.Unknown Unknown = refl
-still_known cold.Unknown (Valid v) = refl
-still_known cold.Unknown (Invalid v) = refl
-still_known cold.Moved Unknown = refl
-still_known cold.Moved (Valid v) = refl
-still_known cold.Moved (Invalid v) = refl
+still_known cold.Unknown kept = as_invalid kept
+still_known cold.Moved kept = as_invalid kept
 
 module _ {A : Type 0} (told : DriverEntry → ItemTold A) where
-  in_turn : (kept : Datum A) (first rest : List DriverEntry) → datum_after told kept (first ++ rest) ≡ datum_after told (datum_after told kept rest) first
+  pub in_turn : (kept : Datum A) (first rest : List DriverEntry) → datum_after told kept (first ++ rest) ≡ datum_after told (datum_after told kept rest) first
   in_turn kept [] rest = refl
   in_turn kept (e ∷ first) rest = ap (after_told (told e)) (in_turn kept first rest)
 

@@ -4,7 +4,7 @@ use Rattle.std.specs.Prelude.{is_some, None, Some, unwrap_or}
 use Rattle.units.specs.Stretches.{Span}
 use Rattle.events.specs.declared.input.Event.TheVariants.{PowerUp, Input}
 use Rattle.mode_table.specs.declared.mode.Mode.{Mode}
-use Rattle.mode_table.specs.declared.mode.Mode.TheVariants.{FullSupervision, OnSight, StaffResponsible, Shunting, Unfitted, StandBy, Trip, PostTrip, SystemFailure}
+use Rattle.mode_table.specs.declared.mode.Mode.TheVariants.{FullSupervision, Trip}
 use Rattle.mode_table.specs.Modes.{is_mode}
 use Rattle.mode_table.specs.Rows.{next_mode}
 use Rattle.mode_control.specs.Conditions.{conditions}
@@ -30,25 +30,11 @@ module _ (life : Life) (train : Span) where
 
   to_trip : (old : Mode) → IsTold old Trip (is_mode old Trip)
   to_trip FullSupervision = refl
-  to_trip OnSight = refl
-  to_trip StaffResponsible = refl
-  to_trip Shunting = refl
-  to_trip Unfitted = refl
-  to_trip StandBy = refl
-  to_trip Trip = refl
-  to_trip PostTrip = refl
-  to_trip SystemFailure = refl
+  to_trip other = refl
 
   told_by : (old new : Mode) → IsTold old new (is_mode old new)
-  told_by old FullSupervision = to_another old FullSupervision (is_mode old FullSupervision) refl refl
-  told_by old OnSight = to_another old OnSight (is_mode old OnSight) refl refl
-  told_by old StaffResponsible = to_another old StaffResponsible (is_mode old StaffResponsible) refl refl
-  told_by old Shunting = to_another old Shunting (is_mode old Shunting) refl refl
-  told_by old Unfitted = to_another old Unfitted (is_mode old Unfitted) refl refl
-  told_by old StandBy = to_another old StandBy (is_mode old StandBy) refl refl
   told_by old Trip = to_trip old
-  told_by old PostTrip = to_another old PostTrip (is_mode old PostTrip) refl refl
-  told_by old SystemFailure = to_another old SystemFailure (is_mode old SystemFailure) refl refl
+  told_by old other = to_another old other (is_mode old other) refl refl
 
 pub trips_told : TripsHaveCauses
 trips_told (PowerUp cold) events = refl

@@ -1,6 +1,6 @@
 //! What a format tells of a record, and of what is kept.
 ghost use Rattle.std.specs.Prelude.{◌≡◌};
-ghost use Rattle.blocks.specs.Items.{invalid};
+ghost use Rattle.driver.specs.Data.{invalidated};
 ghost use Rattle.blocks.specs.Blocks.{event_told, situation_told, record_told, kept_told};
 
 use blocks::{BlockRecord, Format, Record, Situation};
@@ -59,7 +59,7 @@ pub(crate) fn told_in(format: Format, whole: Record) -> BlockRecord
 
 // What was valid, told invalid.
 fn told_invalid<T: Copy>(datum: Datum<T>) -> Datum<T>
-    ensures { result ≡ invalid datum }
+    ensures { result ≡ invalidated datum }
 {
     match datum {
         Datum::Unknown => Datum::Unknown,

@@ -1,6 +1,6 @@
 use Rattle.std.proofs.Common.{◌≡◌, ap, sym, refl, ◌∙◌}
 use Rattle.events.specs.declared.input.Input.{Input}
-use Rattle.events.specs.declared.input.Input.TheVariants.{Telegram, Odometer, Clock, Driver}
+use Rattle.events.specs.declared.input.Input.TheVariants.{Telegram}
 use Rattle.track_picture.specs.StandsFor.{KnownTrack}
 use Rattle.kernel.specs.Brake.{stands, backward_by}
 use Rattle.kernel.specs.StandsFor.{reading_of}
@@ -10,9 +10,7 @@ use Rattle.kernel.proofs.receiving.sight_of.Goals as goal
 
 reading_is : (life : Life) (input : Input) → (entry_of life input).track.begun.reading ≡ reading_of input
 reading_is life (Telegram bytes) = refl
-reading_is life (Odometer reading) = refl
-reading_is life (Clock moment) = refl
-reading_is life (Driver action) = refl
+reading_is life other = refl
 
 pub returns : goal.returns
 returns g c life s =

@@ -3,7 +3,7 @@
 use crate::examined::verdict_of;
 use crate::images::{Image, Named, opened_whole};
 use crate::replayed::stopped;
-use crate::status::{Status, unwritten};
+use crate::status::{Status, told};
 use lab_examine::{Form, Verdict};
 use lab_replay::{Outcome, WalkError, replay};
 use std::fs::File;
@@ -81,17 +81,13 @@ pub(crate) fn checked<R: Files<File = File> + AllocGlobal + Eprint, W: Write>(
     is_watched: bool,
     form: Form,
     out: &mut W,
-) -> Status {
-    let mut image = match opened_whole(rt, image, is_watched) {
-        Ok(image) => image,
-        Err(status) => return status,
-    };
-    let found = match check(rt, &mut image, form, out) {
-        Ok(found) => found,
-        Err(status) => return status,
-    };
-    match out.write_all(found.last_line(form).as_bytes()) {
-        Ok(()) => found.status(),
-        Err(_) => unwritten(rt, image.path),
-    }
+) -> Result<Status, Status> {
+    let mut image = opened_whole(rt, image, is_watched)?;
+    let found = check(rt, &mut image, form, out)?;
+    told(
+        rt,
+        image.path,
+        out.write_all(found.last_line(form).as_bytes()),
+    )?;
+    Ok(found.status())
 }

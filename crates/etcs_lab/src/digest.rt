@@ -2,7 +2,7 @@
 
 use crate::images::Named;
 use crate::progress::Progress;
-use crate::status::{Status, fail};
+use crate::status::unformatted;
 use blocks::read_first_sector;
 use disk::DiskFault;
 use file_disk::{RawFile, read_all};
@@ -72,7 +72,7 @@ pub(crate) fn facts_of<R: Eprint, F: RawFile>(
     let first = first_of(file)?;
     let is_formatted = is_readable(&first, image);
     if !is_formatted {
-        fail(rt, "is not a formatted image", image.path, Status::Refused);
+        unformatted(rt, image.path);
     }
     let length = file.length()?;
     if !is_formatted && length > MOST_BYTES {

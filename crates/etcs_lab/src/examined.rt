@@ -1,7 +1,7 @@
 //! The command `examine`.
 
-use crate::images::{Image, Named, opened_whole, unread};
-use crate::status::{Status, unwritten};
+use crate::images::{Image, Named, opened_whole};
+use crate::status::{Status, unread, unwritten};
 use lab_examine::{ExamineError, Form, Verdict, examine};
 use std::fs::File;
 use std::io::Write;
@@ -28,15 +28,11 @@ pub(crate) fn examined<R: Files<File = File> + Eprint, W: Write>(
     is_watched: bool,
     form: Form,
     out: &mut W,
-) -> Status {
-    let mut image = match opened_whole(rt, image, is_watched) {
-        Ok(image) => image,
-        Err(status) => return status,
-    };
-    match verdict_of(rt, &mut image, form, out) {
-        Ok(Verdict::Whole) => Status::Whole,
-        Ok(Verdict::Refused) => Status::Refused,
-        Ok(Verdict::NotWhole) => Status::Damaged,
-        Err(status) => status,
+) -> Result<Status, Status> {
+    let mut image = opened_whole(rt, image, is_watched)?;
+    match verdict_of(rt, &mut image, form, out)? {
+        Verdict::Whole => Ok(Status::Whole),
+        Verdict::Refused => Ok(Status::Refused),
+        Verdict::NotWhole => Ok(Status::Damaged),
     }
 }

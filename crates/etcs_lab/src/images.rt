@@ -4,7 +4,7 @@ ghost use Rattle.std.specs.Option.{ForSome};
 ghost use Rattle.blocks.specs.FirstSector.{least_slots, most_slots};
 
 use crate::digest::facts_of;
-use crate::status::{Status, fail};
+use crate::status::{Status, fail, unread};
 use file_disk::{FileDisk, ReadError, ReadOnlyFile};
 use given_slots::GivenSlots;
 use lab_examine::FileFacts;
@@ -56,11 +56,6 @@ fn disk_over<R: Eprint>(rt: &R, file: ReadOnlyFile, image: Named) -> Result<Imag
         Ok(disk) => Ok(GivenSlots::over(disk, within_limits(image.slots))),
         Err(_) => Err(unread(rt, image.path)),
     }
-}
-
-/// Says that an image can't be read.
-pub(crate) fn unread<R: Eprint>(rt: &R, path: &str) -> Status {
-    fail(rt, "can't be read", path, Status::Device)
 }
 
 /// Opens an image for reading alone; else says why not.

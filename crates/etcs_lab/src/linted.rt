@@ -14,16 +14,13 @@ pub(crate) fn linted<R: Files<File = File> + AllocGlobal + Eprint, W: Write>(
     path: &str,
     json: bool,
     out: &mut W,
-) -> Status {
-    let bytes = match fs::read(rt, path) {
-        Ok(bytes) => bytes,
-        Err(error) => return unread_for(rt, path, &error),
-    };
+) -> Result<Status, Status> {
+    let bytes = fs::read(rt, path).map_err(|error| unread_for(rt, path, &error))?;
     let form = if json { Form::Json } else { Form::People };
     match lint(rt.alloc(), &Scenario { bytes }, form, out) {
-        Ok(true) => Status::Whole,
-        Ok(false) => Status::Damaged,
-        Err(LintError::NoMemory) => no_memory(rt, path),
-        Err(LintError::Write) => unwritten(rt, path),
+        Ok(true) => Ok(Status::Whole),
+        Ok(false) => Ok(Status::Damaged),
+        Err(LintError::NoMemory) => Err(no_memory(rt, path)),
+        Err(LintError::Write) => Err(unwritten(rt, path)),
     }
 }

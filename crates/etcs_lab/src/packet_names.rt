@@ -1,7 +1,7 @@
 //! The command `packets`.
 
-use crate::status::{Status, fail, no_memory, unwritten};
-use hex::FromHexError;
+use crate::status::{Status, no_memory, told};
+use crate::telegrams::bytes_of;
 use packet_uses::{Fate, ToldPacket, never_used_packets};
 use packets::PacketFault;
 use pieces::{Form, Piece, write_parts, write_pieces};
@@ -331,27 +331,16 @@ pub(crate) fn packets_told<R: AllocGlobal + Eprint, W: Write>(
     digits: &str,
     form: Form,
     out: &mut W,
-) -> Status {
-    let bytes = match hex::decode(rt.alloc(), digits) {
-        Ok(bytes) => bytes,
-        Err(FromHexError::OutOfMemory) => return no_memory(rt, "HEX"),
-        Err(_) => {
-            return fail(
-                rt,
-                "isn't hexadecimal digits, two for each byte",
-                "HEX",
-                Status::Refused,
-            );
-        }
-    };
+) -> Result<Status, Status> {
+    let bytes = bytes_of(rt, digits)?;
     let listing = packets_in_order(bytes.as_slice());
-    let Some(told) = told_of(rt.alloc(), bytes.as_slice(), listing.packets.as_slice()) else {
-        return no_memory(rt, "HEX");
+    let Some(packets) = told_of(rt.alloc(), bytes.as_slice(), listing.packets.as_slice()) else {
+        return Err(no_memory(rt, "HEX"));
     };
-    let packets = told.as_slice();
-    match write_all(form, packets, listing.end, out) {
-        Ok(()) if is_whole(packets, listing.end) => Status::Whole,
-        Ok(()) => Status::Damaged,
-        Err(_) => unwritten(rt, "HEX"),
+    let packets = packets.as_slice();
+    told(rt, "HEX", write_all(form, packets, listing.end, out))?;
+    if is_whole(packets, listing.end) {
+        return Ok(Status::Whole);
     }
+    Ok(Status::Damaged)
 }

@@ -25,7 +25,7 @@ pub(crate) fn answer<R: Files<File = File> + Input + AllocGlobal + Eprint, W: Wr
     is_watched: bool,
     out: &mut W,
 ) -> Status {
-    match understood(words, slots) {
+    let done = match understood(words, slots) {
         Some(Asked::Help) => text_told(rt, HELP, "--help", out),
         Some(Asked::Examine(image, form)) => examined(rt, image, is_watched, form, out),
         Some(Asked::Events(image, all)) => events_told(rt, image, all, out),
@@ -39,6 +39,7 @@ pub(crate) fn answer<R: Files<File = File> + Input + AllocGlobal + Eprint, W: Wr
         Some(Asked::Packets(digits, form)) => packets_told(rt, digits, form, out),
         Some(Asked::Lint(scenario, is_json)) => linted(rt, scenario, is_json, out),
         Some(Asked::Run(scenario)) => played(rt, scenario, out),
-        None => usage(rt),
-    }
+        None => Err(usage(rt)),
+    };
+    done.unwrap_or_else(|status| status)
 }

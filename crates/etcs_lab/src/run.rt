@@ -17,8 +17,11 @@ fn life_of(alloc: Global, scenario: &Scenario) -> Result<PlayedLife, ScenarioFau
     Ok(PlayedLife { cold, steps, ends })
 }
 
-// Says the fault of a scenario, as `etcs run` does.
+// Says the fault of a scenario, as `etcs run` does, or that memory is refused.
 fn refused<R: Eprint>(rt: &R, path: &str, fault: ScenarioFault) -> Status {
+    if let ScenarioFault::NoMemory = fault {
+        return no_memory(rt, path);
+    }
     let number = fault.number();
     let name = path.escape_debug();
     let _ = eprintln!(rt; "etcs_lab: {name}: refused {number} {fault}");
@@ -50,20 +53,13 @@ pub(crate) fn played<R: Files<File = File> + AllocGlobal + Eprint, W: Write>(
     rt: &R,
     path: &str,
     out: &mut W,
-) -> Status {
-    let bytes = match fs::read(rt, path) {
-        Ok(bytes) => bytes,
-        Err(error) => return unread_for(rt, path, &error),
-    };
-    let life = match life_of(rt.alloc(), &Scenario { bytes }) {
-        Ok(life) => life,
-        Err(ScenarioFault::NoMemory) => return no_memory(rt, path),
-        Err(fault) => return refused(rt, path, fault),
-    };
+) -> Result<Status, Status> {
+    let bytes = fs::read(rt, path).map_err(|error| unread_for(rt, path, &error))?;
+    let life = life_of(rt.alloc(), &Scenario { bytes }).map_err(|fault| refused(rt, path, fault))?;
     match play(rt.alloc(), &life, out) {
-        Ok(Some(error)) if is_memory(&error) => no_memory(rt, path),
-        Ok(stopped) => status_of(stopped),
-        Err(PlayError::Write) => unwritten(rt, path),
-        Err(PlayError::NoMemory) => no_memory(rt, path),
+        Ok(Some(error)) if is_memory(&error) => Err(no_memory(rt, path)),
+        Ok(stopped) => Ok(status_of(stopped)),
+        Err(PlayError::Write) => Err(unwritten(rt, path)),
+        Err(PlayError::NoMemory) => Err(no_memory(rt, path)),
     }
 }

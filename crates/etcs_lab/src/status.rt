@@ -47,6 +47,21 @@ pub(crate) fn unwritten<R: Eprint>(rt: &R, path: &str) -> Status {
     )
 }
 
+/// Whether a text was written; else says that nothing can be.
+pub(crate) fn told<R: Eprint>(rt: &R, path: &str, written: io::Result<()>) -> Result<(), Status> {
+    written.map_err(|_| unwritten(rt, path))
+}
+
+/// Says that a file or an image can't be read.
+pub(crate) fn unread<R: Eprint>(rt: &R, path: &str) -> Status {
+    fail(rt, "can't be read", path, Status::Device)
+}
+
+/// Says that an image isn't formatted.
+pub(crate) fn unformatted<R: Eprint>(rt: &R, path: &str) -> Status {
+    fail(rt, "is not a formatted image", path, Status::Refused)
+}
+
 /// Says that memory is refused.
 pub(crate) fn no_memory<R: Eprint>(rt: &R, path: &str) -> Status {
     fail(
@@ -61,7 +76,7 @@ pub(crate) fn no_memory<R: Eprint>(rt: &R, path: &str) -> Status {
 pub(crate) fn unread_for<R: Eprint>(rt: &R, path: &str, error: &io::Error) -> Status {
     match error.kind() {
         ErrorKind::OutOfMemory => no_memory(rt, path),
-        _ => fail(rt, "can't be read", path, Status::Device),
+        _ => unread(rt, path),
     }
 }
 
@@ -71,11 +86,9 @@ pub(crate) fn text_told<R: Eprint, W: Write>(
     text: &str,
     word: &str,
     out: &mut W,
-) -> Status {
-    match out.write_all(text.as_bytes()) {
-        Ok(()) => Status::Whole,
-        Err(_) => unwritten(rt, word),
-    }
+) -> Result<Status, Status> {
+    told(rt, word, out.write_all(text.as_bytes()))?;
+    Ok(Status::Whole)
 }
 
 /// Says that the words are wrong.

@@ -1,6 +1,6 @@
 //! The commands `telegram` and `decode`.
 
-use crate::status::{Status, fail, no_memory, unread_for, unwritten};
+use crate::status::{Status, fail, no_memory, told, unread_for, unwritten};
 use decoding::decode_text;
 use hex::FromHexError;
 use installed_values::{AdaptError, Adaptation, adapt};
@@ -47,19 +47,13 @@ pub(crate) fn telegram_told<R: Files<File = File> + Input + AllocGlobal + Eprint
     rt: &R,
     path: &str,
     out: &mut W,
-) -> Status {
-    let text = match bytes_in(rt, path) {
-        Ok(text) => text,
-        Err(error) => return unread_for(rt, path, &error),
-    };
-    let bytes = match bytes_of_text(rt.alloc(), text.as_slice()) {
-        Ok(bytes) => bytes,
-        Err(fault) => return refused(rt, path, &fault),
-    };
-    match write_hex(bytes.as_slice(), out) {
-        Ok(()) => Status::Whole,
-        Err(_) => unwritten(rt, path),
-    }
+) -> Result<Status, Status> {
+    let text = bytes_in(rt, path).map_err(|error| unread_for(rt, path, &error))?;
+    let bytes = bytes_of_text(rt.alloc(), text.as_slice()).map_err(|fault| refused(
+        rt, path, &fault,
+    ))?;
+    told(rt, path, write_hex(bytes.as_slice(), out))?;
+    Ok(Status::Whole)
 }
 
 // What is said of a telegram that isn't adapted.
@@ -70,22 +64,17 @@ fn not_adapted(error: AdaptError) -> &'static str {
     }
 }
 
-// Writes the digits of what a unit is to be handed in place of a telegram.
-fn write_adapted<R: AllocGlobal + Eprint, W: Write>(
-    rt: &R,
-    telegram: &[u8],
-    out: &mut W,
-) -> Status {
-    let mut written = [0; TELEGRAM_BYTES];
-    let done = match adapt(telegram, &mut written) {
-        Ok(Adaptation::Written(count, _)) => write_hex(&written[..count], out),
-        Ok(Adaptation::AsItIs) => write_hex(telegram, out),
-        Err(error) => return fail(rt, not_adapted(error), "HEX", Status::Refused),
-    };
-    match done {
-        Ok(()) => Status::Whole,
-        Err(_) => unwritten(rt, "HEX"),
-    }
+/// The bytes of digits; else says why they are none.
+pub(crate) fn bytes_of<R: AllocGlobal + Eprint>(rt: &R, digits: &str) -> Result<Vec<u8>, Status> {
+    hex::decode(rt.alloc(), digits).map_err(|error| match error {
+        FromHexError::OutOfMemory => no_memory(rt, "HEX"),
+        _ => fail(
+            rt,
+            "isn't hexadecimal digits, two for each byte",
+            "HEX",
+            Status::Refused,
+        ),
+    })
 }
 
 /// Writes the digits of what a unit is to be handed in place of the telegram of an installed track, and answers the status.
@@ -93,17 +82,16 @@ pub(crate) fn adapted_told<R: AllocGlobal + Eprint, W: Write>(
     rt: &R,
     digits: &str,
     out: &mut W,
-) -> Status {
-    match hex::decode(rt.alloc(), digits) {
-        Ok(bytes) => write_adapted(rt, bytes.as_slice(), out),
-        Err(FromHexError::OutOfMemory) => no_memory(rt, "HEX"),
-        Err(_) => fail(
-            rt,
-            "isn't hexadecimal digits, two for each byte",
-            "HEX",
-            Status::Refused,
-        ),
-    }
+) -> Result<Status, Status> {
+    let telegram = bytes_of(rt, digits)?;
+    let mut written = [0; TELEGRAM_BYTES];
+    let done = match adapt(telegram.as_slice(), &mut written) {
+        Ok(Adaptation::Written(count, _)) => write_hex(&written[..count], out),
+        Ok(Adaptation::AsItIs) => write_hex(telegram.as_slice(), out),
+        Err(error) => return Err(fail(rt, not_adapted(error), "HEX", Status::Refused)),
+    };
+    told(rt, "HEX", done)?;
+    Ok(Status::Whole)
 }
 
 // Writes what digits carry as an object; whether they carry a telegram.
@@ -122,15 +110,15 @@ pub(crate) fn decode_told<R: AllocGlobal + Eprint, W: Write>(
     digits: &str,
     json: bool,
     out: &mut W,
-) -> Status {
+) -> Result<Status, Status> {
     let told = if json {
         write_object(rt.alloc(), digits, out)
     } else {
         decode_text(rt.alloc(), digits, out).map(|status| status as u8 == 0)
     };
     match told {
-        Ok(true) => Status::Whole,
-        Ok(false) => Status::Refused,
-        Err(_) => unwritten(rt, "HEX"),
+        Ok(true) => Ok(Status::Whole),
+        Ok(false) => Ok(Status::Refused),
+        Err(_) => Err(unwritten(rt, "HEX")),
     }
 }

@@ -15,20 +15,17 @@ pub(crate) fn why_told<R: Files<File = File> + AllocGlobal + Eprint, W: Write>(
     only: Option<u64>,
     form: Form,
     out: &mut W,
-) -> Status {
-    let mut disk = match opened(rt, image) {
-        Ok(disk) => disk,
-        Err(status) => return status,
-    };
+) -> Result<Status, Status> {
+    let mut disk = opened(rt, image)?;
     match tell_why(rt.alloc(), &mut disk, only, form, out) {
-        Ok(walked) if only.is_some() && walked.lines == 0 => fail(
+        Ok(walked) if only.is_some() && walked.lines == 0 => Err(fail(
             rt,
             "has no such event whose life can be replayed",
             image.path,
             Status::Damaged,
-        ),
-        Ok(walked) if only.is_none() && !walked.is_whole => Status::Damaged,
-        Ok(_) => Status::Whole,
-        Err(error) => stopped(rt, image.path, error),
+        )),
+        Ok(walked) if only.is_none() && !walked.is_whole => Ok(Status::Damaged),
+        Ok(_) => Ok(Status::Whole),
+        Err(error) => Err(stopped(rt, image.path, error)),
     }
 }

@@ -2,15 +2,21 @@
 # Prints what an event costs through the calls of include/etcs_unit.h, beside the same call of the unit in Rattle beneath: the instructions
 # within an accept and within an eighth of a flush (prepare, each request with its bytes, done, release), and of reading a record of an image.
 # What callgrind counts for 48 batches less what it counts for 24, by their events, as bench/onboard.sh has it. The library is that of PREFIX
-# (tools/library PREFIX); the names within it stand in its static library alone.
+# (tools/library PREFIX); the names within it stand in its static library alone. With UNPROVED=yes, and no PREFIX, it is compiled without a
+# proof (bench/unproved).
 #
 #     bench/unit.sh PREFIX
 set -e
 top=$(cd "$(dirname "$(readlink -f -- "$0")")/.." && pwd)
-prefix=$(cd "$1" && pwd)
 out=$top/bench/out
 mkdir -p "$out"
-gcc -std=c99 -O2 -g -I "$prefix/include" "$top/bench/unit.c" "$prefix/lib/libetcs_unit.a" -o "$out/unit"
+if [ -n "${UNPROVED:-}" ]; then
+    "$top/bench/unproved" etcs_unit "$out/etcs_unit.o" >&2
+    gcc -std=c99 -O2 -g -I "$top/include" "$top/bench/unit.c" "$out/etcs_unit.o" "$(dirname "$(rt doc)")/c/liblibc_c.a" -o "$out/unit"
+else
+    prefix=$(cd "$1" && pwd)
+    gcc -std=c99 -O2 -g -I "$prefix/include" "$top/bench/unit.c" "$prefix/lib/libetcs_unit.a" -o "$out/unit"
+fi
 cd "$out"
 
 # collected WORDS FUNCTION..: the instructions within these functions, with all that they call

@@ -3,7 +3,6 @@ use Rattle.std.proofs.Common.{◌≡◌, ℕ, ◌<◌, ◌≤◌, min, max, refl
 use Rattle.std.specs.Prelude.{Option, None, Some, IsSomeAnd}
 use Rattle.units.specs.Stretches.{Span}
 use Rattle.authority.specs.declared.answers.End.{End}
-use Rattle.braking.specs.declared.target.Target.{Target}
 use Rattle.speed_supervision.specs.Limit.{release_speed, released_by, the_end, the_supervised_location}
 use Rattle.limit_causes.specs.declared.cause.SpeedCause.{SpeedCause}
 use Rattle.limit_causes.specs.declared.cause.TargetAhead.{TargetAhead}

@@ -5,6 +5,7 @@ use Rattle.restriction.specs.Covering.{covers}
 use Rattle.areas.specs.Areas.{speed_in}
 use Rattle.brakes.specs.declared.brakes.Brakes.{Brakes}
 use Rattle.braking.specs.declared.target.Target.{Target}
+use Rattle.braking.specs.Approaches.{Course}
 use Rattle.braking.specs.Braking.{fits, fits_all}
 use Rattle.speed_profile.specs.declared.told.CategorySpeeds.{CategorySpeeds}
 use Rattle.speed_profile.specs.declared.limit.Bounds.{Bounds}
@@ -34,6 +35,10 @@ journey_by speeds gradients ahead = record {
   gradient = gradients ahead.gradient.now;
   brakes = ahead.brakes.now;
 }
+
+-- an approach to it with a speed
+abbrev pub course_by : {S G : Type 0} → Ahead S G → ℕ → Course G
+course_by ahead speed = record { front = ahead.front; gradient = ahead.gradient.now; brakes = ahead.brakes.now; speed = speed }
 
 abbrev pub IsAhead : Journey → ℤ → Type 0
 IsAhead journey place = (journey.front <ℤ place) × (place ≤ℤ greatest_place)

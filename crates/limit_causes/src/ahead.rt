@@ -2,10 +2,11 @@
 ghost use Rattle.std.specs.Prelude.{◌≡◌, true, false, Some, MatchOption};
 ghost use Rattle.track_store.specs.Profiles.{listed};
 ghost use Rattle.speed_profile.specs.Ahead.{over_ahead, static_targets, restriction_targets, area_targets};
-ghost use Rattle.limit_causes.specs.Targets.{journey_by, along_track, fits_on, fits_all_on, static_kind, IsUnfit};
+ghost use Rattle.braking.specs.Braking.{fits, fits_all};
+ghost use Rattle.limit_causes.specs.Targets.{journey_by, course_by, along_track, fits_all_on, static_kind, IsUnfit};
 
 use crate::{TargetAhead, TargetKind};
-use braking::{Target, fits};
+use braking::{Approach, Target};
 use speed_profile::{
     Ahead, CategorySpeeds, first_in_area, first_target, next_after, static_target,
 };
@@ -22,29 +23,28 @@ pub fn first_unfit<S: Profile<CategorySpeeds>, G: Profile<Permille>>(
         MatchOption result (fits_all_on journey (along_track journey) speed ≡ true)
         (IsUnfit journey speed) }
 {
-    if let Some(found) = unfit_static_speed(ahead, speed) {
+    let mut approach = Approach::new(ahead.front, speed, ahead.gradient, ahead.brakes);
+    if let Some(found) = unfit_static_speed(ahead, &mut approach) {
         return Some(found);
     }
-    if let Some(found) = unfit_restriction(ahead, speed) {
+    if let Some(found) = unfit_restriction(ahead, &mut approach) {
         return Some(found);
     }
-    unfit_area(ahead, speed)
+    unfit_area(ahead, &mut approach)
 }
 
-// A target that a speed doesn't fit, of one or none.
-fn unfit<S: Profile<CategorySpeeds>, G: Profile<Permille>>(
-    ahead: &Ahead<'_, S, G>,
-    speed: Mph,
+// A target that the speed of an approach doesn't fit, of one or none. What it sums for that is kept in the approach.
+fn unfit<G: Profile<Permille>>(
+    approach: &mut Approach<'_, G>,
     target: Option<Target>,
 ) -> Option<Target>
-    ensures { let journey = journey_by S.value G.value ahead.now in
-        MatchOption result (fits_all_on journey (listed target) speed ≡ true)
-        (λ found. (target ≡ Some found) × (fits_on journey found speed ≡ false)) }
+    ensures found { let course = approach.old in
+        MatchOption result (fits_all course.front (G.value course.gradient) course.brakes (listed target) course.speed ≡ true)
+        (λ found. (target ≡ Some found) × (fits course.front (G.value course.gradient) course.brakes found course.speed ≡ false)) }
+    ensures same { approach.new ≡ approach.old }
 {
     match target {
-        Some(target) if !fits(ahead.front, speed, &target, ahead.gradient, ahead.brakes) => {
-            Some(target)
-        }
+        Some(target) if !approach.fits(&target) => Some(target),
         _ => None,
     }
 }
@@ -52,19 +52,21 @@ fn unfit<S: Profile<CategorySpeeds>, G: Profile<Permille>>(
 // Among the static speeds.
 fn unfit_static_speed<S: Profile<CategorySpeeds>, G: Profile<Permille>>(
     ahead: &Ahead<'_, S, G>,
-    speed: Mph,
+    approach: &mut Approach<'_, G>,
 ) -> Option<TargetAhead>
-    ensures { let journey = journey_by S.value G.value ahead.now in
+    requires { approach.old ≡ course_by ahead.now approach.old.speed }
+    ensures found { let journey = journey_by S.value G.value ahead.now in
         MatchOption result
-        (fits_all_on journey (over_ahead journey.front (static_targets journey.bounds journey.track.static)) speed ≡ true)
-        (IsUnfit journey speed) }
+        (fits_all_on journey (over_ahead journey.front (static_targets journey.bounds journey.track.static)) approach.old.speed ≡ true)
+        (IsUnfit journey approach.old.speed) }
+    ensures same { approach.new ≡ approach.old }
 {
     let mut start = next_after(ahead.front);
     let mut near = 0;
     while let Some(place) = start {
         let here = ahead.track.speeds.piece(place, near);
         let asked = static_target(ahead.bounds, place, here.value);
-        if let Some(target) = unfit(ahead, speed, asked) {
+        if let Some(target) = unfit(approach, asked) {
             let kind = static_kind(&here.value);
             return Some(TargetAhead { target, kind });
         }
@@ -87,18 +89,20 @@ fn static_kind(speeds: &Option<CategorySpeeds>) -> TargetKind
 // Among the restrictions.
 fn unfit_restriction<S: Profile<CategorySpeeds>, G: Profile<Permille>>(
     ahead: &Ahead<'_, S, G>,
-    speed: Mph,
+    approach: &mut Approach<'_, G>,
 ) -> Option<TargetAhead>
-    ensures { let journey = journey_by S.value G.value ahead.now in let held = journey.track.restrictions in
+    requires { approach.old ≡ course_by ahead.now approach.old.speed }
+    ensures found { let journey = journey_by S.value G.value ahead.now in let held = journey.track.restrictions in
         MatchOption result
-        (fits_all_on journey (over_ahead journey.front (restriction_targets held.mark held.restrictions)) speed ≡ true)
-        (IsUnfit journey speed) }
+        (fits_all_on journey (over_ahead journey.front (restriction_targets held.mark held.restrictions)) approach.old.speed ≡ true)
+        (IsUnfit journey approach.old.speed) }
+    ensures same { approach.new ≡ approach.old }
 {
     let mark = ahead.track.restrictions.mark();
     let restrictions = ahead.track.restrictions.as_slice();
     for restriction in restrictions {
         let asked = first_target(ahead.front, mark, restriction);
-        if let Some(target) = unfit(ahead, speed, asked) {
+        if let Some(target) = unfit(approach, asked) {
             let kind = TargetKind::Restriction(*restriction);
             return Some(TargetAhead { target, kind });
         }
@@ -109,17 +113,19 @@ fn unfit_restriction<S: Profile<CategorySpeeds>, G: Profile<Permille>>(
 // Among the mode areas.
 fn unfit_area<S: Profile<CategorySpeeds>, G: Profile<Permille>>(
     ahead: &Ahead<'_, S, G>,
-    speed: Mph,
+    approach: &mut Approach<'_, G>,
 ) -> Option<TargetAhead>
-    ensures { let journey = journey_by S.value G.value ahead.now in
+    requires { approach.old ≡ course_by ahead.now approach.old.speed }
+    ensures found { let journey = journey_by S.value G.value ahead.now in
         MatchOption result
-        (fits_all_on journey (over_ahead journey.front (area_targets journey.track.national journey.track.areas)) speed ≡ true)
-        (IsUnfit journey speed) }
+        (fits_all_on journey (over_ahead journey.front (area_targets journey.track.national journey.track.areas)) approach.old.speed ≡ true)
+        (IsUnfit journey approach.old.speed) }
+    ensures same { approach.new ≡ approach.old }
 {
     let areas = ahead.track.areas.as_slice();
     for area in areas {
         let asked = first_in_area(ahead.front, &ahead.track.national, area);
-        if let Some(target) = unfit(ahead, speed, asked) {
+        if let Some(target) = unfit(approach, asked) {
             let kind = TargetKind::Area(*area);
             return Some(TargetAhead { target, kind });
         }

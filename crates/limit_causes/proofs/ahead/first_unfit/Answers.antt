@@ -1,4 +1,4 @@
-use Rattle.std.proofs.Common.{◌≡◌, true}
+use Rattle.std.proofs.Common.{◌≡◌, true, ◌∙◌}
 use Rattle.speed_profile.specs.Ahead.{over_ahead, area_targets}
 use Rattle.limit_causes.specs.Targets.{journey_by, along_track, fits_all_on, IsUnfit}
 use Rattle.limit_causes.proofs.Finding.{or_else}
@@ -9,9 +9,14 @@ pub returns : goal.returns
 returns g c =
     let journey = journey_by g.S.Profile.value g.G.Profile.value c.args.ahead.now in
     let speed = c.args.speed in
+    let first = c.new-approach.ensures in
+    let second = c.unfit_static_speed.ensures.same ∙ first in
+    let third = c.unfit_restriction.ensures.same ∙ second in
+    let static = rw first at c.in_default.ensures.found in
+    let restrictions = rw second at c.in_default-unfit_restriction.ensures.found in
     or_else c.unfit_area.result
     (fits_all_on journey (over_ahead journey.front (area_targets journey.track.national journey.track.areas)) speed ≡ true)
     (fits_all_on journey (along_track journey) speed ≡ true)
     (IsUnfit journey speed)
-    (λ areas. fit_kinds journey speed c.in_default.ensures c.in_default-unfit_restriction.ensures areas)
-    c.unfit_area.ensures
+    (λ areas. fit_kinds journey speed static restrictions areas)
+    (rw third at c.unfit_area.ensures.found)

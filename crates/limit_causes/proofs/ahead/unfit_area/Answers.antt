@@ -11,12 +11,12 @@ use Rattle.limit_causes.proofs.Finding.{one_dropped}
 use Rattle.limit_causes.proofs.Hindering.{inside, fit_areas, fit_no_area, area_covers, area_ahead, at_its_place}
 use Rattle.limit_causes.proofs.ahead.unfit_area.Goals as goal
 
-pub returns-in-Some : goal.returns-in-Some
-returns-in-Some g c =
+pub returns-in-Some-clause-found : goal.returns-in-Some-clause-found
+returns-in-Some-clause-found g c =
     let journey = journey_by g.S.Profile.value g.G.Profile.value c.args.ahead.now in
     let a : Area = c.area-item.result in
-    let unfit = c.in-Some.ensures in
-    let w = area_covers journey c.args.speed a c.in-Some.target (sym c.first_in_area-asked.ensures ∙ unfit.0) in
+    let unfit = rw (c.loop-area.invariant.1 ∙ c.requires) at c.in-Some.ensures.found in
+    let w = area_covers journey c.args.approach.now.speed a c.in-Some.target (sym c.first_in_area-asked.ensures ∙ unfit.0) in
     let there : Contains journey.track.areas a =
     subst (λ (items : List Area). Contains items a) c.as_slice-areas.ensures
     (c.loop-area.area-index, c.loop-area-test.true, sym c.area-item.is) in
@@ -30,15 +30,17 @@ loop-area-preserved g c =
     let a : Area = c.area-item.result in
     let areas = c.as_slice-areas.result.now in
     let i = c.loop-area.area-index in
-    let here : fits_all_on journey (listed (first_in_area journey.front journey.track.national a)) c.args.speed ≡ true =
-    ap (λ (t : Option Target). fits_all_on journey (listed t) c.args.speed) (sym c.first_in_area-asked.ensures) ∙ c.in_default.ensures in
-    λ others. c.loop-area.invariant (fit_areas journey c.args.speed a (drop (i + 1) areas) (drop i areas)
-    (one_dropped areas i a c.loop-area-test.true c.area-item.is) here others)
+    let here : fits_all_on journey (listed (first_in_area journey.front journey.track.national a)) c.args.approach.now.speed ≡ true =
+    ap (λ (t : Option Target). fits_all_on journey (listed t) c.args.approach.now.speed) (sym c.first_in_area-asked.ensures) ∙ (rw (c.loop-area.invariant.1 ∙ c.requires) at c.in_default.ensures.found) in (
+      λ others. c.loop-area.invariant.0 (fit_areas journey c.args.approach.now.speed a (drop (i + 1) areas) (drop i areas)
+          (one_dropped areas i a c.loop-area-test.true c.area-item.is) here others),
+      c.unfit.ensures.same ∙ c.loop-area.invariant.1,
+    )
 
-pub returns : goal.returns
-returns g c =
+pub returns-clause-found : goal.returns-clause-found
+returns-clause-found g c =
     let journey = journey_by g.S.Profile.value g.G.Profile.value c.args.ahead.now in
     let areas = c.as_slice-areas.result.now in
-    let fit = λ (items : List Area). fits_all_on journey (inside journey c.args.speed items) c.args.speed in
+    let fit = λ (items : List Area). fits_all_on journey (inside journey c.args.approach.now.speed items) c.args.approach.now.speed in
     ap fit (sym c.as_slice-areas.ensures)
-    ∙ c.loop-area.invariant (at_drop_all fit areas c.loop-area.area-index c.loop-area-test.false ∙ fit_no_area journey c.args.speed)
+    ∙ c.loop-area.invariant.0 (at_drop_all fit areas c.loop-area.area-index c.loop-area-test.false ∙ fit_no_area journey c.args.approach.now.speed)

@@ -7,5 +7,6 @@ use Rattle.limit_causes.proofs.ahead.unfit_area.Given as goal
 abbrev pub invariant-loop-area : goal.invariant-loop-area
 invariant-loop-area g l =
     let journey = journey_by g.S.Profile.value g.G.Profile.value l.ahead in
-    fits_all_on journey (inside journey l.speed (drop l.area-index l.areas)) l.speed ≡ true →
-    fits_all_on journey (inside journey l.speed l.areas) l.speed ≡ true
+    (fits_all_on journey (inside journey l.fn.approach.speed (drop l.area-index l.areas)) l.fn.approach.speed ≡ true →
+    fits_all_on journey (inside journey l.fn.approach.speed l.areas) l.fn.approach.speed ≡ true)
+    × (l.approach ≡ l.fn.approach)

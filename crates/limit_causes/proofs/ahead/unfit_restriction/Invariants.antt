@@ -7,5 +7,6 @@ use Rattle.limit_causes.proofs.ahead.unfit_restriction.Given as goal
 abbrev pub invariant-loop-restriction : goal.invariant-loop-restriction
 invariant-loop-restriction g l =
     let journey = journey_by g.S.Profile.value g.G.Profile.value l.ahead in
-    fits_all_on journey (restricted journey l.speed (drop l.restriction-index l.restrictions)) l.speed ≡ true →
-    fits_all_on journey (restricted journey l.speed l.restrictions) l.speed ≡ true
+    (fits_all_on journey (restricted journey l.fn.approach.speed (drop l.restriction-index l.restrictions)) l.fn.approach.speed ≡ true →
+    fits_all_on journey (restricted journey l.fn.approach.speed l.restrictions) l.fn.approach.speed ≡ true)
+    × (l.approach ≡ l.fn.approach)

@@ -14,19 +14,20 @@ loop-start-init g c =
     let journey = journey_by g.S.Profile.value g.G.Profile.value c.args.ahead.now in
     let start = c.next_after-start.result in
     let is = first_rest (static_targets journey.bounds journey.track.static) (journey.front +ℤ pos 1) start c.next_after-start.ensures in (
-      λ left. ap (λ (ts : List Target). fits_all_on journey ts c.args.speed) (sym is) ∙ left,
+      λ left. ap (λ (ts : List Target). fits_all_on journey ts c.args.approach.now.speed) (sym is) ∙ left,
       starts_ahead journey.front start c.next_after-start.ensures,
+      refl,
     )
 
-pub returns-in-Some-unfit : goal.returns-in-Some-unfit
-returns-in-Some-unfit g c =
+pub returns-in-Some-unfit-clause-found : goal.returns-in-Some-unfit-clause-found
+returns-in-Some-unfit-clause-found g c =
     let journey = journey_by g.S.Profile.value g.G.Profile.value c.args.ahead.now in
-    let unfit = c.in-Some-unfit.ensures in
+    let unfit = rw (c.loop-start.invariant.2 ∙ c.requires) at c.in-Some-unfit.ensures.found in
     let before : journey.front <ℤ c.in-Some.place = rw c.in-Some.is at c.loop-start.invariant.1 in
     let asked : static_target journey.bounds c.in-Some.place (journey.track.static c.in-Some.place) ≡ Some c.in-Some-unfit.target =
     ap (static_target journey.bounds c.in-Some.place) (sym c.piece-here.ensures.value) ∙ sym c.static_target-asked.ensures.value ∙ unfit.0 in
     let here = static_ahead journey c.in-Some-unfit.target c.in-Some.place (before, c.static_target-asked.ensures.within) asked in
-    let kind_is = static_is journey c.args.speed c.in-Some.place c.piece-here.result.value c.in-Some-unfit.target
+    let kind_is = static_is journey c.args.approach.now.speed c.in-Some.place c.piece-here.result.value c.in-Some-unfit.target
     (sym c.static_target-asked.ensures.value ∙ unfit.0) c.piece-here.ensures.value (before, c.static_target-asked.ensures.within) in
     (subst (λ (k : TargetKind). IsOfKind journey c.in-Some-unfit.target k) (sym c.static_kind-kind.ensures) kind_is, here, unfit.1)
 
@@ -48,12 +49,13 @@ loop-start-preserved g c =
     let before : journey.front <ℤ place = rw c.in-Some.is at c.loop-start.invariant.1 in
     let asked : c.static_target-asked.result ≡ static_target journey.bounds place (journey.track.static place) =
     c.static_target-asked.ensures.value ∙ ap (static_target journey.bounds place) c.piece-here.ensures.value in
-    let here : fits_all_on journey (listed (static_target journey.bounds place (journey.track.static place))) c.args.speed ≡ true =
-    ap (λ (t : Option Target). fits_all_on journey (listed t) c.args.speed) (sym asked) ∙ c.in_default-unfit.ensures in (
+    let here : fits_all_on journey (listed (static_target journey.bounds place (journey.track.static place))) c.args.approach.now.speed ≡ true =
+    ap (λ (t : Option Target). fits_all_on journey (listed t) c.args.approach.now.speed) (sym asked) ∙ (rw (c.loop-start.invariant.2 ∙ c.requires) at c.in_default-unfit.ensures.found) in (
       λ others. c.loop-start.invariant.0 (rw c.in-Some.is
-          (fit_piece journey c.args.speed place c.static_target-asked.ensures.within next lasts here others)),
+          (fit_piece journey c.args.approach.now.speed place c.static_target-asked.ensures.within next lasts here others)),
       next_ahead journey.front place journey.track.static next lasts before,
+      c.unfit.ensures.same ∙ c.loop-start.invariant.2,
     )
 
-pub returns : goal.returns
-returns g c = c.loop-start.invariant.0 (rw c.in_default.is refl)
+pub returns-clause-found : goal.returns-clause-found
+returns-clause-found g c = c.loop-start.invariant.0 (rw c.in_default.is refl)

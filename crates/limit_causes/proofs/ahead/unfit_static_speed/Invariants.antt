@@ -10,9 +10,10 @@ use Rattle.limit_causes.proofs.ahead.unfit_static_speed.Given as goal
 abbrev pub invariant-loop-start : goal.invariant-loop-start
 invariant-loop-start g l =
     let journey = journey_by g.S.Profile.value g.G.Profile.value l.ahead in
-    (fits_all_on journey (static_from journey l.speed l.start) l.speed ≡ true →
-    fits_all_on journey (over_ahead journey.front (static_targets journey.bounds journey.track.static)) l.speed ≡ true)
+    (fits_all_on journey (static_from journey l.fn.approach.speed l.start) l.fn.approach.speed ≡ true →
+    fits_all_on journey (over_ahead journey.front (static_targets journey.bounds journey.track.static)) l.fn.approach.speed ≡ true)
     × IfSome l.start (λ place. journey.front <ℤ place)
+    × (l.approach ≡ l.fn.approach)
 
 -- how many centimetres are left
 abbrev pub decreases-loop-start : goal.decreases-loop-start

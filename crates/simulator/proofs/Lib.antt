@@ -1,5 +1,4 @@
 pub mod Identity
-pub mod Lists
 pub mod Passing
 pub mod Readings
 pub mod Sifting

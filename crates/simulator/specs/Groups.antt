@@ -3,7 +3,8 @@
 use Rattle.std.specs.Prelude.{ℕ, ◌+◌, ◌&&◌, nat_le, ℤ, List, [], ◌∷◌, ◌++◌, length, codes, is_some, Bool, true, option_and_then, Option, Result, Ok}
 use Rattle.serde_json.specs.Data.{Data}
 use Rattle.serde_json.specs.Find.{get, as_str}
-use Rattle.simulator.specs.Values.{◌>>=◌, shaped, given, has_members, whole, list_in, within, bytes_in}
+use Rattle.simulator.specs.Values.{◌>>=◌, shaped, given, whole, within, bytes_in}
+use Rattle.json_values.specs.Shapes.{has_members, list_in}
 use Rattle.simulator.specs.declared.balise.Balise.{Balise}
 use Rattle.simulator.specs.declared.fault.ScenarioFault.{ScenarioFault}
 use Rattle.simulator.specs.declared.fault.ScenarioFault.TheVariants.{Shape}

@@ -10,7 +10,8 @@ use Rattle.events.specs.declared.step.Step.{Step}
 use Rattle.simulator.specs.Passing.{passed}
 use Rattle.simulator.specs.Course.{Run, start, taken, ended}
 use Rattle.simulator.specs.declared.balise.Balise.{Balise}
-use Rattle.simulator.specs.Values.{◌>>=◌, shaped, given, has_members, list_in, whole, numbered}
+use Rattle.simulator.specs.Values.{◌>>=◌, shaped, given, whole, numbered}
+use Rattle.json_values.specs.Shapes.{has_members, list_in}
 use Rattle.simulator.specs.Groups.{groups}
 use Rattle.simulator.specs.Steps.{asked}
 use Rattle.simulator.specs.declared.fault.ScenarioFault.{ScenarioFault}

@@ -1,8 +1,7 @@
 -- Looking into a JSON value, and the first fault in order (this project's profile).
-use Rattle.std.specs.Prelude.{ℕ, ◌==◌, ◌&&◌, nat_le, ℤ, pos, int_le, List, [], ◌∷◌, length, slice_get, Bool, true, false, if◌then◌else◌, Option, Some, None, option_map, option_and_then, Result, Ok, Err}
-use Rattle.serde_json.specs.Data.{Data, Items, no_items, item, Members}
-use Rattle.serde_json.specs.Events.{members_len}
-use Rattle.serde_json.specs.Find.{as_number, as_i64, as_str, as_array, as_object}
+use Rattle.std.specs.Prelude.{ℕ, ◌&&◌, nat_le, ℤ, pos, int_le, List, length, slice_get, Bool, true, false, if◌then◌else◌, Option, Some, None, option_and_then, Result, Ok, Err}
+use Rattle.serde_json.specs.Data.{Data}
+use Rattle.serde_json.specs.Find.{as_number, as_i64, as_str}
 use Rattle.simulator.specs.Numbers.{natural}
 use Rattle.hex.specs.Hex.{decode_of}
 use Rattle.hex.specs.declared.error.FromHexError.{FromHexError}
@@ -27,22 +26,6 @@ given true fault = Ok tt
 given false fault = Err fault
 
 -- ---- shapes
-
--- an object of so many members
-abbrev pub has_count : ℕ → Option Members → Bool
-has_count n None = false
-has_count n (Some members) = members_len members == n
-
-abbrev pub has_members : ℕ → Data → Bool
-has_members n d = has_count n (as_object d)
-
--- the items of a list
-abbrev pub list_of : Items → List Data
-list_of no_items = []
-list_of (item d ds) = d ∷ list_of ds
-
-abbrev pub list_in : Data → Option (List Data)
-list_in d = option_map list_of (as_array d)
 
 -- a whole number
 abbrev pub whole : Data → Option ℤ

@@ -1,17 +1,17 @@
 //! The driver's actions in a scenario.
-ghost use Rattle.std.specs.Prelude.{◌≡◌, ◌≤◌, map, IfOk};
-ghost use Rattle.serde_json.specs.View.{view};
+ghost use Rattle.std.specs.Prelude.{◌≡◌, ◌≤◌, IfOk};
+ghost use Rattle.json_values.specs.Looking.{listed};
 ghost use Rattle.simulator.specs.Values.{within};
 ghost use Rattle.simulator.specs.Actions.{level, confirmed, acknowledged, lone_value, identity, entered_identity, entered_number, brakes, train, entered_train, chosen_level, confirmed_item, acknowledged_kind, bare, kind_told, by_kind, action};
 
 use crate::ScenarioFault;
-use crate::values::{byte_of, text_item, whole_item, within};
+use crate::values::{byte_of, whole_item, within};
 use brakes::{Brakes, Deceleration, Reaction};
 use driver::{
     Acknowledged, Action, ActionKind, Confirmed, DriverIdentity, RunningNumber, TrainData,
 };
+use json_values::JsonList;
 use mode_table::TrainLevel;
-use serde_json::Value;
 use units::{Length, Mph};
 use vars::{TrainCategory, Variable};
 
@@ -43,30 +43,32 @@ fn identity_of(text: &str) -> Result<Action, ScenarioFault>
 }
 
 #[tactic(auto, unfolding(crate::specs::Actions::entered_identity))]
-fn entered_identity(items: &[Value]) -> Result<Action, ScenarioFault>
-    ensures { result ≡ entered_identity (map view items.now) }
+fn entered_identity(items: &JsonList) -> Result<Action, ScenarioFault>
+    ensures { result ≡ entered_identity (listed items.now) }
 {
-    if items.len() != 2 {
+    if !items.has_len(2) {
         return Err(ScenarioFault::Shape);
     }
-    let text = text_item(items, 1)?;
-    identity_of(text)
+    match items.at(1) {
+        Some(item) => identity_of(item.as_str().ok_or(ScenarioFault::Shape)?),
+        None => Err(ScenarioFault::Shape),
+    }
 }
 
 // The one whole number behind the code.
 #[tactic(auto, unfolding(crate::specs::Actions::lone_value))]
-fn lone_value(items: &[Value]) -> Result<i64, ScenarioFault>
-    ensures { result ≡ lone_value (map view items.now) }
+fn lone_value(items: &JsonList) -> Result<i64, ScenarioFault>
+    ensures { result ≡ lone_value (listed items.now) }
 {
-    if items.len() != 2 {
+    if !items.has_len(2) {
         return Err(ScenarioFault::Shape);
     }
     whole_item(items, 1)
 }
 
 #[tactic(auto, unfolding(crate::specs::Actions::entered_number))]
-fn entered_number(items: &[Value]) -> Result<Action, ScenarioFault>
-    ensures { result ≡ entered_number (map view items.now) }
+fn entered_number(items: &JsonList) -> Result<Action, ScenarioFault>
+    ensures { result ≡ entered_number (listed items.now) }
 {
     let number = within(0, 99_999_999, lone_value(items)?)?;
     match RunningNumber::new(number as u32) {
@@ -136,10 +138,10 @@ fn train_of(cm: i64, mph: i64, rate: i64, time: i64, kind: i64) -> Result<Action
 }
 
 #[tactic(auto, unfolding(crate::specs::Actions::entered_train))]
-fn entered_train(items: &[Value]) -> Result<Action, ScenarioFault>
-    ensures { result ≡ entered_train (map view items.now) }
+fn entered_train(items: &JsonList) -> Result<Action, ScenarioFault>
+    ensures { result ≡ entered_train (listed items.now) }
 {
-    if items.len() != 6 {
+    if !items.has_len(6) {
         return Err(ScenarioFault::Shape);
     }
     let cm = whole_item(items, 1)?;
@@ -151,24 +153,24 @@ fn entered_train(items: &[Value]) -> Result<Action, ScenarioFault>
 }
 
 #[tactic(auto, unfolding(crate::specs::Actions::chosen_level))]
-fn chosen_level(items: &[Value]) -> Result<Action, ScenarioFault>
-    ensures { result ≡ chosen_level (map view items.now) }
+fn chosen_level(items: &JsonList) -> Result<Action, ScenarioFault>
+    ensures { result ≡ chosen_level (listed items.now) }
 {
     let level = level_of(lone_value(items)?)?;
     Ok(Action::ChooseLevel(level))
 }
 
 #[tactic(auto, unfolding(crate::specs::Actions::confirmed_item))]
-fn confirmed_item(items: &[Value]) -> Result<Action, ScenarioFault>
-    ensures { result ≡ confirmed_item (map view items.now) }
+fn confirmed_item(items: &JsonList) -> Result<Action, ScenarioFault>
+    ensures { result ≡ confirmed_item (listed items.now) }
 {
     let item = confirmed_of(lone_value(items)?)?;
     Ok(Action::Confirm(item))
 }
 
 #[tactic(auto, unfolding(crate::specs::Actions::acknowledged_kind))]
-fn acknowledged_kind(items: &[Value]) -> Result<Action, ScenarioFault>
-    ensures { result ≡ acknowledged_kind (map view items.now) }
+fn acknowledged_kind(items: &JsonList) -> Result<Action, ScenarioFault>
+    ensures { result ≡ acknowledged_kind (listed items.now) }
 {
     let kind = acknowledged_of(lone_value(items)?)?;
     Ok(Action::Acknowledge(kind))
@@ -176,10 +178,10 @@ fn acknowledged_kind(items: &[Value]) -> Result<Action, ScenarioFault>
 
 // An action without values.
 #[tactic(auto, unfolding(crate::specs::Actions::bare))]
-fn bare(action: Action, items: &[Value]) -> Result<Action, ScenarioFault>
-    ensures { result ≡ bare action (map view items.now) }
+fn bare(action: Action, items: &JsonList) -> Result<Action, ScenarioFault>
+    ensures { result ≡ bare action (listed items.now) }
 {
-    if items.len() == 1 {
+    if items.has_len(1) {
         Ok(action)
     } else {
         Err(ScenarioFault::Shape)
@@ -197,8 +199,8 @@ fn kind_of(code: i64) -> Result<ActionKind, ScenarioFault>
 }
 
 #[tactic(auto, unfolding(crate::specs::Actions::by_kind))]
-fn by_kind(kind: ActionKind, items: &[Value]) -> Result<Action, ScenarioFault>
-    ensures { result ≡ by_kind kind (map view items.now) }
+fn by_kind(kind: ActionKind, items: &JsonList) -> Result<Action, ScenarioFault>
+    ensures { result ≡ by_kind kind (listed items.now) }
 {
     match kind {
         ActionKind::EnterIdentity => entered_identity(items),
@@ -217,8 +219,8 @@ fn by_kind(kind: ActionKind, items: &[Value]) -> Result<Action, ScenarioFault>
 
 /// The action that a code and its values tell.
 #[tactic(auto, unfolding(crate::specs::Actions::action))]
-pub(crate) fn action_of(items: &[Value]) -> Result<Action, ScenarioFault>
-    ensures { result ≡ action (map view items.now) }
+pub(crate) fn action_of(items: &JsonList) -> Result<Action, ScenarioFault>
+    ensures { result ≡ action (listed items.now) }
 {
     let code = whole_item(items, 0)?;
     let kind = kind_of(code)?;

@@ -1,6 +1,6 @@
 //! What a step of a scenario asks for.
 ghost use Rattle.std.specs.Prelude.{◌≡◌, ◌⊎◌, IfOk, IfErr};
-ghost use Rattle.serde_json.specs.View.{view};
+ghost use Rattle.json_values.specs.Looking.{told};
 ghost use Rattle.simulator.specs.Steps.{drive, telegram, clock, driver, flush, by_key, asked};
 
 use crate::ScenarioFault;
@@ -8,31 +8,33 @@ use crate::actions::action_of;
 use crate::asked::Asked;
 use crate::distance::Distance;
 use crate::telegrams::bytes_of;
-use crate::values::{has_members, list_of, whole_item, within};
+use crate::values::{whole_item, within};
 use events::Input;
-use serde_json::Value;
+use json_values::JsonValue;
 use std::alloc::Global;
 use units::{LONGEST_LIFE, Mph, Ms};
 
 #[tactic(auto, unfolding(crate::specs::Steps::drive))]
-fn drive_of(value: &Value) -> Result<Asked, ScenarioFault>
-    ensures { result ≡ drive (view value.now) }
+fn drive_of(value: JsonValue) -> Result<Asked, ScenarioFault>
+    ensures { result ≡ drive (told value.entry) }
 {
-    let items = list_of(value).ok_or(ScenarioFault::Shape)?;
-    if items.len() != 2 {
+    let Some(items) = value.into_list() else {
+        return Err(ScenarioFault::Shape);
+    };
+    if !items.has_len(2) {
         return Err(ScenarioFault::Shape);
     }
-    let cm = whole_item(items, 0)?;
-    let mph = whole_item(items, 1)?;
+    let cm = whole_item(&items, 0)?;
+    let mph = whole_item(&items, 1)?;
     let distance = Distance::new(cm).ok_or(ScenarioFault::OutOfRange)?;
     let speed = Mph::new(within(0, 600_000, mph)? as u32).ok_or(ScenarioFault::OutOfRange)?;
     Ok(Asked::Drive(distance, speed))
 }
 
 #[tactic(auto, unfolding(crate::specs::Steps::telegram))]
-fn telegram_of(alloc: Global, value: &Value) -> Result<Asked, ScenarioFault>
-    ensures ok { IfOk result (λ step. telegram (view value.now) ≡ Ok step) }
-    ensures err { IfErr result (λ fault. (fault ≡ ScenarioFault.NoMemory) ⊎ (telegram (view value.now) ≡ Err fault)) }
+fn telegram_of(alloc: Global, value: &JsonValue) -> Result<Asked, ScenarioFault>
+    ensures ok { IfOk result (λ step. telegram (told value.now) ≡ Ok step) }
+    ensures err { IfErr result (λ fault. (fault ≡ ScenarioFault.NoMemory) ⊎ (telegram (told value.now) ≡ Err fault)) }
 {
     let text = value.as_str().ok_or(ScenarioFault::Shape)?;
     let bytes = bytes_of(alloc, text)?;
@@ -40,8 +42,8 @@ fn telegram_of(alloc: Global, value: &Value) -> Result<Asked, ScenarioFault>
 }
 
 #[tactic(auto, unfolding(crate::specs::Steps::clock))]
-fn clock_of(value: &Value) -> Result<Asked, ScenarioFault>
-    ensures { result ≡ clock (view value.now) }
+fn clock_of(value: &JsonValue) -> Result<Asked, ScenarioFault>
+    ensures { result ≡ clock (told value.now) }
 {
     let number = value.as_i64().ok_or(ScenarioFault::Shape)?;
     let ms = within(0, LONGEST_LIFE - 1, number)?;
@@ -50,17 +52,19 @@ fn clock_of(value: &Value) -> Result<Asked, ScenarioFault>
 }
 
 #[tactic(auto, unfolding(crate::specs::Steps::driver))]
-fn driver_of(value: &Value) -> Result<Asked, ScenarioFault>
-    ensures { result ≡ driver (view value.now) }
+fn driver_of(value: JsonValue) -> Result<Asked, ScenarioFault>
+    ensures { result ≡ driver (told value.entry) }
 {
-    let items = list_of(value).ok_or(ScenarioFault::Shape)?;
-    let action = action_of(items)?;
+    let Some(items) = value.into_list() else {
+        return Err(ScenarioFault::Shape);
+    };
+    let action = action_of(&items)?;
     Ok(Asked::Happens(Input::Driver(action)))
 }
 
 #[tactic(auto, unfolding(crate::specs::Steps::flush))]
-fn flush_of(value: &Value) -> Result<Asked, ScenarioFault>
-    ensures { result ≡ flush (view value.now) }
+fn flush_of(value: &JsonValue) -> Result<Asked, ScenarioFault>
+    ensures { result ≡ flush (told value.now) }
 {
     match value.as_bool() {
         Some(true) => Ok(Asked::Flush),
@@ -69,35 +73,35 @@ fn flush_of(value: &Value) -> Result<Asked, ScenarioFault>
 }
 
 #[tactic(auto, unfolding(crate::specs::Steps::by_key))]
-fn by_key(alloc: Global, value: &Value) -> Result<Asked, ScenarioFault>
-    ensures ok { IfOk result (λ step. by_key (view value.now) ≡ Ok step) }
-    ensures err { IfErr result (λ fault. (fault ≡ ScenarioFault.NoMemory) ⊎ (by_key (view value.now) ≡ Err fault)) }
+fn by_key(alloc: Global, value: &JsonValue) -> Result<Asked, ScenarioFault>
+    ensures ok { IfOk result (λ step. by_key (told value.now) ≡ Ok step) }
+    ensures err { IfErr result (λ fault. (fault ≡ ScenarioFault.NoMemory) ⊎ (by_key (told value.now) ≡ Err fault)) }
 {
     if let Some(drive) = value.get("drive") {
         return drive_of(drive);
     }
     if let Some(telegram) = value.get("telegram") {
-        return telegram_of(alloc, telegram);
+        return telegram_of(alloc, &telegram);
     }
     if let Some(clock) = value.get("clock") {
-        return clock_of(clock);
+        return clock_of(&clock);
     }
     if let Some(driver) = value.get("driver") {
         return driver_of(driver);
     }
     if let Some(flush) = value.get("flush") {
-        return flush_of(flush);
+        return flush_of(&flush);
     }
     Err(ScenarioFault::Shape)
 }
 
 /// What an item of the steps asks for.
 #[tactic(auto, unfolding(crate::specs::Steps::asked))]
-pub(crate) fn asked_of(alloc: Global, value: &Value) -> Result<Asked, ScenarioFault>
-    ensures ok { IfOk result (λ step. asked (view value.now) ≡ Ok step) }
-    ensures err { IfErr result (λ fault. (fault ≡ ScenarioFault.NoMemory) ⊎ (asked (view value.now) ≡ Err fault)) }
+pub(crate) fn asked_of(alloc: Global, value: &JsonValue) -> Result<Asked, ScenarioFault>
+    ensures ok { IfOk result (λ step. asked (told value.now) ≡ Ok step) }
+    ensures err { IfErr result (λ fault. (fault ≡ ScenarioFault.NoMemory) ⊎ (asked (told value.now) ≡ Err fault)) }
 {
-    if has_members(value, 1) {
+    if value.has_members(1) {
         by_key(alloc, value)
     } else {
         Err(ScenarioFault::Shape)

@@ -1,6 +1,6 @@
 //! Which steps of a life come from which step of a scenario.
-ghost use Rattle.std.specs.Prelude.{◌≡◌, ◌⊎◌, [], ◌∷◌, ◌++◌, length, codes, map, pos, IfOk, IfErr, OnOk, Ok, Err};
-ghost use Rattle.serde_json.specs.View.{view};
+ghost use Rattle.std.specs.Prelude.{◌≡◌, ◌⊎◌, [], ◌∷◌, ◌++◌, length, codes, pos, IfOk, IfErr, OnOk, Ok, Err};
+ghost use Rattle.json_values.specs.Looking.{told, listed};
 ghost use Rattle.simulator.specs.Course.{run_of, start};
 ghost use Rattle.simulator.specs.Passing.{passed};
 ghost use Rattle.simulator.specs.Lives.{ends_by, ends_in};
@@ -10,7 +10,7 @@ use crate::asking::asked_of;
 use crate::driving::Course;
 use crate::lives::{items_at, track_of};
 use crate::track::Track;
-use serde_json::Value;
+use json_values::{JsonList, JsonValue};
 use std::alloc::Global;
 
 // How many steps the life has so far.
@@ -26,29 +26,37 @@ fn note(course: &Course, ends: &mut Vec<usize>) -> Result<(), ScenarioFault>
 fn count(
     alloc: Global,
     track: &Track,
-    items: &[Value],
+    items: &JsonList,
     course: &mut Course,
     ends: &mut Vec<usize>,
 ) -> Result<(), ScenarioFault>
     requires here { course.old.front ≡ pos 0 }
-    ensures ok { OnOk result (ends_by (passed track.now.balises.items) (map view items.now) (run_of course.old) ends.old.items
+    ensures ok { OnOk result (ends_by (passed track.now.balises.items) (listed items.now) (run_of course.old) ends.old.items
         ≡ Ok ends.new.items) }
     ensures err { IfErr result (λ fault. (fault ≡ ScenarioFault.NoMemory)
-        ⊎ (ends_by (passed track.now.balises.items) (map view items.now) (run_of course.old) ends.old.items ≡ Err fault)) }
+        ⊎ (ends_by (passed track.now.balises.items) (listed items.now) (run_of course.old) ends.old.items ≡ Err fault)) }
 {
-    for item in items {
-        let asked = asked_of(alloc, item)?;
+    let mut left = items.items();
+    let mut taken: u64 = 0;
+    while let Some((item, rest)) = left.split_first() {
+        let asked = asked_of(alloc, &item)?;
         course.take(track, asked)?;
         note(course, ends)?;
+        // No text has so many steps.
+        if taken == u64::MAX {
+            return Err(ScenarioFault::NoMemory);
+        }
+        taken += 1;
+        left = rest;
     }
     Ok(())
 }
 
-fn ends_by(alloc: Global, track: &Track, items: &[Value]) -> Result<Vec<usize>, ScenarioFault>
-    ensures ok { IfOk result (λ ends. ends_by (passed track.now.balises.items) (map view items.now) start []
+fn ends_by(alloc: Global, track: &Track, items: &JsonList) -> Result<Vec<usize>, ScenarioFault>
+    ensures ok { IfOk result (λ ends. ends_by (passed track.now.balises.items) (listed items.now) start []
         ≡ Ok ends.items) }
     ensures err { IfErr result (λ fault. (fault ≡ ScenarioFault.NoMemory)
-        ⊎ (ends_by (passed track.now.balises.items) (map view items.now) start [] ≡ Err fault)) }
+        ⊎ (ends_by (passed track.now.balises.items) (listed items.now) start [] ≡ Err fault)) }
 {
     let mut course = Course::new(alloc);
     let mut ends = Vec::new(alloc);
@@ -60,12 +68,12 @@ fn ends_by(alloc: Global, track: &Track, items: &[Value]) -> Result<Vec<usize>, 
 /// a place of that life comes from the first step of the scenario whose end is behind the place; a last flush comes from
 /// none. An error is the first fault of the groups and the steps; NoMemory may come in the place of any.
 #[tactic(auto, unfolding(crate::specs::Lives::ends_in))]
-pub(crate) fn ends_of(alloc: Global, value: &Value) -> Result<Vec<usize>, ScenarioFault>
-    ensures ok { IfOk result (λ ends. ends_in (view value.now) ≡ Ok ends.items) }
-    ensures err { IfErr result (λ fault. (fault ≡ ScenarioFault.NoMemory) ⊎ (ends_in (view value.now) ≡ Err fault)) }
+pub(crate) fn ends_of(alloc: Global, value: &JsonValue) -> Result<Vec<usize>, ScenarioFault>
+    ensures ok { IfOk result (λ ends. ends_in (told value.now) ≡ Ok ends.items) }
+    ensures err { IfErr result (λ fault. (fault ≡ ScenarioFault.NoMemory) ⊎ (ends_in (told value.now) ≡ Err fault)) }
 {
     let groups = items_at(value, "groups")?;
-    let track = track_of(alloc, groups)?;
+    let track = track_of(alloc, &groups)?;
     let items = items_at(value, "steps")?;
-    ends_by(alloc, &track, items)
+    ends_by(alloc, &track, &items)
 }

@@ -1,6 +1,7 @@
 //! From the value of a scenario to the steps of a life.
-ghost use Rattle.std.specs.Prelude.{◌≡◌, ◌⊎◌, [], codes, map, pos, Some, IfOk, IfErr, OnOk, Ok, Err};
+ghost use Rattle.std.specs.Prelude.{◌≡◌, ◌⊎◌, [], codes, pos, Some, IfOk, IfErr, OnOk, Ok, Err};
 ghost use Rattle.serde_json.specs.View.{view};
+ghost use Rattle.json_values.specs.Looking.{told, listed};
 ghost use Rattle.serde_json.specs.Find.{get};
 ghost use Rattle.simulator.specs.Course.{run_of};
 ghost use Rattle.simulator.specs.Passing.{passed};
@@ -12,18 +13,19 @@ use crate::asking::asked_of;
 use crate::driving::Course;
 use crate::groups::lay_all;
 use crate::track::Track;
-use crate::values::{byte_of, has_members, list_of};
+use crate::values::byte_of;
 use events::Step;
+use json_values::{JsonList, JsonValue};
 use mode_table::Cold;
 use serde_json::Value;
 use std::alloc::Global;
 
 #[tactic(auto, unfolding(crate::specs::Lives::has_keys))]
-fn has_keys(value: &Value) -> bool
-    ensures { result ≡ has_keys (view value.now) }
+fn has_keys(value: &JsonValue) -> bool
+    ensures { result ≡ has_keys (told value.now) }
 {
     let count = if value.get("cold").is_some() { 3 } else { 2 };
-    has_members(value, count) && value.get("groups").is_some() && value.get("steps").is_some()
+    value.has_members(count) && value.get("groups").is_some() && value.get("steps").is_some()
 }
 
 fn cold_word(number: i64) -> Result<Cold, ScenarioFault>
@@ -34,40 +36,46 @@ fn cold_word(number: i64) -> Result<Cold, ScenarioFault>
 
 /// What the value of `cold` says.
 #[tactic(auto, unfolding(crate::specs::Lives::cold_of))]
-pub(crate) fn cold_in(value: &Value) -> Result<Cold, ScenarioFault>
-    ensures { result ≡ cold_of (Some (view value.now)) }
+pub(crate) fn cold_in(value: &JsonValue) -> Result<Cold, ScenarioFault>
+    ensures { result ≡ cold_of (Some (told value.now)) }
 {
     cold_word(value.as_i64().ok_or(ScenarioFault::Shape)?)
 }
 
 #[tactic(auto, unfolding(crate::specs::Lives::cold_of))]
-fn cold_of(value: &Value) -> Result<Cold, ScenarioFault>
-    ensures { result ≡ cold_of (get (codes "cold") (view value.now)) }
+fn cold_of(value: &JsonValue) -> Result<Cold, ScenarioFault>
+    ensures { result ≡ cold_of (get (codes "cold") (told value.now)) }
 {
     match value.get("cold") {
-        Some(cold) => cold_in(cold),
+        Some(cold) => cold_in(&cold),
         None => Ok(Cold::Unknown),
     }
 }
 
 /// The items of the list at a key.
 #[tactic(auto, unfolding(crate::specs::Lives::items_at))]
-pub(crate) fn items_at<'a>(value: &'a Value, key: &str) -> Result<&'a [Value], ScenarioFault>
-    ensures ok { IfOk result (λ items. items_at key.now (view value.now) ≡ Ok (map view items.now)) }
-    ensures err { IfErr result (λ fault. items_at key.now (view value.now) ≡ Err fault) }
+pub(crate) fn items_at<'t, 'a>(
+    value: &JsonValue<'t, 'a>,
+    key: &str,
+) -> Result<JsonList<'t, 'a>, ScenarioFault>
+    ensures ok { IfOk result (λ items. items_at key.now (told value.now) ≡ Ok (listed items)) }
+    ensures err { IfErr result (λ fault. items_at key.now (told value.now) ≡ Err fault) }
 {
     match value.get(key) {
-        Some(list) => list_of(list).ok_or(ScenarioFault::Shape),
+        Some(list) => match list.into_list() {
+            Some(items) => Ok(items),
+            None => Err(ScenarioFault::Shape),
+        },
         None => Err(ScenarioFault::Shape),
     }
 }
 
 /// The track on which all groups are laid.
-pub(crate) fn track_of(alloc: Global, items: &[Value]) -> Result<Track, ScenarioFault>
-    ensures ok { IfOk result (λ track. (laid : _) × (groups (map view items.now) [] ≡ Ok laid)
+pub(crate) fn track_of(alloc: Global, items: &JsonList) -> Result<Track, ScenarioFault>
+    ensures ok { IfOk result (λ track. (laid : _) × (groups (listed items.now) [] ≡ Ok laid)
         × (passed track.balises.items ≡ passed laid)) }
     ensures err { IfErr result (λ fault. (fault ≡ ScenarioFault.NoMemory)
-        ⊎ (groups (map view items.now) [] ≡ Err fault)) }
+        ⊎ (groups (listed items.now) [] ≡ Err fault)) }
 {
     let mut balises = Vec::new(alloc);
     lay_all(alloc, items, &mut balises)?;
@@ -78,49 +86,65 @@ pub(crate) fn track_of(alloc: Global, items: &[Value]) -> Result<Track, Scenario
 fn live(
     alloc: Global,
     track: &Track,
-    items: &[Value],
+    items: &JsonList,
     course: &mut Course,
 ) -> Result<(), ScenarioFault>
     requires here { course.old.front ≡ pos 0 }
-    ensures ok { OnOk result (lived (passed track.now.balises.items) (map view items.now) (run_of course.old)
+    ensures ok { OnOk result (lived (passed track.now.balises.items) (listed items.now) (run_of course.old)
         ≡ Ok (run_of course.new)) }
     ensures err { IfErr result (λ fault. (fault ≡ ScenarioFault.NoMemory)
-        ⊎ (lived (passed track.now.balises.items) (map view items.now) (run_of course.old) ≡ Err fault)) }
+        ⊎ (lived (passed track.now.balises.items) (listed items.now) (run_of course.old) ≡ Err fault)) }
 {
-    for item in items {
-        let asked = asked_of(alloc, item)?;
+    let mut left = items.items();
+    let mut count: u64 = 0;
+    while let Some((item, rest)) = left.split_first() {
+        let asked = asked_of(alloc, &item)?;
         course.take(track, asked)?;
+        // No text has so many steps.
+        if count == u64::MAX {
+            return Err(ScenarioFault::NoMemory);
+        }
+        count += 1;
+        left = rest;
     }
     Ok(())
 }
 
 #[tactic(auto, unfolding(crate::specs::Lives::steps_in))]
-fn steps_of(alloc: Global, track: &Track, items: &[Value]) -> Result<Vec<Step>, ScenarioFault>
-    ensures ok { IfOk result (λ steps. steps_in (passed track.now.balises.items) (map view items.now)
+fn steps_of(alloc: Global, track: &Track, items: &JsonList) -> Result<Vec<Step>, ScenarioFault>
+    ensures ok { IfOk result (λ steps. steps_in (passed track.now.balises.items) (listed items.now)
         ≡ Ok steps.items) }
     ensures err { IfErr result (λ fault. (fault ≡ ScenarioFault.NoMemory)
-        ⊎ (steps_in (passed track.now.balises.items) (map view items.now) ≡ Err fault)) }
+        ⊎ (steps_in (passed track.now.balises.items) (listed items.now) ≡ Err fault)) }
 {
     let mut course = Course::new(alloc);
     live(alloc, track, items, &mut course)?;
     Ok(course.end()?)
 }
 
-/// What the train knows of movements without power, and the steps of the life that a value asks for; or the value's
-/// first fault. The faults come in this order: the keys of the object; the value of `cold`; the groups; the steps; in
-/// each item its shape, and then its numbers and texts. NoMemory may come in the place of any of them.
+/// What `life_of` answers, of a value on a tape or in a tree.
 #[tactic(auto, unfolding(crate::specs::Lives::life_in))]
-pub fn life_of(alloc: Global, value: &Value) -> Result<(Cold, Vec<Step>), ScenarioFault>
-    ensures ok { IfOk result (λ life. life_in (view value.now) ≡ Ok (life.0, life.1.items)) }
-    ensures err { IfErr result (λ fault. (fault ≡ ScenarioFault.NoMemory) ⊎ (life_in (view value.now) ≡ Err fault)) }
+pub(crate) fn life_in(alloc: Global, value: &JsonValue) -> Result<(Cold, Vec<Step>), ScenarioFault>
+    ensures ok { IfOk result (λ life. life_in (told value.now) ≡ Ok (life.0, life.1.items)) }
+    ensures err { IfErr result (λ fault. (fault ≡ ScenarioFault.NoMemory) ⊎ (life_in (told value.now) ≡ Err fault)) }
 {
     if !has_keys(value) {
         return Err(ScenarioFault::Shape);
     }
     let cold = cold_of(value)?;
     let groups = items_at(value, "groups")?;
-    let track = track_of(alloc, groups)?;
+    let track = track_of(alloc, &groups)?;
     let items = items_at(value, "steps")?;
-    let steps = steps_of(alloc, &track, items)?;
+    let steps = steps_of(alloc, &track, &items)?;
     Ok((cold, steps))
+}
+
+/// What the train knows of movements without power, and the steps of the life that a value asks for; or the value's
+/// first fault. The faults come in this order: the keys of the object; the value of `cold`; the groups; the steps; in
+/// each item its shape, and then its numbers and texts. NoMemory may come in the place of any of them.
+pub fn life_of(alloc: Global, value: &Value) -> Result<(Cold, Vec<Step>), ScenarioFault>
+    ensures ok { IfOk result (λ life. life_in (view value.now) ≡ Ok (life.0, life.1.items)) }
+    ensures err { IfErr result (λ fault. (fault ≡ ScenarioFault.NoMemory) ⊎ (life_in (view value.now) ≡ Err fault)) }
+{
+    life_in(alloc, &JsonValue::Tree(value))
 }

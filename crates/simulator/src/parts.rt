@@ -12,6 +12,7 @@ use crate::asking::asked_of;
 use crate::groups::{lay_group, lay_one};
 use crate::lives::cold_in;
 use crate::values::within;
+use json_values::JsonValue;
 use serde_json::Value;
 use std::alloc::Global;
 
@@ -19,7 +20,7 @@ use std::alloc::Global;
 pub fn fault_of_cold(value: &Value) -> Option<ScenarioFault>
     ensures { result ≡ result_err (cold_of (Some (view value.now))) }
 {
-    cold_in(value).err()
+    cold_in(&JsonValue::Tree(value)).err()
 }
 
 /// The fault of a group. NoMemory may come in its place.
@@ -27,7 +28,7 @@ pub fn fault_of_group(alloc: Global, value: &Value) -> Option<ScenarioFault>
     ensures { (result ≡ Some ScenarioFault.NoMemory) ⊎ (result ≡ result_err (group (view value.now) [])) }
 {
     let mut balises = Vec::new(alloc);
-    lay_group(alloc, value, &mut balises).err()
+    lay_group(alloc, &JsonValue::Tree(value), &mut balises).err()
 }
 
 /// The fault of a balise of a group. NoMemory may come in its place.
@@ -35,7 +36,7 @@ pub fn fault_of_balise(alloc: Global, value: &Value) -> Option<ScenarioFault>
     ensures { (result ≡ Some ScenarioFault.NoMemory) ⊎ (result ≡ result_err (laid_one 1 (view value.now) [])) }
 {
     let mut balises = Vec::new(alloc);
-    lay_one(alloc, 1, value, &mut balises).err()
+    lay_one(alloc, 1, &JsonValue::Tree(value), &mut balises).err()
 }
 
 fn number_in(low: u64, high: u64, value: &Value) -> Result<u64, ScenarioFault>
@@ -63,5 +64,5 @@ pub fn fault_of_spacing(value: &Value) -> Option<ScenarioFault>
 pub fn fault_of_step(alloc: Global, value: &Value) -> Option<ScenarioFault>
     ensures { (result ≡ Some ScenarioFault.NoMemory) ⊎ (result ≡ result_err (asked (view value.now))) }
 {
-    asked_of(alloc, value).err()
+    asked_of(alloc, &JsonValue::Tree(value)).err()
 }

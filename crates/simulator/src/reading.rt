@@ -3,10 +3,10 @@ ghost use Rattle.std.specs.Prelude.{◌≡◌, ◌⊎◌, IfOk, IfErr};
 ghost use Rattle.simulator.specs.Scenarios.{Tells, FaultOf, TellsEnds};
 
 use crate::fault::ScenarioFault;
-use crate::lives::life_of;
+use crate::lives::life_in;
 use events::Step;
+use json_values::{JsonText, Scratch};
 use mode_table::Cold;
-use serde_json::Value;
 use std::alloc::Global;
 
 /// A scenario: the bytes of its file (this project's profile).
@@ -23,12 +23,13 @@ pub fn events_of(alloc: Global, scenario: &Scenario) -> Result<(Cold, Vec<Step>)
     ensures ok { IfOk result (λ life. Tells scenario.now.bytes.items life.0 life.1.items) }
     ensures err { IfErr result (λ fault. (fault ≡ ScenarioFault.NoMemory) ⊎ FaultOf scenario.now.bytes.items fault) }
 {
-    let value = match Value::from_slice(alloc, scenario.bytes.as_slice()) {
-        Ok(value) => value,
+    let mut scratch = Scratch::new(alloc);
+    let text = match JsonText::read(alloc, scenario.bytes.as_slice(), &mut scratch) {
+        Ok(text) => text,
         Err(error) if error.is_memory() => return Err(ScenarioFault::NoMemory),
         Err(_) => return Err(ScenarioFault::NotJson),
     };
-    life_of(alloc, &value)
+    life_in(alloc, &text.value())
 }
 
 /// Of each step of the scenario, how many steps of the life that `events_of` answers there are up to its end: so the step
@@ -37,10 +38,11 @@ pub fn events_of(alloc: Global, scenario: &Scenario) -> Result<(Cold, Vec<Step>)
 pub fn ends_of(alloc: Global, scenario: &Scenario) -> Result<Vec<usize>, ScenarioFault>
     ensures { IfOk result (λ ends. TellsEnds scenario.now.bytes.items ends.items) }
 {
-    let value = match Value::from_slice(alloc, scenario.bytes.as_slice()) {
-        Ok(value) => value,
+    let mut scratch = Scratch::new(alloc);
+    let text = match JsonText::read(alloc, scenario.bytes.as_slice(), &mut scratch) {
+        Ok(text) => text,
         Err(error) if error.is_memory() => return Err(ScenarioFault::NoMemory),
         Err(_) => return Err(ScenarioFault::NotJson),
     };
-    crate::ends::ends_of(alloc, &value)
+    crate::ends::ends_of(alloc, &text.value())
 }

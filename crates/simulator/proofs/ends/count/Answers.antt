@@ -1,24 +1,33 @@
-use Rattle.std.proofs.Common.{ℕ, ◌+◌, ◌<◌, List, length, map, drop, sym, ap, ◌∙◌, arith}
-use Rattle.serde_json.specs.View.{view}
+use Rattle.std.proofs.Common.{◌≡◌, ℕ, List, [], ◌∷◌, ◌++◌, length, sym, ap, ◌∙◌, arith}
 use Rattle.std.proofs.lemmas.Int.{ints}
+use Rattle.json_values.specs.Looking.{told, told_items}
+use Rattle.simulator.specs.Values.{◌>>=◌}
 use Rattle.simulator.specs.Passing.{passed}
-use Rattle.simulator.specs.Course.{run_of}
+use Rattle.simulator.specs.Course.{run_of, taken}
+use Rattle.simulator.specs.Steps.{asked}
 use Rattle.simulator.specs.Lives.{ends_by}
-use Rattle.simulator.proofs.Lists.{ends-from}
 use Rattle.simulator.proofs.ends.count.Goals as goal
 
 pub take-requires-clause-low : goal.take-requires-clause-low
-take-requires-clause-low c = omega (arith, ints, c.loop-item.invariant.low)
+take-requires-clause-low c = omega (arith, ints, c.loop-item.invariant.low, c.loop-item.invariant.fits)
+
+pub take-requires-clause-high : goal.take-requires-clause-high
+take-requires-clause-high c = omega (arith, ints, c.loop-item.invariant.high, c.loop-item.invariant.fits)
 
 pub loop-item-preserved : goal.loop-item-preserved
 loop-item-preserved c =
-    let inside : c.loop-item.item-index < length c.args.items.now = omega (arith, c.loop-item-test.true) in
-    let more = ends-from (passed c.args.track.now.balises.items) c.args.items.now c.loop-item.item-index c.item-item.result (run_of c.loop-item.course) c.loop-item.ends.items inside c.item-item.is in
+    let ahead = passed c.args.track.now.balises.items in
+    let run = run_of c.loop-item.course in
+    let so_far = c.loop-item.ends.items in
+    let more : ends_by ahead (told_items c.loop-item.left) run so_far
+    ≡ (asked (told c.in-Some.item) >>= λ step. ends_by ahead (told_items c.in-Some.rest) (taken ahead step run) (so_far ++ length (taken ahead step run).steps ∷ [])) =
+    ap (λ ds. ends_by ahead ds run so_far) c.in-Some.ensures in
     let one = c.in_ok-asked.ensures.ok in
     let next = c.in_ok-take.ensures.ok in
     record {
+      fits = grind arith;
       so_far =
-          ap (λ (ends : List ℕ). ends_by (passed c.args.track.now.balises.items) (map view (drop (c.loop-item.item-index + 1) c.args.items.now)) (run_of c.take.new.self) ends) c.in_ok-note.ensures.ok
+          ap (λ (ends : List ℕ). ends_by ahead (told_items c.in-Some.rest) (run_of c.take.new.self) ends) c.in_ok-note.ensures.ok
           ∙ sym (rw (one, ← next) at more) ∙ c.loop-item.invariant.so_far;
       low = omega (arith, ints, c.loop-item.invariant.low, c.in_ok-take.ensures.least);
       high = omega (arith, ints, c.loop-item.invariant.high, c.in_ok-take.ensures.most);

@@ -1,0 +1,7 @@
+pub mod Counted
+pub mod Judged
+pub mod Looked
+pub mod Read
+pub mod Same
+pub mod Spelled
+pub mod Written

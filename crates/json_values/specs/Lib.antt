@@ -1,0 +1,4 @@
+pub mod Looking
+pub mod Places
+pub mod Plain
+pub mod Shapes

@@ -1,0 +1,47 @@
+//! The whole number that a number of JSON writes.
+ghost use Rattle.std.specs.Prelude.{◌≡◌, ◌==◌, ◌<◌, IsTrue, OnSome, Some, is_some, slice_index, length, true, false, option_and_then, option_map};
+ghost use Rattle.serde_json.specs.Data.{Num};
+ghost use Rattle.serde_json.specs.Find.{as_i64};
+ghost use Rattle.serde_json.specs.Read.{number_of, number_from};
+
+use fast_float::Numeral;
+
+fn has_minus(bytes: &[u8]) -> bool
+    ensures value { result ≡ (slice_index bytes.now 0 == 45) }
+    ensures len { IsTrue result → 0 < length bytes.now }
+{
+    !bytes.is_empty() && bytes[0] == b'-'
+}
+
+fn not_negative(numeral: &Numeral<'_>) -> Option<i64>
+    ensures value { (n : Num) → number_from false numeral.now ≡ Some n → result ≡ as_i64 n }
+    ensures some { OnSome result (is_some (number_from false numeral.now) ≡ true) }
+{
+    match numeral.to_u64() {
+        Some(n) if n <= i64::MAX as u64 => Some(n as i64),
+        _ => None,
+    }
+}
+
+fn negative(numeral: &Numeral<'_>) -> Option<i64>
+    ensures value { (n : Num) → number_from true numeral.now ≡ Some n → result ≡ as_i64 n }
+    ensures some { OnSome result (is_some (number_from true numeral.now) ≡ true) }
+{
+    match numeral.to_i64(true) {
+        Some(n) if n < 0 => Some(n),
+        _ => None,
+    }
+}
+
+/// The whole number of 64 bits that the text of a number writes; None where it is another number, as `1.0` and `-0` are.
+pub(crate) fn whole(text: &str) -> Option<i64>
+    ensures value { (n : Num) → number_of text.now ≡ Some n → result ≡ as_i64 n }
+    ensures some { OnSome result (is_some (number_of text.now) ≡ true) }
+{
+    let bytes = text.as_bytes();
+    if has_minus(bytes) {
+        negative(&Numeral::scan(&bytes[1..]))
+    } else {
+        not_negative(&Numeral::scan(bytes))
+    }
+}

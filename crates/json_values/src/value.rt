@@ -1,0 +1,208 @@
+//! One JSON value, and the items of a list.
+ghost use Rattle.std.specs.Prelude.{◌≡◌, ◌==◌, ◌≤◌, ◌∷◌, [], nat_le, is_some, option_map, option_and_then, true, MatchOption, slice_get, length};
+ghost use Rattle.serde_json.specs.Find.{as_str, as_bool, as_number, as_i64, get};
+ghost use Rattle.json_values.specs.Looking.{told, told_items, listed};
+ghost use Rattle.json_values.specs.Shapes.{has_members, list_in};
+
+use crate::placed::Placed;
+use crate::placed_items::PlacedItems;
+use serde_json::Value;
+
+/// A JSON value: a place of a tape, or a value of a tree.
+#[derive(Drop)]
+pub enum JsonValue<'t, 'a> {
+    /// A place of a tape.
+    Tape(Placed<'t, 'a>),
+    /// A value of a tree.
+    Tree(&'t Value),
+}
+
+impl<'t, 'a> JsonValue<'t, 'a> {
+    /// The text, where the value is one.
+    pub fn as_str(&self) -> Option<&str>
+        ensures { option_map (λ s. s.now) result ≡ as_str (told self.now) }
+    {
+        match self {
+            JsonValue::Tape(placed) => placed.as_str(),
+            JsonValue::Tree(value) => value.as_str(),
+        }
+    }
+
+    /// Whether the value is a text.
+    pub fn is_string(&self) -> bool
+        ensures { result ≡ is_some (as_str (told self.now)) }
+    {
+        self.as_str().is_some()
+    }
+
+    /// What the value says, where it is `true` or `false`.
+    pub fn as_bool(&self) -> Option<bool>
+        ensures { result ≡ as_bool (told self.now) }
+    {
+        match self {
+            JsonValue::Tape(placed) => placed.as_bool(),
+            JsonValue::Tree(value) => value.as_bool(),
+        }
+    }
+
+    /// The whole number of 64 bits, where the value is one.
+    pub fn as_i64(&self) -> Option<i64>
+        ensures { result ≡ option_and_then as_i64 (as_number (told self.now)) }
+    {
+        match self {
+            JsonValue::Tape(placed) => placed.as_i64(),
+            JsonValue::Tree(value) => value.as_i64(),
+        }
+    }
+
+    /// The value at a name of an object; the last one, where the name comes twice.
+    pub fn get(&self, name: &str) -> Option<JsonValue<'t, 'a>>
+        ensures { option_map told result ≡ get name.now (told self.now) }
+    {
+        match self {
+            JsonValue::Tape(placed) => match placed.get(name) {
+                Some(placed) => Some(JsonValue::Tape(placed)),
+                None => None,
+            },
+            JsonValue::Tree(value) => match value.get(name) {
+                Some(value) => Some(JsonValue::Tree(value)),
+                None => None,
+            },
+        }
+    }
+
+    /// Whether it is an object of so many names, at most three.
+    pub fn has_members(&self, count: usize) -> bool
+        requires { count ≤ 3 }
+        ensures { result ≡ has_members count (told self.now) }
+    {
+        match self {
+            JsonValue::Tape(placed) => placed.has_members(count),
+            JsonValue::Tree(value) => match value.as_object() {
+                Some(map) => map.len() == count,
+                None => false,
+            },
+        }
+    }
+
+    fn items(&self) -> Option<JsonItems<'t, 'a>>
+        ensures { option_map told_items result ≡ list_in (told self.now) }
+    {
+        match self {
+            JsonValue::Tape(placed) => match placed.items() {
+                Some(items) => Some(JsonItems::Tape(items)),
+                None => None,
+            },
+            JsonValue::Tree(value) => match value.as_array() {
+                Some(items) => Some(JsonItems::Tree(items.as_slice())),
+                None => None,
+            },
+        }
+    }
+
+    /// The list, where the value is one.
+    pub fn into_list(self) -> Option<JsonList<'t, 'a>>
+        ensures { option_map listed result ≡ list_in (told self.entry) }
+    {
+        match self.items() {
+            Some(_) => Some(JsonList { value: self }),
+            None => None,
+        }
+    }
+}
+
+/// A value that is a list.
+#[derive(Drop)]
+pub struct JsonList<'t, 'a> {
+    value: JsonValue<'t, 'a>,
+}
+
+impl<'t, 'a> JsonList<'t, 'a> {
+    /// The items.
+    pub fn items(&self) -> JsonItems<'t, 'a>
+        ensures { told_items result ≡ listed self.now }
+    {
+        match self.value.items() {
+            Some(items) => items,
+            None => JsonItems::Nothing,
+        }
+    }
+
+    /// The item at a place.
+    pub fn at(&self, place: usize) -> Option<JsonValue<'t, 'a>>
+        ensures { option_map told result ≡ slice_get (listed self.now) place }
+    {
+        let mut left = self.items();
+        let mut before = place;
+        while let Some((item, rest)) = left.split_first() {
+            if before == 0 {
+                return Some(item);
+            }
+            before -= 1;
+            left = rest;
+        }
+        None
+    }
+
+    /// Whether there are so many items.
+    pub fn has_len(&self, count: usize) -> bool
+        ensures { result ≡ (length (listed self.now) == count) }
+    {
+        let mut left = self.items();
+        let mut missing = count;
+        while let Some((_, rest)) = left.split_first() {
+            if missing == 0 {
+                return false;
+            }
+            missing -= 1;
+            left = rest;
+        }
+        missing == 0
+    }
+
+    /// Whether there are at most so many items.
+    pub fn is_within(&self, most: usize) -> bool
+        ensures { result ≡ nat_le (length (listed self.now)) most }
+    {
+        let mut left = self.items();
+        let mut room = most;
+        while let Some((_, rest)) = left.split_first() {
+            if room == 0 {
+                return false;
+            }
+            room -= 1;
+            left = rest;
+        }
+        true
+    }
+}
+
+/// The items of a list from one of them on.
+#[derive(Drop)]
+pub enum JsonItems<'t, 'a> {
+    /// Of a tape.
+    Tape(PlacedItems<'t, 'a>),
+    /// Of a tree.
+    Tree(&'t [Value]),
+    /// There are none.
+    Nothing,
+}
+
+impl<'t, 'a> JsonItems<'t, 'a> {
+    /// The first item and the others.
+    pub fn split_first(self) -> Option<(JsonValue<'t, 'a>, JsonItems<'t, 'a>)>
+        ensures { MatchOption result (told_items self.entry ≡ []) (λ r. told_items self.entry ≡ told r.0 ∷ told_items r.1) }
+    {
+        match self {
+            JsonItems::Tape(items) => match items.split_first() {
+                Some((placed, rest)) => Some((JsonValue::Tape(placed), JsonItems::Tape(rest))),
+                None => None,
+            },
+            JsonItems::Tree(items) => match items.split_first() {
+                Some((value, rest)) => Some((JsonValue::Tree(value), JsonItems::Tree(rest))),
+                None => None,
+            },
+            JsonItems::Nothing => None,
+        }
+    }
+}

@@ -1,4 +1,4 @@
--- The JSON value that a place of a tape, a value of a tree, or a whole text tells.
+-- The JSON value that a place of a tape, a value of a tree, or a whole text tells (this project's profile).
 use Rattle.std.specs.Prelude.{List, [], map, Option, Some, None}
 use Rattle.serde_json.specs.Data.{Data}
 use Rattle.serde_json.specs.View.{view}

@@ -1,5 +1,5 @@
 -- The JSON values that begin at places of a text, where the tokens from the place on are known: what `serde_json` makes
--- of what the grammar reads there.
+-- of what the grammar reads there (this project's profile).
 use Rattle.std.specs.Prelude.{List, [], length, Option, Some, None, option_and_then}
 use Rattle.json.specs.Token.{Token}
 use Rattle.json.specs.Json as json

@@ -1,4 +1,5 @@
--- Tokens that `serde_json` takes as `json` does: nothing nests deeper than 127, and each number is one of 64 bits.
+-- Tokens that `serde_json` takes as `json` does (this project's profile): nothing nests deeper than 127, and each number
+-- is one of 64 bits.
 use Rattle.std.specs.Prelude.{ℕ, ◌+◌, ◌-◌, ◌&&◌, nat_lt, List, [], ◌∷◌, Bool, true, is_some}
 use Rattle.json.specs.Token.{Token}
 use Rattle.serde_json.specs.Read.{number_of, max_depth}

@@ -1,4 +1,4 @@
--- Shapes of a JSON value: an object of so many names, and a list.
+-- Shapes of a JSON value: an object of so many names, and a list (this project's profile).
 use Rattle.std.specs.Prelude.{ℕ, ◌==◌, List, [], ◌∷◌, Bool, false, Option, Some, None, option_map}
 use Rattle.serde_json.specs.Data.{Data, Items, no_items, item, Members}
 use Rattle.serde_json.specs.Events.{members_len}

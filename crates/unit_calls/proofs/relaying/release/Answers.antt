@@ -27,6 +27,7 @@ returns-in-Ok c =
         failed = c.release.ensures.failed;
         unit = c.release.ensures.unit;
         sectors = c.release.ensures.sectors;
+        known = c.release.ensures.known;
         stands = c.in-Ok.ensures.stands;
       };
     })

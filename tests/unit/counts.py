@@ -25,7 +25,7 @@ import worst_search  # noqa: E402
 # The worst driver's start that was found, and a little more. A reading before 32 restrictions behind 690 gradients, told from the farthest to the
 # nearest, or before 40 of which each slower one is nearer: one sum over the gradients. A reading before stairs of restrictions, mode areas and static
 # speeds whose authority ends before them: four sums.
-MOST_START = 160_000
+MOST_START = 185_000
 MOST_READING = 45_000
 MOST_SUMS = 140_000
 # A reading with twice the restrictions, or twice the gradients, takes at most twice as much, and a little for the call itself.

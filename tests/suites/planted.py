@@ -4,6 +4,7 @@ suites/ are judged by the records that the copy answers; of the wrong definition
 tests/rows/test_kernel.row come first. A change of which nothing tells is named.
 
     tests/suites/planted.py ETCS ETCS_LAB [WORD ..]     with words, the wrong definitions alone whose sentences have one of them
+    tests/suites/planted.py --texts                     whether the text of each change stands once, and no more
 """
 import json
 import os
@@ -19,6 +20,7 @@ from gaknifur import cases, coverage, playing  # noqa: E402
 from planted_definitions import DEFINITIONS  # noqa: E402
 
 BITS = playing.BITS
+LEAST = 280  # changes
 PLANTED = [
     ("modes.py", "10  TR                       PT  trip_acknowledged", "10  TR                       SB  trip_acknowledged"),
     ("modes.py", "11  PT                       SR  override_accepted\n", ""),
@@ -87,7 +89,7 @@ PLANTED = [
     ("history.py", "self.stretch().min_front > end.place", "self.stretch().min_front >= end.place"),
     ("history.py", "self.sums.path - entered[-1] > farthest", "self.sums.path - entered[-1] >= farthest"),
     ("history.py", "return not self.is_overridden() and bool(", "return bool("),
-    ("history.py", "self.moment() - since.moment < time)", "self.moment() - since.moment <= time)"),
+    ("history.py", "time_left <= 0)", "time_left < 0)"),
     ("history.py", "if live and told[-1].packet.kind == 80 else []", "if live else []"),
     ("history.py", "for profile in (self.gradients(), self.speeds())", "for profile in (self.speeds(),)"),
     ("modes.py", " 2  FS OS SR SH UN PT        SB  desk_closed\n", ""),
@@ -214,6 +216,15 @@ def tells(plant, *looks):
     return None, []
 
 
+def texts():
+    """Tells of each change whose text doesn't stand once in the plain kernel."""
+    plants = [*PLANTED, *(plant for _, *plant in DEFINITIONS)]
+    lost = [(path, old, count) for path, old, _ in plants if (count := (TOP / "tests/plain" / path).read_text().count(old)) != 1]
+    for path, old, count in lost:
+        print(f"tests/suites/planted.py: {path} has this {count} times: {old!r}")
+    return 1 if lost or len(plants) < LEAST else 0
+
+
 def main(etcs, lab, *words):
     os.environ |= {"GAKNIFUR_ETCS": str(Path(etcs).resolve()), "GAKNIFUR_ETCS_LAB": str(Path(lab).resolve())}
     found, table = [case for case in coverage.all_cases(TOP / "suites") if not any(life.ends for life in case.lives)], coverage.mode_table()
@@ -237,4 +248,4 @@ def main(etcs, lab, *words):
 
 
 if __name__ == "__main__":
-    sys.exit(main(*sys.argv[1:]))
+    sys.exit(texts() if sys.argv[1:] == ["--texts"] else main(*sys.argv[1:]))

@@ -35,14 +35,14 @@ DEFINITIONS = [
      'National(kept.national)', 'National(type(kept.national)(kept.national.values))'),
     ('override ends by the values in force now', 'history.py',
      '        time = since.values.override_time\n'
-     '        return ((time is None or self.moment() - since.moment < time)\n'
-     '                and self.sums.path - since.path < since.values.override_distance)',
+     '        time_left = None if time is None else time - (self.moment() - since.moment)\n'
+     '        distance_left = since.values.override_distance -',
      '        time = self.national.in_force.values.override_time\n'
-     '        return ((time is None or self.moment() - since.moment < time)\n'
-     '                and self.sums.path - since.path < self.national.in_force.values.override_distance)'),
+     '        time_left = None if time is None else time - (self.moment() - since.moment)\n'
+     '        distance_left = self.national.in_force.values.override_distance -'),
     ("a second Override doesn't begin anew", 'history.py', '                since = entry\n', '                since = since or entry\n'),
     ("the override's distance itself still counts", 'history.py',
-     'self.sums.path - since.path < since', 'self.sums.path - since.path <= since'),
+     'or distance_left <= 0', 'or distance_left < 0'),
     ('no mode ends an override', 'history.py',
      '            if entry.entered and fate("override", entry.entered) == "D":\n                since = None\n', ''),
     ('override is allowed up to the default speed, whatever is in force', 'driver.py',
@@ -52,7 +52,7 @@ DEFINITIONS = [
     ("an override doesn't lower the speed", 'output.py', '[values.override_speed] if life.is_overridden() else []', '[]'),
     ('override is accepted in Unfitted too', 'driver.py',
      '("FS", "OS", "SR", "PT") and life.speed()', '("FS", "OS", "SR", "PT", "UN") and life.speed()'),
-    ('an override lasts 1 ms longer', 'history.py', 'self.moment() - since.moment < time', 'self.moment() - since.moment < time + 1'),
+    ('an override lasts 1 ms longer', 'history.py', 'else time - (self.moment()', 'else time + 1 - (self.moment()'),
     ('the mode that an Override leads to ends it', 'history.py', 'fate("override", entry.entered) == "D"', 'entry.entered'),
     ('override holds off beyond_staff_distance too', 'life.py',
      '"beyond_staff_distance": self.is_too_far()', '"beyond_staff_distance": self.is_too_far() and not self.is_overridden()'),
@@ -175,7 +175,7 @@ DEFINITIONS = [
     ('D_NVSTFF counts from the first time that Staff Responsible was entered', 'history.py',
      'self.sums.path - entered[-1] > farthest', 'self.sums.path - entered[0] > farthest'),
     ("an override's distance is the way since the power-up", 'history.py',
-     'and self.sums.path - since.path < since', "and self.sums.moved - getattr(since, 'was', 0) < since"),
+     '- (self.sums.path - since.path)', '- self.sums.path'),
     ('level 0 that comes into force in Unfitted owes nothing', 'life.py',
      '(kind == "level-0" and self.now.came_in == 0)', '(kind == "level-0" and self.now.came_in == 0 and mode == "UN" and row)'),
     ('level 0 that comes into force owes nothing', 'life.py', ' or (kind == "level-0" and self.now.came_in == 0)', ''),

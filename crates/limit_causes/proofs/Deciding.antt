@@ -1,7 +1,7 @@
 -- A target that a next greater speed doesn't fit decides the greatest one that fits all.
-use Rattle.std.proofs.Common.{◌≡◌, ℕ, zero, suc, ◌+◌, ◌<◌, ◌≤◌, List, [], ◌∷◌, ◌++◌, ◌⊎◌, inl, inr, Bool, true, false, cond, refl, ap, sym, ◌∙◌, arith}
+use Rattle.std.proofs.Common.{◌≡◌, ℕ, zero, suc, ◌+◌, ◌<◌, ◌≤◌, List, [], ◌∷◌, ◌++◌, ◌⊎◌, inl, inr, Bool, true, false, refl, ap, sym, ◌∙◌, arith}
 use Rattle.std.specs.Prelude.{Option, None, Some, IfSome, MatchOption, ◌&&◌}
-use Rattle.std.proofs.lemmas.Bool.{cases_lt}
+use Rattle.std.proofs.lemmas.Bool.{and_parts, cases_lt, cond_both}
 use Rattle.units.proofs.Gathering.{IsIn}
 use Rattle.track_store.specs.Profiles.{listed}
 use Rattle.braking.specs.declared.target.Target.{Target}
@@ -13,38 +13,29 @@ use Rattle.speed_profile.proofs.Members.{in_right}
 use Rattle.limit_causes.specs.declared.cause.TargetAhead.{TargetAhead}
 use Rattle.limit_causes.specs.Targets.{Journey, IsTarget, fits_on, fits_all_on, target_of}
 use Rattle.limit_causes.specs.Supervised.{IsDeciding}
-use Rattle.limit_causes.proofs.Finding.{both_true}
-
-by_test : (test : ℕ → Bool) (n k : ℕ) (b : Bool) → test (suc n) ≡ b → ((k : ℕ) → greatest test n < k → k ≤ n → test k ≡ false) →
-    cond b (suc n) (greatest test n) < k → k ≤ suc n → test k ≡ false
-by_test test n k true e lower above within = absurd (omega (arith, above, within))
-by_test test n k false e lower above within =
-    elim (cases_lt n k) [
-      | inl gt ↦ (let same : k ≡ suc n = omega (arith, gt, within) in ap test same ∙ e)
-      | inr le ↦ lower k above le
-    ]
 
 -- nothing above it passes
 above_fails : (test : ℕ → Bool) (n k : ℕ) → greatest test n < k → k ≤ n → test k ≡ false
 unfolding greatest
 above_fails test zero k above within = absurd (omega (arith, above, within))
-above_fails test (suc n) k above within = by_test test n k (test (suc n)) refl (above_fails test n) above within
-
-found_by : (test : ℕ → Bool) (n : ℕ) (b : Bool) → test (suc n) ≡ b → (greatest test n ≡ 0) ⊎ (test (greatest test n) ≡ true) →
-    (cond b (suc n) (greatest test n) ≡ 0) ⊎ (test (cond b (suc n) (greatest test n)) ≡ true)
-found_by test n true e lower = inr e
-found_by test n false e lower = lower
+above_fails test (suc n) k above within =
+    cond_both (test (suc n)) (suc n) (greatest test n) (λ m. m < k → test k ≡ false) (λ e over. absurd (omega (arith, over, within)))
+    (λ e over. elim (cases_lt n k) [
+      | inl gt ↦ (let same : k ≡ suc n = omega (arith, gt, within) in ap test same ∙ e)
+      | inr le ↦ above_fails test n k over le
+    ]) above
 
 passes : (test : ℕ → Bool) (n : ℕ) → (greatest test n ≡ 0) ⊎ (test (greatest test n) ≡ true)
 unfolding greatest
 passes test zero = inl refl
-passes test (suc n) = found_by test n (test (suc n)) refl (passes test n)
+passes test (suc n) =
+    cond_both (test (suc n)) (suc n) (greatest test n) (λ m. (m ≡ 0) ⊎ (test m ≡ true)) (λ e. inr e) (λ e. passes test n)
 
 module _ (journey : Journey) (limit : ℕ) where
   fit_each : (targets : List Target) (v : ℕ) → fits_all_on journey targets v ≡ true → (t : Target) → IsIn t targets → fits_on journey t v ≡ true
   fit_each [] v h t there = absurd there
   fit_each (target ∷ targets) v h t there =
-      let parts = both_true (fits_on journey target v) (fits_all_on journey targets v) h in
+      let parts = and_parts (fits_on journey target v) (fits_all_on journey targets v) h in
       elim there [
         | inl same ↦ ap (λ (x : Target). fits_on journey x v) same ∙ parts.0
         | inr k ↦ fit_each targets v parts.1 t k

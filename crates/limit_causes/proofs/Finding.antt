@@ -1,20 +1,12 @@
 -- What is found in a list, and what isn't.
-use Rattle.std.proofs.Common.{◌≡◌, ℕ, zero, suc, ◌+◌, ◌<◌, List, [], ◌∷◌, min, ◌⊎◌, inl, inr, Bool, true, false, cond, refl, ap, sym, ◌∙◌, subst, arith, length, drop, get_or}
-use Rattle.std.specs.Prelude.{Option, None, Some, is_some, ◌&&◌, find, Contains, MatchOption}
+use Rattle.std.proofs.Common.{◌≡◌, ℕ, zero, suc, ◌+◌, ◌<◌, List, [], ◌∷◌, inl, inr, Bool, true, false, cond, refl, ap, sym, ◌∙◌, subst, arith, length, drop, get_or}
+use Rattle.std.specs.Prelude.{Option, None, Some, is_some, find, Contains, MatchOption}
 use Rattle.std.proofs.Math.Seq.{drop-cons}
+use Rattle.std.proofs.lemmas.Option.{same_Some}
 use Rattle.units.specs.Stretches.{least}
 use Rattle.units.proofs.Gathering.{IsIn}
 use Rattle.track_store.specs.Profiles.{listed}
-
-pub both_true : (a b : Bool) → (a && b) ≡ true → (a ≡ true) × (b ≡ true)
-both_true true b h = (refl, h)
-both_true false b h = absurd (let no : false ≡ true = h in cc)
-
-pub all_true : (a b : Bool) → a ≡ true → b ≡ true → (a && b) ≡ true
-all_true a b h k = rw h k
-
-pub some_same : {A : Type 0} (x y : A) → Some x ≡ Some y → x ≡ y
-some_same x y is = let same : x ≡ y = cc in same
+use Rattle.track_store.proofs.Jumps.{least_one_of}
 
 one_farther : {A : Type 0} (y : A) (xs : List A) (x : A) → Contains xs x → Contains (y ∷ xs) x
 one_farther y xs x there = (suc there.0, omega (arith, there.1), there.2)
@@ -23,7 +15,7 @@ pub found : {A : Type 0} (p : A → Bool) (xs : List A) (x : A) → find p xs �
 found p [] x h = absurd (let no : None ≡ Some x = h in cc)
 found {A = A} p (y ∷ xs) x h =
     let cases : (b : Bool) → p y ≡ b → cond b (Some y) (find p xs) ≡ Some x → Contains (y ∷ xs) x × (p x ≡ true) = elim [
-      | true ↦ λ e k. (let same : y ≡ x = some_same y x k in ((0, omega arith, same), ap p (sym same) ∙ e))
+      | true ↦ λ e k. (let same : y ≡ x = same_Some y x k in ((0, omega arith, same), ap p (sym same) ∙ e))
       | false ↦ λ e k. (let r = found p xs x k in (one_farther y xs x r.0, r.1))
     ] in
     cases (p y) refl h
@@ -43,18 +35,6 @@ none_found {A = A} p (y ∷ xs) h x there e =
 pub listed_is : {A : Type 0} (o : Option A) (x : A) → IsIn x (listed o) → o ≡ Some x
 listed_is None x h = absurd h
 listed_is (Some y) x h = elim h [ inl same ↦ ap Some (sym same) | inr never ↦ absurd never ]
-
-least_one_of : (limit : ℕ) (vs : List ℕ) → (least limit vs ≡ limit) ⊎ IsIn (least limit vs) vs
-least_one_of limit [] = inl refl
-least_one_of limit (v ∷ vs) =
-    let least_two : (a b : ℕ) → (min a b ≡ a) ⊎ (min a b ≡ b) = λ a b. grind arith in
-    elim (least_two v (least limit vs)) [
-      | inl e ↦ inr (inl e)
-      | inr e ↦ elim (least_one_of limit vs) [
-        | inl same ↦ inl (e ∙ same)
-        | inr there ↦ inr (inr (subst (λ x. IsIn x vs) (sym e) there))
-      ]
-    ]
 
 -- a least speed that is none of some is the one given first
 pub other_than : (speed limit : ℕ) (vs : List ℕ) → least speed vs ≡ limit → (IsIn limit vs → ⊥) → speed ≡ limit
@@ -92,7 +72,7 @@ contains_from_in (y ∷ xs) x h =
 
 pub listed_in : {A : Type 0} (o : Option A) (x : A) → o ≡ Some x → IsIn x (listed o)
 listed_in None x h = absurd (let no : None ≡ Some x = h in cc)
-listed_in (Some y) x h = inl (sym (some_same y x h))
+listed_in (Some y) x h = inl (sym (same_Some y x h))
 
 -- what is told where something is found, and where nothing is
 pub some_told : {T : Type 0} (o : Option T) (A B : Type 0) (Q R : T → Type 0) → is_some o ≡ true → MatchOption o A Q →

@@ -2,7 +2,9 @@
 use Rattle.std.proofs.Common.{◌≡◌, ℕ, ℤ, pos, ◌+ℤ◌, ◌≤ℤ◌, ◌<ℤ◌, List, [], ◌∷◌, ◌++◌, Bool, true, false, cond, refl, ap, sym, ◌∙◌, subst, arith}
 use Rattle.std.specs.Prelude.{Option, None, Some, IsSomeAnd, IfSome, MatchOption, Contains, ◌&&◌, not, int_lt}
 use Rattle.std.specs.Int.{int_max}
+use Rattle.std.proofs.lemmas.Bool.{and_from}
 use Rattle.std.proofs.lemmas.Int.{ints}
+use Rattle.std.proofs.lemmas.Option.{same_Some}
 use Rattle.units.proofs.Gathering.{IsIn, in_over}
 use Rattle.track_store.specs.Profiles.{Lasts, listed}
 use Rattle.restriction.specs.declared.restriction.Restriction.{Restriction}
@@ -22,7 +24,7 @@ use Rattle.speed_profile.proofs.Reaching.{restriction_asks, no_restriction_asks,
 use Rattle.speed_profile.proofs.Starting.{piece_asks}
 use Rattle.speed_profile.proofs.Together.{told_ask}
 use Rattle.limit_causes.specs.Targets.{Journey, IsAhead, IsOfKind, along_track, fits_all_on, static_kind}
-use Rattle.limit_causes.proofs.Finding.{all_true, some_same, in_from_contains, contains_from_in, listed_in}
+use Rattle.limit_causes.proofs.Finding.{in_from_contains, contains_from_in, listed_in}
 
 module _ (journey : Journey) (speed : ℕ) where
   fit_by : (all : List Target) (one others : List Target) → AskTheSame all (one ++ others) →
@@ -30,7 +32,7 @@ module _ (journey : Journey) (speed : ℕ) where
   fit_by all one others asks here there =
       asks journey.front journey.gradient journey.brakes speed
       ∙ fit_both journey.front journey.gradient journey.brakes one others speed
-      ∙ all_true (fits_all_on journey one speed) (fits_all_on journey others speed) here there
+      ∙ and_from (fits_all_on journey one speed) (fits_all_on journey others speed) here there
 
   -- ---- one by one
 
@@ -83,7 +85,7 @@ module _ (journey : Journey) (speed : ℕ) where
       let all = along_track journey in
       let fit = λ (ts : List Target). fits_all_on journey ts speed in
       let both = λ (some others : List Target) (a : fit some ≡ true) (b : fit others ≡ true).
-      fit_both front journey.gradient journey.brakes some others speed ∙ all_true (fit some) (fit others) a b in
+      fit_both front journey.gradient journey.brakes some others speed ∙ and_from (fit some) (fit others) a b in
       let told : fit (static ++ (rs ++ (areas ++ []))) ≡ true = both static (rs ++ (areas ++ [])) s (both rs (areas ++ []) r (both areas [] i refl)) in
       sym (nothing_more all front journey.gradient journey.brakes speed)
       ∙ sym (told_ask front journey.bounds journey.track None front journey.gradient journey.brakes speed)
@@ -107,7 +109,7 @@ module _ (journey : Journey) (speed : ℕ) where
 
   -- what is given where a test passes
   given_where : (b : Bool) (t target : Target) → cond b (Some t) None ≡ Some target → (b ≡ true) × (t ≡ target)
-  given_where true t target h = (refl, some_same t target h)
+  given_where true t target h = (refl, same_Some t target h)
   given_where false t target h = absurd (let no : None ≡ Some target = h in cc)
 
   pub restriction_covers : (r : Restriction) (target : Target) → first_target journey.front journey.track.restrictions.mark r ≡ Some target →
@@ -150,7 +152,7 @@ module _ (journey : Journey) (speed : ℕ) where
       let known : IsSomeAnd (journey.track.static place) (λ s. there.speed ≡ speed_of s journey.bounds.category) = rw is refl in
       let P : Target → Type 0 = λ t. IsAhead journey t.place
       × IsSomeAnd (journey.track.static t.place) (λ s. t.speed ≡ speed_of s journey.bounds.category) in
-      subst P (some_same there target h) (ahead, known)
+      subst P (same_Some there target h) (ahead, known)
 
   pub static_is : (place : ℤ) (value : Option CategorySpeeds) (target : Target) → static_target journey.bounds place value ≡ Some target →
       value ≡ journey.track.static place → IsAhead journey place → IsOfKind journey target (static_kind value)

@@ -1,30 +1,26 @@
 -- What is found over a train gives the limit, or else doesn't.
-use Rattle.std.proofs.Common.{◌≡◌, ℕ, ℤ, pos, ◌-ℤ◌, ◌≤ℤ◌, ◌<ℤ◌, List, Bool, true, false, refl, ap, sym, ◌∙◌, arith, eq-eqb}
+use Rattle.std.proofs.Common.{◌≡◌, ℕ, ℤ, ◌≤ℤ◌, ◌<ℤ◌, List, Bool, true, false, refl, ap, sym, ◌∙◌, arith}
 use Rattle.std.specs.Prelude.{Option, None, Some, ◌&&◌, ◌==◌, not, int_lt, find, filter, map, MatchOption}
-use Rattle.std.specs.Int.{int_max, int_min}
+use Rattle.std.specs.Int.{int_max}
 use Rattle.std.proofs.lemmas.Int.{ints, by_lt_z}
-use Rattle.std.proofs.lemmas.Bool.Decides.{nat_tests}
+use Rattle.std.proofs.lemmas.Bool.{and_parts, and_from, eqb-true, eq-eqb}
 use Rattle.units.specs.Stretches.{Span, over}
 use Rattle.units.proofs.Gathering.{over_at}
-use Rattle.vars.specs.declared.restriction.TrainLengthDelay.{TrainLengthDelay}
-use Rattle.vars.specs.declared.restriction.TrainLengthDelay.TheVariants.{Applied, NotApplied}
 use Rattle.areas.specs.declared.area.Area.{Area}
 use Rattle.areas.specs.declared.area.NationalSpeeds.{NationalSpeeds}
 use Rattle.areas.specs.Areas.{is_before, is_met, speed_in, least_speed as least_in_areas}
 use Rattle.restriction.specs.declared.restriction.Restriction.{Restriction}
-use Rattle.restriction.specs.Covering.{end_of, limits_at, train_start}
-use Rattle.restriction.specs.Meeting.{meets, from_where}
+use Rattle.restriction.specs.Covering.{end_of, limits_at}
+use Rattle.restriction.specs.Meeting.{meets}
 use Rattle.track_store.specs.Profiles.{Lasts}
 use Rattle.track_store.specs.Restrictions.{InForce, speeds_at, least_speed}
+use Rattle.track_store.proofs.Limiting.{limits_met, met_limits}
 use Rattle.speed_profile.specs.declared.told.CategorySpeeds.{CategorySpeeds}
 use Rattle.speed_profile.specs.Limit.{limiting_value, least_static}
 use Rattle.speed_profile.specs.Limit as static_limit
 use Rattle.speed_profile.proofs.Members.{one_passed}
 use Rattle.limit_causes.specs.Over.{IsStaticSpeedOver, IsRestrictionOver, IsAreaOver}
-use Rattle.limit_causes.proofs.Finding.{both_true, all_true, found, none_found, listed_is, other_than}
-
-pub equal_by : (a b : ℕ) → (a == b) ≡ true → a ≡ b
-equal_by a b h = grind (arith, nat_tests)
+use Rattle.limit_causes.proofs.Finding.{found, none_found, listed_is, other_than}
 
 -- ---- mode areas
 
@@ -35,34 +31,17 @@ module _ (national : NationalSpeeds) (areas : List Area) (train : Span) (limit :
   pub area_named : (area : Area) → find makes_it areas ≡ Some area → IsAreaOver national areas train limit area
   area_named area h =
       let w = found makes_it areas area h in
-      let both = both_true (is_met train area) (speed_in national area == limit) w.1 in
-      (w.0, both.0, equal_by (speed_in national area) limit both.1)
+      let both = and_parts (is_met train area) (speed_in national area == limit) w.1 in
+      (w.0, both.0, eqb-true (speed_in national area) limit both.1)
 
   pub no_area : find makes_it areas ≡ None → (speed : ℕ) → least_in_areas national train speed areas ≡ limit → speed ≡ limit
   no_area none speed is =
       other_than speed limit (map (speed_in national) (filter (is_met train) areas)) is
       (λ there. let w = one_passed (speed_in national) (is_met train) areas limit there in
       none_found makes_it areas none w.0 w.1
-      (all_true (is_met train w.0) (speed_in national w.0 == limit) w.2 (eq-eqb (speed_in national w.0) limit (sym w.3))))
+      (and_from (is_met train w.0) (speed_in national w.0 == limit) w.2 (eq-eqb (speed_in national w.0) limit (sym w.3))))
 
 -- ---- restrictions
-
--- at a centimetre of the stretch a restriction from start to end limits only where it is met
-limits_met : (delay : TrainLengthDelay) (mark : ℤ) (train : Span) (c start end : ℤ) → train.rear ≤ℤ c → c ≤ℤ train.max_front →
-    (not (int_lt c mark) && not (int_lt c start) && int_lt c end && not (int_lt c (train_start train.rear train.min_front delay))) ≡ true →
-    not (int_lt (int_min train.max_front (end -ℤ pos 1)) (int_max (from_where (int_max mark train.rear) train delay) start)) ≡ true
-limits_met Applied mark train c start end low high h = grind (arith, ints)
-limits_met NotApplied mark train c start end low high h = grind (arith, ints)
-
--- where it is met, it limits at the first centimetre at which it may
-met_limits : (delay : TrainLengthDelay) (mark : ℤ) (train : Span) (start end : ℤ) →
-    not (int_lt (int_min train.max_front (end -ℤ pos 1)) (int_max (from_where (int_max mark train.rear) train delay) start)) ≡ true →
-    (c : ℤ) × (train.rear ≤ℤ c) × (c ≤ℤ train.max_front)
-    × ((not (int_lt c mark) && not (int_lt c start) && int_lt c end && not (int_lt c (train_start train.rear train.min_front delay))) ≡ true)
-met_limits Applied mark train start end h =
-    (int_max (int_max mark train.rear) start, grind (arith, ints), grind (arith, ints), grind (arith, ints))
-met_limits NotApplied mark train start end h =
-    (int_max (int_max (int_max mark train.rear) train.min_front) start, grind (arith, ints), grind (arith, ints), grind (arith, ints))
 
 module _ (track : InForce) (train : Span) (limit : ℕ) where
   abbrev pub limits_so : ℤ → Restriction → Bool
@@ -73,9 +52,9 @@ module _ (track : InForce) (train : Span) (limit : ℕ) where
   restriction_named restriction h =
       let first : ℤ = int_max track.mark train.rear in
       let w = found (limits_so first) track.restrictions restriction h in
-      let both = both_true (meets first train restriction) (restriction.speed == limit) w.1 in
+      let both = and_parts (meets first train restriction) (restriction.speed == limit) w.1 in
       let there = met_limits restriction.delay track.mark train restriction.start (end_of restriction) both.0 in
-      (w.0, equal_by restriction.speed limit both.1, (there.0, (there.1, there.2), there.3))
+      (w.0, eqb-true restriction.speed limit both.1, (there.0, (there.1, there.2), there.3))
 
   no_restriction : find (limits_so (int_max track.mark train.rear)) track.restrictions ≡ None →
       (speed : ℕ) → least_speed track train speed ≡ limit → speed ≡ limit
@@ -86,7 +65,7 @@ module _ (track : InForce) (train : Span) (limit : ℕ) where
       let w = one_passed (λ (r : Restriction). r.speed) (limits_at track.mark train at.0) track.restrictions limit at.3 in
       let r : Restriction = w.0 in
       none_found (limits_so first) track.restrictions none r w.1
-      (all_true (meets first train r) (r.speed == limit)
+      (and_from (meets first train r) (r.speed == limit)
       (limits_met r.delay track.mark train at.0 r.start (end_of r) at.1 at.2 w.2) (eq-eqb r.speed limit (sym w.3))))
 
   -- whichever of both it is
@@ -118,7 +97,7 @@ not_within first last there (Some next) h a b c = grind (arith, ints)
 pub within : (first last : ℤ) (next : Option ℤ) → (is_before first next && not (int_lt last first)) ≡ true →
     (is_before first next ≡ true) × (first ≤ℤ last)
 within first last next h =
-    let both = both_true (is_before first next) (not (int_lt last first)) h in
+    let both = and_parts (is_before first next) (not (int_lt last first)) h in
     (both.0, grind (arith, ints))
 
 module _ (value : ℤ → Option CategorySpeeds) (category : ℕ) (train : Span) (limit : ℕ) where

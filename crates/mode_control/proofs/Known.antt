@@ -1,6 +1,8 @@
 -- Whether the track is known throughout, by its centimetres of which nothing is known.
 use Rattle.std.proofs.Common.{◌≡◌, ℤ, pos, ◌-ℤ◌, Bool, true, false, List, [], ◌∷◌, inl, cond, refl, arith}
 use Rattle.std.specs.Prelude.{Option, None, Some, is_none, not, IsTrue, ◌↔◌}
+use Rattle.std.proofs.lemmas.Bool.{false_from_ne_true, not-true, not_from_false}
+use Rattle.std.proofs.lemmas.Bool.Decides.{same_from_decides}
 use Rattle.std.proofs.lemmas.Int.{ints}
 use Rattle.units.specs.Stretches.{over}
 use Rattle.units.proofs.Gathering.{IsIn, over_at, in_over}
@@ -24,17 +26,13 @@ none_in : (vs : List ℤ) → is_any vs ≡ false → (v : ℤ) → IsIn v vs �
 none_in [] h v i = i
 none_in (w ∷ vs) h v i = absurd cc
 
-not_true : (b : Bool) → (b ≡ true → ⊥) → b ≡ false
-not_true true h = absurd (h refl)
-not_true false h = refl
-
 module _ {A : Type 0} (value : ℤ → Option A) (from end : ℤ) where
   abbrev gaps : List ℤ
   gaps = over (unknown_at value) from (end -ℤ pos 1)
 
   whole : is_any gaps ≡ false → IsKnownThroughout value from end
   whole none place a b =
-      not_none (value place) (not_true (is_none (value place)) (λ (m : is_none (value place) ≡ true).
+      not_none (value place) (false_from_ne_true (is_none (value place)) (λ (m : is_none (value place) ≡ true).
       none_in gaps none place (in_over (unknown_at value) from (end -ℤ pos 1) place place a (omega (arith, ints, b)) (listed (value place) place m))))
 
   broken : is_any gaps ≡ true → IsKnownThroughout value from end → ⊥
@@ -43,11 +41,7 @@ module _ {A : Type 0} (value : ℤ → Option A) (from end : ℤ) where
       let at = over_at (unknown_at value) from (end -ℤ pos 1) gap.0 gap.1 in
       none_known (value at.0) (missing (value at.0) at.0 gap.0 at.3) (known at.0 at.1 (omega (arith, ints, at.2)))
 
-  compared : (b k : Bool) → is_any gaps ≡ k → IsTrue b ↔ IsKnownThroughout value from end → b ≡ not k
-  compared true false e i = refl
-  compared false true e i = refl
-  compared true true e i = absurd (broken e (i.0 refl))
-  compared false false e i = let h : false ≡ true = i.1 (whole e) in absurd cc
-
   pub known_by : (b : Bool) → IsTrue b ↔ IsKnownThroughout value from end → b ≡ is_known_throughout value from end
-  known_by b i = compared b (is_any gaps) refl i
+  known_by b i =
+      same_from_decides b (not (is_any gaps)) i
+      ((λ h. whole (not-true (is_any gaps) h)), (λ known. not_from_false (is_any gaps) (false_from_ne_true (is_any gaps) (λ some. broken some known))))

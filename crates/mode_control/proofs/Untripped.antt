@@ -4,7 +4,7 @@ use Rattle.std.specs.List.{list_any}
 use Rattle.events.specs.declared.input.Input.{Input}
 use Rattle.mode_table.specs.declared.conditions.Conditions.{Conditions}
 use Rattle.mode_table.specs.declared.mode.Mode.{Mode}
-use Rattle.mode_table.specs.declared.mode.Mode.TheVariants.{FullSupervision, OnSight, StaffResponsible, Shunting, Unfitted, StandBy, Trip, PostTrip, SystemFailure}
+use Rattle.mode_table.specs.declared.mode.Mode.TheVariants.{FullSupervision, Trip}
 use Rattle.mode_table.specs.Modes.{is_mode, is_one_of}
 use Rattle.mode_table.specs.Rows.{Row, rows, led_by}
 use Rattle.units.specs.Stretches.{Span}
@@ -20,32 +20,17 @@ module _ (life : Life) (train : Span) where
 
   unchanged : (mode : Mode) → IsUntold mode mode
   unchanged FullSupervision = refl
-  unchanged OnSight = refl
-  unchanged StaffResponsible = refl
-  unchanged Shunting = refl
-  unchanged Unfitted = refl
-  unchanged StandBy = refl
-  unchanged Trip = refl
-  unchanged PostTrip = refl
-  unchanged SystemFailure = refl
+  unchanged other = refl
 
   to_another : (new : Mode) (same : Bool) → is_mode Trip new ≡ false → row_where (cond same None (Some new)) life train ≡ None
   to_another new true other = refl
-  to_another FullSupervision false other = refl
-  to_another OnSight false other = refl
-  to_another StaffResponsible false other = refl
-  to_another Shunting false other = refl
-  to_another Unfitted false other = refl
-  to_another StandBy false other = refl
   to_another Trip false other = cc
-  to_another PostTrip false other = refl
-  to_another SystemFailure false other = refl
+  to_another new false other = refl
 
   by_row : (old target later : Mode) (starts holds leads rest : Bool) → is_mode Trip target ≡ leads → ((starts && leads) || rest) ≡ false
       → (rest ≡ false → IsUntold old later) → IsUntold old (cond (starts && holds) target later)
-  by_row old target later true true true rest is none later_is = cc
+  by_row old target later true holds true rest is none later_is = cc
   by_row old target later true true false rest is none later_is = to_another target (is_mode old target) is
-  by_row old target later true false true rest is none later_is = cc
   by_row old target later true false false rest is none later_is = later_is none
   by_row old target later false holds leads rest is none later_is = later_is none
 

@@ -1,19 +1,17 @@
 -- Where an event uses no authority, the end isn't farther behind it.
 use Rattle.std.proofs.Common.{◌≡◌, ℕ, ◌≤◌, ℤ, ◌≤ℤ◌, List, [], ◌∷◌, Bool, true, false, cond, refl, ap, sym, ◌∙◌, subst, arith}
-use Rattle.std.specs.Prelude.{not, ◌&&◌, ◌||◌, Option, Some, None, is_some, map, unwrap_or}
+use Rattle.std.specs.Prelude.{Option, Some, None, is_some, filter, map, unwrap_or}
 use Rattle.std.specs.List.{list_any}
-use Rattle.std.specs.Option.{option_map, option_map_or, option_or}
+use Rattle.std.specs.Option.{option_map, option_map_or}
 use Rattle.std.proofs.lemmas.Int.{ints}
-use Rattle.std.proofs.lemmas.Bool.{and_parts, and_from, or_parts, not-true, not_from_false}
-use Rattle.std.proofs.lemmas.Bool.Decides.{nat_tests}
+use Rattle.std.proofs.lemmas.Bool.{or_parts}
 use Rattle.authority.specs.declared.answers.End.{End}
-use Rattle.authority.specs.declared.timers.TimedSection.{TimedSection}
-use Rattle.authority.specs.Timers.{has_run_out, started_has_run_out}
 use Rattle.authority.specs.Entries as authority
 use Rattle.authority.specs.Entries.{AuthorityEntry, Sight, now_of, accepted, sights}
-use Rattle.authority.specs.Entries.AuthorityEntry.{Ticked, Accepted as Granted, Passed, Cleared}
+use Rattle.authority.specs.Entries.AuthorityEntry.{Accepted as Granted, Passed}
 use Rattle.authority.specs.Track.{told_end}
-use Rattle.authority.specs.Authority.{reaches, was_stopped, section_has_run_out, started_before, end_timer_has_run_out, end_now, end_of}
+use Rattle.authority.specs.Authority.{end_now, end_of}
+use Rattle.authority.proofs.Forward.{section_later, section_seen, timer_later, timer_seen}
 use Rattle.authority.proofs.Places.{now_sooner}
 use Rattle.balise_groups.specs.declared.message.Closed.{Closed}
 use Rattle.balise_groups.specs.declared.message.Closed.TheVariants as closed
@@ -26,19 +24,17 @@ use Rattle.linking.specs.declared.judgement.Verdict.TheVariants.{Accept, Ignore,
 use Rattle.linking.specs.declared.judgement.Judgement.{Judgement}
 use Rattle.mode_table.specs.declared.mode.Mode.{Mode}
 use Rattle.mode_table.specs.declared.statuses.Item.TheVariants as item
-use Rattle.packets.specs.declared.authority.EndTimer.{EndTimer}
 use Rattle.packets.specs.declared.authority.MovementAuthority.{MovementAuthority}
 use Rattle.packets.specs.declared.packet.Packet.{Packet}
 use Rattle.packets.specs.Packets.{as_movement_authority}
 use Rattle.units.specs.Stretches.{Span}
-use Rattle.vars.specs.declared.scale.Scale.{Scale}
 use Rattle.vars.specs.declared.group.GroupIdentity.{GroupIdentity}
 use Rattle.track_picture.specs.Entry.{TrackEntry, Begun, Used, Outcome, Fact, blank, added, asking_for, facts_in}
 use Rattle.track_picture.specs.Live.{deleting}
-use Rattle.track_picture.specs.History.{moment_of, groups_of}
+use Rattle.track_picture.specs.History.{moment_of, groups_of, place_of}
 use Rattle.track_picture.specs.Columns.{after_authority, after_facts, authority_deleted}
 use Rattle.track_picture.proofs.SameParts.{same_end}
-use Rattle.track_picture.specs.Sentences.{begun, happened_first, with_closed, closed_by, used_by, outcome, outcome_at_first, judged}
+use Rattle.track_picture.specs.Sentences.{begun, happened_first, with_closed, closed_by, used_by, outcome, outcome_at_first, judged, place_by, own_place, fix_made, is_used, direction_of}
 use Rattle.mode_control.specs.History.{tracks, mode_of}
 use Rattle.mode_control.specs.Sentences.{told, entry_of}
 use Rattle.kernel.specs.Lives.{life_of}
@@ -46,54 +42,15 @@ use Rattle.safety_laws.specs.Ends.{is_authority, tells_authority, uses_authority
 use Rattle.safety_laws.proofs.AuthorityTold.{authorities, after_clock, after_told, after_entered, by_event}
 use Rattle.safety_laws.proofs.Events.{train}
 
--- ---- what has run out has run out later
-
-over_later : (time start now later : ℕ) → now ≤ later → has_run_out time start now ≡ true → has_run_out time start later ≡ true
-over_later time start now later o h = grind (arith, nat_tests)
-
-section_later : (start now later : ℕ) (seen : List Sight) (section : TimedSection) → now ≤ later →
-    section_has_run_out start now seen section ≡ true → section_has_run_out start later seen section ≡ true
-section_later start now later seen section o h =
-    let parts = and_parts (has_run_out section.time start now) (not (was_stopped start seen section)) h in
-    and_from (has_run_out section.time start later) (not (was_stopped start seen section)) (over_later section.time start now later o parts.0) parts.1
-
-stopped_no_more : (a b c : Bool) → b ≡ true → c ≡ false → ((a && not b) || c) ≡ false
-stopped_no_more true b c e f = rw (e, f) refl
-stopped_no_more false b c e f = f
-
-section_seen : (start : ℕ) (sight : Sight) (seen : List Sight) (section : TimedSection) →
-    section_has_run_out start sight.moment seen section ≡ true → section_has_run_out start sight.moment (sight ∷ seen) section ≡ true
-section_seen start sight seen section h =
-    let parts = and_parts (has_run_out section.time start sight.moment) (not (was_stopped start seen section)) h in
-    let same : was_stopped start (sight ∷ seen) section ≡ false =
-    stopped_no_more (reaches sight.train.min_front section.stop_at) (has_run_out section.time start sight.moment) (was_stopped start seen section) parts.0 (not-true _ parts.1) in
-    and_from (has_run_out section.time start sight.moment) (not (was_stopped start (sight ∷ seen) section)) parts.0 (not_from_false _ same)
-
-started_later : (time now later : ℕ) (started : Option ℕ) → now ≤ later → started_has_run_out time started now ≡ true → started_has_run_out time started later ≡ true
-started_later time now later None o h = h
-started_later time now later (Some start) o h = over_later time start now later o h
-
-timer_later : (end : ℤ) (scale : Scale) (now later : ℕ) (seen : List Sight) (timer : Option EndTimer) → now ≤ later →
-    end_timer_has_run_out end scale now seen timer ≡ true → end_timer_has_run_out end scale later seen timer ≡ true
-timer_later end scale now later seen None o h = h
-timer_later end scale now later seen (Some timer) o h = started_later timer.time now later (started_before end scale timer.start seen) o h
-
-started_kept : (time now : ℕ) (before more : Option ℕ) → started_has_run_out time before now ≡ true → started_has_run_out time (option_or before more) now ≡ true
-started_kept time now None more h = absurd (cc)
-started_kept time now (Some start) more h = h
-
-timer_seen : (end : ℤ) (scale : Scale) (now : ℕ) (sight : Sight) (seen : List Sight) (timer : Option EndTimer) →
-    end_timer_has_run_out end scale now seen timer ≡ true → end_timer_has_run_out end scale now (sight ∷ seen) timer ≡ true
-timer_seen end scale now sight seen None h = h
-timer_seen end scale now sight seen (Some timer) h = started_kept timer.time now (started_before end scale timer.start seen) _ h
+-- ---- a moment of the clock, and a place of the train
 
 abbrev end_at : authority.Fact → List AuthorityEntry → ℤ
 end_at fact entries = (end_now fact (now_of entries) (sights entries)).place
 
--- a moment of the clock, and a place of the train
-by_clock : (fact : authority.Fact) (moment : ℕ) (before : List AuthorityEntry) → now_of before ≤ moment →
-    end_at fact (Ticked moment ∷ before) ≤ℤ end_at fact before
-by_clock fact moment before o =
+by_clock : (fact : authority.Fact) (clock : Option ℕ) (before : List AuthorityEntry) → now_of before ≤ unwrap_or clock (now_of before) →
+    end_at fact (after_clock clock before) ≤ℤ end_at fact before
+by_clock fact None before o = omega (arith, ints)
+by_clock fact (Some moment) before o =
     now_sooner fact (now_of before) moment (sights before) (sights before)
     (λ s h. section_later fact.moment (now_of before) moment (sights before) s o h)
     (λ h. timer_later (told_end fact) fact.packet.scale (now_of before) moment (sights before) fact.packet.end_timer o h)
@@ -104,14 +61,6 @@ by_sight fact here before =
     now_sooner fact (now_of before) (now_of before) (sights before) (sight ∷ sights before)
     (λ s h. section_seen fact.moment sight (sights before) s h)
     (λ h. timer_seen (told_end fact) fact.packet.scale (now_of before) sight (sights before) fact.packet.end_timer h)
-
-by_both : (fact : authority.Fact) (clock : Option ℕ) (here : Span) (before : List AuthorityEntry) → now_of before ≤ unwrap_or clock (now_of before) →
-    end_at fact (Passed here ∷ after_clock clock before) ≤ℤ end_at fact before
-by_both fact None here before o = by_sight fact here before
-by_both fact (Some moment) here before o =
-    let one = by_sight fact here (Ticked moment ∷ before) in
-    let other = by_clock fact moment before o in
-    omega (arith, ints, one, other)
 
 -- ---- what an event that uses no authority adds
 
@@ -158,65 +107,53 @@ no_farther : (clock : Option ℕ) (here : Span) (before : List AuthorityEntry) (
 no_farther clock here before new o h =
     let later : List AuthorityEntry = Passed here ∷ after_clock clock before in
     by_fact (accepted before) (λ (f : authority.Fact). end_now f (now_of before) (sights before)) (λ (f : authority.Fact). end_now f (now_of later) (sights later)) new
-    (λ f. by_both f clock here before o)
+    (λ f. omega (arith, ints, by_sight f here (after_clock clock before), by_clock f clock before o))
     (sym (ap (option_map (λ (f : authority.Fact). end_now f (now_of later) (sights later))) (accepted_same clock before)) ∙ h)
 
--- ---- the moment of a life is that of its authority's entries
+-- ---- the moment of a life is that of its authority's entries: each packet of an event is told at its moment
 
-abbrev facts_at : ℕ → List Fact → Type 0
-facts_at moment [] = Unit {0}
-facts_at moment (fact ∷ facts) = (fact.moment ≡ moment) × facts_at moment facts
+now_by_packet : (packet : Option MovementAuthority) (fact : Fact) (told : List AuthorityEntry) → now_of told ≡ fact.moment →
+    now_of (option_map_or (λ p. Granted (authority.fact_of p fact.place fact.moment) ∷ told) packet told) ≡ fact.moment
+now_by_packet None fact told h = h
+now_by_packet (Some p) fact told h = refl
 
-abbrev groups_at : ℕ → List Outcome → Type 0
-groups_at moment [] = Unit {0}
-groups_at moment (outcome ∷ outcomes) = facts_at moment (facts_in outcome) × groups_at moment outcomes
-
-used_at : (group : GroupIdentity) (place : ℤ) (moment : ℕ) (packets : List Packet) →
-    facts_at moment (map (λ packet. record { group = group; place = place; moment = moment; packet = packet }) packets)
-used_at group place moment [] = tt
-used_at group place moment (packet ∷ packets) = (refl, used_at group place moment packets)
+now_by_packets : (group : GroupIdentity) (place : ℤ) (moment : ℕ) (packets : List Packet) (told : List AuthorityEntry) → now_of told ≡ moment →
+    now_of (after_facts after_authority (map (λ packet. record { group = group; place = place; moment = moment; packet = packet }) packets) told) ≡ moment
+now_by_packets group place moment [] told h = h
+now_by_packets group place moment (packet ∷ packets) told h =
+    let fact : Fact = record { group = group; place = place; moment = moment; packet = packet } in
+    now_by_packets group place moment packets (after_authority fact told) (now_by_packet (as_movement_authority packet) fact told h)
 
 module _ (mode : Mode) (entries : List TrackEntry) (first : Begun) where
   abbrev now : ℕ
   now = unwrap_or first.clock (moment_of entries)
 
-  by_verdict : (used : Used) (message : Message) (verdict : Verdict) →
-      facts_at now (facts_in (outcome mode (record blank { begun = first; used = used } ∷ entries) message verdict))
-  by_verdict used message (Accept announced) = used_at message.group _ now _
-  by_verdict used message Ignore = tt
-  by_verdict used message (Reaction a) = tt
+  abbrev KeepsNow : List Outcome → Type 0
+  KeepsNow outcomes = (told : List AuthorityEntry) → now_of told ≡ now → now_of (after_told outcomes told) ≡ now
 
-  at_now : (group : Option Closed) (used : Used) → groups_at now used.groups → groups_at now (with_closed mode entries first group used).groups
-  at_now None used h = h
-  at_now (Some (closed.Broken b)) used h = (tt, h)
-  at_now (Some (closed.Whole message)) used h =
+  by_verdict : (used : Used) (message : Message) (verdict : Verdict) (told : List AuthorityEntry) → now_of told ≡ now →
+      now_of (after_facts after_authority (facts_in (outcome mode (record blank { begun = first; used = used } ∷ entries) message verdict)) told) ≡ now
+  by_verdict used message (Accept announced) told h =
+      let all = record blank { begun = first; used = used } ∷ entries in
+      now_by_packets message.group (place_by (own_place (place_of all) message) (fix_made all message announced)) now
+      (filter (is_used mode (direction_of message announced)) message.packets) told h
+  by_verdict used message Ignore told h = h
+  by_verdict used message (Reaction a) told h = h
+
+  at_now : (group : Option Closed) (used : Used) → KeepsNow used.groups → KeepsNow (with_closed mode entries first group used).groups
+  at_now None used keeps = keeps
+  at_now (Some (closed.Broken b)) used keeps = keeps
+  at_now (Some (closed.Whole message)) used keeps = λ told h.
       let judgement : Judgement = judged (record blank { begun = first; used = used } ∷ entries) message in
-      (by_verdict (added (outcome_at_first message judgement.verdict) (asking_for judgement.effect used)) message judgement.verdict, h)
+      by_verdict (added (outcome_at_first message judgement.verdict) (asking_for judgement.effect used)) message judgement.verdict
+      (after_told used.groups told) (keeps told h)
 
-all_now : (mode : Mode) (entries : List TrackEntry) (input : Input) →
-    groups_at (unwrap_or (begun entries input).clock (moment_of entries)) (used_by mode entries input).groups
+all_now : (mode : Mode) (entries : List TrackEntry) (input : Input) → KeepsNow mode entries (begun entries input) (used_by mode entries input).groups
 all_now mode entries input =
     let first = begun entries input in
     let closed = closed_by (groups_of entries) first.heard in
     let base : Used = record { groups = []; happened = happened_first entries input } in
-    at_now mode entries first closed.whole (with_closed mode entries first closed.ended base) (at_now mode entries first closed.ended base tt)
-
-now_by_packet : (packet : Option MovementAuthority) (fact : Fact) (entries : List AuthorityEntry) (moment : ℕ) → fact.moment ≡ moment → now_of entries ≡ moment →
-    now_of (option_map_or (λ p. Granted (authority.fact_of p fact.place fact.moment) ∷ entries) packet entries) ≡ moment
-now_by_packet None fact entries moment at h = h
-now_by_packet (Some p) fact entries moment at h = at
-
-now_by_facts : (facts : List Fact) (entries : List AuthorityEntry) (moment : ℕ) → facts_at moment facts → now_of entries ≡ moment →
-    now_of (after_facts after_authority facts entries) ≡ moment
-now_by_facts [] entries moment at h = h
-now_by_facts (fact ∷ facts) entries moment at h =
-    now_by_facts facts (after_authority fact entries) moment at.1 (now_by_packet (as_movement_authority fact.packet) fact entries moment at.0 h)
-
-now_by_groups : (outcomes : List Outcome) (entries : List AuthorityEntry) (moment : ℕ) → groups_at moment outcomes → now_of entries ≡ moment →
-    now_of (after_told outcomes entries) ≡ moment
-now_by_groups [] entries moment at h = h
-now_by_groups (outcome ∷ outcomes) entries moment at h =
-    now_by_facts (facts_in outcome) (after_told outcomes entries) moment at.0 (now_by_groups outcomes entries moment at.1 h)
+    at_now mode entries first closed.whole (with_closed mode entries first closed.ended base) (at_now mode entries first closed.ended base (λ told h. h))
 
 now_by_clock : (clock : Option ℕ) (entries : List AuthorityEntry) → now_of (after_clock clock entries) ≡ unwrap_or clock (now_of entries)
 now_by_clock None entries = refl
@@ -239,7 +176,7 @@ now_is (an_event.Input input ∷ events) =
     let known = after_clock clock (authorities before) in
     ap now_of (by_event (entry_of life input).track before)
     ∙ now_by_mode (entry_of life input).track.entered (Passed (train life input) ∷ after_told event.used.groups known)
-    ∙ now_by_groups event.used.groups known (unwrap_or clock (moment_of before)) (all_now (mode_of life.entries) before input)
+    ∙ all_now (mode_of life.entries) before input known
     (now_by_clock clock (authorities before) ∙ ap (unwrap_or clock) (now_is events))
 
 -- ---- one event

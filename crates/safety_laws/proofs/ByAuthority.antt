@@ -16,7 +16,7 @@ use Rattle.mode_table.specs.Modes.{is_mode, is_one_of}
 use Rattle.mode_table.specs.Rows.{next_mode}
 use Rattle.packets.specs.declared.authority.MovementAuthority.{MovementAuthority}
 use Rattle.packets.specs.Packets.{as_movement_authority}
-use Rattle.track_picture.specs.Entry.{TrackEntry, Outcome, Fact, facts_in}
+use Rattle.track_picture.specs.Entry.{Outcome, Fact, facts_in}
 use Rattle.track_picture.specs.History as picture
 use Rattle.track_picture.specs.Columns.{after_authority, after_facts}
 use Rattle.track_picture.proofs.SameParts.{same_accepted}
@@ -61,13 +61,7 @@ past_mode : (mode : Mode) (entries : List authority.AuthorityEntry) → runs mod
     stored (after_entered (Some mode) entries)
 past_mode FullSupervision entries h s = s
 past_mode OnSight entries h s = s
-past_mode StaffResponsible entries h s = absurd (let no : false ≡ true = h in cc)
-past_mode Shunting entries h s = absurd (let no : false ≡ true = h in cc)
-past_mode Unfitted entries h s = absurd (let no : false ≡ true = h in cc)
-past_mode StandBy entries h s = absurd (let no : false ≡ true = h in cc)
-past_mode Trip entries h s = absurd (let no : false ≡ true = h in cc)
-past_mode PostTrip entries h s = absurd (let no : false ≡ true = h in cc)
-past_mode SystemFailure entries h s = absurd (let no : false ≡ true = h in cc)
+past_mode mode entries h s = absurd (let no : false ≡ true = h in cc)
 
 past_turn : (same : Bool) (old new : Mode) (entries : List authority.AuthorityEntry) → runs (unwrap_or (cond same None (Some new)) old) ≡ true →
     (runs old ≡ true → stored entries) → (runs new ≡ true → stored entries) →
@@ -80,59 +74,37 @@ past_turn false old new entries h before entering = past_mode new entries h (ent
 from_stand_by : (c : Conditions) (overrun shunting_chosen started level_1 full level_0 : Bool) →
     runs (next_mode StandBy (record c { overrun = overrun; shunting_chosen = shunting_chosen; started = started; level_1 = level_1; full = full; level_0 = level_0 })) ≡ true →
     full ≡ true
-from_stand_by c true shunting_chosen started level_1 full level_0 h = absurd (let no : false ≡ true = h in cc)
-from_stand_by c false true started level_1 full level_0 h = absurd (let no : false ≡ true = h in cc)
-from_stand_by c false false false level_1 full level_0 h = absurd (let no : false ≡ true = h in cc)
 from_stand_by c false false true true true level_0 h = refl
-from_stand_by c false false true true false level_0 h = absurd (let no : false ≡ true = h in cc)
 from_stand_by c false false true false full true h = absurd (let no : false ≡ true = h in cc)
-from_stand_by c false false true false full false h = absurd (let no : false ≡ true = h in cc)
+from_stand_by c overrun shunting_chosen started level_1 full level_0 h = absurd (let no : false ≡ true = h in cc)
 
 from_unfitted : (c : Conditions) (overrun desk_closed level_1 full shunting_chosen : Bool) →
     runs (next_mode Unfitted (record c { overrun = overrun; desk_closed = desk_closed; level_1 = level_1; full = full; shunting_chosen = shunting_chosen })) ≡ true →
     full ≡ true
-from_unfitted c true desk_closed level_1 full shunting_chosen h = absurd (let no : false ≡ true = h in cc)
-from_unfitted c false true level_1 full shunting_chosen h = absurd (let no : false ≡ true = h in cc)
 from_unfitted c false false true true shunting_chosen h = refl
-from_unfitted c false false true false shunting_chosen h = absurd (let no : false ≡ true = h in cc)
 from_unfitted c false false false full true h = absurd (let no : false ≡ true = h in cc)
-from_unfitted c false false false full false h = absurd (let no : false ≡ true = h in cc)
+from_unfitted c overrun desk_closed level_1 full shunting_chosen h = absurd (let no : false ≡ true = h in cc)
 
 from_staff : (c : Conditions) (overrun desk_closed trip beyond_staff_distance shunting_chosen level_0 full : Bool) →
     runs (next_mode StaffResponsible (record c { overrun = overrun; desk_closed = desk_closed; trip = trip; beyond_staff_distance = beyond_staff_distance; shunting_chosen = shunting_chosen; level_0 = level_0; full = full })) ≡ true →
     full ≡ true
-from_staff c true desk_closed trip beyond shunting level_0 full h = absurd (let no : false ≡ true = h in cc)
-from_staff c false true trip beyond shunting level_0 full h = absurd (let no : false ≡ true = h in cc)
-from_staff c false false true beyond shunting level_0 full h = absurd (let no : false ≡ true = h in cc)
-from_staff c false false false true shunting level_0 full h = absurd (let no : false ≡ true = h in cc)
-from_staff c false false false false true level_0 full h = absurd (let no : false ≡ true = h in cc)
-from_staff c false false false false false true full h = absurd (let no : false ≡ true = h in cc)
 from_staff c false false false false false false true h = refl
-from_staff c false false false false false false false h = absurd (let no : false ≡ true = h in cc)
+from_staff c overrun desk_closed trip beyond_staff_distance shunting_chosen level_0 full h = absurd (let no : false ≡ true = h in cc)
 
 from_shunting : (c : Conditions) (overrun desk_closed shunting_left : Bool) →
     runs (next_mode Shunting (record c { overrun = overrun; desk_closed = desk_closed; shunting_left = shunting_left })) ≡ true → ⊥
-from_shunting c true desk_closed shunting_left h = let no : false ≡ true = h in cc
-from_shunting c false true shunting_left h = let no : false ≡ true = h in cc
-from_shunting c false false true h = let no : false ≡ true = h in cc
 from_shunting c false false false h = let no : false ≡ true = h in cc
+from_shunting c overrun desk_closed shunting_left h = let no : false ≡ true = h in cc
 
 from_trip : (c : Conditions) (overrun trip_acknowledged : Bool) →
     runs (next_mode Trip (record c { overrun = overrun; trip_acknowledged = trip_acknowledged })) ≡ true → ⊥
-from_trip c true trip_acknowledged h = let no : false ≡ true = h in cc
-from_trip c false true h = let no : false ≡ true = h in cc
 from_trip c false false h = let no : false ≡ true = h in cc
+from_trip c overrun trip_acknowledged h = let no : false ≡ true = h in cc
 
 from_post_trip : (c : Conditions) (overrun desk_closed override_accepted shunting_chosen started level_1 level_0 : Bool) →
     runs (next_mode PostTrip (record c { overrun = overrun; desk_closed = desk_closed; override_accepted = override_accepted; shunting_chosen = shunting_chosen; started = started; level_1 = level_1; level_0 = level_0 })) ≡ true → ⊥
-from_post_trip c true desk_closed override shunting started level_1 level_0 h = let no : false ≡ true = h in cc
-from_post_trip c false true override shunting started level_1 level_0 h = let no : false ≡ true = h in cc
-from_post_trip c false false true shunting started level_1 level_0 h = let no : false ≡ true = h in cc
-from_post_trip c false false false true started level_1 level_0 h = let no : false ≡ true = h in cc
-from_post_trip c false false false false false level_1 level_0 h = let no : false ≡ true = h in cc
-from_post_trip c false false false false true true level_0 h = let no : false ≡ true = h in cc
 from_post_trip c false false false false true false true h = let no : false ≡ true = h in cc
-from_post_trip c false false false false true false false h = let no : false ≡ true = h in cc
+from_post_trip c overrun desk_closed override_accepted shunting_chosen started level_1 level_0 h = let no : false ≡ true = h in cc
 
 enters : (old : Mode) (c : Conditions) → runs (next_mode old c) ≡ true → (runs old ≡ true) ⊎ (c.full ≡ true)
 enters FullSupervision c h = inl refl
@@ -151,14 +123,6 @@ full_stored : (fact : Option authority.Fact) (end : authority.Fact → End) (tes
 full_stored None end test h = absurd (let no : false ≡ true = h in cc)
 full_stored (Some fact) end test h = refl
 
--- ---- one is stored by the entries exactly where one counts
-
-by_column : (events : List TrackEntry) → stored (picture.authorities events) → stored (authorities events)
-by_column events = subst (λ (fact : Option authority.Fact). is_some fact ≡ true) (same_accepted events)
-
-by_fact : (events : List TrackEntry) → stored (authorities events) → stored (picture.authorities events)
-by_fact events = subst (λ (fact : Option authority.Fact). is_some fact ≡ true) (sym (same_accepted events))
-
 -- ---- one event, and all
 
 module _ (life : Life) (input : Input) where
@@ -166,9 +130,6 @@ module _ (life : Life) (input : Input) where
   seen =
       let event = told life input in
       after_train (Some (train life input)) (after_told event.used.groups (after_clock event.begun.clock (authorities (tracks life.entries))))
-
-  read_so : stored (authorities (tracks (event_seen life input ∷ life.entries))) → stored seen
-  read_so = subst stored (by_event (event_seen life input).track (tracks life.entries))
 
   -- as it is read off the facts that count
   abbrev read : List authority.AuthorityEntry
@@ -187,7 +148,8 @@ module _ (life : Life) (input : Input) where
       (past_turn (is_mode old new) old new seen now (λ h. still (before h))
       (λ h. elim (enters old c h) [
         | inl runs ↦ still (before runs)
-        | inr full ↦ read_so (by_column (tracks (event_seen life input ∷ life.entries))
+        | inr full ↦ subst stored (by_event (event_seen life input).track (tracks life.entries))
+            (subst (λ (fact : Option authority.Fact). is_some fact ≡ true) (same_accepted (tracks (event_seen life input ∷ life.entries)))
             (full_stored (authority.accepted read) (λ (fact : authority.Fact). end_now fact (authority.now_of read) (authority.sights read))
             (is_full_to (grown life (event_seen life input)) (train life input).max_front) full))
       ]))
@@ -206,4 +168,4 @@ pub runs_by_end : (events : List Event) → runs (mode_of (life_of events).entri
 runs_by_end events h =
     let entries = picture.authorities (tracks (life_of events).entries) in
     end_there (authority.accepted entries) (λ (fact : authority.Fact). end_now fact (authority.now_of entries) (authority.sights entries))
-    (by_fact (tracks (life_of events).entries) (runs_stored events h))
+    (subst (λ (fact : Option authority.Fact). is_some fact ≡ true) (sym (same_accepted (tracks (life_of events).entries))) (runs_stored events h))

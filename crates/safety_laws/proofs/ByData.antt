@@ -1,9 +1,10 @@
 -- In each mode in which the train runs, its data are valid.
 use Rattle.std.proofs.Common.{◌≡◌, Bool, true, false, List, [], ◌∷◌, cond, refl, inl, inr, ◌⊎◌}
 use Rattle.std.specs.Prelude.{Option, Some, None, unwrap_or, ◌&&◌}
-use Rattle.driver.specs.Accepting.{accepts, stands_in, may_leave}
+use Rattle.std.proofs.lemmas.Bool.{and_parts}
+use Rattle.driver.specs.Accepting.{stands_in, may_leave}
 use Rattle.driver.specs.declared.action.Action.{Action}
-use Rattle.driver.specs.declared.action.Action.TheVariants.{Confirm, Start}
+use Rattle.driver.specs.declared.action.Action.TheVariants.{Confirm}
 use Rattle.driver.specs.declared.action.Confirmed.TheVariants as confirm
 use Rattle.driver.specs.declared.datum.Datum.{Datum}
 use Rattle.driver.specs.declared.datum.Datum.TheVariants.{Unknown, Valid, Invalid}
@@ -16,8 +17,7 @@ use Rattle.driver.specs.Telling.{ItemTold, after_told, datum_after, train_data_t
 use Rattle.driver.specs.Telling.ItemTold.{Gives, Confirms, Leaves, Nothing}
 use Rattle.events.specs.declared.input.Event.{Event}
 use Rattle.events.specs.declared.input.Event.TheVariants as an_event
-use Rattle.events.specs.declared.input.Input as inputs
-use Rattle.events.specs.declared.input.Input.TheVariants.{Telegram, Odometer, Clock, Driver}
+use Rattle.events.specs.declared.input.Input.{Input}
 use Rattle.mode_table.specs.declared.conditions.Conditions.{Conditions}
 use Rattle.mode_table.specs.declared.level.TrainLevel.{TrainLevel}
 use Rattle.mode_table.specs.declared.mode.Mode.{Mode}
@@ -29,10 +29,11 @@ use Rattle.mode_control.specs.declared.deed.Deed.{Deed}
 use Rattle.mode_control.specs.Conditions.{is_start}
 use Rattle.mode_control.specs.History.{action_of, after_deed, after_level, after_mode, deeds, mode_of}
 use Rattle.mode_control.specs.Life.{Life, driver_of, left_at_power_up, grown}
-use Rattle.mode_control.specs.Sentences.{situation, occasion, deed_of, entry_of}
+use Rattle.mode_control.specs.Sentences.{situation, deed_of, entry_of}
 use Rattle.kernel.specs.Lives.{life_of}
 use Rattle.safety_laws.specs.Running.{modes_by_data}
 use Rattle.safety_laws.proofs.Events.{event_seen, found}
+use Rattle.safety_laws.proofs.Leaving.{started}
 
 abbrev runs : Mode → Bool
 runs mode = is_one_of modes_by_data mode
@@ -50,10 +51,7 @@ told_keeps (Leaves D) before e h = absurd (let no : true ≡ false = e in cc)
 told_keeps Nothing before e h = h
 
 by_action : (action : Action) (occasion : Occasion) → ends (train_data_told (Did action occasion)) ≡ false
-by_action (Confirm confirm.Identity) occasion = refl
-by_action (Confirm confirm.RunningNumber) occasion = refl
 by_action (Confirm confirm.TrainData) occasion = refl
-by_action (Confirm confirm.Level) occasion = refl
 by_action action occasion = refl
 
 by_mode : (mode : Mode) → runs mode ≡ true → ends (train_data_told (ModeEntered mode)) ≡ false
@@ -87,17 +85,13 @@ module _ (kept : Datum Train) where
 from_stand_by : (c : Conditions) (overrun shunting_chosen started level_1 full level_0 : Bool) →
     runs (next_mode StandBy (record c { overrun = overrun; shunting_chosen = shunting_chosen; started = started; level_1 = level_1; full = full; level_0 = level_0 })) ≡ true →
     started ≡ true
-from_stand_by c true shunting_chosen started level_1 full level_0 h = absurd (let no : false ≡ true = h in cc)
-from_stand_by c false true started level_1 full level_0 h = absurd (let no : false ≡ true = h in cc)
 from_stand_by c false false true level_1 full level_0 h = refl
-from_stand_by c false false false level_1 full level_0 h = absurd (let no : false ≡ true = h in cc)
+from_stand_by c overrun shunting_chosen started level_1 full level_0 h = absurd (let no : false ≡ true = h in cc)
 
 from_shunting : (c : Conditions) (overrun desk_closed shunting_left : Bool) →
     runs (next_mode Shunting (record c { overrun = overrun; desk_closed = desk_closed; shunting_left = shunting_left })) ≡ true → c.started ≡ true
-from_shunting c true desk_closed shunting_left h = absurd (let no : false ≡ true = h in cc)
-from_shunting c false true shunting_left h = absurd (let no : false ≡ true = h in cc)
-from_shunting c false false true h = absurd (let no : false ≡ true = h in cc)
 from_shunting c false false false h = absurd (let no : false ≡ true = h in cc)
+from_shunting c overrun desk_closed shunting_left h = absurd (let no : false ≡ true = h in cc)
 
 enters : (old : Mode) (c : Conditions) → runs (next_mode old c) ≡ true → (runs old ≡ true) ⊎ (c.started ≡ true)
 enters StandBy c h = inr (from_stand_by c c.overrun c.shunting_chosen c.started c.level_1 c.full c.level_0 h)
@@ -107,29 +101,14 @@ enters old c h = inl refl
 
 -- ---- a Start is accepted with valid data alone
 
-third : (x y z : Bool) → (x && y && z) ≡ true → z ≡ true
-third true true z h = h
-third true false z h = absurd (let no : false ≡ true = h in cc)
-third false y z h = absurd (let no : false ≡ true = h in cc)
-
-module _ (life : Life) where
-  accepted_start : (action : Action) (b : Bool) → accepts (driver_of life) (situation life) action ≡ b →
-      is_start (action_of (cond b (Some (record { action = action; occasion = occasion life })) None)) ≡ true → is_valid (driver_of life).train_data ≡ true
-  accepted_start Start true is h =
-      third (stands_in (StandBy ∷ PostTrip ∷ []) (situation life)) (may_leave (driver_of life)) (is_valid (driver_of life).train_data) is
-  accepted_start Start false is h = absurd (let no : false ≡ true = h in cc)
-  accepted_start action true is h = absurd (let no : false ≡ true = h in cc)
-  accepted_start action false is h = absurd (let no : false ≡ true = h in cc)
-
-  started : (input : inputs.Input) → is_start (action_of (deed_of life input)) ≡ true → is_valid (driver_of life).train_data ≡ true
-  started (Telegram bytes) h = absurd (let no : false ≡ true = h in cc)
-  started (Odometer reading) h = absurd (let no : false ≡ true = h in cc)
-  started (Clock moment) h = absurd (let no : false ≡ true = h in cc)
-  started (Driver action) h = accepted_start action (accepts (driver_of life) (situation life) action) refl h
+started_with : (life : Life) (input : Input) → is_start (action_of (deed_of life input)) ≡ true → is_valid (driver_of life).train_data ≡ true
+started_with life input h =
+    (and_parts (stands_in (StandBy ∷ PostTrip ∷ []) (situation life) && may_leave (driver_of life)) (is_valid (driver_of life).train_data)
+    (started life input h).is_accepted).1
 
 -- ---- one event, and all
 
-module _ (life : Life) (input : inputs.Input) where
+module _ (life : Life) (input : Input) where
   one_event : (runs (mode_of life.entries) ≡ true → is_valid (driver_of life).train_data ≡ true) →
       runs (mode_of (entry_of life input ∷ life.entries)) ≡ true → is_valid (driver_of (grown life (entry_of life input))).train_data ≡ true
   one_event before now =
@@ -143,7 +122,7 @@ module _ (life : Life) (input : inputs.Input) where
       let rest : List DriverEntry = after_level level (after_deed deed was) in
       let still : is_valid (driver_of life).train_data ≡ true → is_so kept rest = λ h. past_level kept level (after_deed deed was) (past_deed kept deed was h) in
       past_turn kept (is_mode old new) old new rest now (λ h. still (before h))
-      (λ h. elim (enters old c h) [ inl runs ↦ still (before runs) | inr s ↦ still (started life input s) ])
+      (λ h. elim (enters old c h) [ inl runs ↦ still (before runs) | inr s ↦ still (started_with life input s) ])
 
 pub runs_by_data : (events : List Event) → runs (mode_of (life_of events).entries) ≡ true → is_valid (driver_of (life_of events)).train_data ≡ true
 runs_by_data [] h = absurd (let no : false ≡ true = h in cc)

@@ -1,5 +1,5 @@
 -- Of which event an output was released.
-use Rattle.std.proofs.Common.{◌≡◌, List, [], ◌∷◌, ◌++◌, length, ◌⊎◌, inl, inr, refl, ap, sym, subst}
+use Rattle.std.proofs.Common.{◌≡◌, List, [], ◌∷◌, inl, inr, refl, ap, sym, subst}
 use Rattle.events.specs.declared.input.Event.{Event}
 use Rattle.onboard.specs.Chains.{StandsIn}
 use Rattle.onboard.specs.declared.released.Released.{Released}

@@ -1,10 +1,10 @@
 -- How Trip, System Failure and Stand By are left.
 use Rattle.std.proofs.Common.{◌≡◌, Bool, true, false, ℤ, List, [], ◌∷◌, cond, refl, ap, sym, ◌∙◌, subst, inl, inr, ◌⊎◌, arith}
-use Rattle.std.specs.Prelude.{Option, Some, None, ◌&&◌, ◌||◌, not, ◌==◌, ◌<ℤ◌}
+use Rattle.std.specs.Prelude.{Option, Some, None, ◌&&◌, ◌||◌, not, ◌<ℤ◌}
 use Rattle.std.specs.Option.{option_map_or}
 use Rattle.authority.specs.Authority.{end_of}
 use Rattle.authority.specs.declared.answers.End.{End}
-use Rattle.std.proofs.lemmas.Bool.{and_parts, not-true}
+use Rattle.std.proofs.lemmas.Bool.{and_parts, not-true, both_ways, eqb-true}
 use Rattle.std.proofs.lemmas.Bool.Decides.{nat_tests}
 use Rattle.balise_groups.specs.declared.message.Closed.{Closed}
 use Rattle.balise_groups.specs.declared.message.Closed.TheVariants as closed
@@ -12,10 +12,9 @@ use Rattle.driver.specs.Accepting.{accepts, stands_in, stands, may_leave}
 use Rattle.driver.specs.declared.action.Action.{Action}
 use Rattle.driver.specs.declared.action.Action.TheVariants.{Start, ChooseShunting, Acknowledge, CloseDesk}
 use Rattle.driver.specs.declared.action.Acknowledged.TheVariants as kind
-use Rattle.driver.specs.declared.action_situation.ActionSituation.{ActionSituation}
 use Rattle.driver.specs.Data.{is_valid}
 use Rattle.events.specs.declared.input.Input.{Input}
-use Rattle.events.specs.declared.input.Input.TheVariants.{Telegram, Odometer, Clock, Driver}
+use Rattle.events.specs.declared.input.Input.TheVariants.{Odometer, Driver}
 use Rattle.mode_table.specs.declared.conditions.Conditions.{Conditions}
 use Rattle.mode_table.specs.declared.mode.Mode.{Mode}
 use Rattle.mode_table.specs.declared.mode.Mode.TheVariants.{FullSupervision, OnSight, StaffResponsible, Shunting, Unfitted, StandBy, Trip, PostTrip, SystemFailure}
@@ -52,8 +51,7 @@ from_stand_by c false true started level_1 full level_0 = inr (inr (inl (refl, r
 from_stand_by c false false true true true level_0 = inr (inl (refl, refl))
 from_stand_by c false false true true false level_0 = inr (inl (refl, refl))
 from_stand_by c false false true false full true = inr (inl (refl, refl))
-from_stand_by c false false true false full false = inl refl
-from_stand_by c false false false level_1 full level_0 = inl refl
+from_stand_by c false false started level_1 full level_0 = inl refl
 
 -- past the end of authority: the rows that come before the trip lead to Stand By and to System Failure
 abbrev past_end : Mode → Mode → Conditions → Type 0
@@ -92,101 +90,77 @@ overrun_first mode entries input =
 
 module _ (life : Life) where
   by_first : (input : Input) → (happened_first (tracks life.entries) input).overrun ≡ true → IsOverrun life input
-  by_first (Telegram bytes) h = absurd (let no : false ≡ true = h in cc)
   by_first (Odometer reading) h = record { reading = reading; is = refl; has_none = not-true (has_room (place_of (tracks life.entries)) reading.movement) h }
-  by_first (Clock moment) h = absurd (let no : false ≡ true = h in cc)
-  by_first (Driver action) h = absurd (let no : false ≡ true = h in cc)
+  by_first other h = absurd (let no : false ≡ true = h in cc)
 
   overran : (input : Input) → (found life input).overrun ≡ true → IsOverrun life input
   overran input h = by_first input (sym (overrun_first (mode_of life.entries) (tracks life.entries) input) ∙ h)
 
   -- ---- an action that was accepted
 
-  is_still : (now : ActionSituation) (modes : List Mode) → stands_in modes now ≡ true → now.speed ≡ 0
-  is_still now modes h =
-      let parts = and_parts (is_one_of modes now.mode) (stands now) h in
-      let still : (now.speed == 0) ≡ true = parts.1 in
-      grind (arith, nat_tests)
+  abbrev accepted : Action → Bool
+  accepted action = accepts (driver_of life) (situation life) action
 
-  done : (action : Action) → accepts (driver_of life) (situation life) action ≡ true → speed_of (tracks life.entries) ≡ 0 →
-      IsDoneAtStandstill life (Driver action) action
-  done action is still = record { is = refl; is_accepted = is; stands = still }
+  done : (action : Action) (modes : List Mode) → accepted action ≡ true → stands_in modes (situation life) ≡ true → IsDoneAtStandstill life (Driver action) action
+  done action modes is stood =
+      let still = and_parts (is_one_of modes (mode_of life.entries)) (stands (situation life)) stood in
+      record { is = refl; is_accepted = is; stands = eqb-true (speed_of (tracks life.entries)) 0 still.1 }
 
-  abbrev given : Action → Bool → Option Deed
-  given action b = cond b (Some (record { action = action; occasion = occasion life })) None
+  -- what a test finds in an input is an action of the driver that was accepted
+  by_deed : (test : Option Action → Bool) (wanted : Action) → test None ≡ false →
+      ((action : Action) → accepted action ≡ true → test (Some action) ≡ true → IsDoneAtStandstill life (Driver action) wanted) →
+      (input : Input) → test (action_of (deed_of life input)) ≡ true → IsDoneAtStandstill life input wanted
+  by_deed test wanted none by (Driver action) h =
+      let given : Bool → Option Deed = λ (b : Bool). cond b (Some (record { action = action; occasion = occasion life })) None in
+      let cases : (b : Bool) → accepted action ≡ b → test (action_of (given b)) ≡ true → IsDoneAtStandstill life (Driver action) wanted = elim [
+        | true ↦ λ is k. by action is k
+        | false ↦ λ is k. absurd (both_ways (test None) none k)
+      ] in
+      cases (accepted action) refl h
+  by_deed test wanted none by other h = absurd (both_ways (test None) none h)
 
-  acknowledged_by : (action : Action) (b : Bool) → accepts (driver_of life) (situation life) action ≡ b →
-      is_trip_acknowledging (action_of (given action b)) ≡ true → IsDoneAtStandstill life (Driver action) (Acknowledge kind.Trip)
-  acknowledged_by (Acknowledge kind.Trip) true is h =
-      let parts = and_parts (stands_in (Trip ∷ StandBy ∷ []) (situation life)) (driver_of life).trip_outstanding is in
-      done (Acknowledge kind.Trip) is (is_still (situation life) (Trip ∷ StandBy ∷ []) parts.0)
-  acknowledged_by (Acknowledge kind.OnSight) true is h = absurd (let no : false ≡ true = h in cc)
-  acknowledged_by (Acknowledge kind.Shunting) true is h = absurd (let no : false ≡ true = h in cc)
-  acknowledged_by (Acknowledge kind.Level0) true is h = absurd (let no : false ≡ true = h in cc)
-  acknowledged_by action true is h = absurd (let no : false ≡ true = h in cc)
-  acknowledged_by action false is h = absurd (let no : false ≡ true = h in cc)
+  acknowledged_by : (action : Action) → accepted action ≡ true → is_trip_acknowledging (Some action) ≡ true →
+      IsDoneAtStandstill life (Driver action) (Acknowledge kind.Trip)
+  acknowledged_by (Acknowledge kind.Trip) is h =
+      done (Acknowledge kind.Trip) (Trip ∷ StandBy ∷ []) is (and_parts (stands_in (Trip ∷ StandBy ∷ []) (situation life)) (driver_of life).trip_outstanding is).0
+  acknowledged_by action is h = absurd (let no : false ≡ true = h in cc)
 
-  acknowledged : (input : Input) → is_trip_acknowledging (action_of (deed_of life input)) ≡ true →
-      IsDoneAtStandstill life input (Acknowledge kind.Trip)
-  acknowledged (Telegram bytes) h = absurd (let no : false ≡ true = h in cc)
-  acknowledged (Odometer reading) h = absurd (let no : false ≡ true = h in cc)
-  acknowledged (Clock moment) h = absurd (let no : false ≡ true = h in cc)
-  acknowledged (Driver action) h = acknowledged_by action (accepts (driver_of life) (situation life) action) refl h
+  acknowledged : (input : Input) → is_trip_acknowledging (action_of (deed_of life input)) ≡ true → IsDoneAtStandstill life input (Acknowledge kind.Trip)
+  acknowledged = by_deed is_trip_acknowledging (Acknowledge kind.Trip) refl acknowledged_by
 
-  abbrev all_but_stand_by : List Mode
-  all_but_stand_by = FullSupervision ∷ OnSight ∷ StaffResponsible ∷ Shunting ∷ Unfitted ∷ PostTrip ∷ []
+  started_by : (action : Action) → accepted action ≡ true → is_start (Some action) ≡ true → IsDoneAtStandstill life (Driver action) Start
+  started_by Start is h =
+      let stood = stands_in (StandBy ∷ PostTrip ∷ []) (situation life) in
+      let parts = and_parts (stood && may_leave (driver_of life)) (is_valid (driver_of life).train_data) is in
+      done Start (StandBy ∷ PostTrip ∷ []) is (and_parts stood (may_leave (driver_of life)) parts.0).0
+  started_by action is h = absurd (let no : false ≡ true = h in cc)
 
-  started_by : (action : Action) (b : Bool) → accepts (driver_of life) (situation life) action ≡ b →
-      is_start (action_of (given action b)) ≡ true → IsDoneAtStandstill life (Driver action) Start
-  started_by Start true is h =
-      let parts = and_parts (stands_in (StandBy ∷ PostTrip ∷ []) (situation life) && may_leave (driver_of life)) (is_valid (driver_of life).train_data) is in
-      let first = and_parts (stands_in (StandBy ∷ PostTrip ∷ []) (situation life)) (may_leave (driver_of life)) parts.0 in
-      done Start is (is_still (situation life) (StandBy ∷ PostTrip ∷ []) first.0)
-  started_by action true is h = absurd (let no : false ≡ true = h in cc)
-  started_by action false is h = absurd (let no : false ≡ true = h in cc)
-
-  started : (input : Input) → is_start (action_of (deed_of life input)) ≡ true → IsDoneAtStandstill life input Start
-  started (Telegram bytes) h = absurd (let no : false ≡ true = h in cc)
-  started (Odometer reading) h = absurd (let no : false ≡ true = h in cc)
-  started (Clock moment) h = absurd (let no : false ≡ true = h in cc)
-  started (Driver action) h = started_by action (accepts (driver_of life) (situation life) action) refl h
+  pub started : (input : Input) → is_start (action_of (deed_of life input)) ≡ true → IsDoneAtStandstill life input Start
+  started = by_deed is_start Start refl started_by
 
   abbrev all_but_trip : List Mode
   all_but_trip = StandBy ∷ FullSupervision ∷ OnSight ∷ StaffResponsible ∷ Unfitted ∷ PostTrip ∷ []
 
-  chosen_by : (action : Action) (b : Bool) → accepts (driver_of life) (situation life) action ≡ b →
-      is_shunting_choice (action_of (given action b)) ≡ true → IsDoneAtStandstill life (Driver action) ChooseShunting
-  chosen_by ChooseShunting true is h =
-      let parts = and_parts (stands_in all_but_trip (situation life)) (may_leave (driver_of life)) is in
-      done ChooseShunting is (is_still (situation life) all_but_trip parts.0)
-  chosen_by action true is h = absurd (let no : false ≡ true = h in cc)
-  chosen_by action false is h = absurd (let no : false ≡ true = h in cc)
+  chosen_by : (action : Action) → accepted action ≡ true → is_shunting_choice (Some action) ≡ true → IsDoneAtStandstill life (Driver action) ChooseShunting
+  chosen_by ChooseShunting is h =
+      done ChooseShunting all_but_trip is (and_parts (stands_in all_but_trip (situation life)) (may_leave (driver_of life)) is).0
+  chosen_by action is h = absurd (let no : false ≡ true = h in cc)
 
   chosen : (input : Input) → is_shunting_choice (action_of (deed_of life input)) ≡ true → IsDoneAtStandstill life input ChooseShunting
-  chosen (Telegram bytes) h = absurd (let no : false ≡ true = h in cc)
-  chosen (Odometer reading) h = absurd (let no : false ≡ true = h in cc)
-  chosen (Clock moment) h = absurd (let no : false ≡ true = h in cc)
-  chosen (Driver action) h = chosen_by action (accepts (driver_of life) (situation life) action) refl h
+  chosen = by_deed is_shunting_choice ChooseShunting refl chosen_by
 
-  closed_by_driver : (action : Action) (b : Bool) → accepts (driver_of life) (situation life) action ≡ b →
-      is_desk_closing (action_of (given action b)) ≡ true → IsDoneAtStandstill life (Driver action) CloseDesk
-  closed_by_driver CloseDesk true is h = done CloseDesk is (is_still (situation life) all_but_stand_by is)
-  closed_by_driver action true is h = absurd (let no : false ≡ true = h in cc)
-  closed_by_driver action false is h = absurd (let no : false ≡ true = h in cc)
+  closed_by_driver : (action : Action) → accepted action ≡ true → is_desk_closing (Some action) ≡ true → IsDoneAtStandstill life (Driver action) CloseDesk
+  closed_by_driver CloseDesk is h =
+      done CloseDesk (FullSupervision ∷ OnSight ∷ StaffResponsible ∷ Shunting ∷ Unfitted ∷ PostTrip ∷ []) is is
+  closed_by_driver action is h = absurd (let no : false ≡ true = h in cc)
 
   desk_closed : (input : Input) → is_desk_closing (action_of (deed_of life input)) ≡ true → IsDoneAtStandstill life input CloseDesk
-  desk_closed (Telegram bytes) h = absurd (let no : false ≡ true = h in cc)
-  desk_closed (Odometer reading) h = absurd (let no : false ≡ true = h in cc)
-  desk_closed (Clock moment) h = absurd (let no : false ≡ true = h in cc)
-  desk_closed (Driver action) h = closed_by_driver action (accepts (driver_of life) (situation life) action) refl h
+  desk_closed = by_deed is_desk_closing CloseDesk refl closed_by_driver
 
   -- ---- one event
 
-  is_tripping : (overridden beyond asked stopped : Bool) → overridden ≡ false → beyond ≡ true →
-      (not overridden && (beyond || asked || stopped)) ≡ true
-  is_tripping false true asked stopped o h = refl
-  is_tripping true beyond asked stopped o h = absurd (let no : true ≡ false = o in cc)
-  is_tripping false false asked stopped o h = absurd (let no : false ≡ true = h in cc)
+  is_tripping : (overridden beyond asked stopped : Bool) → overridden ≡ false → beyond ≡ true → (not overridden && (beyond || asked || stopped)) ≡ true
+  is_tripping overridden beyond asked stopped free is = rw (free, is) refl
 
   is_past : (place : ℤ) (end : Option End) (told : End) → end ≡ Some told → told.speed ≡ 0 → told.place <ℤ place →
       option_map_or (is_beyond place) end false ≡ true
@@ -203,8 +177,8 @@ module _ (life : Life) where
       let now = seen life input in
       let beyond = is_past (train_in now (seen_by life input)).min_front (end_of (authorities (tracks now.entries))) passed.end passed.known passed.no_speed passed.is_past in
       let tripped : c.trip ≡ true =
-      is_tripping (is_overridden now) (is_beyond_end now (train_in now (seen_by life input))) (happened_of (tracks now.entries)).asked.trip
-      (is_stopped (tracks now.entries)) free beyond in
+      is_tripping (is_overridden now) (is_beyond_end now (train_in now (seen_by life input)))
+      (happened_of (tracks now.entries)).asked.trip (is_stopped (tracks now.entries)) free beyond in
       let same : record c { trip = true } ≡ c = ap (λ (b : Bool). record c { trip = b }) (sym tripped) in
       let each = subst (λ (other : Conditions). past_end (mode_of life.entries) (turned (mode_of life.entries) other) other) same
       (from_each (mode_of life.entries) c c.overrun c.desk_closed watched) in

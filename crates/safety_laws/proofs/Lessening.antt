@@ -1,17 +1,18 @@
 -- More to keep to asks for no higher speed.
-use Rattle.std.proofs.Common.{◌≡◌, ℕ, zero, suc, ◌≤◌, ◌<◌, ◌+◌, ◌-◌, ◌*◌, ℤ, pos, negsuc, ◌+ℤ◌, ◌-ℤ◌, ◌≤ℤ◌, List, [], ◌∷◌, ◌++◌, ◌⊎◌, inl, inr, Bool, true, false, cond, min, max, refl, ap, sym, ◌∙◌, subst, arith}
-use Rattle.std.specs.Prelude.{Option, Some, None, nat_le, nat_lt, ◌&&◌, ◌||◌, filter, map}
-use Rattle.std.proofs.lemmas.Bool.{and_parts}
-use Rattle.std.proofs.lemmas.Bool.Decides.{nat_tests}
-use Rattle.std.proofs.lemmas.Int.{ints}
+use Rattle.std.proofs.Common.{◌≡◌, ℕ, zero, suc, ◌≤◌, ◌<◌, ◌+◌, ◌*◌, ℤ, pos, ◌+ℤ◌, ◌-ℤ◌, ◌≤ℤ◌, ◌<ℤ◌, List, [], ◌∷◌, ◌++◌, ◌⊎◌, inl, inr, Bool, true, false, min, max, refl, ap, sym, ◌∙◌, subst, arith}
+use Rattle.std.specs.Prelude.{Option, Some, None, filter, map}
+use Rattle.std.proofs.lemmas.Bool.{both_ways, cases_lt, cond_both, le-leb, leb-true}
+use Rattle.std.proofs.lemmas.Int.{ints, by_lt_z}
 use Rattle.areas.specs.Areas as areas
 use Rattle.authority.specs.declared.answers.End.{End}
 use Rattle.authority.specs.Laws.{IsAmong}
 use Rattle.brakes.specs.declared.brakes.Brakes.{Brakes}
 use Rattle.brakes.specs.Brakes.{reaction_way}
 use Rattle.braking.specs.declared.target.Target.{Target}
-use Rattle.braking.specs.Braking.{braked, distance_to, fits, fits_all, greatest}
-use Rattle.braking.proofs.Braked.{braked_later}
+use Rattle.braking.specs.Braking.{braked, fits, fits_all, greatest}
+use Rattle.braking.proofs.Braked.{braked_over}
+use Rattle.braking.proofs.Greatest.{greatest_within}
+use Rattle.braking.proofs.Slower.{slow_fits, braking_fits, late_fails}
 use Rattle.restriction.specs.declared.restriction.Restriction.{Restriction}
 use Rattle.restriction.specs.Covering.{covers, limits_at}
 use Rattle.speed_profile.proofs.Asking.{fit_all}
@@ -21,16 +22,14 @@ use Rattle.speed_profile.specs.Limit.{limit_on, least_static, bound_speed}
 use Rattle.speed_profile.specs.Track.{TrackSpeeds}
 use Rattle.track_store.specs.Profiles.{listed}
 use Rattle.track_store.specs.Restrictions.{least_speed, speeds_at}
+use Rattle.track_store.proofs.Jumps.{least_below}
 use Rattle.units.proofs.Gathering.{IsIn, over_at, in_over}
 use Rattle.units.specs.Stretches.{over, least, natural}
 use Rattle.speed_supervision.specs.Limit.{release_speed, released_by}
 use Rattle.safety_laws.specs.Limits.{Setting, permitted_on, IsMoreRestricted}
+use Rattle.safety_laws.proofs.Meeting.{to_in, to_among, permitted_fits}
 
 -- ---- the least of more speeds is no greater
-
-pub least_within : (otherwise : ℕ) (vs : List ℕ) → least otherwise vs ≤ otherwise
-least_within otherwise [] = omega arith
-least_within otherwise (v ∷ vs) = omega (arith, least_within otherwise vs)
 
 pub least_of : (otherwise : ℕ) (vs : List ℕ) (v : ℕ) → IsIn v vs → least otherwise vs ≤ v
 least_of otherwise [] v there = absurd there
@@ -38,57 +37,26 @@ least_of otherwise (w ∷ vs) v (inl same) = omega (arith, same)
 least_of otherwise (w ∷ vs) v (inr later) = omega (arith, least_of otherwise vs v later)
 
 least_of_more : (less otherwise : ℕ) (more vs : List ℕ) → less ≤ otherwise → ((v : ℕ) → IsIn v vs → IsIn v more) → least less more ≤ least otherwise vs
-least_of_more less otherwise more [] h each = omega (arith, h, least_within less more)
+least_of_more less otherwise more [] h each = omega (arith, h, least_below less more)
 least_of_more less otherwise more (v ∷ vs) h each =
     let here = least_of less more v (each v (inl refl)) in
     let rest = least_of_more less otherwise more vs h (λ w there. each w (inr there)) in
     omega (arith, here, rest)
 
--- ---- the greatest number that passes a test which is harder to pass is no greater
+-- ---- a number that passes a test is at most the greatest one that does
 
 pub greatest_least : (test : ℕ → Bool) (n k : ℕ) → k ≤ n → test k ≡ true → k ≤ greatest test n
 unfolding greatest
 greatest_least test zero k h e = h
 greatest_least test (suc n) k h e =
-    let cases : (b : Bool) → test (suc n) ≡ b → k ≤ cond b (suc n) (greatest test n) = elim [
-      | true ↦ λ f. h
-      | false ↦ λ f. (let either : (k ≡ suc n) ⊎ (k ≤ n) = grind arith in
-          elim either [
-            | inl same ↦ absurd (let no : false ≡ true = sym f ∙ sym (ap test same) ∙ e in cc)
-            | inr below ↦ greatest_least test n k below e
-          ])
-    ] in
-    cases (test (suc n)) refl
-
-greatest_harder : (hard easy : ℕ → Bool) (n m : ℕ) → n ≤ m → ((k : ℕ) → hard k ≡ true → easy k ≡ true) → greatest hard n ≤ greatest easy m
-unfolding greatest
-greatest_harder hard easy zero m h each = omega arith
-greatest_harder hard easy (suc n) m h each =
-    let cases : (b : Bool) → hard (suc n) ≡ b → cond b (suc n) (greatest hard n) ≤ greatest easy m = elim [
-      | true ↦ λ e. greatest_least easy m (suc n) h (each (suc n) e)
-      | false ↦ λ e. greatest_harder hard easy n m (omega arith) each
-    ] in
-    cases (hard (suc n)) refl
-
-fit_each : (front : ℤ) (gradient : ℤ → Option ℤ) (brakes : Brakes) (targets : List Target) (v : ℕ) → fits_all front gradient brakes targets v ≡ true →
-    (t : Target) → IsIn t targets → fits front gradient brakes t v ≡ true
-fit_each front gradient brakes [] v h t there = absurd there
-fit_each front gradient brakes (target ∷ targets) v h t there =
-    let parts = and_parts (fits front gradient brakes target v) (fits_all front gradient brakes targets v) h in
-    elim there [
-      | inl same ↦ ap (λ (x : Target). fits front gradient brakes x v) same ∙ parts.0
-      | inr k ↦ fit_each front gradient brakes targets v parts.1 t k
-    ]
+    cond_both (test (suc n)) (suc n) (greatest test n) (λ m. k ≤ m) (λ f. h)
+    (λ f. (let either : (k ≡ suc n) ⊎ (k ≤ n) = grind arith in
+    elim either [
+      | inl same ↦ absurd (let no : false ≡ true = sym f ∙ sym (ap test same) ∙ e in cc)
+      | inr below ↦ greatest_least test n k below e
+    ]))
 
 -- ---- restrictions
-
-pub to_in : {A : Type 0} (x : A) (xs : List A) → IsAmong x xs → IsIn x xs
-to_in x [] there = absurd there
-to_in x (y ∷ ys) there = elim there [ inl same ↦ inl same | inr later ↦ inr (to_in x ys later) ]
-
-pub to_among : {A : Type 0} (x : A) (xs : List A) → IsIn x xs → IsAmong x xs
-to_among x [] there = absurd there
-to_among x (y ∷ ys) there = elim there [ inl same ↦ inl same | inr later ↦ inr (to_among x ys later) ]
 
 -- what restrictions that pass a test give, more of them give too
 module _ {B : Type 0} (give : Restriction → B) (test : Restriction → Bool) (fewer more : List Restriction)
@@ -159,10 +127,11 @@ module _ (setting : Setting) (track : TrackSpeeds) (more : List Restriction)
       let front = setting.train.max_front in
       let some = targets_ahead front setting.bounds track ++ listed last in
       let all = targets_ahead front setting.bounds (with track more) ++ listed last in
-      greatest_harder (fits_all front setting.gradient setting.brakes all) (fits_all front setting.gradient setting.brakes some)
-      (limit_on setting.train setting.bounds (with track more)) (limit_on setting.train setting.bounds track) limit_less
-      (λ v h. fit_all front setting.gradient setting.brakes some v
-      (λ t there. fit_each front setting.gradient setting.brakes all v h t (ahead_too (listed last) t there)))
+      let limit : ℕ = limit_on setting.train setting.bounds (with track more) in
+      greatest_least (fits_all front setting.gradient setting.brakes some) (limit_on setting.train setting.bounds track) (permitted (with track more) last)
+      (omega (arith, limit_less, greatest_within (fits_all front setting.gradient setting.brakes all) limit))
+      (fit_all front setting.gradient setting.brakes some (permitted (with track more) last)
+      (λ t there. permitted_fits front setting.gradient setting.brakes all limit t (ahead_too (listed last) t there)))
 
   rule_less : (end : Option End) → released_by (permitted (with track more)) end setting.release ≤ released_by (permitted track) end setting.release
   rule_less None = permitted_less None
@@ -195,54 +164,26 @@ never_raise setting fewer more m =
 
 -- ---- places
 
-natural_is : (z : ℤ) → pos 0 ≤ℤ z → pos (natural z) ≡ z
-natural_is (pos n) h = refl
-natural_is (negsuc n) h = absurd (omega (arith, ints))
-
-natural_none : (z : ℤ) → z ≤ℤ pos 0 → natural z ≡ 0
-natural_none (pos n) h = omega (arith, ints)
-natural_none (negsuc n) h = refl
-
-settled : (v u way d d' vv uu s s' : ℕ) → (way < d → way < d') → (way < d → s ≤ s') →
-    (nat_le v u || (nat_lt way d && nat_le vv (uu + s))) ≡ true → (nat_le v u || (nat_lt way d' && nat_le vv (uu + s'))) ≡ true
-settled v u way d d' vv uu s s' c e f = grind (arith, nat_tests)
-
 module _ (gradient : ℤ → Option ℤ) (brakes : Brakes) (target : Target) (speed : ℕ) (far near : ℤ) (behind : far ≤ℤ near) where
-  abbrev way : ℕ
-  way = reaction_way brakes.reaction speed
+  abbrev acts : ℤ → ℤ
+  acts front = front +ℤ pos (reaction_way brakes.reaction speed)
 
   abbrev off : ℤ → ℕ
-  off front = braked gradient brakes.deceleration (front +ℤ pos way) (distance_to front target - way)
+  off from = braked gradient brakes.deceleration from (natural (target.place -ℤ from))
 
-  ahead : way < distance_to near target → pos 0 ≤ℤ (target.place -ℤ near)
-  ahead acts =
-      let order : (pos 0 ≤ℤ (target.place -ℤ near)) ⊎ ((target.place -ℤ near) ≤ℤ pos 0) = grind (arith, ints) in
-      elim order [
-        | inl h ↦ h
-        | inr h ↦ absurd (let none = natural_none (target.place -ℤ near) h in let no : ⊥ = omega (arith, none, acts) in no)
-      ]
-
-  farther : way < distance_to near target → way < distance_to far target
-  farther acts =
-      let here = natural_is (target.place -ℤ near) (ahead acts) in
-      let there = natural_is (target.place -ℤ far) (omega (arith, ints, ahead acts, behind)) in
-      omega (arith, ints, here, there, acts, behind)
-
-  more_off : way < distance_to near target → off near ≤ off far
-  more_off acts =
-      let some = ahead acts in
-      let here = natural_is (target.place -ℤ near) some in
-      let there = natural_is (target.place -ℤ far) (omega (arith, ints, some, behind)) in
-      let m : ℕ = natural (near -ℤ far) in
-      let back : pos m ≡ near -ℤ far = natural_is (near -ℤ far) (omega (arith, ints, behind)) in
-      let start : (far +ℤ pos way) +ℤ pos m ≡ near +ℤ pos way = omega (arith, ints, back) in
-      let count : m + (distance_to near target - way) ≡ distance_to far target - way = omega (arith, ints, here, there, back, acts) in
-      let later = braked_later gradient brakes.deceleration (far +ℤ pos way) m (distance_to near target - way) in
-      let one = ap (λ (z : ℤ). braked gradient brakes.deceleration z (distance_to near target - way)) start in
-      let other = ap (braked gradient brakes.deceleration (far +ℤ pos way)) count in
-      omega (arith, later, one, other)
+  -- the brakes that act farther back take off no less
+  braking_behind : target.speed < speed → acts near <ℤ target.place → fits near gradient brakes target speed ≡ true →
+      fits far gradient brakes target speed ≡ true
+  braking_behind fast early fit =
+      let enough = leb-true (speed * speed) (target.speed * target.speed + off (acts near)) (braking_fits near gradient brakes target speed (acts near) fast refl early ∙ fit) in
+      let more = braked_over gradient brakes.deceleration (acts far) (acts near) target.place (omega (arith, ints, behind)) (omega (arith, ints, early)) in
+      sym (braking_fits far gradient brakes target speed (acts far) fast refl (omega (arith, ints, behind, early)))
+      ∙ le-leb (speed * speed) (target.speed * target.speed + off (acts far)) (omega (arith, enough, more))
 
   pub fits_behind : fits near gradient brakes target speed ≡ true → fits far gradient brakes target speed ≡ true
-  fits_behind h =
-      settled speed target.speed way (distance_to near target) (distance_to far target) (speed * speed) (target.speed * target.speed) (off near) (off far)
-      farther more_off h
+  fits_behind fit =
+      elim (cases_lt target.speed speed) [
+        | inl fast ↦ by_lt_z (acts near) target.place (λ early. braking_behind fast early fit)
+            (λ late. absurd (both_ways (fits near gradient brakes target speed) (late_fails near gradient brakes target speed fast late) fit))
+        | inr slow ↦ slow_fits far gradient brakes target speed slow
+      ]

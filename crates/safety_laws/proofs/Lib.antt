@@ -1,4 +1,5 @@
 pub mod Events
+mod Commanding
 mod ByData
 mod ByAuthority
 mod Leaving

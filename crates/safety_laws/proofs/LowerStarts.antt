@@ -3,6 +3,7 @@ use Rattle.std.proofs.Common.{◌≡◌, ℕ, zero, suc, ◌≤◌, ℤ, pos, �
 use Rattle.std.specs.Prelude.{Option, None, Some, int_lt, nat_lt, map}
 use Rattle.std.specs.List.{filter_map, cons_option}
 use Rattle.std.proofs.lemmas.Bool.Decides.{nat_tests}
+use Rattle.std.proofs.lemmas.Option.{same_Some}
 use Rattle.std.proofs.lemmas.Int.{ints}
 use Rattle.areas.specs.declared.area.Area.{Area}
 use Rattle.areas.specs.Areas.{speed_in}
@@ -53,13 +54,10 @@ in_speeds : (t : Target) (targets : List Target) → IsIn t targets → IsIn t.s
 in_speeds t [] there = absurd there
 in_speeds t (x ∷ targets) there = elim there [ inl is ↦ inl (ap (λ (y : Target). y.speed) is) | inr later ↦ inr (in_speeds t targets later) ]
 
-some_is : (a b : ℕ) → Some a ≡ Some b → a ≡ b
-some_is a b is = let same : a ≡ b = cc in same
-
 attained : (targets : List Target) (speed : ℕ) → least_asked targets ≡ Some speed → (t : Target) × IsIn t targets × (t.speed ≡ speed)
 attained [] speed is = absurd (let no : None ≡ Some speed = is in cc)
 attained (t ∷ targets) speed is =
-    let least_is = some_is (least t.speed (speeds targets)) speed is in
+    let least_is = same_Some (least t.speed (speeds targets)) speed is in
     elim (least_is_one t.speed targets) [
       | inl first ↦ (t, inl refl, sym first ∙ least_is)
       | inr of ↦ (of.0, inr of.1, sym of.2 ∙ least_is)

@@ -2,7 +2,7 @@
 use Rattle.std.proofs.Common.{◌≡◌, ℕ, zero, suc, ℤ, pos, ◌+ℤ◌, ◌≤ℤ◌, ◌<ℤ◌, ◌≤◌, ◌*◌, Bool, true, false, List, [], ◌∷◌, ◌++◌, min, max, cond, refl, ap, sym, ◌∙◌, subst, arith, inl, inr, ◌⊎◌}
 use Rattle.std.specs.Prelude.{Option, Some, None, unwrap_or, int_lt}
 use Rattle.std.specs.Option.{option_map, option_or}
-use Rattle.std.proofs.lemmas.Bool.{and_from, and_parts}
+use Rattle.std.proofs.lemmas.Bool.{and_from, and_parts, cond_both}
 use Rattle.std.proofs.lemmas.Int.{ints}
 use Rattle.areas.specs.declared.area.Area.{Area}
 use Rattle.areas.specs.Areas.{speed_in}
@@ -30,7 +30,7 @@ use Rattle.speed_profile.specs.Track.{TrackSpeeds}
 use Rattle.track_store.specs.Profiles.{listed}
 use Rattle.driver.specs.Limits.{Train}
 use Rattle.mode_table.specs.declared.mode.Mode.{Mode}
-use Rattle.mode_table.specs.declared.mode.Mode.TheVariants.{FullSupervision, OnSight, StaffResponsible, Shunting, Unfitted, StandBy, Trip, PostTrip, SystemFailure}
+use Rattle.mode_table.specs.declared.mode.Mode.TheVariants.{FullSupervision, OnSight}
 use Rattle.mode_table.specs.Modes.{is_one_of}
 use Rattle.track_picture.specs.History.{authorities}
 use Rattle.units.proofs.Gathering.{IsIn, in_over}
@@ -42,17 +42,23 @@ use Rattle.safety_laws.specs.Running.{modes_by_authority}
 use Rattle.safety_laws.specs.Stopping.{front_of, gradient_along, square_at, IsSupervised, BrakesFromLimit, KeepsTrackSpeeds}
 use Rattle.safety_laws.proofs.Courses.{slows}
 
+-- ---- what is among some, in both words
+
+pub to_in : {A : Type 0} (x : A) (xs : List A) → IsAmong x xs → IsIn x xs
+to_in x [] there = absurd there
+to_in x (y ∷ ys) there = elim there [ inl same ↦ inl same | inr later ↦ inr (to_in x ys later) ]
+
+pub to_among : {A : Type 0} (x : A) (xs : List A) → IsIn x xs → IsAmong x xs
+to_among x [] there = absurd there
+to_among x (y ∷ ys) there = elim there [ inl same ↦ inl same | inr later ↦ inr (to_among x ys later) ]
+
 -- ---- the greatest number that passes a test passes it
 
 greatest_fits : (test : ℕ → Bool) (n : ℕ) → test 0 ≡ true → test (greatest test n) ≡ true
 unfolding greatest
 greatest_fits test zero h = h
 greatest_fits test (suc n) h =
-    let cases : (b : Bool) → test (suc n) ≡ b → test (cond b (suc n) (greatest test n)) ≡ true = elim [
-      | true ↦ λ e. e
-      | false ↦ λ e. greatest_fits test n h
-    ] in
-    cases (test (suc n)) refl
+    cond_both (test (suc n)) (suc n) (greatest test n) (λ k. test k ≡ true) (λ e. e) (λ e. greatest_fits test n h)
 
 is_less : (one other : ℤ) → one <ℤ other → int_lt one other ≡ true
 is_less one other h = grind (arith, ints)
@@ -173,13 +179,7 @@ module _ (life : Life) (train : Train) where
     by_mode : (mode : Mode) → is_one_of modes_by_authority mode ≡ true → limit_in mode life ≡ permitted_for life (driver_of life).train_data
     by_mode FullSupervision h = refl
     by_mode OnSight h = refl
-    by_mode StaffResponsible h = absurd (let no : false ≡ true = h in cc)
-    by_mode Shunting h = absurd (let no : false ≡ true = h in cc)
-    by_mode Unfitted h = absurd (let no : false ≡ true = h in cc)
-    by_mode StandBy h = absurd (let no : false ≡ true = h in cc)
-    by_mode Trip h = absurd (let no : false ≡ true = h in cc)
-    by_mode PostTrip h = absurd (let no : false ≡ true = h in cc)
-    by_mode SystemFailure h = absurd (let no : false ≡ true = h in cc)
+    by_mode other h = absurd (let no : false ≡ true = h in cc)
 
     module _ (it : IsSupervised life train end) where
       pub limit_is : limit life ≡ by_rule
@@ -233,10 +233,6 @@ module _ (life : Life) (train : Train) where
               subst (λ (o : Option End). IsIn (at 0) (listed (unknown_target o place))) (sym known) inside in
               subst (λ (known : Option CategorySpeeds). IsIn (at 0) (listed (static_target bounds place known))) (sym is) asked
 
-          among : {A : Type 0} (x : A) (xs : List A) → IsAmong x xs → IsIn x xs
-          among x [] there = absurd there
-          among x (y ∷ ys) there = elim there [ inl same ↦ inl same | inr later ↦ inr (among x ys later) ]
-
           abbrev static : List Target
           static = static_targets bounds track.static place
 
@@ -261,7 +257,7 @@ module _ (life : Life) (train : Train) where
             unknown = λ e known short is. (let none = here 0 (of_track (at 0) (by_unknown e known short is)) in omega (arith, none));
             restricted = λ restriction there covered. here restriction.speed (of_restriction (at restriction.speed)
                 (passes (λ (r : Restriction). at r.speed) (covers track.restrictions.mark place) track.restrictions.restrictions restriction
-                (among restriction track.restrictions.restrictions there) covered));
+                (to_in restriction track.restrictions.restrictions there) covered));
             in_area = λ area there inside. here (speed_in track.national area) (of_area (at (speed_in track.national area))
-                (passes (λ (a : Area). at (speed_in track.national a)) (is_inside place) track.areas area (among area track.areas there) inside));
+                (passes (λ (a : Area). at (speed_in track.national a)) (is_inside place) track.areas area (to_in area track.areas there) inside));
           }

@@ -1,34 +1,27 @@
 -- By how much a train passes a target that it fits at a lower speed.
-use Rattle.std.proofs.Common.{◌≡◌, ℕ, zero, suc, ℤ, pos, ◌+ℤ◌, ◌+◌, ◌-◌, ◌*◌, ◌≤◌, ◌<◌, true, ap, refl, sym, ◌∙◌, arith, inl, inr}
+use Rattle.std.proofs.Common.{◌≡◌, ℕ, zero, suc, ℤ, pos, ◌+ℤ◌, ◌+◌, ◌-◌, ◌*◌, ◌≤◌, true, ap, sym, ◌∙◌, arith, inl, inr}
 use Rattle.std.specs.Int.{div_ceil}
 use Rattle.std.specs.Prelude.{Option, nat_le, nat_lt, ◌&&◌, ◌||◌}
-use Rattle.std.proofs.lemmas.Bool.{or_cases, and_parts}
-use Rattle.std.proofs.lemmas.Bool.Decides.{nat_tests}
+use Rattle.std.proofs.lemmas.Bool.{or_cases, and_parts, leb-true, ltb-true}
 use Rattle.std.proofs.lemmas.Int.{ints}
 use Rattle.brakes.specs.declared.brakes.Brakes.{Brakes}
 use Rattle.brakes.specs.Brakes.{slowing_on, reaction_way}
 use Rattle.braking.specs.Braking.{braked, distance_to, fits}
-use Rattle.braking.proofs.Braked.{braked_parts}
+use Rattle.braking.proofs.Braked.{braked_none, braked_parts}
 use Rattle.braking.proofs.Roots.{square_less}
 use Rattle.braking.proofs.Slower.{way_less}
 use Rattle.safety_laws.specs.Stopping.{IsBraking, IsBetween, later_by}
 use Rattle.safety_laws.proofs.Courses.{after_taken}
-
-no_more : (a b : ℕ) → nat_le a b ≡ true → a ≤ b
-no_more a b h = grind (arith, nat_tests)
-
-less : (a b : ℕ) → nat_lt a b ≡ true → a < b
-less a b h = grind (arith, nat_tests)
 
 -- a speed that fits a stop is taken off from where the brakes act, which is no farther than the stop
 enough_taken : (v way d vv s none : ℕ) → none ≡ 0 → (v ≤ 0 → (vv ≡ 0) × (way ≡ 0)) →
     (nat_le v 0 || (nat_lt way d && nat_le vv (none + s))) ≡ true → (way ≤ d) × (vv ≤ s)
 enough_taken v way d vv s none is stands h =
     elim (or_cases (nat_le v 0) (nat_lt way d && nat_le vv (none + s)) h) [
-      | inl still ↦ (let no = stands (no_more v 0 still) in (omega (arith, no.1), omega (arith, no.0)))
+      | inl still ↦ (let no = stands (leb-true v 0 still) in (omega (arith, no.1), omega (arith, no.0)))
       | inr both ↦ (let parts = and_parts (nat_lt way d) (nat_le vv (none + s)) both in
-          let acts = less way d parts.0 in
-          let enough = no_more vv (none + s) parts.1 in
+          let acts = ltb-true way d parts.0 in
+          let enough = leb-true vv (none + s) parts.1 in
           (omega (arith, acts), omega (arith, enough, is)))
     ]
 
@@ -43,10 +36,6 @@ module _ (front : ℤ) (gradient : ℤ → Option ℤ) (brakes : Brakes) where
   abbrev off : ℕ → ℕ → ℕ
   off from n = braked gradient brakes.deceleration (front +ℤ pos from) n
 
-  off_none : (from : ℕ) → off from 0 ≡ 0
-  unfolding braked
-  off_none from = refl
-
   off_next : (from n : ℕ) → off from (suc n) ≡ 2592 * slowing_on brakes.deceleration (gradient (front +ℤ pos from)) + off (suc from) n
   unfolding braked
   off_next from n =
@@ -60,14 +49,14 @@ module _ (front : ℤ) (gradient : ℤ → Option ℤ) (brakes : Brakes) where
 
   module _ (way least most : ℕ) (between : IsBetween front gradient brakes way least most) where
     at_least : (n from : ℕ) → from + n ≤ way → 2592 * least * n ≤ off from n
-    at_least zero from h = omega (arith, off_none from)
+    at_least zero from h = omega (arith, braked_none gradient brakes.deceleration (front +ℤ pos from))
     at_least (suc n) from h =
         let rest = at_least n (suc from) (omega arith) in
         let here = between.at_least from (omega arith) in
         omega (arith, off_next from n, rest, here)
 
     at_most : (n from : ℕ) → from + n ≤ way → off from n ≤ 2592 * most * n
-    at_most zero from h = omega (arith, off_none from)
+    at_most zero from h = omega (arith, braked_none gradient brakes.deceleration (front +ℤ pos from))
     at_most (suc n) from h =
         let rest = at_most n (suc from) (omega arith) in
         let here = between.at_most from (omega arith) in

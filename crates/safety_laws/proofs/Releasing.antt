@@ -17,9 +17,9 @@ use Rattle.speed_supervision.specs.Limit.{limit, bounds_of, along, supervised_li
 use Rattle.safety_laws.specs.Release.{can_meet, release_of, MayRun, limit_to_end, limit_to_location, IsReleased}
 use Rattle.safety_laws.specs.Starts.{starts_of, braking_limit}
 use Rattle.safety_laws.specs.Stopping.{front_of, gradient_along, IsSupervised}
-use Rattle.safety_laws.proofs.Lessening.{greatest_least, to_in, to_among}
+use Rattle.safety_laws.proofs.Lessening.{greatest_least}
 use Rattle.safety_laws.proofs.LowerStarts.{together}
-use Rattle.safety_laws.proofs.Meeting.{limit_is, permitted_fits}
+use Rattle.safety_laws.proofs.Meeting.{to_in, to_among, limit_is, permitted_fits}
 
 up_to : (speed to_end release to_location : ℕ) → speed ≤ max to_end (min release to_location) →
     (speed ≤ to_end) ⊎ ((speed ≤ release) × (speed ≤ to_location))

@@ -1,5 +1,5 @@
 -- No limit is above the train's maximum.
-use Rattle.std.proofs.Common.{◌≡◌, ℕ, ℤ, ◌≤◌, Bool, true, false, List, [], ◌∷◌, min, max, cond, refl, arith, subst, sym}
+use Rattle.std.proofs.Common.{◌≡◌, ℕ, ◌≤◌, Bool, true, false, [], ◌∷◌, min, cond, arith, subst, sym}
 use Rattle.std.specs.Prelude.{Option, Some, None}
 use Rattle.authority.specs.Authority.{end_of}
 use Rattle.authority.specs.declared.answers.End.{End}
@@ -9,28 +9,21 @@ use Rattle.driver.specs.declared.datum.Datum.{Datum}
 use Rattle.driver.specs.declared.datum.Datum.TheVariants.{Valid}
 use Rattle.driver.specs.Limits.{Train}
 use Rattle.mode_table.specs.declared.mode.Mode.{Mode}
-use Rattle.mode_table.specs.declared.mode.Mode.TheVariants.{FullSupervision, OnSight, StaffResponsible, Shunting, Unfitted, StandBy, Trip, PostTrip, SystemFailure}
+use Rattle.mode_table.specs.declared.mode.Mode.TheVariants.{FullSupervision, OnSight, StaffResponsible, Unfitted}
 use Rattle.mode_table.specs.Modes.{is_one_of}
 use Rattle.speed_profile.specs.declared.limit.Bounds.{Bounds}
 use Rattle.speed_profile.specs.Limit.{limit_on, bound_speed, least_static, speed_at_end}
 use Rattle.speed_profile.specs.Track.{TrackSpeeds}
-use Rattle.track_store.specs.Profiles.{lesser, listed}
+use Rattle.track_store.specs.Profiles.{lesser}
 use Rattle.track_store.specs.Restrictions.{least_speed}
-use Rattle.units.specs.Stretches.{Span, least}
+use Rattle.track_store.proofs.Jumps.{least_below, lesser_below}
+use Rattle.units.specs.Stretches.{Span}
 use Rattle.mode_control.specs.Conditions.{is_overridden}
 use Rattle.mode_control.specs.History.{tracks}
 use Rattle.mode_control.specs.Life.{Life, driver_of}
 use Rattle.track_picture.specs.History.{authorities}
 use Rattle.mode_control.specs.Sentences.{values_of, span_of}
-use Rattle.speed_supervision.specs.Limit.{within_maximum, maximum_in, restricted, while_overridden, bounds_of, along, supervised_limit, permitted_to, release_speed, released_by, permitted_speed, permitted_for, limit_in}
-
-least_within : (otherwise : ℕ) (speeds : List ℕ) → least otherwise speeds ≤ otherwise
-least_within otherwise [] = omega arith
-least_within otherwise (speed ∷ speeds) = omega (arith, least_within otherwise speeds)
-
-lesser_within : (limit : ℕ) (value : Option ℕ) → lesser limit value ≤ limit
-lesser_within limit None = omega arith
-lesser_within limit (Some value) = omega arith
+use Rattle.speed_supervision.specs.Limit.{within_maximum, maximum_in, restricted, while_overridden, bounds_of, along, supervised_limit, permitted_to, released_by, permitted_for, limit_in}
 
 -- what limits the train where it stands is at most its maximum
 on_within : (train : Span) (bounds : Bounds) (track : TrackSpeeds) → limit_on train bounds track ≤ bounds.maximum
@@ -38,11 +31,11 @@ on_within train bounds track =
     let bound = bound_speed train.max_front bounds in
     let static = least_static track.static bounds.category train bound in
     let restricted = least_speed track.restrictions train static in
-    let by_areas : limit_on train bounds track ≤ restricted = least_within restricted _ in
-    let by_restrictions : restricted ≤ static = least_within static _ in
-    let by_static : static ≤ bound = least_within bound _ in
-    let by_end : bound ≤ lesser bounds.maximum bounds.main = lesser_within (lesser bounds.maximum bounds.main) (speed_at_end train.max_front bounds.end) in
-    omega (arith, by_areas, by_restrictions, by_static, by_end, lesser_within bounds.maximum bounds.main)
+    let by_areas : limit_on train bounds track ≤ restricted = least_below restricted _ in
+    let by_restrictions : restricted ≤ static = least_below static _ in
+    let by_static : static ≤ bound = least_below bound _ in
+    let by_end : bound ≤ lesser bounds.maximum bounds.main = lesser_below (lesser bounds.maximum bounds.main) (speed_at_end train.max_front bounds.end) in
+    omega (arith, by_areas, by_restrictions, by_static, by_end, lesser_below bounds.maximum bounds.main)
 
 released_within : (permitted : Option Target → ℕ) (most : ℕ) → ((last : Option Target) → permitted last ≤ most) → (end : Option End) (national : ℕ) →
     released_by permitted end national ≤ most
@@ -69,7 +62,7 @@ module _ (life : Life) (train : Train) (valid : (driver_of life).train_data ≡ 
   own_within speed = subst (λ (d : Datum Train). within_maximum d speed ≤ train.maximum) (sym valid) (omega arith)
 
   restricted_within : (speed : ℕ) → restricted life speed ≤ speed
-  restricted_within speed = least_within speed _
+  restricted_within speed = least_below speed _
 
   pub in_mode : (mode : Mode) → is_one_of (FullSupervision ∷ OnSight ∷ StaffResponsible ∷ Unfitted ∷ []) mode ≡ true → limit_in mode life ≤ train.maximum
   in_mode FullSupervision h = full_within
@@ -78,8 +71,4 @@ module _ (life : Life) (train : Train) (valid : (driver_of life).train_data ≡ 
       let own = maximum_in life (values_of life).staff_responsible in
       omega (arith, restricted_within (while_overridden life own), lowered_within (is_overridden life) own (values_of life).override_speed, own_within (values_of life).staff_responsible)
   in_mode Unfitted h = omega (arith, restricted_within (maximum_in life (values_of life).unfitted), own_within (values_of life).unfitted)
-  in_mode Shunting h = absurd (let no : false ≡ true = h in cc)
-  in_mode StandBy h = absurd (let no : false ≡ true = h in cc)
-  in_mode Trip h = absurd (let no : false ≡ true = h in cc)
-  in_mode PostTrip h = absurd (let no : false ≡ true = h in cc)
-  in_mode SystemFailure h = absurd (let no : false ≡ true = h in cc)
+  in_mode other h = absurd (let no : false ≡ true = h in cc)

@@ -1,5 +1,6 @@
 use Rattle.std.proofs.Common.{◌≡◌, ℕ, ap, sym, subst, ◌∙◌}
 use Rattle.std.specs.Prelude.{◌==◌}
+use Rattle.std.proofs.lemmas.Bool.{and_parts, eqb-true}
 use Rattle.driver.specs.declared.datum.Datum.{Datum}
 use Rattle.driver.specs.Known as driver
 use Rattle.driver.specs.Limits.{Train}
@@ -9,8 +10,6 @@ use Rattle.mode_control.specs.Sentences.{values_of}
 use Rattle.mode_control.specs.StandsFor.{KnownModes}
 use Rattle.speed_supervision.specs.Limit.{within_maximum, maximum_in, restricted, while_overridden}
 use Rattle.limit_causes.specs.Causes.{IsMaximum}
-use Rattle.limit_causes.proofs.Finding.{both_true}
-use Rattle.limit_causes.proofs.Naming.{equal_by}
 use Rattle.limit_causes.proofs.ByMode.{no_override}
 use Rattle.limit_causes.proofs.by_mode.responsible_cause.Goals as goal
 
@@ -19,8 +18,8 @@ returns-in-Some g c life s = rw c.in-Some.is at (c.restriction_in.ensures life s
 
 pub returns-then-is_override : goal.returns-then-is_override
 returns-then-is_override g c life s =
-    let both = both_true (is_overridden life) ((values_of life).override_speed == c.args.limit) (sym (c.is_override.ensures life s) ∙ c.if-is_override.true) in
-    (both.0, equal_by (values_of life).override_speed c.args.limit both.1)
+    let both = and_parts (is_overridden life) ((values_of life).override_speed == c.args.limit) (sym (c.is_override.ensures life s) ∙ c.if-is_override.true) in
+    (both.0, eqb-true (values_of life).override_speed c.args.limit both.1)
 
 pub returns-then-is_maximum : goal.returns-then-is_maximum
 returns-then-is_maximum g c life s =

@@ -12,9 +12,9 @@ use Rattle.mode_control.specs.Sentences.{values_of, span_of}
 use Rattle.speed_supervision.specs.Limit.{limit, limit_in, within_maximum, maximum_in, while_overridden, restricted, responsible_limit, unfitted_limit}
 use Rattle.track_picture.specs.History.{restrictions_of}
 use Rattle.track_store.specs.Restrictions.{speeds_at}
+use Rattle.track_store.proofs.Jumps.{least_below}
 use Rattle.units.specs.Stretches.{over}
 use Rattle.kernel.specs.Lives.{life_of}
-use Rattle.safety_laws.proofs.Lessening.{least_within}
 use Rattle.safety_laws.proofs.intervening.national_speeds_are_kept.Goals as goal
 
 at_most : (train : Datum Train) (speed : ℕ) → within_maximum train speed ≤ speed
@@ -33,7 +33,7 @@ of_override false other speed h = absurd (let no : false ≡ true = h in cc)
 module _ (life : Life) where
   is_restricted : (speed : ℕ) → restricted life speed ≤ speed
   is_restricted speed =
-      let train = span_of life in least_within speed (over (speeds_at (restrictions_of (tracks life.entries)) train) train.rear train.max_front)
+      let train = span_of life in least_below speed (over (speeds_at (restrictions_of (tracks life.entries)) train) train.rear train.max_front)
 
   by_staff : responsible_limit life ≤ (values_of life).staff_responsible
   by_staff =

@@ -1,1 +1,3 @@
+pub mod Goings
+pub mod Looks
 pub mod Openings

@@ -1,14 +1,12 @@
 -- A power-up that is under way over a medium that isn't copied (this project's profile). Sectors have 512 bytes and are
 -- numbered from 0.
-use Rattle.std.specs.Prelude.{◌≡◌, ℕ, ◌<◌, false, List, Option, Some, None}
+use Rattle.std.specs.Prelude.{◌≡◌, ℕ, ◌<◌, false, List, Option, Some, None, IfSome}
+use Rattle.blocks.specs.FirstSector.{sectors_of}
 use Rattle.disk.specs.State.{State, contents_of, Touches, IsSynced}
 use Rattle.journal.specs.UnderWay.{IsUnderWay}
 use Rattle.mode_table.specs.declared.statuses.Cold.{Cold}
-use Rattle.relayed_unit.specs.Relayed.{Relayed}
 use Rattle.request_disk.specs.Requesting.{Requesting, nothing_of, request_state, knows}
 use Rattle.ring.specs.ScanState.{ScanState}
-use Rattle.unit_opening.specs.declared.opening.Going.{Going}
-use Rattle.unit_opening.specs.declared.opening.Going.TheVariants as a_going
 
 -- The disk that hands out its requests, what was found of the slots (None before the first sector was read), and the word
 -- on movements without power that was handed in.
@@ -24,6 +22,10 @@ begun medium sectors cold = record { disk = nothing_of medium sectors; scan = No
 -- a disk on a medium of these bytes and so many sectors, before any call
 abbrev pub medium_state : List ℕ → ℕ → State
 medium_state medium sectors = request_state (nothing_of medium sectors)
+
+-- a disk of so many sectors has the slots that were found
+abbrev pub IsSized : ℕ → Option ScanState → Type 0
+IsSized sectors scan = IfSome scan (λ it. sectors ≡ sectors_of it.slots)
 
 -- what was found of the slots so far is what this image has
 abbrev pub IsFoundOf : ℕ → (ℕ → List ℕ) → Option ScanState → Type 0
@@ -42,13 +44,3 @@ pub record IsWanted (o : Opening) (s : ℕ) : Type 0 where
   pub told : o.disk.wanted ≡ Some s
   pub below : s < o.disk.sectors
   pub unknown : knows s o.disk ≡ false
-
--- where it goes on to be under way, P is so of it
-abbrev pub OnWants : Going → (Opening → Type 0) → Type 0
-OnWants (a_going.Wants o) P = P o
-OnWants (a_going.Open u) P = Unit {0}
-
--- where it led to a unit, P is so of that
-abbrev pub OnOpen : Going → (Relayed → Type 0) → Type 0
-OnOpen (a_going.Wants o) P = Unit {0}
-OnOpen (a_going.Open u) P = P u

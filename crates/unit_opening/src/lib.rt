@@ -2,6 +2,7 @@
 //! the maker hands that in.
 #![tactic(auto)]
 
+mod looking;
 mod opening;
 
 pub use opening::{Going, UnitOpening};

@@ -33,4 +33,4 @@ pub use sectors::{provide_call, wanted_call};
 pub use status::Status;
 pub use version::version_call;
 pub use why::EtcsUnitWhy;
-pub use words::EtcsRequest;
+pub use words::{EtcsRequest, word_of};

@@ -3,8 +3,8 @@ pub mod Carrying
 pub mod Emptying
 pub mod Untold
 pub mod Floating
-pub mod HeldValues
 pub mod Histories
 pub mod Parts
+pub mod Providing
 pub mod Releasing
 pub mod Values

@@ -2,6 +2,7 @@
 
 use crate::status::{Status, no_memory, told};
 use crate::telegrams::bytes_of;
+use packet_lines::{name_pieces, number_pieces, place_pieces, why_piece};
 use packet_uses::{Fate, ToldPacket, never_used_packets};
 use packets::PacketFault;
 use pieces::{Form, Piece, write_parts, write_pieces};
@@ -9,7 +10,7 @@ use std::alloc::Global;
 use std::io;
 use std::io::Write;
 use track_packets::{
-    Field, FieldFault, Fields, FieldsError, ListingEnd, PacketPlace, Variable, fields_of, kind_of,
+    Field, FieldFault, Fields, FieldsError, ListingEnd, PacketPlace, Variable, fields_of,
     packets_in_order,
 };
 
@@ -33,74 +34,28 @@ enum Body {
 #[derive(Drop)]
 struct PacketTold {
     place: PacketPlace,
-    why: Option<Fate>,
+    why: Fate,
     body: Body,
 }
 
 // Why no mode uses the packet that begins here, in any direction.
-fn why_never(never: &[ToldPacket], start: u32) -> Option<Fate> {
+fn why_never(never: &[ToldPacket], start: u32) -> Fate {
     for one in never {
         if one.start == u64::from(start) {
-            return Some(one.fate);
+            return one.fate;
         }
     }
-    None
+    Fate::Used
 }
 
-fn why_piece(why: Option<Fate>) -> Piece {
-    match why {
-        Some(Fate::NotKnown) => Piece::Text(
-            " bits, not used: the kernel doesn't know it",
-            ",\"why\":\"not_known\"",
-        ),
-        Some(Fate::Infill) => Piece::Text(
-            " bits, not used: it is a packet 136, or stands behind one",
-            ",\"why\":\"infill\"",
-        ),
-        Some(Fate::Refused) => Piece::Text(
-            " bits, not used: the telegram is refused",
-            ",\"why\":\"refused\"",
-        ),
-        _ => Piece::Text(" bits", ",\"why\":null"),
+fn why_told(form: Form, why: Fate) -> Piece {
+    match (form, why) {
+        (Form::Json, _) => why_piece(why),
+        (_, Fate::NotKnown) => Piece::Same(", not used: the kernel doesn't know it"),
+        (_, Fate::Infill) => Piece::Same(", not used: it is a packet 136, or stands behind one"),
+        (_, Fate::Refused) => Piece::Same(", not used: the telegram is refused"),
+        _ => Piece::Nothing,
     }
-}
-
-fn name_pieces(number: u8) -> [Piece; 3] {
-    match kind_of(number) {
-        Some(kind) => [
-            Piece::Text("", "\""),
-            Piece::Same(kind.name.text()),
-            Piece::Text("", "\""),
-        ],
-        None => [
-            Piece::Text("without a name", "null"),
-            Piece::Nothing,
-            Piece::Nothing,
-        ],
-    }
-}
-
-fn front_pieces(later: bool, number: u8) -> [Piece; 3] {
-    let json = if later {
-        ",{\"packet\":"
-    } else {
-        "{\"packet\":"
-    };
-    [
-        Piece::Text("packet ", json),
-        Piece::Number(u64::from(number)),
-        Piece::Text(" ", ",\"name\":"),
-    ]
-}
-
-fn place_pieces(place: PacketPlace, why: Option<Fate>) -> [Piece; 5] {
-    [
-        Piece::Text(" at ", ",\"bit\":"),
-        Piece::Number(u64::from(place.start)),
-        Piece::Text(", ", ",\"bits\":"),
-        Piece::Number(u64::from(place.length)),
-        why_piece(why),
-    ]
 }
 
 fn field_pieces(later: bool, field: &Field) -> [Piece; 5] {
@@ -254,9 +209,12 @@ fn write_packet<W: Write>(
     out: &mut W,
 ) -> io::Result<()> {
     let name = name_pieces(packet.place.number);
-    let behind = place_pieces(packet.place, packet.why);
-    write_parts(form, &[front, &name, &behind], out)?;
-    write_pieces(form, &[Piece::Text("\n", "")], out)?;
+    let place = place_pieces(
+        u64::from(packet.place.start),
+        u64::from(packet.place.length),
+    );
+    let why = [why_told(form, packet.why), Piece::Text("\n", "")];
+    write_parts(form, &[front, &name, &place, &why], out)?;
     match &packet.body {
         Body::Fields(fields) => write_fields(form, fields, out),
         Body::Fault(fault) => write_pieces(form, &fault_pieces(*fault), out),
@@ -318,7 +276,12 @@ fn write_all<W: Write>(
     write_pieces(form, &[Piece::Text("", "{\"packets\":[")], out)?;
     let mut later = false;
     for packet in packets {
-        write_packet(form, packet, &front_pieces(later, packet.place.number), out)?;
+        write_packet(
+            form,
+            packet,
+            &number_pieces("packet ", later, packet.place.number),
+            out,
+        )?;
         later = true;
     }
     write_pieces(form, &end_pieces(end), out)

@@ -40,12 +40,8 @@ struct PacketTold {
 
 // Why no mode uses the packet that begins here, in any direction.
 fn why_never(never: &[ToldPacket], start: u32) -> Fate {
-    for one in never {
-        if one.start == u64::from(start) {
-            return one.fate;
-        }
-    }
-    Fate::Used
+    let found = never.iter().find(|one| one.start == u64::from(start));
+    found.map_or(Fate::Used, |one| one.fate)
 }
 
 fn why_told(form: Form, why: Fate) -> Piece {
@@ -205,65 +201,46 @@ fn told_of(alloc: Global, bytes: &[u8], places: &[PacketPlace]) -> Option<Vec<Pa
 fn write_packet<W: Write>(
     form: Form,
     packet: &PacketTold,
-    front: &[Piece; 3],
+    later: bool,
     out: &mut W,
 ) -> io::Result<()> {
+    let number = number_pieces("packet ", later, packet.place.number);
     let name = name_pieces(packet.place.number);
     let place = place_pieces(
         u64::from(packet.place.start),
         u64::from(packet.place.length),
     );
     let why = [why_told(form, packet.why), Piece::Text("\n", "")];
-    write_parts(form, &[front, &name, &place, &why], out)?;
+    write_parts(form, &[&number, &name, &place, &why], out)?;
     match &packet.body {
         Body::Fields(fields) => write_fields(form, fields, out),
         Body::Fault(fault) => write_pieces(form, &fault_pieces(*fault), out),
     }
 }
 
-fn end_pieces(end: ListingEnd) -> [Piece; 3] {
-    let (what, at) = match end {
-        ListingEnd::EndMark(at) => (
-            Piece::Text("end mark at ", "],\"end\":\"end_mark\",\"end_bit\":"),
-            at,
-        ),
-        ListingEnd::NoEnd(at) => (
-            Piece::Text("no end mark at ", "],\"end\":\"no_end\",\"end_bit\":"),
-            at,
-        ),
-        ListingEnd::CutOff(at) => (
-            Piece::Text(
-                "beyond the last bit goes what is at ",
-                "],\"end\":\"cut_off\",\"end_bit\":",
-            ),
-            at,
-        ),
-        ListingEnd::WrongLength(at) => (
-            Piece::Text(
-                "an L_PACKET below 23 has what is at ",
-                "],\"end\":\"wrong_length\",\"end_bit\":",
-            ),
-            at,
-        ),
-        ListingEnd::TooMany(at) => (
-            Piece::Text(
-                "no further packet is told from ",
-                "],\"end\":\"too_many\",\"end_bit\":",
-            ),
-            at,
-        ),
+fn end_pieces(end: ListingEnd) -> [Piece; 5] {
+    let (says, word, at) = match end {
+        ListingEnd::EndMark(at) => ("end mark at ", "end_mark", at),
+        ListingEnd::NoEnd(at) => ("no end mark at ", "no_end", at),
+        ListingEnd::CutOff(at) => ("beyond the last bit goes what is at ", "cut_off", at),
+        ListingEnd::WrongLength(at) => ("an L_PACKET below 23 has what is at ", "wrong_length", at),
+        ListingEnd::TooMany(at) => ("no further packet is told from ", "too_many", at),
     };
-    [what, Piece::Number(u64::from(at)), Piece::Text("\n", "}\n")]
+    [
+        Piece::Text("", "],\"end\":\""),
+        Piece::Text(says, word),
+        Piece::Text("", "\",\"end_bit\":"),
+        Piece::Number(u64::from(at)),
+        Piece::Text("\n", "}\n"),
+    ]
 }
 
 // Whether an end mark ends a list whose fields are all told.
 fn is_whole(packets: &[PacketTold], end: ListingEnd) -> bool {
-    for one in packets {
-        if let Body::Fault(_) = one.body {
-            return false;
-        }
-    }
-    matches!(end, ListingEnd::EndMark(_))
+    let are_told = packets
+        .iter()
+        .all(|one| matches!(one.body, Body::Fields(_)));
+    are_told && matches!(end, ListingEnd::EndMark(_))
 }
 
 // Writes the packets of a telegram, and what ends them.
@@ -276,12 +253,7 @@ fn write_all<W: Write>(
     write_pieces(form, &[Piece::Text("", "{\"packets\":[")], out)?;
     let mut later = false;
     for packet in packets {
-        write_packet(
-            form,
-            packet,
-            &number_pieces("packet ", later, packet.place.number),
-            out,
-        )?;
+        write_packet(form, packet, later, out)?;
         later = true;
     }
     write_pieces(form, &end_pieces(end), out)

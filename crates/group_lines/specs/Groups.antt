@@ -3,8 +3,8 @@
 use Rattle.std.specs.Prelude.{ℕ, Bool, true, false, if◌then◌else◌, Option, Some, None, List, [], ◌∷◌, ◌++◌, codes, decimal}
 use Rattle.command_line.specs.OutputWords.{mode_text}
 use Rattle.mode_table.specs.declared.mode.Mode.{Mode}
+use Rattle.packet_lines.specs.Words.{number_text, name_told, why_text}
 use Rattle.packet_uses.specs.declared.fate.Fate.{Fate}
-use Rattle.packet_uses.specs.declared.fate.Fate.TheVariants as fates
 use Rattle.packet_uses.specs.Fates.{fate_told}
 use Rattle.packets.specs.declared.packet.Packet.{Packet}
 use Rattle.packets.specs.Packets.{number_of}
@@ -12,8 +12,6 @@ use Rattle.pieces.specs.Pieces.{text_in, joined}
 use Rattle.pieces.specs.declared.piece.Form.{Form}
 use Rattle.reasons.specs.declared.group_words.GroupTold.{GroupTold}
 use Rattle.reasons.specs.GroupWords.{group_told, group_word_of, group_sentence_of, group_section_of, is_accepted}
-use Rattle.track_packets.specs.Kinds.{kind_told, name_text}
-use Rattle.track_packets.specs.declared.kind.Kind.{Kind}
 use Rattle.track_picture.specs.declared.closings.Closing.{Closing}
 use Rattle.track_picture.specs.declared.closings.Closing.TheVariants as closing
 use Rattle.vars.specs.declared.linking.LinkOrientation.{LinkOrientation}
@@ -23,27 +21,10 @@ use Rattle.vars.specs.declared.linking.LinkReaction.TheVariants as reaction
 
 -- ---- a packet: its number, its name, and why it isn't used
 
-abbrev pub name_in : Form → Option Kind → List ℕ
-name_in form (Some kind) = joined (text_in form [] (codes "\"") ∷ name_text kind.name ∷ text_in form [] (codes "\"") ∷ [])
-name_in form None = joined (text_in form (codes "without a name") (codes "null") ∷ [])
-
 -- none of the packets of a group that isn't accepted is used
 abbrev pub why_in : Form → Bool → Fate → List ℕ
 why_in form false fate = text_in form [] (codes "\"group_not_accepted\"")
-why_in form true fates.Used = text_in form [] (codes "null")
-why_in form true fates.NotKnown = text_in form (codes " (not known)") (codes "\"not_known\"")
-why_in form true fates.Infill = text_in form (codes " (infill)") (codes "\"infill\"")
-why_in form true fates.NotInMode = text_in form (codes " (not in this mode)") (codes "\"not_in_mode\"")
-why_in form true fates.OtherDirection = text_in form (codes " (other direction)") (codes "\"other_direction\"")
-why_in form true fates.Refused = text_in form (codes " (refused)") (codes "\"refused\"")
-
-abbrev pub packet_begun : Form → Bool → List ℕ
-packet_begun form later =
-    text_in form (codes ", packet ") (if later then codes ",{\"packet\":" else codes "{\"packet\":")
-
-abbrev pub packet_front : Form → Bool → ℕ → List ℕ
-packet_front form later number =
-    joined (packet_begun form later ∷ decimal number ∷ text_in form (codes " ") (codes ",\"name\":") ∷ [])
+why_in form true fate = why_text form fate
 
 abbrev pub packet_back : Form → Bool → Fate → List ℕ
 packet_back form accepted fate =
@@ -51,7 +32,7 @@ packet_back form accepted fate =
 
 abbrev pub packet_text : Form → Bool → Bool → ℕ → Fate → List ℕ
 packet_text form accepted later number fate =
-    packet_front form later number ++ name_in form (kind_told number) ++ packet_back form accepted fate
+    number_text form (codes ", packet ") later number ++ name_told form number ++ packet_back form accepted fate
 
 -- packets, each with what becomes of it in the mode and in the direction of its group
 abbrev pub packets_text : Form → Mode → GroupTold → Bool → List Packet → List ℕ

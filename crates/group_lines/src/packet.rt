@@ -3,72 +3,28 @@ ghost use Rattle.std.specs.Prelude.{◌≡◌, OnOk, false};
 ghost use Rattle.std.specs.Io.KnownBytes.{Appends};
 ghost use Rattle.pieces.specs.Pieces.{text_of, texts};
 ghost use Rattle.pieces.specs.declared.piece.Form.{Form as a_form};
-ghost use Rattle.track_packets.specs.Kinds.{kind_told};
 ghost use Rattle.packet_uses.specs.Fates.{fate_told};
 ghost use Rattle.packets.specs.Packets.{number_of};
 ghost use Rattle.reasons.specs.GroupWords.{is_accepted};
-ghost use Rattle.group_lines.specs.Groups.{name_in, why_in, packet_begun, packet_back, packet_front, packet_text, packets_text};
+ghost use Rattle.group_lines.specs.Groups.{why_in, packet_back, packet_text, packets_text};
 
 use balise_groups::GroupPackets;
 use mode_table::Mode;
+use packet_lines::{name_pieces, number_pieces, why_piece};
 use packet_uses::{Fate, fate_of};
 use packets::Packet;
 use pieces::{Form, Piece, write_parts};
 use reasons::{GroupTold, is_accepted};
 use std::io;
 use std::io::Write;
-use track_packets::kind_of;
 
-fn begun_piece(later: bool) -> Piece
-    ensures { (form : a_form) → text_of form result ≡ packet_begun form later }
-{
-    if later {
-        Piece::Text(", packet ", ",{\"packet\":")
-    } else {
-        Piece::Text(", packet ", "{\"packet\":")
-    }
-}
-
-fn front_pieces(later: bool, number: u8) -> [Piece; 3]
-    ensures { (form : a_form) → texts form result ≡ packet_front form later number }
-{
-    [
-        begun_piece(later),
-        Piece::Number(u64::from(number)),
-        Piece::Text(" ", ",\"name\":"),
-    ]
-}
-
-fn name_pieces(number: u8) -> [Piece; 3]
-    ensures { (form : a_form) → texts form result ≡ name_in form (kind_told number) }
-{
-    match kind_of(number) {
-        Some(kind) => [
-            Piece::Text("", "\""),
-            Piece::Same(kind.name.text()),
-            Piece::Text("", "\""),
-        ],
-        None => [
-            Piece::Text("without a name", "null"),
-            Piece::Nothing,
-            Piece::Nothing,
-        ],
-    }
-}
-
-fn why_piece(accepted: bool, fate: Fate) -> Piece
+fn why_in(accepted: bool, fate: Fate) -> Piece
     ensures { (form : a_form) → text_of form result ≡ why_in form accepted fate }
 {
-    if !accepted {
-        return Piece::Text("", "\"group_not_accepted\"");
-    }
-    match fate {
-        Fate::Used => Piece::Text("", "null"),
-        Fate::NotKnown => Piece::Text(" (not known)", "\"not_known\""),
-        Fate::Infill => Piece::Text(" (infill)", "\"infill\""),
-        Fate::NotInMode => Piece::Text(" (not in this mode)", "\"not_in_mode\""),
-        Fate::OtherDirection => Piece::Text(" (other direction)", "\"other_direction\""),
-        Fate::Refused => Piece::Text(" (refused)", "\"refused\""),
+    if accepted {
+        why_piece(fate)
+    } else {
+        Piece::Text("", "\"group_not_accepted\"")
     }
 }
 
@@ -77,7 +33,7 @@ fn back_pieces(accepted: bool, fate: Fate) -> [Piece; 3]
 {
     [
         Piece::Text("", ",\"why\":"),
-        why_piece(accepted, fate),
+        why_in(accepted, fate),
         Piece::Text("", "}"),
     ]
 }
@@ -92,7 +48,7 @@ fn write_packet<W: Write>(
 ) -> io::Result<()>
     ensures { OnOk result (Appends (W.contents out.old) (W.contents out.new) (packet_text form accepted later number fate)) }
 {
-    let front = front_pieces(later, number);
+    let front = number_pieces(", packet ", later, number);
     let name = name_pieces(number);
     let back = back_pieces(accepted, fate);
     write_parts(form, &[&front, &name, &back], out)

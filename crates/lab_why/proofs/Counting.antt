@@ -1,5 +1,5 @@
 -- The inputs among the steps of a life, and which step of the scenario each comes from.
-use Rattle.std.proofs.Common.{◌≡◌, ℕ, zero, suc, ◌+◌, ◌<◌, ◌≤◌, Bool, true, false, cond, List, [], ◌∷◌, ◌++◌, length, drop, get_or, map, refl, sym, ◌∙◌, ap, arith}
+use Rattle.std.proofs.Common.{◌≡◌, ℕ, zero, suc, ◌+◌, ◌<◌, ◌≤◌, Bool, true, false, cond, List, [], ◌∷◌, length, take, drop, get_or, map, refl, sym, ◌∙◌, ap, arith}
 use Rattle.std.specs.Prelude.{slice_index}
 use Rattle.std.proofs.Math.Dec.{leb}
 use Rattle.std.proofs.lemmas.Bool.{leb-true, le-leb}
@@ -13,13 +13,6 @@ use Rattle.lab_why.specs.Ends.{step_at}
 use Rattle.lab_why.specs.Playing.{inputs_from}
 
 -- ---- the ends of the steps of a scenario
-
-not_ended : (end place : ℕ) → place < end → leb end place ≡ false
-not_ended end place gt = by_test (leb end place) refl
-  where
-    by_test : (b : Bool) → leb end place ≡ b → leb end place ≡ false
-    by_test true is = absurd (let le = leb-true end place is in omega (arith, le, gt))
-    by_test false is = is
 
 by_end : (end a b at_a at_b first part : ℕ) (before behind : Bool) → leb end a ≡ before → leb end b ≡ behind → a ≤ b → suc first ≤ cond before (1 + at_a) 0
     → (first ≤ at_a → at_b ≡ first + part) → cond behind (1 + at_b) 0 ≡ suc first + part
@@ -41,33 +34,7 @@ step_later ends step place le =
     behind_ended ends (step_at ends place) place (place + 1) (omega arith) (omega arith) in
     omega (arith, le, more)
 
--- one more of them has ended, or none has
-pub one_ended : (ends : List ℕ) (step place : ℕ) → step < length ends → get_or ends step 0 ≤ place → step_at (drop step ends) place ≡ suc (step_at (drop (suc step) ends) place)
-one_ended [] step place below le = absurd (omega (arith, below))
-one_ended (end ∷ ends) zero place below le = ap (λ (b : Bool). cond b (1 + step_at ends place) 0) (le-leb end place le) ∙ omega arith
-one_ended (end ∷ ends) (suc step) place below le = one_ended ends step place (omega (arith, below)) le
-
-pub none_ended : (ends : List ℕ) (step place : ℕ) → step < length ends → place < get_or ends step 0 → step_at (drop step ends) place ≡ 0
-none_ended [] step place below gt = absurd (omega (arith, below))
-none_ended (end ∷ ends) zero place below gt = ap (λ (b : Bool). cond b (1 + step_at ends place) 0) (not_ended end place gt)
-none_ended (end ∷ ends) (suc step) place below gt = none_ended ends step place (omega (arith, below)) gt
-
-pub all_ended : (ends : List ℕ) (step place : ℕ) → length ends ≤ step → step_at (drop step ends) place ≡ 0
-all_ended [] zero place over = refl
-all_ended [] (suc step) place over = refl
-all_ended (end ∷ ends) zero place over = absurd (omega (arith, over))
-all_ended (end ∷ ends) (suc step) place over = all_ended ends step place (omega (arith, over))
-
 -- ---- the inputs among steps
-
-pub inputs_append : (place : ℕ) (first rest : List Step) → inputs_from place (first ++ rest) ≡ inputs_from place first ++ inputs_from (place + length first) rest
-inputs_append place [] rest = let same : place ≡ place + 0 = omega arith in ap (λ (n : ℕ). inputs_from n rest) same
-inputs_append place (Accept input ∷ first) rest =
-    let same : place + 1 + length first ≡ place + suc (length first) = omega arith in
-    ap (λ (l : List ℕ). place ∷ l) (inputs_append (place + 1) first rest ∙ ap (λ (n : ℕ). inputs_from (place + 1) first ++ inputs_from n rest) same)
-inputs_append place (Flush ∷ first) rest =
-    let same : place + 1 + length first ≡ place + suc (length first) = omega arith in
-    inputs_append (place + 1) first rest ∙ ap (λ (n : ℕ). inputs_from (place + 1) first ++ inputs_from n rest) same
 
 pub count_accepted : (events : List Event) (place : ℕ) (steps : List Step) → length (accepted_by events steps) ≡ length events + length (inputs_from place steps)
 count_accepted events place [] = omega arith
@@ -76,30 +43,15 @@ count_accepted events place (Accept input ∷ steps) =
     omega (arith, more)
 count_accepted events place (Flush ∷ steps) = count_accepted events (place + 1) steps
 
-at_seam : (xs : List ℕ) (x : ℕ) (ys : List ℕ) → get_or (xs ++ x ∷ ys) (length xs) 0 ≡ x
-at_seam [] x ys = refl
-at_seam (y ∷ xs) x ys = at_seam xs x ys
-
-mapped : (f : ℕ → ℕ) (xs ys : List ℕ) → map f (xs ++ ys) ≡ map f xs ++ map f ys
-mapped f [] ys = refl
-mapped f (x ∷ xs) ys = ap (λ (l : List ℕ). f x ∷ l) (mapped f xs ys)
-
-length_mapped : (f : ℕ → ℕ) (xs : List ℕ) → length (map f xs) ≡ length xs
-length_mapped f [] = refl
-length_mapped f (x ∷ xs) = ap suc (length_mapped f xs)
-
--- an input comes from the step of the scenario in which its place lies
-pub its_step : (ends : List ℕ) (first rest : List Step) (input : Input)
-    → slice_index (map (step_at ends) (inputs_from 0 (first ++ Accept input ∷ rest))) (length (inputs_from 0 first)) ≡ step_at ends (length first)
-its_step ends first rest input =
-    let f : ℕ → ℕ = step_at ends in
-    let before : List ℕ = inputs_from 0 first in
-    let place : ℕ = 0 + length first in
-    let behind : List ℕ = map f (inputs_from (place + 1) rest) in
-    let all : map f (inputs_from 0 (first ++ Accept input ∷ rest)) ≡ map f before ++ f place ∷ behind =
-    ap (map f) (inputs_append 0 first (Accept input ∷ rest)) ∙ mapped f before (inputs_from place (Accept input ∷ rest)) in
-    let same : place ≡ length first = omega arith in
-    ap (λ (l : List ℕ). get_or l (length before) 0) all
-    ∙ ap (λ (n : ℕ). get_or (map f before ++ f place ∷ behind) n 0) (sym (length_mapped f before))
-    ∙ at_seam (map f before) (f place) behind
-    ∙ ap f same
+-- what is told of an input's place is found behind that of the inputs before it
+pub its_place : (f : ℕ → ℕ) (steps : List Step) (place first : ℕ) (input : Input) (d : Step) → place < length steps → Accept input ≡ get_or steps place d
+    → slice_index (map f (inputs_from first steps)) (length (inputs_from first (take place steps))) ≡ f (first + place)
+its_place f [] place first input d below is = absurd (omega (arith, below))
+its_place f (Accept other ∷ steps) zero first input d below is = let same : first ≡ first + 0 = omega arith in ap f same
+its_place f (Flush ∷ steps) zero first input d below is = absurd cc
+its_place f (Accept other ∷ steps) (suc place) first input d below is =
+    let same : first + 1 + place ≡ first + suc place = omega arith in
+    its_place f steps place (first + 1) input d (omega (arith, below)) is ∙ ap f same
+its_place f (Flush ∷ steps) (suc place) first input d below is =
+    let same : first + 1 + place ≡ first + suc place = omega arith in
+    its_place f steps place (first + 1) input d (omega (arith, below)) is ∙ ap f same

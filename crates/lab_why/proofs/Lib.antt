@@ -3,4 +3,3 @@ pub mod Living
 pub mod OneMore
 pub mod Releasing
 pub mod Same
-pub mod RunTold

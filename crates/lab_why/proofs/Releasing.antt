@@ -1,11 +1,11 @@
 -- What is released of a life, beside the inputs that it accepts.
-use Rattle.std.proofs.Common.{◌≡◌, ℕ, zero, suc, ◌+◌, ◌<◌, List, [], ◌∷◌, ◌++◌, length, take, drop, get_or, Option, Some, None, refl, sym, ◌∙◌, ap, arith, append_assoc, append-nil, length-append}
+use Rattle.std.proofs.Common.{◌≡◌, ℕ, suc, ◌+◌, ◌<◌, List, [], ◌∷◌, ◌++◌, length, take, drop, get_or, Option, Some, None, refl, sym, ◌∙◌, ap, arith, append_assoc, length-append}
 use Rattle.std.proofs.lemmas.List.{take-append-drop}
 use Rattle.std.proofs.lemmas.List.Sums.{fold-append}
-use Rattle.std.proofs.Math.Seq.{drop-append_seam}
+use Rattle.std.proofs.Math.ListN.{get_or-append}
+use Rattle.std.proofs.Math.Seq.{drop-append_seam, get_or-append_seam}
 use Rattle.events.specs.declared.input.Event.{Event}
 use Rattle.events.specs.declared.input.Event.TheVariants as an_event
-use Rattle.events.specs.declared.input.Input.{Input}
 use Rattle.events.specs.declared.step.Step.{Step}
 use Rattle.events.specs.declared.step.Step.TheVariants.{Accept, Flush}
 use Rattle.mode_table.specs.declared.statuses.Cold.{Cold}
@@ -20,18 +20,18 @@ use Rattle.lab_why.specs.Playing.{carried_out}
 
 -- ---- of lists of events, what is released
 
-more_pairs : (more events : List Event) → (rest : List Release) × (pairs_of (more ++ events) ≡ pairs_of events ++ rest)
-more_pairs [] events = ([], sym (append-nil (pairs_of events)))
-more_pairs (event ∷ more) events =
-    let so = more_pairs more events in
-    let pair = pair_of (more ++ events) event in
-    (so.0 ++ pair ∷ [], ap (λ (l : List Release). l ++ pair ∷ []) so.1 ∙ append_assoc (pairs_of events) so.0 (pair ∷ []))
-
 length_pairs : (events : List Event) → length (pairs_of events) ≡ length events
 length_pairs [] = refl
 length_pairs (event ∷ events) =
     let more : length (pairs_of events) ≡ length events = length_pairs events in
     omega (arith, more, length-append (pairs_of events) (pair_of events event ∷ []))
+
+-- what is released of the older part of a list is what is released of the list
+older_pair : (more events : List Event) (k : ℕ) (d : Release) → k < length events → get_or (pairs_of (more ++ events)) k d ≡ get_or (pairs_of events) k d
+older_pair [] events k d below = refl
+older_pair (event ∷ more) events k d below =
+    get_or-append (pairs_of (more ++ events)) (pair_of (more ++ events) event ∷ []) d k (omega (arith, below, length_pairs (more ++ events), length-append more events))
+    ∙ older_pair more events k d below
 
 -- so many are durable behind the power-up as were released
 pub count_released : (word : Cold) (durable : List Event) (released : List Release) → pairs_of durable ≡ pairs_of (an_event.PowerUp word ∷ []) ++ released
@@ -51,15 +51,6 @@ same_end all more one others other is also long =
     ∙ ap (drop (length others)) (sym is ∙ also)
     ∙ drop-append_seam others other
 
-at_front : (xs ys : List Release) (n : ℕ) (d : Release) → n < length xs → get_or (xs ++ ys) n d ≡ get_or xs n d
-at_front [] ys n d below = absurd (omega (arith, below))
-at_front (x ∷ xs) ys zero d below = refl
-at_front (x ∷ xs) ys (suc n) d below = at_front xs ys n d (omega (arith, below))
-
-at_seam : (xs : List Release) (x : Release) (ys : List Release) (d : Release) → get_or (xs ++ x ∷ ys) (length xs) d ≡ x
-at_seam [] x ys d = refl
-at_seam (y ∷ xs) x ys d = at_seam xs x ys d
-
 -- ---- what was accepted up to an input
 
 abbrev pub begun : Cold → List Event
@@ -69,31 +60,19 @@ begun word = an_event.PowerUp word ∷ []
 pub up_to : (events : List Event) (first rest : List Step) → accepted_by events (first ++ rest) ≡ accepted_by [] rest ++ accepted_by events first
 up_to events first rest = fold-append accept_one events first rest ∙ accepted_on (accepted_by events first) rest
 
--- what is released of it, where that many are released before it
-pub its_release : (word : Cold) (first rest : List Step) (input : Input) (durable more : List Event) (released : List Release) (told : ℕ) (d : Release)
-    → accepted_by (begun word) (first ++ Accept input ∷ rest) ≡ more ++ durable → pairs_of durable ≡ pairs_of (begun word) ++ released
-    → length (accepted_by (begun word) first) ≡ suc told → told < length released
-    → get_or released told d ≡ pair_of (accepted_by (begun word) first) (an_event.Input input)
-its_release word first rest input durable more released told d accepted is counted below =
-    let events = accepted_by (begun word) first in
-    let event = an_event.Input input in
-    let pair = pair_of events event in
-    let one = more_pairs (accepted_by [] rest) (event ∷ events) in
-    let other = more_pairs more durable in
-    let up : accepted_by (begun word) (first ++ Accept input ∷ rest) ≡ accepted_by [] rest ++ event ∷ events =
-    fold-append accept_one (begun word) first (Accept input ∷ rest) ∙ accepted_on (event ∷ events) rest in
-    let same : pairs_of (begun word) ++ (released ++ other.0) ≡ pairs_of events ++ pair ∷ one.0 =
-    sym (append_assoc (pairs_of (begun word)) released other.0)
-    ∙ ap (λ (l : List Release). l ++ other.0) (sym is)
-    ∙ sym other.1
-    ∙ ap pairs_of (sym accepted ∙ up)
-    ∙ one.1
-    ∙ append_assoc (pairs_of events) (pair ∷ []) one.0 in
+-- what is released of an event, where that many are released before it
+pub its_release : (word : Cold) (event : Event) (all more durable rest events : List Event) (released : List Release) (told : ℕ) (d : Release)
+    → all ≡ more ++ durable → all ≡ rest ++ event ∷ events → pairs_of durable ≡ pairs_of (begun word) ++ released
+    → length events ≡ suc told → told < length released → get_or released told d ≡ pair_of events event
+its_release word event all more durable rest events released told d older also pairs counted below =
+    let count : length durable ≡ suc (length released) = count_released word durable released pairs in
     let long : suc told ≡ length (pairs_of events) = sym counted ∙ sym (length_pairs events) in
-    sym (at_front released other.0 told d below)
-    ∙ ap (λ (l : List Release). get_or l (suc told) d) same
-    ∙ ap (λ (n : ℕ). get_or (pairs_of events ++ pair ∷ one.0) n d) long
-    ∙ at_seam (pairs_of events) pair one.0 d
+    ap (λ (l : List Release). get_or l (suc told) d) (sym pairs)
+    ∙ sym (older_pair more durable (suc told) d (omega (arith, count, below)))
+    ∙ ap (λ (l : List Event). get_or (pairs_of l) (suc told) d) (sym older ∙ also)
+    ∙ older_pair rest (event ∷ events) (suc told) d (omega (arith, counted))
+    ∙ ap (λ (n : ℕ). get_or (pairs_of (event ∷ events)) n d) long
+    ∙ get_or-append_seam (pairs_of events) (pair_of events event) [] d
 
 -- ---- what is durable
 

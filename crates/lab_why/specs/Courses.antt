@@ -4,7 +4,7 @@
 -- (`IsLimitCause`, in limit_causes), where of several of equal force one is named. It is said of every story that may
 -- stand before a life, of this unit's own events or not: whatever the head before it tells, there is one behind which
 -- just that is kept (`story_by`).
-use Rattle.std.specs.Prelude.{◌≡◌, ◌⊎◌, ℕ, ◌-◌, ◌^◌, true, false, Option, Some, None, List, [], ◌∷◌, ◌++◌, Result, Ok, Err}
+use Rattle.std.specs.Prelude.{◌≡◌, ◌⊎◌, ℕ, ◌-◌, ◌^◌, true, false, Option, Some, None, List, [], ◌++◌, Result, Ok, Err}
 use Rattle.std.specs.Io.KnownBytes.{Appends}
 use Rattle.blocks.specs.declared.records.BlockRecord.{BlockRecord}
 use Rattle.events.specs.declared.input.Event.{Event}
@@ -75,15 +75,6 @@ AddsLine only form story event before now lines more old new =
     (HasLine only event before now × (more ≡ one_more lines (2 ^ 64 - 1)) × Appends old new (line_at form story event now))
     ⊎ ((HasLine only event before now → ⊥) × (more ≡ lines) × (new ≡ old))
 
--- Behind any such story one event more is run, and its line is told if it has one.
-pub record AddsEvent (IsBefore : Story → Type 0) (event : Event) (number : ℕ) (c next : Course) (old new : Option (List ℕ)) : Type 0 where
-  pub life : Reasoned
-  pub shown : Shown
-  pub lines : ℕ
-  pub next_is : next ≡ record c { life = Some life; shown = Some shown; lines = lines }
-  pub stands : (story : Story) → IsBefore story → Reasons (onward story event) life × IsShown (onward story event) shown
-  pub told : (story : Story) → IsBefore story → AddsLine c.only c.form (onward story event) number c.shown shown c.lines lines old new
-
 -- ---- events of a life that isn't known
 
 abbrev pub first_left : Option Stretch → ℕ → ℕ
@@ -96,9 +87,8 @@ left_out life event c = record c { left = Some (record { life = life; first = fi
 
 -- where each change is told, a line says which events were left out, and why
 abbrev pub left_in : Form → Option ℕ → Option Stretch → Reason → List ℕ
-left_in form (Some only) left reason = []
-left_in form None None reason = []
 left_in form None (Some s) reason = left_out_text form s reason
+left_in form only left reason = []
 
 abbrev pub left_text : Course → List ℕ
 left_text c = left_in c.form c.only c.left c.reason
@@ -107,9 +97,6 @@ left_text c = left_in c.form c.only c.left c.reason
 abbrev pub lost_in : Form → Option ℕ → ℕ → List ℕ
 lost_in form (Some only) number = []
 lost_in form None number = lost_block_text form number
-
-abbrev pub lost_text : Course → ℕ → List ℕ
-lost_text c number = lost_in c.form c.only number
 
 -- ---- courses
 
@@ -134,46 +121,59 @@ all_told c = record c { left = None; shown = None }
 abbrev pub behind_gap : Course → Course
 behind_gap c = record c { left = None; shown = None; life = None; reason = a_reason.Gap; is_whole = false }
 
-abbrev pub not_known : Unknown → Course → Course
-not_known unknown c = record c { life = None; reason = reason_of unknown }
+-- before a power-up, where no head tells what was kept: within a block a life goes on from what the kernel keeps of the
+-- one before, where that is known
+abbrev pub begun_behind : Result Kept Unknown → Option Reasoned → Course → Course
+begun_behind (Ok kept) before c = c
+begun_behind (Err an_unknown.WithinBlock) (Some life) c = c
+begun_behind (Err unknown) before c = record c { life = None; reason = reason_of unknown }
 
--- within a block a life goes on from what the kernel keeps of the one before, where that is known
-abbrev pub within_block : Option Reasoned → Course → Course
-within_block None c = not_known an_unknown.WithinBlock c
-within_block (Some life) c = c
+-- ---- an event is run
 
--- before a power-up, where no head tells what was kept
-abbrev pub unknown_behind : Unknown → Course → Course
-unknown_behind an_unknown.BeforeOldest c = not_known an_unknown.BeforeOldest c
-unknown_behind an_unknown.Gap c = not_known an_unknown.Gap c
-unknown_behind an_unknown.WithinBlock c = within_block c.life c
+-- behind any such story the event was run, and this is the life that it leaves
+abbrev pub IsRun : (Story → Type 0) → Event → Option Reasoned → Type 0
+IsRun IsBefore event None = ⊥
+IsRun IsBefore event (Some life) = (story : Story) → IsBefore story → Reasons (onward story event) life
+
+-- one event more of a life, where that is known
+abbrev pub Follows : Event → Option Reasoned → Option Reasoned → Type 0
+Follows event None run = run ≡ None
+Follows event (Some life) run = IsRun (λ story. Reasons story life) event run
+
+-- the power-up of a life, behind any story behind which the same is kept, as far as the power-up leaves it
+abbrev pub Begins : Result Kept Unknown → Event → Option Reasoned → Option Reasoned → Type 0
+Begins (Ok kept) (PowerUp word) before run = IsRun (λ story. left_by word kept ≡ left_by word (past_at story).kept) (PowerUp word) run
+Begins (Ok kept) (Input input) before run = Follows (Input input) before run
+Begins (Err unknown) event before run = Follows event before run
+
+-- ---- .. and told
+
+-- the last event of a life has its line, if it has one
+pub record TellsLife (life : Reasoned) (event : ℕ) (c next : Course) (old new : Option (List ℕ)) : Type 0 where
+  pub shown : Shown
+  pub lines : ℕ
+  pub next_is : next ≡ record c { shown = Some shown; lines = lines }
+  pub stands : (story : Story) → Reasons story life → IsShown story shown
+  pub told : (story : Story) → Reasons story life → AddsLine c.only c.form story event c.shown shown c.lines lines old new
+
+-- .. where the life is known; else it is left out
+abbrev pub Tells : Option Reasoned → ℕ → ℕ → Course → Course → Option (List ℕ) → Option (List ℕ) → Type 0
+Tells None life event c next old new = (next ≡ left_out life event c) × (new ≡ old)
+Tells (Some known) life event c next old new = TellsLife known event c next old new
+
+-- a record is run so, and then told
+abbrev pub RunsAndTells : (Option Reasoned → Option Reasoned → Type 0) → ℕ → BlockRecord → Course → Course → Option (List ℕ) → Option (List ℕ) → Type 0
+RunsAndTells Runs life r c next old new =
+    (run : Option Reasoned) × Runs c.life run × Tells run life r.number (record c { life = run }) next old new
 
 -- ---- steps
 
--- one event more of a life
-abbrev pub AddsNext : Option Reasoned → ℕ → BlockRecord → Course → Course → Option (List ℕ) → Option (List ℕ) → Type 0
-AddsNext None life r c next old new = (next ≡ left_out life r.number c) × (new ≡ old)
-AddsNext (Some known) life r c next old new = AddsEvent (λ story. Reasons story known) r.event r.number c next old new
-
-abbrev pub GoesOn : ℕ → BlockRecord → Course → Course → Option (List ℕ) → Option (List ℕ) → Type 0
-GoesOn life r c next old new = AddsNext c.life life r c next old new
-
--- behind any story behind which the same is kept, as far as the power-up leaves it
-abbrev pub Powers : Event → Kept → ℕ → BlockRecord → Course → Course → Option (List ℕ) → Option (List ℕ) → Type 0
-Powers (PowerUp word) kept life r c next old new =
-    AddsEvent (λ story. left_by word kept ≡ left_by word (past_at story).kept) (PowerUp word) r.number c next old new
-Powers (Input input) kept life r c next old new = GoesOn life r c next old new
-
--- the power-up of a life, behind what was kept before it, or where nobody knows that
-abbrev pub Begins : Result Kept Unknown → ℕ → BlockRecord → Course → Course → Option (List ℕ) → Option (List ℕ) → Type 0
-Begins (Ok kept) life r c next old new = Powers r.event kept life r c next old new
-Begins (Err unknown) life r c next old new = GoesOn life r (unknown_behind unknown c) next old new
-
 -- known bytes grew by what is told of a step
 abbrev pub AddsStep : Step → Course → Course → Option (List ℕ) → Option (List ℕ) → Type 0
-AddsStep (Step.Unreadable number) c next old new = (next ≡ behind_gap c) × Appends old new (left_text c ++ lost_text c number)
+AddsStep (Step.Unreadable number) c next old new = (next ≡ behind_gap c) × Appends old new (left_text c ++ lost_in c.form c.only number)
 AddsStep Step.Missing c next old new = (next ≡ behind_gap c) × Appends old new (left_text c)
 AddsStep (Step.Begins block life before r) c next old new =
-    (mid : Option (List ℕ)) × Appends old mid (left_text c) × Begins before life r (all_told c) next mid new
-AddsStep (Step.GoesOn block life r) c next old new = GoesOn life r c next old new
+    (mid : Option (List ℕ)) × Appends old mid (left_text c)
+    × RunsAndTells (Begins before r.event) life r (begun_behind before c.life (all_told c)) next mid new
+AddsStep (Step.GoesOn block life r) c next old new = RunsAndTells (Follows r.event) life r c next old new
 AddsStep (Step.Head block) c next old new = (next ≡ c) × (new ≡ old)

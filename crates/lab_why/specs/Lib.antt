@@ -4,5 +4,4 @@ pub mod Ends
 pub mod Images
 pub mod Playing
 pub mod Courses
-pub mod Following
 pub mod Walks

@@ -59,10 +59,9 @@ pub record IsFollowed (Earlier Later : List ℕ → Type 0) (text : List ℕ) : 
 
 -- a line of each input of a first life, the oldest first; the power-up, event 0, has none
 abbrev pub AreLines : List ℕ → List Event → List ℕ → Type 0
-AreLines steps [] text = text ≡ []
-AreLines steps (PowerUp cold ∷ events) text = text ≡ []
 AreLines steps (Input input ∷ events) text =
     IsFollowed (AreLines steps events) (IsLine (slice_index steps (length events - 1)) (story_of (Input input ∷ events)) (pair_of events (Input input))) text
+AreLines steps events text = text ≡ []
 
 -- ---- all that is written, by how the life ended: at its end, or for this error
 

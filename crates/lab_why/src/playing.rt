@@ -8,7 +8,6 @@ ghost use Rattle.lab_why.specs.Playing.{released_in, IsPlayed, PlayEnds};
 
 use crate::ends::{first_pieces, last_pieces};
 use crate::errors::PlayError;
-use crate::played::write_text;
 use crate::telling::tell_released;
 use disk::Memory;
 use events::Step;
@@ -16,6 +15,7 @@ use journal::format;
 use lives::LateError;
 use mode_table::Cold;
 use onboard::{LiveError, Released, live};
+use pieces::{Form, write_pieces};
 use std::alloc::Global;
 use std::io::Write;
 use units::NoMemory;
@@ -46,13 +46,10 @@ struct Lived {
 
 // How many flushes the steps have.
 fn flushes_in(steps: &[Step]) -> u64 {
-    let mut count: u64 = 0;
-    for step in steps {
-        if let Step::Flush = step {
-            count = count.saturating_add(1);
-        }
-    }
-    count
+    steps
+        .iter()
+        .filter(|step| matches!(step, Step::Flush))
+        .count() as u64
 }
 
 // An empty image in memory, with room for the calls of a life of these steps.
@@ -91,9 +88,9 @@ fn tell<W: Write>(
         → OnOk result ((text : List ℕ) × IsPlayed life.now lived.now.stopped text × Appends (W.contents out.old) (W.contents out.new) text) }
 {
     let ends = life.ends.as_slice();
-    write_text(&first_pieces(life.cold, ends.len()), out)?;
+    write_pieces(Form::Json, &first_pieces(life.cold, ends.len()), out)?;
     tell_released(alloc, life, lived.released.as_slice(), out)?;
-    write_text(&last_pieces(ends, &lived.stopped), out)?;
+    write_pieces(Form::Json, &last_pieces(ends, &lived.stopped), out)?;
     Ok(())
 }
 

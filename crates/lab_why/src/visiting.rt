@@ -2,20 +2,16 @@
 ghost use Rattle.std.specs.Prelude.{◌≡◌, false, IfOk, OnOk};
 ghost use Rattle.std.specs.Io.KnownBytes.{Appends};
 ghost use Rattle.kernel.specs.Lives.{Story};
-ghost use Rattle.kernel.specs.Output.{output_at};
 ghost use Rattle.pieces.specs.Pieces.{texts};
 ghost use Rattle.pieces.specs.declared.piece.Form.{Form as a_form};
 ghost use Rattle.reasons.specs.Told.{Reasons};
-ghost use Rattle.lab_why.specs.Courses.{line_at, lost_in, AddsLine, AddsStep};
-ghost use Rattle.lab_why.specs.Following.{IsAt, Follows, PowersUp, IsBegun, TellsOne, Tells};
+ghost use Rattle.lab_why.specs.Courses.{line_at, lost_in, AddsLine, Follows, Begins, Tells, AddsStep};
 
-use crate::course::{
-    Course, Shown, begin_unknown, finish, has_line, leave_out, pass_gap, shown_in,
-};
+use crate::course::{Course, Shown, begin_behind, finish, has_line, leave_out, pass_gap, shown_in};
 use crate::lines::{told_of, write_line};
-use crate::played::answer_in;
+use crate::played::{answer_in, output_in};
 use blocks::Block;
-use events::{Event, Kept, Output};
+use events::{Event, Kept};
 use lab_events::lost_block_pieces;
 use lives::{LateError, Seen, Unknown, Visit};
 use pieces::{Form, Piece, write_parts, write_pieces};
@@ -24,53 +20,36 @@ use std::alloc::Global;
 use std::io::Write;
 use units::NoMemory;
 
-// Runs one event more of a life; None where the life isn't known.
-fn follow(alloc: Global, course: &mut Course, event: &Event) -> Result<Option<Output>, LateError>
-    ensures { IfOk result (Follows course.old.life event.now course.old course.new) }
+// Runs one event more of a life, where that is known.
+fn follow(alloc: Global, life: &mut Option<Reasoning>, event: &Event) -> Result<(), LateError>
+    ensures { OnOk result (Follows event.now life.old life.new) }
 {
-    let Some(life) = &mut course.life else {
-        return Ok(None);
+    let Some(life) = life else {
+        return Ok(());
     };
     match life.follow(alloc, event) {
-        Ok(output) => Ok(Some(output)),
+        Ok(_) => Ok(()),
         Err(NoMemory) => Err(LateError::NoMemory),
     }
 }
 
-// Runs the power-up of a life, behind what was kept before it.
-fn power_up(
-    alloc: Global,
-    course: &mut Course,
-    kept: &Kept,
-    event: &Event,
-) -> Result<Option<Output>, LateError>
-    ensures { IfOk result (PowersUp event.now kept.now course.old course.new) }
-{
-    match event {
-        Event::PowerUp(word) => {
-            let (life, output) = Reasoning::begin(alloc, kept, *word);
-            course.life = Some(life);
-            Ok(Some(output))
-        }
-        Event::Input(_) => follow(alloc, course, event),
-    }
-}
-
-// Runs the power-up of a life, if it is known what was kept before it.
+// Runs the power-up of a life behind what was kept before it; where nobody knows that, as one event more.
 fn begin(
     alloc: Global,
-    course: &mut Course,
+    life: &mut Option<Reasoning>,
     before: &Result<Kept, Unknown>,
     event: &Event,
-) -> Result<Option<Output>, LateError>
-    ensures { IfOk result (IsBegun before.now event.now course.old course.new) }
+) -> Result<(), LateError>
+    ensures { OnOk result (Begins before.now event.now life.old life.new) }
 {
-    match before {
-        Ok(kept) => power_up(alloc, course, kept, event),
-        Err(unknown) => {
-            begin_unknown(course, *unknown);
-            follow(alloc, course, event)
+    match (before, event) {
+        (Ok(kept), Event::PowerUp(word)) => {
+            let (begun, _) = Reasoning::begin(alloc, kept, *word);
+            *life = Some(begun);
+            Ok(())
         }
+        (Ok(_), Event::Input(_)) => follow(alloc, life, event),
+        (Err(_), _) => follow(alloc, life, event),
     }
 }
 
@@ -78,15 +57,15 @@ fn begin(
 fn write_event<W: Write>(
     life: &Reasoning,
     event: u64,
-    output: &Output,
     shown: &Shown,
     form: Form,
     out: &mut W,
 ) -> Result<(), LateError>
-    ensures { (story : Story) → Reasons story life.now → output.now ≡ output_at story →
+    ensures { (story : Story) → Reasons story life.now →
         OnOk result (Appends (W.contents out.old) (W.contents out.new) (line_at form story event shown.now)) }
 {
-    let answer = answer_in(life, event, output);
+    let output = output_in(life);
+    let answer = answer_in(life, event, &output);
     let told = told_of(&shown.runs);
     write_line(
         form,
@@ -105,58 +84,35 @@ fn write_told<W: Write>(
     course: &Course,
     life: &Reasoning,
     event: u64,
-    output: &Output,
     shown: &Shown,
     out: &mut W,
 ) -> Result<u64, LateError>
-    ensures { (story : Story) → IsAt story life.now output.now → IfOk result (λ lines.
+    ensures { (story : Story) → Reasons story life.now → IfOk result (λ lines.
         AddsLine course.now.only course.now.form story event course.now.shown shown.now course.now.lines lines
         (W.contents out.old) (W.contents out.new)) }
 {
     if has_line(course.only, event, &course.shown, shown) {
-        write_event(life, event, output, shown, course.form, out)?;
+        write_event(life, event, shown, course.form, out)?;
         return Ok(course.lines.saturating_add(1));
     }
     Ok(course.lines)
 }
 
-// Tells the last event of a life.
-fn tell_one<W: Write>(
-    course: &mut Course,
-    event: u64,
-    output: &Output,
-    out: &mut W,
-) -> Result<(), LateError>
-    ensures { OnOk result (TellsOne course.old.life event output.now course.old course.new
+// Tells an event that was run, or leaves it out.
+fn tell<W: Write>(course: &mut Course, seen: &Seen<'_>, out: &mut W) -> Result<(), LateError>
+    ensures { OnOk result (Tells course.old.life seen.now.life seen.now.entry.now.number course.old course.new
         (W.contents out.old) (W.contents out.new)) }
 {
+    let event = seen.entry.number;
     let Some(life) = &course.life else {
+        leave_out(course, seen.life, event);
         return Ok(());
     };
-    let shown = shown_in(life, output);
-    let lines = write_told(course, life, event, output, &shown, out)?;
+    let shown = shown_in(life);
+    let lines = write_told(course, life, event, &shown, out)?;
     course.shown = Some(shown);
     course.lines = lines;
     Ok(())
-}
-
-// Tells an event that was run, or leaves it out.
-fn tell<W: Write>(
-    course: &mut Course,
-    seen: &Seen<'_>,
-    output: &Option<Output>,
-    out: &mut W,
-) -> Result<(), LateError>
-    ensures { OnOk result (Tells output.now seen.now.life seen.now.entry.now.number course.old course.new
-        (W.contents out.old) (W.contents out.new)) }
-{
-    match output {
-        Some(output) => tell_one(course, seen.entry.number, output, out),
-        None => {
-            leave_out(course, seen.life, seen.entry.number);
-            Ok(())
-        }
-    }
 }
 
 // The line of a block that can't be read; nothing where one event alone is asked for.
@@ -203,13 +159,14 @@ impl<W: Write> Visit<W> for Course {
         let form = self.form;
         let left = finish(self);
         write_pieces(form, &left, out)?;
-        let output = begin(alloc, self, before, &seen.entry.event)?;
-        tell(self, seen, &output, out)
+        begin_behind(self, before);
+        begin(alloc, &mut self.life, before, &seen.entry.event)?;
+        tell(self, seen, out)
     }
 
     fn goes_on(&mut self, alloc: Global, seen: &Seen<'_>, out: &mut W) -> Result<(), LateError> {
-        let output = follow(alloc, self, &seen.entry.event)?;
-        tell(self, seen, &output, out)
+        follow(alloc, &mut self.life, &seen.entry.event)?;
+        tell(self, seen, out)
     }
 
     fn head(&mut self, _block: &Block, _out: &mut W) -> Result<(), LateError> {

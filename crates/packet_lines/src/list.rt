@@ -1,56 +1,24 @@
 //! The list.
 ghost use Rattle.std.specs.Prelude.{◌≡◌, List, OnOk};
 ghost use Rattle.std.specs.Io.KnownBytes.{Appends};
-ghost use Rattle.pieces.specs.Pieces.{texts};
-ghost use Rattle.pieces.specs.declared.piece.Form.TheVariants.{Json};
-ghost use Rattle.packet_lines.specs.Lists.{behind_name, front_text, list_from, list_text, packet_text};
+ghost use Rattle.packet_lines.specs.Lists.{list_from, list_text, packet_text};
 ghost use Rattle.packet_uses.specs.Never.{TellsNeverUsed};
 ghost use Rattle.packet_uses.specs.declared.telling.ToldPacket.{ToldPacket as a_packet};
 
-use crate::words::{name_pieces, why_word};
+use crate::words::{name_pieces, number_pieces, place_pieces, why_piece};
 use packet_uses::{ToldPacket, never_used_packets};
 use pieces::{Form, Piece, write_parts};
 use std::io;
 use std::io::Write;
 
-// What a packet begins with, up to its name.
-fn front_pieces(later: bool, number: u8) -> [Piece; 3]
-    ensures { texts Json result ≡ front_text later number }
-{
-    let front = if later {
-        ",{\"packet\":"
-    } else {
-        "{\"packet\":"
-    };
-    [
-        Piece::Same(front),
-        Piece::Number(u64::from(number)),
-        Piece::Same(",\"name\":"),
-    ]
-}
-
-// What is told of a packet behind its name.
-fn last_pieces(packet: &ToldPacket) -> [Piece; 7]
-    ensures { texts Json result ≡ behind_name packet.now }
-{
-    [
-        Piece::Same(",\"bit\":"),
-        Piece::Number(packet.start),
-        Piece::Same(",\"bits\":"),
-        Piece::Number(packet.length),
-        Piece::Same(",\"why\":"),
-        Piece::Same(why_word(packet.fate)),
-        Piece::Same("}"),
-    ]
-}
-
 fn write_packet<W: Write>(packet: &ToldPacket, later: bool, out: &mut W) -> io::Result<()>
     ensures { OnOk result (Appends (W.contents out.old) (W.contents out.new) (packet_text later packet.now)) }
 {
-    let front = front_pieces(later, packet.number);
+    let number = number_pieces("", later, packet.number);
     let name = name_pieces(packet.number);
-    let last = last_pieces(packet);
-    write_parts(Form::Json, &[&front, &name, &last], out)
+    let place = place_pieces(packet.start, packet.length);
+    let why = [why_piece(packet.fate), Piece::Same("}")];
+    write_parts(Form::Json, &[&number, &name, &place, &why], out)
 }
 
 // Writes packets, and the end of the list.

@@ -1,37 +1,71 @@
-//! Words of packets.
+//! Words of packets, for people and as JSON.
 ghost use Rattle.std.specs.Prelude.{◌≡◌};
-ghost use Rattle.pieces.specs.Pieces.{texts};
-ghost use Rattle.pieces.specs.declared.piece.Form.TheVariants.{Json};
-ghost use Rattle.packet_lines.specs.Lists.{name_value, why_value};
+ghost use Rattle.pieces.specs.Pieces.{text_of, texts};
+ghost use Rattle.pieces.specs.declared.piece.Form.{Form as a_form};
+ghost use Rattle.packet_lines.specs.Words.{name_told, number_text, place_text, why_text};
 
 use packet_uses::Fate;
 use pieces::Piece;
 use track_packets::kind_of;
 
-/// Why a packet isn't used, as JSON; null of one that is.
-pub(crate) fn why_word(fate: Fate) -> &'static str
-    ensures { result.now ≡ why_value fate }
+/// The number of a packet, up to its name: for people behind these words, as JSON behind a comma where it is a later one
+/// of a list.
+pub fn number_pieces(words: &'static str, later: bool, number: u8) -> [Piece; 3]
+    ensures { (form : a_form) → texts form result ≡ number_text form words.now later number }
 {
-    match fate {
-        Fate::Used => "null",
-        Fate::NotKnown => "\"not_known\"",
-        Fate::Infill => "\"infill\"",
-        Fate::NotInMode => "\"not_in_mode\"",
-        Fate::OtherDirection => "\"other_direction\"",
-        Fate::Refused => "\"refused\"",
-    }
+    let json = if later {
+        ",{\"packet\":"
+    } else {
+        "{\"packet\":"
+    };
+    [
+        Piece::Text(words, json),
+        Piece::Number(u64::from(number)),
+        Piece::Text(" ", ",\"name\":"),
+    ]
 }
 
-/// The name of a packet by its number as JSON; null where it has none.
-pub(crate) fn name_pieces(number: u8) -> [Piece; 3]
-    ensures { texts Json result ≡ name_value number }
+/// The name of a packet by its number; as JSON null where it has none.
+pub fn name_pieces(number: u8) -> [Piece; 3]
+    ensures { (form : a_form) → texts form result ≡ name_told form number }
 {
     match kind_of(number) {
         Some(kind) => [
-            Piece::Same("\""),
+            Piece::Text("", "\""),
             Piece::Same(kind.name.text()),
-            Piece::Same("\""),
+            Piece::Text("", "\""),
         ],
-        None => [Piece::Same("null"), Piece::Nothing, Piece::Nothing],
+        None => [
+            Piece::Text("without a name", "null"),
+            Piece::Nothing,
+            Piece::Nothing,
+        ],
+    }
+}
+
+/// The first bit of a packet in its telegram and its length in bits, up to why it isn't used.
+pub fn place_pieces(start: u64, length: u64) -> [Piece; 5]
+    ensures { (form : a_form) → texts form result ≡ place_text form start length }
+{
+    [
+        Piece::Text(" at ", ",\"bit\":"),
+        Piece::Number(start),
+        Piece::Text(", ", ",\"bits\":"),
+        Piece::Number(length),
+        Piece::Text(" bits", ",\"why\":"),
+    ]
+}
+
+/// Why a packet isn't used: nothing of one that is, and as JSON null.
+pub fn why_piece(fate: Fate) -> Piece
+    ensures { (form : a_form) → text_of form result ≡ why_text form fate }
+{
+    match fate {
+        Fate::Used => Piece::Text("", "null"),
+        Fate::NotKnown => Piece::Text(" (not known)", "\"not_known\""),
+        Fate::Infill => Piece::Text(" (infill)", "\"infill\""),
+        Fate::NotInMode => Piece::Text(" (not in this mode)", "\"not_in_mode\""),
+        Fate::OtherDirection => Piece::Text(" (other direction)", "\"other_direction\""),
+        Fate::Refused => Piece::Text(" (refused)", "\"refused\""),
     }
 }

@@ -1,4 +1,4 @@
-use Rattle.std.proofs.Common.{◌≡◌, ℕ, List, Option, ◌∙◌, ap, sym}
+use Rattle.std.proofs.Common.{ℕ, List, Option, ◌∙◌, ap, sym}
 use Rattle.std.specs.Cmp.Lexicographic.{pointwise_decides}
 use Rattle.reasons.specs.declared.runs.Runs.{Runs}
 use Rattle.lab_why.proofs.Same.{numbers_decide}

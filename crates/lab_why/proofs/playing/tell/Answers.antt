@@ -20,5 +20,5 @@ returns g c is =
     let last = c.last_pieces.ensures ∙ ap (λ (l : List ℕ). last_line l stopped) c.as_slice-ends.ensures.value in (
       texts Json c.first_pieces.result ++ told.0 ++ texts Json c.last_pieces.result,
       record { lines = told.0; lines_are = told.1; text_is = λ i. first i ++ told.0 ++ last i },
-      Appends-trans _ _ _ _ _ (Appends-trans _ _ _ _ _ c.in_ok-write_text.ensures told.2) c.in_ok-write_text-2.ensures,
+      Appends-trans _ _ _ _ _ (Appends-trans _ _ _ _ _ c.in_ok-write_pieces.ensures told.2) c.in_ok-write_pieces-2.ensures,
     )

@@ -12,8 +12,8 @@ use Rattle.reasons.specs.Told.{Reasons}
 use Rattle.lab_why.specs.Ends.{step_at}
 use Rattle.lab_why.specs.Playing.{input_steps, AreLines}
 use Rattle.lab_why.proofs.Counting.{behind_ended, step_later}
-use Rattle.lab_why.proofs.OneMore.{up_to_here, one_on, input_step, input_release, all_told, none_left, took_all, one_line}
-use Rattle.lab_why.proofs.Releasing.{begun}
+use Rattle.lab_why.proofs.OneMore.{up_to_here, all_behind, one_on, input_step, all_told, none_left, one_line}
+use Rattle.lab_why.proofs.Releasing.{begun, its_release}
 use Rattle.lab_why.proofs.telling.tell_released.Goals as goal
 
 pub loop-place-init : goal.loop-place-init
@@ -88,11 +88,12 @@ loop-place-preserved g c =
           let line = c.in_ok-tell_one.ensures.line (story_of up) before.reasons in
           let one : c.index-released-told.result ≡ pair_of up (an_event.Input input) =
           c.index-released-told.is
-          ∙ input_release life.cold steps place input x below at_input durable more c.args.released.now c.loop-place.told c.index-released-told.result accepted pairs before.count some in (
+          ∙ its_release life.cold (an_event.Input input) _ more durable (accepted_by [] (drop (place + 1) steps)) up c.args.released.now c.loop-place.told c.index-released-told.result accepted
+          (all_behind life.cold steps (place + 1) ∙ ap (λ (l : List Event). accepted_by [] (drop (place + 1) steps) ++ l) on) pairs before.count some in (
             so.0 ++ line.0,
             subst (λ (l : List Event). AreLines (input_steps life) l (so.0 ++ line.0)) (sym on)
                 (one_line (input_steps life) up input c.index-released-told.result c.step_from-step.result so.0 line.0
-                (input_step life.cold steps place input x below at_input ends ∙ sym step) one so.1 line.1),
+                (input_step life.cold steps place ends input x below at_input ∙ sym step) one so.1 line.1),
             Appends-trans _ _ _ _ _ so.2 line.2,
           );
     }
@@ -105,6 +106,5 @@ returns g c = λ durable more accepted pairs.
     let so = before.lines durable more accepted pairs in
     let same : c.as_slice-steps.result.now ≡ steps = c.as_slice-steps.ensures.value in
     let over : length steps ≤ c.loop-place.place = omega (arith, ap length same, c.loop-place-test.false) in
-    let whole : up_to_here life.cold steps c.loop-place.place ≡ accepted_by (begun life.cold) steps = ap (accepted_by (begun life.cold)) (took_all steps c.loop-place.place over) in
-    let all = none_left life.cold steps durable more c.args.released.now c.loop-place.told accepted pairs (sym (ap length whole) ∙ before.count) before.within in
-    (so.0, subst (λ (l : List Event). AreLines (input_steps life) l so.0) (whole ∙ all) so.1, so.2)
+    let all = none_left life.cold steps c.loop-place.place durable more c.args.released.now accepted pairs c.loop-place.told over before.count before.within in
+    (so.0, subst (λ (l : List Event). AreLines (input_steps life) l so.0) all so.1, so.2)

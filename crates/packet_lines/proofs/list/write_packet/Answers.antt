@@ -1,4 +1,6 @@
+use Rattle.pieces.specs.declared.piece.Form.TheVariants.{Json}
 use Rattle.packet_lines.proofs.list.write_packet.Goals as goal
 
 pub returns : goal.returns
-returns g c = rw (c.front_pieces-front.ensures, c.name_pieces-name.ensures, c.last_pieces-last.ensures) at c.write_parts.ensures
+returns g c =
+    rw (c.number_pieces-number.ensures Json, c.name_pieces-name.ensures Json, c.place_pieces-place.ensures Json, c.why_piece.ensures Json) at c.write_parts.ensures

@@ -1,11 +1,14 @@
-use Rattle.std.proofs.Common.{◌∷◌, ◌++◌, [], List, ℕ, ap, ◌∙◌}
-use Rattle.packet_lines.specs.Lists.{name_in, name_value}
+use Rattle.std.proofs.Common.{ℕ, List, [], ◌∷◌, codes, ap, ◌∙◌, append-nil}
+use Rattle.pieces.specs.Pieces.{text_in, joined}
+use Rattle.packet_lines.specs.Words.{name_in, name_told}
 use Rattle.packet_lines.proofs.words.name_pieces.Goals as goal
 
 pub returns-in-Some : goal.returns-in-Some
-unfolding name_value
-returns-in-Some c = ap (λ (t : List ℕ). 34 ∷ (t ++ 34 ∷ [])) c.text.ensures ∙ ap name_in c.in-Some.ensures
+unfolding name_told
+returns-in-Some c = λ form.
+    ap (λ (t : List ℕ). joined (text_in form [] (codes "\"") ∷ t ∷ text_in form [] (codes "\"") ∷ [])) c.text.ensures
+    ∙ ap (name_in form) c.in-Some.ensures
 
 pub returns-in-None : goal.returns-in-None
-unfolding name_value
-returns-in-None c = ap name_in c.in-None.ensures
+unfolding name_told
+returns-in-None c = λ form. append-nil (text_in form (codes "without a name") (codes "null")) ∙ ap (name_in form) c.in-None.ensures

@@ -8,10 +8,7 @@ use Rattle.lives.specs.declared.errors.WalkError.TheVariants as an_error
 -- whether the device failed
 abbrev pub is_device : WalkError → Bool
 is_device an_error.DeviceFault = true
-is_device an_error.NotFormatted = false
-is_device an_error.Damaged = false
-is_device an_error.Write = false
-is_device an_error.NoMemory = false
+is_device _ = false
 
 abbrev pub walk_failed : {T : Type 0} → Result T WalkError → Bool
 walk_failed (Ok x) = false
@@ -26,16 +23,13 @@ abbrev pub IsRefusal : ℕ → List ℕ → WalkError → Type 0
 IsRefusal sectors first an_error.DeviceFault = Unit {0}
 IsRefusal sectors first an_error.NotFormatted = (sectors ≡ 0) ⊎ (slots_told first ≡ None)
 IsRefusal sectors first an_error.Damaged = (slots : ℕ) × (slots_told first ≡ Some slots) × (sectors ≢ 1 + 6 * slots)
-IsRefusal sectors first an_error.Write = ⊥
-IsRefusal sectors first an_error.NoMemory = ⊥
+IsRefusal sectors first _ = ⊥
 
 -- an error that may come behind the first sector
 abbrev pub IsLate : WalkError → Type 0
-IsLate an_error.DeviceFault = Unit {0}
 IsLate an_error.NotFormatted = ⊥
 IsLate an_error.Damaged = ⊥
-IsLate an_error.Write = Unit {0}
-IsLate an_error.NoMemory = Unit {0}
+IsLate _ = Unit {0}
 
 -- why a walk stopped: for the first sector, or later, on an image
 abbrev pub IsCause : ℕ → List ℕ → WalkError → Type 0

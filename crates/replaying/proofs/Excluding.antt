@@ -14,20 +14,11 @@ use Rattle.blocks.specs.declared.records.Situation.{Situation}
 use Rattle.replaying.specs.Comparing.{SituationDiffers}
 
 same_situation : (field : RecordField) (one : Option Situation) → SituationDiffers field one one → ⊥
-same_situation a_field.Number one differs = differs
-same_situation a_field.Word one differs = differs
-same_situation a_field.Moment one differs = differs
-same_situation a_field.Mode one differs = differs
-same_situation a_field.Level one differs = differs
-same_situation a_field.Brake one differs = differs
-same_situation a_field.Indications one differs = differs
 same_situation a_field.Situation one differs = differs refl
-same_situation a_field.Estimate None differs = differs
 same_situation a_field.Estimate (Some s) differs = differs refl
-same_situation a_field.Uncertainty None differs = differs
 same_situation a_field.Uncertainty (Some s) differs = differs.1 refl
-same_situation a_field.Limit None differs = differs
 same_situation a_field.Limit (Some s) differs = differs.2 refl
+same_situation _ one differs = differs
 
 same_record : (field : RecordField) (one : BlockRecord) → DiffersIn field one one → ⊥
 same_record a_field.Number one differs = differs refl
@@ -37,10 +28,7 @@ same_record a_field.Mode one differs = differs.1 refl
 same_record a_field.Level one differs = differs.2 refl
 same_record a_field.Brake one differs = differs.3 refl
 same_record a_field.Indications one differs = differs.4 refl
-same_record a_field.Situation one differs = same_situation a_field.Situation one.situation differs.2
-same_record a_field.Estimate one differs = same_situation a_field.Estimate one.situation differs.2
-same_record a_field.Uncertainty one differs = same_situation a_field.Uncertainty one.situation differs.2
-same_record a_field.Limit one differs = same_situation a_field.Limit one.situation differs.2
+same_record field one differs = same_situation field one.situation differs.2
 
 equal_records : (field : RecordField) (one other : BlockRecord) → one ≡ other → DiffersIn field one other → ⊥
 equal_records field one other same differs = same_record field one (subst (λ (r : BlockRecord). DiffersIn field one r) (sym same) differs)

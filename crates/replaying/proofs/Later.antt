@@ -9,17 +9,11 @@ use Rattle.replaying.specs.declared.differences.RecordField.{RecordField}
 use Rattle.replaying.specs.declared.differences.RecordField.TheVariants as a_field
 
 pub situation_later : (field : RecordField) (one other : BlockRecord) → SameEvent one other → SameCommands one other → SituationDiffers field one.situation other.situation → DiffersIn field one other
-situation_later a_field.Number one other event commands differs = absurd differs
-situation_later a_field.Word one other event commands differs = absurd differs
-situation_later a_field.Moment one other event commands differs = absurd differs
-situation_later a_field.Mode one other event commands differs = absurd differs
-situation_later a_field.Level one other event commands differs = absurd differs
-situation_later a_field.Brake one other event commands differs = absurd differs
-situation_later a_field.Indications one other event commands differs = absurd differs
 situation_later a_field.Situation one other event commands differs = (event, commands, differs)
 situation_later a_field.Estimate one other event commands differs = (event, commands, differs)
 situation_later a_field.Uncertainty one other event commands differs = (event, commands, differs)
 situation_later a_field.Limit one other event commands differs = (event, commands, differs)
+situation_later _ one other event commands differs = absurd differs
 
 -- the first field behind the same event and the same commands, or none
 pub by_situation : (one other : BlockRecord) (found : Option RecordField) → SameEvent one other → SameCommands one other
@@ -38,28 +32,17 @@ by_situation one other None event commands same = λ i. record {
 by_situation one other (Some field) event commands differs = situation_later field one other event commands differs
 
 pub entered_later : (field : KeptField) (one other : Kept) → SameCounts one other → EnteredDiffers field one other → KeptDiffersIn field one other
-entered_later kept_field.Events one other counts differs = absurd differs
-entered_later kept_field.Lives one other counts differs = absurd differs
-entered_later kept_field.Trip one other counts differs = absurd differs
 entered_later kept_field.Identity one other counts differs = (counts, differs)
 entered_later kept_field.RunningNumber one other counts differs = (counts, differs)
 entered_later kept_field.TrainData one other counts differs = (counts, differs)
-entered_later kept_field.Level one other counts differs = absurd differs
-entered_later kept_field.Position one other counts differs = absurd differs
-entered_later kept_field.NationalValues one other counts differs = absurd differs
-entered_later kept_field.Countries one other counts differs = absurd differs
+entered_later _ one other counts differs = absurd differs
 
 pub found_later : (field : KeptField) (one other : Kept) → SameCounts one other → SameEntered one other → FoundDiffers field one other → KeptDiffersIn field one other
-found_later kept_field.Events one other counts entered differs = absurd differs
-found_later kept_field.Lives one other counts entered differs = absurd differs
-found_later kept_field.Trip one other counts entered differs = absurd differs
-found_later kept_field.Identity one other counts entered differs = absurd differs
-found_later kept_field.RunningNumber one other counts entered differs = absurd differs
-found_later kept_field.TrainData one other counts entered differs = absurd differs
 found_later kept_field.Level one other counts entered differs = (counts, entered, differs)
 found_later kept_field.Position one other counts entered differs = (counts, entered, differs)
 found_later kept_field.NationalValues one other counts entered differs = (counts, entered, differs)
 found_later kept_field.Countries one other counts entered differs = (counts, entered, differs)
+found_later _ one other counts entered differs = absurd differs
 
 -- the first field behind the same counts and the same of what the driver entered, or none
 pub by_found : (one other : Kept) (found : Option KeptField) → SameCounts one other → SameEntered one other

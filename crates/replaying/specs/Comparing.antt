@@ -17,8 +17,7 @@ shown_of a = a.on_sight ∷ a.shunting ∷ a.level_0 ∷ a.trip ∷ a.overridden
 -- both are told, and differ so
 abbrev pub BothTold : (Situation → Situation → Type 0) → Option Situation → Option Situation → Type 0
 BothTold So (Some one) (Some other) = So one other
-BothTold So (Some one) None = ⊥
-BothTold So None other = ⊥
+BothTold So _ _ = ⊥
 
 -- place and limit differ first in a field: one tells them and the other doesn't, or both do
 abbrev pub SituationDiffers : RecordField → Option Situation → Option Situation → Type 0

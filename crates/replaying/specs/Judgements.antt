@@ -31,14 +31,12 @@ IsVerdict format at r replay found = MatchOption found
 abbrev pub IsRun : (Story → Type 0) → Format → BlockRecord → Judged → Option Found → Type 0
 IsRun IsBefore format r (is.Agrees replay) found =
     (at : Story) → IsBefore at → number_at at + 1 < 2 ^ 64 → IsVerdict format at r replay found
-IsRun IsBefore format r (is.Unknown why) found = ⊥
-IsRun IsBefore format r is.BehindDifference found = ⊥
+IsRun IsBefore format r _ found = ⊥
 
 -- a life goes on: its event is run, where the life is replayed so far
 abbrev pub GoesOn : Format → BlockRecord → Judged → Judged → Option Found → Type 0
 GoesOn format r (is.Agrees old) judged found = IsRun (λ at. StandsBehind at old) format r judged found
-GoesOn format r (is.Unknown why) judged found = (judged ≡ is.Unknown why) × (found ≡ None)
-GoesOn format r is.BehindDifference judged found = (judged ≡ is.BehindDifference) × (found ≡ None)
+GoesOn format r old judged found = (judged ≡ old) × (found ≡ None)
 
 -- a power-up, behind any story behind which this is kept
 abbrev pub PowersUp : Event → Format → Kept → BlockRecord → Judged → Judged → Option Found → Type 0
@@ -48,14 +46,12 @@ PowersUp (Input input) format kept r old judged found = GoesOn format r old judg
 -- within a block a life goes on from what the kernel keeps of the one before, where that is replayed
 abbrev pub within_block : Judged → Judged
 within_block (is.Agrees replay) = is.Agrees replay
-within_block (is.Unknown why) = is.Unknown an_unknown.WithinBlock
-within_block is.BehindDifference = is.Unknown an_unknown.WithinBlock
+within_block _ = is.Unknown an_unknown.WithinBlock
 
 -- before a power-up, where no head tells what was kept
 abbrev pub unknown_behind : Unknown → Judged → Judged
-unknown_behind an_unknown.BeforeOldest judged = is.Unknown an_unknown.BeforeOldest
-unknown_behind an_unknown.Gap judged = is.Unknown an_unknown.Gap
 unknown_behind an_unknown.WithinBlock judged = within_block judged
+unknown_behind unknown judged = is.Unknown unknown
 
 -- the power-up of a life, behind what was kept before it, or where nobody knows that
 abbrev pub Begins : Result Kept Unknown → Format → BlockRecord → Judged → Judged → Option Found → Type 0
@@ -69,5 +65,4 @@ Begins (Err unknown) format r old judged found = GoesOn format r (unknown_behind
 abbrev pub IsHeadFound : Judged → Block → Option HeadFound → Type 0
 IsHeadFound (is.Agrees replay) b found = (at : Story) → StandsBehind at replay →
     MatchOption found (b.kept ≡ head_behind b.format at) (λ it. (it.kept ≡ head_behind b.format at) × KeptDiffersIn it.field b.kept it.kept)
-IsHeadFound (is.Unknown why) b found = found ≡ None
-IsHeadFound is.BehindDifference b found = found ≡ None
+IsHeadFound _ b found = found ≡ None

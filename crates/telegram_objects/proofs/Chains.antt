@@ -29,10 +29,6 @@ pub on_ok : {A E : Type 0} (r : Result A E) (P : Type 0) → is_ok r ≡ true �
 on_ok (Ok x) P ok h = h
 on_ok (Err e) P ok h = absurd cc
 
-pub on_true : (b : Bool) (P : Type 0) → b ≡ true → OnTrue b P → P
-on_true true P e h = h
-on_true false P e h = absurd cc
-
 -- ---- numbers in so many bits
 
 pub low_mod : (n v m : ℕ) → m ≡ 2 ^ n → number_bits n (v % m) ≡ number_bits n v
@@ -93,38 +89,26 @@ begins_or_none d others body (inr h) = inr h.0
 
 pub cut_first : (x : Data) (xs all : List Data) (f : FieldValue) (ps qs : List FieldValue) → all ≡ x ∷ xs → (all ≡ map pair_of (f ∷ ps)) ⊎ (all ≡ map pair_of (f ∷ qs))
     → (x ≡ pair_of f) × ((xs ≡ map pair_of ps) ⊎ (xs ≡ map pair_of qs))
-cut_first x xs all f ps qs e (inl h) =
-    let same : x ∷ xs ≡ pair_of f ∷ map pair_of ps = sym e ∙ h in
-    let head : x ≡ pair_of f = cc in
-    let tail : xs ≡ map pair_of ps = cc in
-    (head, inl tail)
-cut_first x xs all f ps qs e (inr h) =
-    let same : x ∷ xs ≡ pair_of f ∷ map pair_of qs = sym e ∙ h in
-    let head : x ≡ pair_of f = cc in
-    let tail : xs ≡ map pair_of qs = cc in
-    (head, inr tail)
+cut_first x xs all f ps qs e (inl h) = (let same : x ∷ xs ≡ pair_of f ∷ map pair_of ps = sym e ∙ h in (cc, inl cc))
+cut_first x xs all f ps qs e (inr h) = (let same : x ∷ xs ≡ pair_of f ∷ map pair_of qs = sym e ∙ h in (cc, inr cc))
 
 pub no_first : (vs : List Value) (f : FieldValue) (ps qs : List FieldValue) → length vs ≡ 0 → (map view vs ≡ map pair_of (f ∷ ps)) ⊎ (map view vs ≡ map pair_of (f ∷ qs)) → ⊥
 no_first [] f ps qs none (inl h) = absurd cc
 no_first [] f ps qs none (inr h) = absurd cc
 no_first (v ∷ vs) f ps qs none h = absurd (omega arith)
 
-told_at : (d : Data) (ps qs : List FieldValue) (all : List Data) → (get (codes "fields") d ≡ Some (array (items_of (map pair_of ps)))) ⊎ (get (codes "fields") d ≡ Some (array (items_of (map pair_of qs))))
-    → ((ds : List Data) → get (codes "fields") d ≡ Some (array (items_of ds)) → all ≡ ds) → (all ≡ map pair_of ps) ⊎ (all ≡ map pair_of qs)
-told_at d ps qs all (inl h) each = inl (each (map pair_of ps) h)
-told_at d ps qs all (inr h) each = inr (each (map pair_of qs) h)
-
 pub told_lists : (d : Data) (bits : List Bool) (l : Lays d bits) (all : List Data) → ((ds : List Data) → get (codes "fields") d ≡ Some (array (items_of ds)) → all ≡ ds)
     → (all ≡ map pair_of (l.first ∷ l.second ∷ length_field (length bits) ∷ l.others)) ⊎ (all ≡ map pair_of (l.first ∷ l.second ∷ l.others))
-told_lists d bits l all each = told_at d (l.first ∷ l.second ∷ length_field (length bits) ∷ l.others) (l.first ∷ l.second ∷ l.others) all l.told each
-
-none_at : (d : Data) (ps qs : List FieldValue) → (get (codes "fields") d ≡ Some (array (items_of (map pair_of ps)))) ⊎ (get (codes "fields") d ≡ Some (array (items_of (map pair_of qs))))
-    → ((ds : List Data) → get (codes "fields") d ≡ Some (array (items_of ds)) → ⊥) → ⊥
-none_at d ps qs (inl h) each = each (map pair_of ps) h
-none_at d ps qs (inr h) each = each (map pair_of qs) h
+told_lists d bits l all each = elim (l.told) [
+  | inl h ↦ inl (each (map pair_of (l.first ∷ l.second ∷ length_field (length bits) ∷ l.others)) h)
+  | inr h ↦ inr (each (map pair_of (l.first ∷ l.second ∷ l.others)) h)
+]
 
 pub no_lists : (d : Data) (bits : List Bool) (l : Lays d bits) → ((ds : List Data) → get (codes "fields") d ≡ Some (array (items_of ds)) → ⊥) → ⊥
-no_lists d bits l each = none_at d (l.first ∷ l.second ∷ length_field (length bits) ∷ l.others) (l.first ∷ l.second ∷ l.others) l.told each
+no_lists d bits l each = elim (l.told) [
+  | inl h ↦ each (map pair_of (l.first ∷ l.second ∷ length_field (length bits) ∷ l.others)) h
+  | inr h ↦ each (map pair_of (l.first ∷ l.second ∷ l.others)) h
+]
 
 -- ---- packets
 
@@ -151,10 +135,6 @@ pub held_each : (bytes held : List ℕ) (run written : List Bool) (count : ℕ) 
 held_each bytes held run written count parts w long bytes_long told =
     let same : length bytes ≡ count = bytes_long ∙ ap (λ (l : List Bool). (length l + 7) / 8) (sym w) ∙ sym long in
     told ∙ ap (λ (n : ℕ). run ++ replicate (8 * n - length run) false) same ∙ sym (parts ∙ ap (λ (l : List Bool). l ++ replicate (8 * count - length l) false) w)
-
-pub when_true : (b : Bool) (P : Type 0) → (b ≡ true → P) → OnTrue b P
-when_true true P h = h refl
-when_true false P h = tt
 
 pub tails_same : (a b xs ys : List Bool) (n : ℕ) → length a ≡ n → length b ≡ n → a ++ xs ≡ b ++ ys → xs ≡ ys
 tails_same a b xs ys n la lb e = sym (drop_at a xs n la) ∙ ap (drop n) e ∙ drop_at b ys n lb

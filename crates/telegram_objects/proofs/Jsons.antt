@@ -2,6 +2,7 @@
 use Rattle.std.proofs.Common.{◌≡◌, ℕ, List, [], ◌∷◌, Some, length, map, refl, sym, ap, ◌∙◌}
 use Rattle.std.specs.Prelude.{nat_eq, IsTrue, option_map}
 use Rattle.std.proofs.lemmas.Bool.{eqb-true, eq-eqb}
+use Rattle.std.proofs.lemmas.List.{length-map}
 use Rattle.serde_json.specs.Data.{Data, array}
 use Rattle.serde_json.specs.Events.{members_len}
 use Rattle.serde_json.specs.Find.{as_array, as_object}
@@ -16,21 +17,14 @@ items_same [] [] e = refl
 items_same [] (y ∷ es) e = absurd cc
 items_same (x ∷ ds) [] e = absurd cc
 items_same (x ∷ ds) (y ∷ es) e =
-    let others : items_of ds ≡ items_of es = cc in
-    let first : x ≡ y = cc in
-    let more : ds ≡ es = items_same ds es others in
+    let more : ds ≡ es = items_same ds es cc in
     cc
 
 pub arrays_same : (ds es : List Data) → array (items_of ds) ≡ array (items_of es) → ds ≡ es
-arrays_same ds es e =
-    let same : items_of ds ≡ items_of es = cc in
-    items_same ds es same
+arrays_same ds es e = items_same ds es cc
 
 pub two_items : (values : List Value) (a b : Data) → array (items_of (map view values)) ≡ array (items_of (a ∷ b ∷ [])) → length values ≡ 2
-two_items [] a b e = absurd (let h = arrays_same [] (a ∷ b ∷ []) e in cc)
-two_items (x ∷ []) a b e = absurd (let h = arrays_same (view x ∷ []) (a ∷ b ∷ []) e in cc)
-two_items (x ∷ y ∷ []) a b e = refl
-two_items (x ∷ y ∷ z ∷ values) a b e = absurd (let h = arrays_same (view x ∷ view y ∷ view z ∷ map view values) (a ∷ b ∷ []) e in cc)
+two_items values a b e = sym (length-map values view) ∙ ap length (arrays_same (map view values) (a ∷ b ∷ []) e)
 
 -- the first pair and the others
 pub record NextPair (x : Data) (xs : List Data) (fields : List FieldValue) : Type 0 where
@@ -43,8 +37,6 @@ pub record NextPair (x : Data) (xs : List Data) (fields : List FieldValue) : Typ
 pub next_pair : (x : Data) (xs : List Data) (fields : List FieldValue) → x ∷ xs ≡ map pair_of fields → NextPair x xs fields
 next_pair x xs [] e = absurd cc
 next_pair x xs (f ∷ fields) e = record { first = f; others = fields; fields_are = refl; first_is = cc; others_are = cc }
-
--- ---- widths
 
 -- ---- lists and objects of values
 

@@ -1,6 +1,6 @@
 -- The end of a line behind a text is no token.
 use Rattle.std.proofs.Common.{◌≡◌, ℕ, Bool, true, false, cond, ◌&&◌, List, [], ◌∷◌, ◌++◌, refl, sym, ap, ap₂, ◌∙◌, append_assoc, append-nil}
-use Rattle.json.specs.Token.{Token, begin_object, end_object, begin_array, end_array, key, string, number, boolean, null, bad}
+use Rattle.json.specs.Token.{Token, key, string, number, boolean, null, bad}
 use Rattle.json.specs.Word.{ends_word, word}
 use Rattle.json.specs.Lex.{Lexeme, token, comma, colon, string_token, lex, between, fresh, punctuate, tokens}
 use Rattle.json.specs.Print.{escape, quoted, token_text, begins, ends, print_from, print, IsPrintable, ArePrintable}
@@ -9,16 +9,9 @@ use Rattle.json.proofs.Printed.Numbers.{lex-number, in_word-ended}
 use Rattle.json.proofs.Printed.Tokens.{tokens-print}
 
 abbrev token_lexemes : Token → List Lexeme
-token_lexemes begin_object = token begin_object ∷ []
-token_lexemes end_object = token end_object ∷ []
-token_lexemes begin_array = token begin_array ∷ []
-token_lexemes end_array = token end_array ∷ []
 token_lexemes (key s) = token (string s) ∷ colon ∷ []
-token_lexemes (string s) = token (string s) ∷ []
-token_lexemes (number s) = token (number s) ∷ []
-token_lexemes (boolean b) = token (boolean b) ∷ []
-token_lexemes null = token null ∷ []
 token_lexemes bad = []
+token_lexemes other = token other ∷ []
 
 quoted_first : (s r : List ℕ) → lex between (quoted s ++ r) ≡ token (string s) ∷ lex between r
 unfolding lex
@@ -28,10 +21,6 @@ quoted_first s r =
 
 token_first : (t : Token) (r : List ℕ) → IsPrintable t → (ends t ≡ true → ends_word r ≡ true) → lex between (token_text t ++ r) ≡ token_lexemes t ++ lex between r
 unfolding lex word
-token_first begin_object r h ended = refl
-token_first end_object r h ended = refl
-token_first begin_array r h ended = refl
-token_first end_array r h ended = refl
 token_first (key s) r h ended = ap (lex between) (append_assoc (quoted s) (58 ∷ []) r) ∙ quoted_first s (58 ∷ r)
 token_first (string s) r h ended = quoted_first s r
 token_first (number s) r h ended = lex-number s r h (ended refl)
@@ -39,21 +28,14 @@ token_first (boolean true) r h ended = ap₂ (λ b l. token (cond b (boolean tru
 token_first (boolean false) r h ended = ap₂ (λ b l. token (cond b (boolean false) bad) ∷ l) (ended refl) (in_word-ended r (ended refl))
 token_first null r h ended = ap₂ (λ b l. token (cond b null bad) ∷ l) (ended refl) (in_word-ended r (ended refl))
 token_first bad r h ended = absurd h
+token_first bracket r h ended = refl
 
 -- behind a value stands a comma, a closing bracket or the end of the line
 value_ends : (ts : List Token) (tail : List ℕ) → ends_word tail ≡ true → ends_word (print_from true ts ++ tail) ≡ true
 unfolding print_from
 value_ends [] tail e = e
-value_ends (begin_object ∷ ts) tail e = refl
-value_ends (end_object ∷ ts) tail e = refl
-value_ends (begin_array ∷ ts) tail e = refl
-value_ends (end_array ∷ ts) tail e = refl
-value_ends (key s ∷ ts) tail e = refl
-value_ends (string s ∷ ts) tail e = refl
-value_ends (number s ∷ ts) tail e = refl
-value_ends (boolean b ∷ ts) tail e = refl
-value_ends (null ∷ ts) tail e = refl
 value_ends (bad ∷ ts) tail e = refl
+value_ends (other ∷ ts) tail e = refl
 
 comma_first : (b : Bool) (r s : List ℕ) → lex between r ≡ lex between s → lex between (cond b (44 ∷ []) [] ++ r) ≡ lex between (cond b (44 ∷ []) [] ++ s)
 unfolding lex

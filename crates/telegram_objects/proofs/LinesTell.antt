@@ -62,21 +62,13 @@ tells_bits p bits = record {
 }
 
 tells_packet : (p : Packet) → TellsPacket (stored (packet_object p)) p
-tells_packet (packets.NationalValues p) = without_body (packets.NationalValues p) refl (λ d. tt)
-tells_packet (packets.Linking p) = without_body (packets.Linking p) refl (λ d. tt)
-tells_packet (packets.MovementAuthority p) = without_body (packets.MovementAuthority p) refl (λ d. tt)
-tells_packet (packets.Gradients p) = without_body (packets.Gradients p) refl (λ d. tt)
-tells_packet (packets.StaticSpeeds p) = without_body (packets.StaticSpeeds p) refl (λ d. tt)
-tells_packet (packets.LevelTransition p) = without_body (packets.LevelTransition p) refl (λ d. tt)
-tells_packet (packets.SpeedRestriction p) = without_body (packets.SpeedRestriction p) refl (λ d. tt)
-tells_packet (packets.RestrictionRevocation p) = without_body (packets.RestrictionRevocation p) refl (λ d. tt)
-tells_packet (packets.ModeProfile p) = without_body (packets.ModeProfile p) refl (λ d. tt)
 tells_packet (packets.Other p) = record {
   only = refl;
   its_number = inr refl;
   fields = inl (ap Some (pairs_stored (packet_fields (packets.Other p))));
   body = tells_bits (packets.Other p) p.body;
 }
+tells_packet other = without_body other refl (λ d. tt)
 
 tell_packets : (ps : List Packet) → TellPackets (map (λ p. stored (packet_object p)) ps) ps
 tell_packets [] = tt

@@ -93,8 +93,6 @@ header_spelled h bits s =
     let a = adds (λ _ _. Unit {0}) header plain_header h in
     found-header.is h [] bits s ∙ a.bits [] ∙ ap fields_bits (sym (a.fields []))
 
--- ---- a body
-
 -- ---- bytes
 
 pub carries : (t : Telegram) (bits : List Bool) (bytes : List ℕ) (n : ℕ) → SpellsTelegram t bits → length bytes ≤ 104 → bits_of bytes ≡ bits ++ replicate n false → Carries bytes t

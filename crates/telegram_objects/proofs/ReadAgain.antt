@@ -39,18 +39,16 @@ abbrev mutual
 -- a number that is read again as it was
 abbrev pub FitsNumber : Num → Type 0
 FitsNumber (unsigned n) = n < 2 ^ 64
-FitsNumber (negative z) = ⊥
-FitsNumber (float x) = ⊥
+FitsNumber other = ⊥
 
 -- a value whose numbers are read again, and whose texts and keys are in UTF-8
 abbrev mutual
   pub IsWritable : Data → Type 0
-  IsWritable null = Unit {0}
-  IsWritable (boolean b) = Unit {0}
   IsWritable (number n) = FitsNumber n
   IsWritable (string s) = IsUtf8 s
   IsWritable (array ds) = AreWritable ds
   IsWritable (object ms) = MembersAreWritable ms
+  IsWritable other = Unit {0}
 
   pub AreWritable : Items → Type 0
   AreWritable no_items = Unit {0}
@@ -62,17 +60,14 @@ abbrev mutual
 
 number_stored : (n : Num) → FitsNumber n → of_json (outline (number n)) ≡ Some (number n)
 number_stored (unsigned n) h = ap (option_map number) (number_of-decimal n h)
-number_stored (negative z) h = absurd h
-number_stored (float x) h = absurd h
+number_stored other h = absurd h
 
 mutual
   of_json-outline : (d : Data) → IsWritable d → of_json (outline d) ≡ Some (stored d)
-  of_json-outline null h = refl
-  of_json-outline (boolean b) h = refl
   of_json-outline (number n) h = number_stored n h
-  of_json-outline (string s) h = refl
   of_json-outline (array ds) h = ap (option_map array) (of_items-outline ds h)
   of_json-outline (object ms) h = ap (option_map object) (of_members-outline ms no_members h)
+  of_json-outline other h = refl
 
   of_items-outline : (ds : Items) → AreWritable ds → of_items (items_outline ds) ≡ Some (items_stored ds)
   of_items-outline no_items h = refl
@@ -86,17 +81,14 @@ mutual
 
 number_has : (n : Num) → FitsNumber n → HasNumbers (outline (number n))
 number_has (unsigned n) h = IsNumber-decimal n h
-number_has (negative z) h = absurd h
-number_has (float x) h = absurd h
+number_has other h = absurd h
 
 mutual
   HasNumbers-outline : (d : Data) → IsWritable d → HasNumbers (outline d)
-  HasNumbers-outline null h = tt
-  HasNumbers-outline (boolean b) h = tt
   HasNumbers-outline (number n) h = number_has n h
-  HasNumbers-outline (string s) h = tt
   HasNumbers-outline (array ds) h = ItemsHaveNumbers-outline ds h
   HasNumbers-outline (object ms) h = MembersHaveNumbers-outline ms h
+  HasNumbers-outline other h = tt
 
   ItemsHaveNumbers-outline : (ds : Items) → AreWritable ds → ItemsHaveNumbers (items_outline ds)
   ItemsHaveNumbers-outline no_items h = tt
@@ -108,12 +100,9 @@ mutual
 
 mutual
   depth-outline : (d : Data) → tree.depth (outline d) ≡ depth d
-  depth-outline null = refl
-  depth-outline (boolean b) = refl
-  depth-outline (number n) = refl
-  depth-outline (string s) = refl
   depth-outline (array ds) = ap suc (items_depth-outline ds)
   depth-outline (object ms) = ap suc (members_depth-outline ms)
+  depth-outline other = refl
 
   items_depth-outline : (ds : Items) → tree.items_depth (items_outline ds) ≡ items_depth ds
   items_depth-outline no_items = refl
@@ -125,8 +114,7 @@ mutual
 
 number_in_utf8 : (n : Num) → FitsNumber n → IsUtf8 (number_text n)
 number_in_utf8 (unsigned n) h = IsUtf8-from_ascii (decimal n) (IsAscii-decimal n h)
-number_in_utf8 (negative z) h = absurd h
-number_in_utf8 (float x) h = absurd h
+number_in_utf8 other h = absurd h
 
 comma_in_utf8 : (later : Bool) → IsUtf8 (comma_if later)
 comma_in_utf8 true = IsUtf8-are_ascii (44 ∷ []) refl

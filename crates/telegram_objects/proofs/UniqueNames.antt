@@ -1,7 +1,7 @@
 -- No object of the line of a telegram has a name twice.
-use Rattle.std.proofs.Common.{◌≡◌, ◌≢◌, ℕ, List, [], ◌∷◌, Bool, true, false, codes, map, refl, sym, subst, arith}
+use Rattle.std.proofs.Common.{◌≡◌, ◌≢◌, ℕ, List, [], ◌∷◌, Bool, true, false, codes, map, refl, sym, ap, ◌∙◌, subst, arith}
 use Rattle.std.specs.Prelude.{◌&&◌, not, All, bytes_eq}
-use Rattle.std.proofs.lemmas.Bool.{and_parts}
+use Rattle.std.proofs.lemmas.Bool.{and_parts, false≢true}
 use Rattle.std.proofs.lemmas.List.Elements.{All-nil, All-cons}
 use Rattle.std.proofs.lemmas.List.Kept.{AllPairs-cons}
 use Rattle.std.proofs.lemmas.Slice.Eq.{bytes_eq-Decides}
@@ -30,12 +30,8 @@ distinct : List (List ℕ) → Bool
 distinct [] = true
 distinct (k ∷ ks) = differs k ks && distinct ks
 
-not_same : (b : Bool) → not b ≡ true → b ≡ true → ⊥
-not_same true h e = absurd cc
-not_same false h e = absurd cc
-
 apart : (a b : List ℕ) → not (bytes_eq a b) ≡ true → a ≢ b
-apart a b h e = not_same (bytes_eq a b) h ((bytes_eq-Decides a b).1 e)
+apart a b h e = false≢true (sym (ap not ((bytes_eq-Decides a b).1 e)) ∙ h)
 
 all_apart : (k : List ℕ) (ks : List (List ℕ)) → differs k ks ≡ true → All (λ b. k ≢ b) ks
 unfolding differs

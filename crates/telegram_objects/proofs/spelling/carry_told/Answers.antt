@@ -1,15 +1,15 @@
 use Rattle.std.proofs.Common.{◌≡◌, refl, sym, subst}
+use Rattle.std.proofs.lemmas.Bool.{OnTrue_at}
 use Rattle.serde_json.specs.View.{view}
 use Rattle.telegram.specs.declared.message.Telegram.{Telegram}
 use Rattle.telegram_objects.specs.Telling.{TellsTelegram}
-use Rattle.telegram_objects.proofs.Chains.{on_true}
 use Rattle.decoding.proofs.Lengths.{packets_short}
 use Rattle.telegram_objects.proofs.spelling.carry_told.Goals as goal
 
 pub returns-in-Ok : goal.returns-in-Ok
 returns-in-Ok c =
     let carried = (c.in-Ok.ensures.found c.in-Ok.telegram).0 refl in (
-      λ h. (c.in-Ok.telegram, carried, on_true c.tells.result _ h c.tells.ensures.told),
+      λ h. (c.in-Ok.telegram, carried, OnTrue_at h c.tells.ensures.told),
       λ x.
           let both = (c.in-Ok.ensures.found x.0).1 x.1 in
           let same : c.in-Ok.telegram ≡ x.0 = cc in

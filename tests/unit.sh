@@ -219,6 +219,14 @@ link=("$static")
 build bounded.gcc "$top/tests/unit/bounded.c" gcc -x c -std=c99 -O2
 "$python" "$top/tests/unit/bounded_lives.py" "$made/bounded.gcc" || status=1
 "$python" "$top/tests/unit/bounded_lives.py" "$made/bounded.gcc" hours 24 || status=1
+"$python" "$top/tests/unit/bounded_lives.py" "$made/bounded.gcc" hours 1 sectors || status=1
+
+# ---- a unit by sectors: what it reads, and that its memory is the same over any ring
+
+build sized.buffer "$top/tests/unit/sized.c" gcc -x c -std=c99 -O2 -DOWN_MEMORY
+link=("$archive")
+build sized.malloc "$top/tests/unit/sized.c" gcc -x c -std=c99 -O2
+"$python" "$top/tests/unit/sized.py" "$made/sized.malloc" "$made/sized.buffer" || status=1
 # (the archive as the toolchain built it, which asks for memory by three names)
 raw=${ETCS_UNIT_ARCHIVE:-$top/crates/etcs_unit/out/libetcs_unit.a}
 link=("$raw" -Wl,--wrap=rattle_alloc,--wrap=rattle_realloc,--wrap=rattle_dealloc)
@@ -230,8 +238,8 @@ for program in "$made"/refused.*; do "$python" "$top/tests/unit/refused_lives.py
 
 # ---- the package in Python, and the pages
 
-(cd "$top/python" && "$python" -m unittest -q tests.test_unit) >"$made/said" 2>&1 && grep -q '^Ran 17 tests' "$made/said" && ! grep -q skipped "$made/said" ||
-    { cat "$made/said"; fails "python/tests/test_unit.py: failures, or other than 17 tests"; }
+(cd "$top/python" && "$python" -m unittest -q tests.test_unit) >"$made/said" 2>&1 && grep -q '^Ran 24 tests' "$made/said" && ! grep -q skipped "$made/said" ||
+    { cat "$made/said"; fails "python/tests/test_unit.py: failures, or other than 24 tests"; }
 "$python" "$top/tests/unit/integration.py" || status=1
 ETCS_LAB=$lab ETCS_UNIT_ARCHIVE=$raw ETCS_C_ARCHIVE=${ETCS_C_ARCHIVE:-$top/crates/etcs_c/out/libetcs_c.a} "$python" "$top/tests/pages.py" EMBEDDING || status=1
 echo "the unit: $([ $status -eq 0 ] && echo "no failures" || echo "failures, see above")"

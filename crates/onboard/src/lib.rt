@@ -27,4 +27,5 @@ pub use living::{live, live_into};
 pub use onboard::Onboard;
 pub use released::Released;
 pub use sink::ReleaseSink;
+pub use start::refused;
 pub use steps::{run, run_into};

@@ -12,7 +12,7 @@ use Rattle.events.specs.declared.input.Input.{Input}
 use Rattle.journal.specs.JournalState.{JournalState}
 use Rattle.journal.specs.Journals.{IsOpen}
 use Rattle.request_disk.specs.Requests.{ends_in_sync}
-use Rattle.request_disk.specs.Requesting.{Requesting, request_state}
+use Rattle.request_disk.specs.Requesting.{Requesting, request_state, with_sector}
 use Rattle.request_disk.specs.declared.reading.Reading.{Reading}
 use Rattle.onboard.specs.Answers.{flush_refusal}
 use Rattle.onboard.specs.Events.{account_of, IsAhead}
@@ -32,12 +32,14 @@ use Rattle.unit_calls.specs.Handles.{Accepts, IsPrepared, Says, Fails, Handing, 
 use Rattle.unit_calls.specs.Histories.{AreOnMedium}
 use Rattle.unit_calls.specs.Outputs.{told_of, AreHanded}
 use Rattle.unit_calls.specs.Requests.{Where}
+use Rattle.unit_calls.specs.Sectors.{is_sector_of, IsProvided, Provides}
 use Rattle.unit_calls.specs.Statuses.{is_done, of_release}
 use Rattle.unit_calls.specs.declared.handle.Opened.{Opened}
 use Rattle.unit_calls.specs.declared.outputs.EtcsOutput.{EtcsOutput}
 use Rattle.unit_calls.specs.declared.status.Status.{Status}
 use Rattle.unit_calls.specs.declared.status.Status.TheVariants as a_status
-use Rattle.unit_calls.proofs.Floating.{Floats, wants, accepts, says, prepares, releases}
+use Rattle.unit_calls.proofs.Floating.{Floats, wants, keeps, accepts, says, prepares, releases}
+use Rattle.unit_calls.proofs.Providing.{provided_same}
 
 -- ---- parts of a unit
 
@@ -77,6 +79,10 @@ Kept whole_from sectors None handed medium carried = AreOnMedium whole_from sect
 Kept whole_from sectors (Some opened) handed medium carried = IsUnder whole_from sectors handed medium carried opened.unit
 
 -- ---- calls on a unit
+
+pub either_way : (b : Bool) (So Else Then : Type 0) → (So → Then) → (Else → Then) → Where b So Else → Then
+either_way true So Else Then one other is = one is
+either_way false So Else Then one other is = other is
 
 none_owed : {T : Type 0} (x : T) (failed owed : Bool) (rest : Option PrepareError)
     → (let r : Result T PrepareError = Ok x in MatchOption (if failed then Some a_prepare.Failed else if owed then Some a_prepare.RequestsOwed else rest) (IsOk r) (λ e. r ≡ Err e)) → owed ≡ false
@@ -182,6 +188,28 @@ module _ (whole_from sectors : ℕ) (handed : List EtcsOutput) (medium : Platter
       let D : ℕ → Type 0 = λ d. Floats whole_from sectors handed medium carried it.reading.disk it.unit.journal it.unit.life before.unit.outputs d in
       still before.unit after.unit moored outputs it there (subst D (sym done) floats)
 
+  pub provides_on : (sector : ℕ) (bytes : List ℕ) (before after : Opened) (status : Status) → Provides sector bytes before after status
+      → (status ≡ a_status.Done → bytes ≡ medium.contents sector) → Under before.unit → Under after.unit
+  provides_on sector bytes before after status its read (it, there, floats) = either_way (is_sector_of before sector bytes)
+      ((status ≡ a_status.Done) × IsProvided sector bytes before after) ((status ≡ a_status.OutOfRange) × (after ≡ before)) (Under after.unit)
+      (λ so.
+      let provided = so.1 in
+      let Put : Moored → Moored → Type 0 = λ it next. (next.unit ≡ it.unit) × (next.reading.disk ≡ with_sector sector bytes it.reading.disk) in
+      let Same : Moored → Moored → Type 0 = λ it next. bytes ≡ contents_of (request_state it.reading.disk) sector → request_state next.reading.disk ≡ request_state it.reading.disk in
+      let put = turned Put it before.unit.moored after.unit.moored there provided.exact in
+      let next : Moored = put.0 in
+      let same = turned_to Same it before.unit.moored after.unit.moored next there put.1 provided.same in
+      let still : request_state next.reading.disk ≡ request_state it.reading.disk =
+      provided_same it.reading.disk sector bytes next.reading.disk carried put.2.1 same (read so.0 ∙ floats.there.contents sector) in (
+        next,
+        put.1,
+        floats_as whole_from sectors handed medium carried next.reading.disk next.reading.disk it.unit.journal next.unit.journal it.unit.life next.unit.life before.unit.outputs after.unit.outputs before.unit.done after.unit.done
+            refl (ap (λ (u : UnitState Absent). u.journal) put.2.0) (ap (λ (u : UnitState Absent). u.life) put.2.0) provided.held.0 provided.held.1
+            (keeps whole_from sectors handed medium carried it.reading.disk it.unit.journal it.unit.life before.unit.outputs before.unit.done floats next.reading.disk still),
+      ))
+      (λ nothing. subst (λ (o : Opened). Under o.unit) (sym nothing.1) (it, there, floats))
+      its
+
 -- ---- a release
 
 refused_not_done : (e : ReleaseError) → is_done (of_release e) ≡ false
@@ -193,10 +221,6 @@ where_false b So Else not_so is = subst (λ (t : Bool). Where t So Else) not_so 
 
 where_true : (b : Bool) (So Else : Type 0) → b ≡ true → Where b So Else → So
 where_true b So Else so is = subst (λ (t : Bool). Where t So Else) so is
-
-pub either_way : (b : Bool) (So Else Then : Type 0) → (So → Then) → (Else → Then) → Where b So Else → Then
-either_way true So Else Then one other is = one is
-either_way false So Else Then one other is = other is
 
 by_cause : {E : Type 0} (o : Option E) (P Then : Type 0) (Q : E → Type 0) → (o ≡ None → P → Then) → ((e : E) → Q e → Then) → MatchOption o P Q → Then
 by_cause None P Then Q one other is = one refl is

@@ -1,7 +1,7 @@
 -- A unit that is open beside its caller's medium, call by call.
 use Rattle.std.proofs.Common.{◌≡◌, ◌⊎◌, inl, ⊎_elim, ℕ, ◌+◌, ◌<◌, ◌≤◌, List, [], ◌∷◌, ◌++◌, length, map, Option, refl, sym, ◌∙◌, ap, subst, arith}
 use Rattle.std.proofs.lemmas.List.{append-nil, map-append}
-use Rattle.disk.specs.State.{Platter, contents_of, IsImage, IsSynced, AtEachMoment}
+use Rattle.disk.specs.State.{State, Platter, contents_of, IsImage, IsSynced, AtEachMoment}
 use Rattle.disk.specs.declared.record.Call.{Call}
 use Rattle.events.specs.declared.input.Event.{Event}
 use Rattle.journal.specs.JournalState.{JournalState}
@@ -72,6 +72,29 @@ module _ (whole_from sectors : ℕ) (handed : List EtcsOutput) (medium : Platter
     within = it.within;
     said = it.said;
   }
+
+  -- the disk is as it was, also where a sector more is known
+  pub keeps : (next : Requesting) → request_state next ≡ request_state disk → Floats whole_from sectors handed medium carried next journal life outputs done
+  keeps next same =
+      let Opened : State → Type 0 = λ s. IsOpen journal (account_of whole_from it.durable) s in
+      let Moments : State → Type 0 = λ s. (k : ℕ) → k ≤ s.clock → (image : ℕ → List ℕ) → IsImage (s.at k) image → TellsEither whole_from sectors it.settled it.durable image in
+      let There : State → Type 0 = λ s. IsThere medium (s.at carried) in
+      let Within : State → Type 0 = λ s. carried ≤ s.clock in record {
+        size = ap (λ (s : State). s.sectors) same ∙ it.size;
+        settled = it.settled;
+        durable = it.durable;
+        accepted = it.accepted;
+        more = it.more;
+        begins = it.begins;
+        opened = subst Opened (sym same) it.opened;
+        ahead = it.ahead;
+        given = it.given;
+        held = it.held;
+        moments = subst Moments (sym same) it.moments;
+        there = subst There (sym same) it.there;
+        within = subst Within (sym same) it.within;
+        said = it.said;
+      }
 
   -- an input was accepted
   pub accepts : (accepted : List Event) (next : LifeState) → IsAhead it.durable accepted next → Floats whole_from sectors handed medium carried disk journal next outputs done

@@ -1,6 +1,6 @@
 -- What stays so, whatever happens.
 use Rattle.std.proofs.Common.{◌≡◌, ◌⊎◌, inl, inr, ℕ, ◌+◌, ◌≤◌, List, [], ◌∷◌, ◌++◌, length, map, take, Option, Some, None, Result, Ok, Err, refl, sym, ◌∙◌, ap, subst, arith}
-use Rattle.std.specs.Prelude.{◌==◌, ◌/◌, IsSome, MatchOption}
+use Rattle.std.specs.Prelude.{◌==◌, ◌*◌, ◌/◌, IsSome, MatchOption}
 use Rattle.std.proofs.lemmas.Bool.{false≢true}
 use Rattle.std.proofs.lemmas.List.{append-nil}
 use Rattle.disk.specs.State.{State, Platter, contents_of, IsImage}
@@ -21,10 +21,12 @@ use Rattle.onboard.proofs.WholeLives.{ready_after}
 use Rattle.relayed_unit.specs.Relayed.{Relayed, list_of, written_of, sectors_in}
 use Rattle.relayed_unit.specs.declared.moored.Moored.{Moored}
 use Rattle.unit_calls.specs.Handles.{OnHandle, OnHandleInto, Takes, Prepares, Says, Fails, Handing, Releases, IsPoweredUp, IsLeft, PowersUp, OpensFrom}
-use Rattle.unit_calls.specs.Histories.{Scene, Happening, Opening, Taking, Preparing, Carrying, Saying, Failing, Releasing, Asking, Closing, Cutting, Happens, AllHappen, IsPartOf, outputs_of, HasAll, AreOnMedium, HandedOutIsOnMedium}
+use Rattle.unit_calls.specs.Histories.{Scene, Happening, Opening, Finishing, Taking, Preparing, Providing, Carrying, Saying, Failing, Releasing, Asking, Closing, Cutting, Happens, AllHappen, IsPartOf, outputs_of, HasAll, AreOnMedium, HandedOutIsOnMedium}
 use Rattle.unit_calls.specs.Mediums.{at_rest, carried_out, IsReadFrom}
 use Rattle.unit_calls.specs.Outputs.{told_of}
+use Rattle.unit_calls.specs.PowerUps.{before_any, IsUp}
 use Rattle.unit_calls.specs.Requests.{Where, Telling, IsAt, IsToldAs, TellsRequest}
+use Rattle.unit_calls.specs.Sectors.{Provides}
 use Rattle.unit_calls.specs.Statuses.{is_done}
 use Rattle.unit_calls.specs.Words.{word_by}
 use Rattle.unit_calls.specs.declared.handle.Opened.{Opened}
@@ -34,26 +36,29 @@ use Rattle.unit_calls.specs.declared.status.Status.TheVariants as a_status
 use Rattle.unit_calls.proofs.Carrying.{IsThere, carried_there}
 use Rattle.unit_calls.proofs.Floating.{moment_of, Floats, on_medium, accepts, carries}
 use Rattle.unit_calls.proofs.Parts.{part_longer}
-use Rattle.unit_calls.proofs.Beside.{at_some, IsUnder, Kept, takes_on, prepares_on, says_on, fails_on, where_false, either_way, releases_on}
+use Rattle.unit_calls.proofs.Beside.{at_some, IsUnder, Kept, takes_on, prepares_on, provides_on, says_on, fails_on, where_false, either_way, releases_on}
 
 -- ---- a power-up
 
-module _ (whole_from sectors : ℕ) (handed : List EtcsOutput) (medium : Platter) (image : List ℕ) (cold : Cold) (read : IsReadFrom sectors image medium) (on : AreOnMedium whole_from sectors handed medium) where
-  abbrev copy : State
-  copy = request_state (copy_of image)
+module _ (whole_from sectors : ℕ) (handed : List EtcsOutput) (medium : Platter) (bytes : List ℕ) (n : ℕ) (cold : Cold) (size : n ≡ sectors)
+    (contents : (s : ℕ) → medium.contents s ≡ contents_of (before_any bytes n) s) (synced : (s : ℕ) → medium.is_open s ≡ false)
+    (on : AreOnMedium whole_from sectors handed medium) where
+  -- the disk that it was opened over
+  abbrev begin : State
+  begin = before_any bytes n
 
   -- what the medium holds is one list
   held_list : HasAll whole_from sectors on.durable medium.contents
   held_list = on.each medium.contents (record { shut = λ s shut. refl; whole = λ s. refl })
 
-  ready : IsReady whole_from held_list.0 held_list.0 copy
+  ready : IsReady whole_from held_list.0 held_list.0 begin
   ready =
-      let same : medium.contents ≡ contents_of copy = λ i. λ s. read.contents s i in
+      let same : medium.contents ≡ contents_of begin = λ i. λ s. contents s i in
       let C : (ℕ → List ℕ) → Type 0 = λ c. Tells whole_from sectors held_list.0 c in
-      ready_after whole_from sectors held_list.0 copy read.size (λ s. refl) (subst C same held_list.3)
+      ready_after whole_from sectors held_list.0 begin size (λ s. refl) (subst C same held_list.3)
 
-  abbrev IsUp : Moored → Type 0
-  IsUp it = (found : List Event) × (power_up_word : Cold) × Opens whole_from held_list.0 held_list.0 found cold power_up_word copy (request_state it.reading.disk)
+  abbrev Stands : Moored → Type 0
+  Stands it = (found : List Event) × (power_up_word : Cold) × Opens whole_from held_list.0 held_list.0 found cold power_up_word begin (request_state it.reading.disk)
       × IsOpen it.unit.journal (account_of whole_from (PowerUp power_up_word ∷ found)) (request_state it.reading.disk)
       × IsAhead (PowerUp power_up_word ∷ found) (PowerUp power_up_word ∷ found) it.unit.life
 
@@ -67,9 +72,9 @@ module _ (whole_from sectors : ℕ) (handed : List EtcsOutput) (medium : Platter
   of_opening found word c is (inl (inr tells)) = let T : List Event → Type 0 = λ l. Tells whole_from sectors l c in inl (subst T (sym is) tells)
   of_opening found word c is (inr tells) = inr tells
 
-  floats_up : (it : Moored) (outputs : List Release) (done carried : ℕ) → it.reading.disk.sectors ≡ length image / 512 → outputs ≡ [] → done ≡ 0 → carried ≡ 0 → IsUp it
+  floats_up : (it : Moored) (outputs : List Release) (done carried : ℕ) → it.reading.disk.sectors ≡ n → outputs ≡ [] → done ≡ 0 → carried ≡ 0 → Stands it
       → Floats whole_from sectors handed medium carried it.reading.disk it.unit.journal it.unit.life outputs done
-  floats_up it outputs done carried size none undone begins (found, word, opens, standing, ahead) =
+  floats_up it outputs done carried its_size none undone begins (found, word, opens, standing, ahead) =
       let is : found ≡ held_list.0 = found_all found opens.found_is in
       let each = opens.at_each_moment in
       let P : ℕ → (ℕ → List ℕ) → Type 0 = λ n c. IsOfOpening whole_from n held_list.0 held_list.0 found word c in
@@ -80,8 +85,8 @@ module _ (whole_from sectors : ℕ) (handed : List EtcsOutput) (medium : Platter
       let N : List EtcsOutput → Type 0 = λ l. IsPartOf l (outputs_of (PowerUp word ∷ found)) in
       let T : Platter → Type 0 = λ p. IsThere medium p in
       let C : ℕ → Type 0 = λ k. IsThere medium (moment_of it.reading.disk k) in
-      let first : IsThere medium (copy.at 0) = record { contents = read.contents; closed = λ s shut. read.synced s } in record {
-        size = size ∙ read.size;
+      let first : IsThere medium (begin.at 0) = record { contents = contents; closed = λ s shut. synced s } in record {
+        size = its_size ∙ size;
         settled = found;
         durable = PowerUp word ∷ found;
         accepted = PowerUp word ∷ found;
@@ -91,27 +96,34 @@ module _ (whole_from sectors : ℕ) (handed : List EtcsOutput) (medium : Platter
         ahead = ahead;
         given = given;
         held = subst H (sym none) (subst N (sym (append-nil handed)) (part_longer handed found (PowerUp word ∷ found) (PowerUp word ∷ []) refl given));
-        moments = λ k most c image_is. of_opening found word c is (subst (λ (n : ℕ). P n c) read.size (each.each k (omega arith) most c image_is));
+        moments = λ k most c image_is. of_opening found word c is (subst (λ (m : ℕ). P m c) size (each.each k (omega arith) most c image_is));
         there = subst C (sym begins) (subst T (sym (each.kept 0 (omega arith))) first);
         within = omega (arith, begins);
         said = omega (arith, undone);
       }
 
-  under_up : (u : Relayed) (carried : ℕ) → carried ≡ 0 → (let told : Result Relayed OpenError = Ok u in IsPoweredUp image cold told) → (m : Option Moored) → u.moored ≡ m → IsUnder whole_from sectors handed medium carried u
+  under_up : (u : Relayed) (carried : ℕ) → carried ≡ 0 → IsUp begin cold u → (m : Option Moored) → u.moored ≡ m → IsUnder whole_from sectors handed medium carried u
   under_up u carried begins its None is = absurd (false≢true (let B : Option Moored → Type 0 = λ o. IsSome o in subst B is its.there))
   under_up u carried begins its (Some it) is = (
     it,
     is,
-    floats_up it u.outputs u.done carried (at_some (λ m. m.reading.disk.sectors ≡ length image / 512) it u.moored is its.sectors) its.fresh.0 its.fresh.1 begins
-        (at_some IsUp it u.moored is (its.up whole_from held_list.0 held_list.0 ready)),
+    floats_up it u.outputs u.done carried (at_some (λ m. m.reading.disk.sectors ≡ n) it u.moored is its.sectors) its.fresh.0 its.fresh.1 begins
+        (at_some Stands it u.moored is (its.up whole_from held_list.0 held_list.0 ready)),
   )
 
-  left_on : (told : Result Relayed OpenError) (after : Option Opened) (carried : ℕ) (status : Status) → carried ≡ 0 → IsPoweredUp image cold told → IsLeft told after status
+  stands_on : (u : Relayed) (after : Option Opened) (carried : ℕ) (status : Status) → carried ≡ 0 → IsUp begin cold u → IsLeft (Ok u) after status
       → Kept whole_from sectors after handed medium carried
-  left_on (Ok u) None carried status begins its left = on
-  left_on (Ok u) (Some opened) carried status begins its left =
+  stands_on u None carried status begins its left = on
+  stands_on u (Some opened) carried status begins its left =
       let U : Relayed → Type 0 = λ v. IsUnder whole_from sectors handed medium carried v in
       subst U (sym left.1) (under_up u carried begins its u.moored refl)
+
+module _ (whole_from sectors : ℕ) (handed : List EtcsOutput) (medium : Platter) (image : List ℕ) (cold : Cold) (read : IsReadFrom sectors image medium) (on : AreOnMedium whole_from sectors handed medium) where
+  left_on : (told : Result Relayed OpenError) (after : Option Opened) (carried : ℕ) (status : Status) → carried ≡ 0 → IsPoweredUp image cold told → IsLeft told after status
+      → Kept whole_from sectors after handed medium carried
+  left_on (Ok u) after carried status begins its left =
+      stands_on whole_from sectors handed medium (take (512 * (length image / 512)) image) (length image / 512) cold read.size read.contents read.synced on u after carried status begins
+      (record { fresh = its.fresh; there = its.there; sectors = its.sectors; up = its.up }) left
   left_on (Err e) None carried status begins its left = on
   left_on (Err e) (Some opened) carried status begins its left = absurd left
 
@@ -213,10 +225,22 @@ said_in whole_from sectors handed medium carried count None (Some after) status 
 said_in whole_from sectors handed medium carried count (Some before) None status its most kept = absurd its
 said_in whole_from sectors handed medium carried count (Some before) (Some after) status its most kept = says_on whole_from sectors handed medium carried count before after status its most kept
 
+provided_in : (whole_from sectors : ℕ) (handed : List EtcsOutput) (medium : Platter) (carried sector : ℕ) (bytes : List ℕ) (old new : Option Opened) (status : Status)
+    → OnHandle old new status (Provides sector bytes) → (status ≡ a_status.Done → bytes ≡ medium.contents sector) → Kept whole_from sectors old handed medium carried → Kept whole_from sectors new handed medium carried
+provided_in whole_from sectors handed medium carried sector bytes None None status its read kept = kept
+provided_in whole_from sectors handed medium carried sector bytes None (Some after) status its read kept = absurd its
+provided_in whole_from sectors handed medium carried sector bytes (Some before) None status its read kept = absurd its
+provided_in whole_from sectors handed medium carried sector bytes (Some before) (Some after) status its read kept = provides_on whole_from sectors handed medium carried sector bytes before after status its read kept
+
 step : (whole_from sectors : ℕ) (one : Happening) (before after : Scene) → KeptIn whole_from sectors before → Happens sectors one before after → KeptIn whole_from sectors after
 step whole_from sectors (Opening image cold abi) before after kept (status, opens, read, medium, handed, begins) =
     as_it_was whole_from sectors after.handle before.handed after.handed before.medium after.medium after.carried after.carried medium refl handed
     (opened_in whole_from sectors before.handed before.medium before.carried after.carried image cold abi before.handle after.handle status opens read begins kept)
+step whole_from sectors (Finishing bytes cold) before after kept (unit, status, its, left, none, rest, medium, handed, begins) =
+    as_it_was whole_from sectors after.handle before.handed after.handed before.medium after.medium after.carried after.carried medium refl handed
+    (stands_on whole_from sectors before.handed before.medium bytes sectors cold refl rest.contents rest.synced
+    (let B : Option Opened → Type 0 = λ o. Kept whole_from sectors o before.handed before.medium before.carried in subst B none kept)
+    unit after.handle after.carried status begins its left)
 step whole_from sectors (Taking input) before after kept (status, its, quiet) =
     as_it_was whole_from sectors after.handle before.handed after.handed before.medium after.medium before.carried after.carried quiet.0 quiet.1 quiet.2
     (on_handle whole_from sectors before.handed before.medium before.carried (Takes input) (input_on whole_from sectors before.handed before.medium before.carried input) before.handle after.handle status its kept)
@@ -224,6 +248,9 @@ step whole_from sectors Preparing before after kept (status, its, quiet) =
     as_it_was whole_from sectors after.handle before.handed after.handed before.medium after.medium before.carried after.carried quiet.0 quiet.1 quiet.2
     (on_handle whole_from sectors before.handed before.medium before.carried Prepares (λ was is status its under. prepares_on whole_from sectors before.handed before.medium before.carried was.unit is.unit its.0 its.2 under)
     before.handle after.handle status its kept)
+step whole_from sectors (Providing sector bytes) before after kept (status, its, read, quiet) =
+    as_it_was whole_from sectors after.handle before.handed after.handed before.medium after.medium before.carried after.carried quiet.0 quiet.1 quiet.2
+    (provided_in whole_from sectors before.handed before.medium before.carried sector bytes before.handle after.handle status its read kept)
 step whole_from sectors (Carrying t) before after kept (opened, was_open, told, done, handle, medium, carried, handed) =
     let B : Option Opened → Type 0 = λ o. Kept whole_from sectors o before.handed before.medium before.carried in
     let under : IsUnder whole_from sectors before.handed before.medium before.carried opened.unit = subst B was_open kept in

@@ -6,5 +6,6 @@ pub mod Floating
 pub mod HeldValues
 pub mod Histories
 pub mod Parts
+pub mod Providing
 pub mod Releasing
 pub mod Values

@@ -152,13 +152,13 @@ pub record IsReleased (before after : Relayed) : Type 0 where
   pub emptied : (after.outputs ≡ []) × (after.done ≡ 0) × (list_of after.moored ≡ [])
   -- the medium failed no more than before
   pub failed : after.failed ≡ before.failed
-  -- the unit is as it was: nothing was taken, and nothing was put on the copy
+  -- the unit is as it was: nothing was taken, and nothing was put on the disk
   pub unit : Turns before.moored after.moored (λ it next. next.unit ≡ it.unit)
   -- the medium has as many sectors as before
   pub sectors : Turns before.moored after.moored (λ it next. next.reading.disk.sectors ≡ it.reading.disk.sectors)
   -- and as many of them are known
   pub known : Turns before.moored after.moored (λ it next. next.reading.disk.known ≡ it.reading.disk.known)
-  -- no sector of the medium is open; the copy holds what it held, and the journal stands over it as before
+  -- no sector of the medium is open; the disk holds what it held, and the journal stands over it as before
   pub stands : Turns before.moored after.moored (λ it next. IsSynced (request_state it.reading.disk)
       × IsSynced (request_state next.reading.disk)
       × ((s : ℕ) → contents_of (request_state next.reading.disk) s ≡ contents_of (request_state it.reading.disk) s)

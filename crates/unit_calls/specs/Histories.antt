@@ -3,18 +3,23 @@
 -- oldest first.
 
 -- Taken for granted: each call meets its contract (`OnHandle`, `Takes`, `Prepares`, ..), which is proved; and what the
--- head of `include/etcs_unit.h` says that the caller owes. He hands in what he read from his medium, carries out the
--- requests in their order, as they are told, says of none that it is done before it is, and nothing else writes there.
-use Rattle.std.specs.Prelude.{◌≡◌, ◌⊎◌, ℕ, ◌+◌, ◌≤◌, List, [], ◌∷◌, ◌++◌, map, take, Option, Some, None, MatchOption}
+-- head of `include/etcs_unit.h` says that the caller owes. He hands in what he read from his medium, a sector as it is
+-- there when he hands it in, carries out the requests in their order, as they are told, says of none that it is done
+-- before it is, and nothing else writes there.
+use Rattle.std.specs.Prelude.{◌≡◌, ◌⊎◌, ℕ, ◌+◌, ◌≤◌, List, [], ◌∷◌, ◌++◌, map, take, Option, Some, None, MatchOption, Result, Ok}
 use Rattle.disk.specs.State.{Platter, IsImage}
 use Rattle.events.specs.declared.input.Event.{Event}
 use Rattle.events.specs.declared.input.Input.{Input}
+use Rattle.mode_table.specs.declared.statuses.Cold.{Cold}
 use Rattle.onboard.specs.Events.{pairs_of}
 use Rattle.onboard.specs.Lives.{Tells}
-use Rattle.unit_calls.specs.Handles.{OnHandle, OnHandleInto, Takes, Prepares, Says, Fails, Handing, Releases, OpensFrom}
-use Rattle.unit_calls.specs.Mediums.{at_rest, carried_out, IsReadFrom}
+use Rattle.relayed_unit.specs.Relayed.{Relayed}
+use Rattle.unit_calls.specs.Handles.{OnHandle, OnHandleInto, Takes, Prepares, Says, Fails, Handing, Releases, OpensFrom, IsLeft}
+use Rattle.unit_calls.specs.Mediums.{at_rest, carried_out, IsAtRest, IsReadFrom}
 use Rattle.unit_calls.specs.Outputs.{told_of}
+use Rattle.unit_calls.specs.PowerUps.{before_any, IsUp}
 use Rattle.unit_calls.specs.Requests.{Where, Telling, TellsRequest}
+use Rattle.unit_calls.specs.Sectors.{Provides}
 use Rattle.unit_calls.specs.Statuses.{is_done}
 use Rattle.unit_calls.specs.declared.handle.Opened.{Opened}
 use Rattle.unit_calls.specs.declared.outputs.EtcsOutput.{EtcsOutput}
@@ -36,10 +41,14 @@ pub record Scene : Type 0 where
 pub data Happening : Type 0 where
   -- `etcs_unit_open` with these bytes, word and number of the interface
   Opening : List ℕ → ℕ → ℕ → Happening
+  -- `etcs_opening_go_on` that leads to a unit, with this word, over a medium of these bytes
+  Finishing : List ℕ → Cold → Happening
   -- a call that takes an input; None stands for numbers outside their limits
   Taking : Option Input → Happening
   -- `etcs_unit_prepare`
   Preparing : Happening
+  -- `etcs_unit_provide` of this sector with these bytes
+  Providing : ℕ → List ℕ → Happening
   -- the next request is carried out, as `etcs_unit_request` told it
   Carrying : Telling → Happening
   -- `etcs_unit_done` with this count
@@ -48,7 +57,8 @@ pub data Happening : Type 0 where
   Failing : Happening
   -- `etcs_unit_release` into these places
   Releasing : Handing → Happening
-  -- `etcs_unit_request`, `etcs_unit_state`, and the calls that need no unit
+  -- `etcs_unit_request`, `etcs_unit_wanted`, `etcs_unit_state`, and the calls that need no unit, also those on a power-up
+  -- in steps but its last
   Asking : Happening
   -- `etcs_unit_close`
   Closing : Happening
@@ -75,10 +85,17 @@ Happens sectors (Opening image cold abi) before after =
     (status : Status) × OpensFrom image cold abi before.handle after.handle status
     × (before.handle ≡ None → IsReadFrom sectors image before.medium)
     × (after.medium ≡ before.medium) × (after.handed ≡ before.handed) × BeginsAnew before after
+Happens sectors (Finishing bytes cold) before after =
+    (unit : Relayed) × (status : Status) × IsUp (before_any bytes sectors) cold unit × IsLeft (Ok unit) after.handle status
+    × (before.handle ≡ None) × IsAtRest sectors bytes before.medium
+    × (after.medium ≡ before.medium) × (after.handed ≡ before.handed) × (after.carried ≡ 0)
 Happens sectors (Taking input) before after =
     (status : Status) × OnHandle before.handle after.handle status (Takes input) × IsQuiet before after
 Happens sectors Preparing before after =
     (status : Status) × OnHandle before.handle after.handle status Prepares × IsQuiet before after
+Happens sectors (Providing sector bytes) before after =
+    (status : Status) × OnHandle before.handle after.handle status (Provides sector bytes)
+    × (status ≡ a_status.Done → bytes ≡ before.medium.contents sector) × IsQuiet before after
 Happens sectors (Carrying t) before after =
     (opened : Opened) × (before.handle ≡ Some opened) × TellsRequest before.carried opened t × (t.status ≡ a_status.Done)
     × (after.handle ≡ before.handle) × (after.medium ≡ carried_out t.told t.bytes before.medium)

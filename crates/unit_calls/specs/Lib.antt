@@ -5,8 +5,10 @@ pub mod Histories
 pub mod Inputs
 pub mod Mediums
 pub mod Outputs
+pub mod PowerUps
 pub mod Owned
 pub mod Requests
+pub mod Sectors
 pub mod Statuses
 pub mod Versions
 pub mod Whys

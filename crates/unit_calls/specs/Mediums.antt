@@ -1,5 +1,5 @@
 -- What a caller does with his medium (this project's profile). Sectors have 512 bytes and are numbered from 0.
-use Rattle.std.specs.Prelude.{◌≡◌, ℕ, ◌-◌, ◌/◌, ◌==◌, ◌&&◌, nat_le, nat_lt, Bool, true, false, if◌then◌else◌, List, length}
+use Rattle.std.specs.Prelude.{◌≡◌, ℕ, ◌-◌, ◌*◌, ◌/◌, ◌==◌, ◌&&◌, nat_le, nat_lt, Bool, true, false, if◌then◌else◌, List, length}
 use Rattle.disk.specs.State.{Platter, IsImage, contents_of, sector_of}
 use Rattle.request_disk.specs.Requesting.{copy_of, request_state}
 use Rattle.unit_calls.specs.declared.words.EtcsRequest.{EtcsRequest}
@@ -22,6 +22,13 @@ at_rest contents = record { contents = contents; is_open = λ s. false }
 -- the medium behind a request, as it is told: a write, or a sync
 abbrev pub carried_out : EtcsRequest → List ℕ → Platter → Platter
 carried_out told bytes medium = if told.kind == 1 then written_on told bytes medium else at_rest medium.contents
+
+-- The bytes are those of a medium of so many sectors, of which none is open: power was lost since the last write, or it
+-- was synced.
+pub record IsAtRest (sectors : ℕ) (bytes : List ℕ) (medium : Platter) : Type 0 where
+  pub size : length bytes ≡ 512 * sectors
+  pub contents : (s : ℕ) → medium.contents s ≡ sector_of bytes s
+  pub synced : (s : ℕ) → medium.is_open s ≡ false
 
 -- The bytes are what was read from a medium of so many sectors, of which none is open: power was lost since the last
 -- write, or it was synced.

@@ -25,6 +25,8 @@ status_number a_status.InputFailed = 13
 status_number a_status.Failed = 21
 status_number a_status.RequestsOwed = 22
 status_number a_status.WornOut = 23
+status_number a_status.SectorWanted = 24
+status_number a_status.NoneWanted = 25
 status_number a_status.BadSlots = 41
 status_number a_status.NotReleased = 247
 status_number a_status.WrongCount = 248
@@ -58,7 +60,7 @@ of_prepare (Ok x) = a_status.Done
 of_prepare (Err a_prepare.Failed) = a_status.Failed
 of_prepare (Err a_prepare.RequestsOwed) = a_status.RequestsOwed
 of_prepare (Err a_prepare.WornOut) = a_status.WornOut
-of_prepare (Err a_prepare.SectorWanted) = a_status.Failed
+of_prepare (Err a_prepare.SectorWanted) = a_status.SectorWanted
 
 abbrev pub of_release : ReleaseError → Status
 of_release a_release.Failed = a_status.Failed

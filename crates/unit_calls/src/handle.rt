@@ -1,5 +1,5 @@
 // A unit that C holds.
-ghost use Rattle.std.specs.Prelude.{◌≡◌, Some, None, IsSome, IfSome, option_map, true, false};
+ghost use Rattle.std.specs.Prelude.{◌≡◌, Some, None, IsSome, IfSome, is_some, option_map, true, false};
 
 use crate::held::Held;
 use crate::raw::Raw;
@@ -27,6 +27,15 @@ pub struct EtcsUnit {
     is_open: u64,
     ghost matched: { is_open ≡ 1 → IsSome raw.value },
     ghost closed: { (is_open ≡ 1 → ⊥) → raw.value ≡ None },
+}
+
+impl EtcsUnit {
+    /// Whether a unit is open.
+    pub fn has_unit(&self) -> bool
+        ensures { result ≡ is_some self.now.raw.value }
+    {
+        self.is_open == 1
+    }
 }
 
 /// A handle with this unit, or none.

@@ -11,8 +11,13 @@ use onboard::{OpenError, Released};
 use relayed_unit::RelayedUnit;
 use std::alloc::Global;
 
-// Puts a unit that was powered up into a handle that has none.
-fn put(alloc: Global, handle: &mut EtcsUnit, told: Result<RelayedUnit, OpenError>) -> Status
+/// Puts a unit that was powered up into a handle that has none; what refused the power-up is answered by its status.
+/// OpenNoMemory where there is no memory for it there. The caller owes that the handle has none (`EtcsUnit::has_unit`).
+pub fn put_unit(
+    alloc: Global,
+    handle: &mut EtcsUnit,
+    told: Result<RelayedUnit, OpenError>,
+) -> Status
     requires { handle.old.raw.value ≡ None }
     ensures { IsLeft told handle.new.raw.value result }
 {
@@ -39,15 +44,14 @@ fn power_up(alloc: Global, handle: &mut EtcsUnit, image: &[u8], cold: Option<Col
         return Status::OutOfRange;
     };
     let told = RelayedUnit::open(alloc, image, cold);
-    put(alloc, handle, told)
+    put_unit(alloc, handle, told)
 }
 
 /// Powers up on these sectors.
 pub fn open_call(alloc: Global, unit: &mut EtcsUnit, image: &[u8], cold: u32, abi: u32) -> Status
     ensures { OpensFrom image.now cold abi unit.old.raw.value unit.new.raw.value result }
 {
-    if let Some(before) = taken(alloc, unit) {
-        *unit = handle_of(Some(before));
+    if unit.has_unit() {
         return Status::IsOpen;
     }
     if abi != ABI {

@@ -14,14 +14,14 @@ use events::MOST_PENDING;
 use onboard::Released;
 use std::alloc::Global;
 
-// Puts what is pending onto the copy.
+// Puts what is pending onto the disk that hands out its requests.
 fn prepare(opened: &mut Opened) -> Status
     ensures { Prepares opened.old opened.new result }
 {
     of_prepare(opened.unit.prepare())
 }
 
-/// Puts what is pending onto the copy.
+/// Puts what is pending onto the disk that hands out its requests.
 pub fn prepare_call(alloc: Global, unit: &mut EtcsUnit) -> Status
     ensures { OnHandle unit.old.raw.value unit.new.raw.value result Prepares }
 {

@@ -5,12 +5,12 @@ ghost use Rattle.unit_calls.specs.Statuses.{status_number, of_open, of_accept, o
 use onboard::{AcceptError, OpenError};
 use relayed_unit::{PrepareError, ReleaseError};
 
-/// What a call answers (this project's profile). All but `Done` mean the emergency brake.
+/// What a call answers (this project's profile). All but `Done`, `SectorWanted` and `NoneWanted` mean the emergency brake.
 #[derive(Clone, Copy)]
 pub enum Status {
     /// It is done.
     Done = 0,
-    /// No unit was opened: the copy's room was used up. It never is.
+    /// No unit was opened: the room of the disk that hands out its requests was used up. It never is.
     OpenDeviceFault = 1,
     /// No unit was opened: the first sector isn't that of a journal, or there is none.
     NotFormatted = 2,
@@ -34,6 +34,10 @@ pub enum Status {
     RequestsOwed = 22,
     /// There is no block number after 2^40.
     WornOut = 23,
+    /// A sector has to be handed in first. Nothing else changed: call again after it.
+    SectorWanted = 24,
+    /// No sector is wanted.
+    NoneWanted = 25,
     /// The number of slots isn't 2 to 1,048,576.
     BadSlots = 41,
     /// The newest event isn't released yet.
@@ -89,15 +93,16 @@ pub fn of_accept(told: Result<(), AcceptError>) -> Status
     }
 }
 
-/// Of a preparation. No sector is ever wanted, since a unit of C lies over a copy of its medium.
+/// Of a preparation.
 pub fn of_prepare(told: Result<(), PrepareError>) -> Status
     ensures { result ≡ of_prepare told }
 {
     match told {
         Ok(()) => Status::Done,
-        Err(PrepareError::Failed | PrepareError::SectorWanted) => Status::Failed,
+        Err(PrepareError::Failed) => Status::Failed,
         Err(PrepareError::RequestsOwed) => Status::RequestsOwed,
         Err(PrepareError::WornOut) => Status::WornOut,
+        Err(PrepareError::SectorWanted) => Status::SectorWanted,
     }
 }
 

@@ -1,0 +1,31 @@
+-- A unit that was powered up, in whatever way (this project's profile).
+use Rattle.std.specs.Prelude.{◌≡◌, ℕ, List, [], ◌∷◌, false, Option, IsSome, IfSome}
+use Rattle.disk.specs.State.{State}
+use Rattle.disk.specs.Record.{state_of}
+use Rattle.events.specs.declared.input.Event.{Event}
+use Rattle.events.specs.declared.input.Event.TheVariants.{PowerUp}
+use Rattle.journal.specs.Journals.{IsOpen}
+use Rattle.mode_table.specs.declared.statuses.Cold.{Cold}
+use Rattle.onboard.specs.Events.{account_of, IsAhead}
+use Rattle.onboard.specs.Lives.{IsReady, Opens}
+use Rattle.relayed_unit.specs.Relayed.{Relayed}
+use Rattle.request_disk.specs.Requesting.{request_state}
+
+-- a disk of so many sectors on a medium of these bytes, before any call
+abbrev pub before_any : List ℕ → ℕ → State
+before_any bytes sectors = state_of sectors 0 bytes [] []
+
+-- It was powered up with this word over a disk that was so.
+pub record IsUp (begin : State) (cold : Cold) (u : Relayed) : Type 0 where
+  -- nothing is held back, and nothing is done
+  pub fresh : (u.outputs ≡ []) × (u.done ≡ 0) × (u.failed ≡ false)
+  -- there is a unit
+  pub there : IsSome u.moored
+  -- its disk has as many sectors
+  pub sectors : IfSome u.moored (λ it. it.reading.disk.sectors ≡ begin.sectors)
+  -- behind each number of requests each image is one that a power-up may leave of what the disk held
+  pub up : (whole_from : ℕ) (durable accepted : List Event) → IsReady whole_from durable accepted begin → IfSome u.moored (λ it.
+      (found : List Event) × (power_up_word : Cold)
+      × Opens whole_from durable accepted found cold power_up_word begin (request_state it.reading.disk)
+      × IsOpen it.unit.journal (account_of whole_from (PowerUp power_up_word ∷ found)) (request_state it.reading.disk)
+      × IsAhead (PowerUp power_up_word ∷ found) (PowerUp power_up_word ∷ found) it.unit.life)

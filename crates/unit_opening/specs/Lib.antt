@@ -1,0 +1,3 @@
+pub mod Goings
+pub mod Looks
+pub mod Openings

@@ -104,6 +104,12 @@ class OverTheLibrary(unittest.TestCase):
 class BySectors(OverTheLibrary):
     """Units that hold no copy of their medium."""
 
+    def closed(self, *calls: Callable[[], object]) -> None:
+        """Each of these is refused, since it isn't open."""
+        for call in calls:
+            with self.refused(Status.NOT_OPEN):
+                call()
+
     def test_a_life_beside_a_copy(self) -> None:
         """The same outputs, and the same bytes, in each of some lives on a ring that is written over."""
         media = MemoryMedium.formatted(3), MemoryMedium.formatted(3)
@@ -181,9 +187,7 @@ class BySectors(OverTheLibrary):
     def test_the_calls_of_an_opening(self) -> None:
         medium, unit = MemoryMedium.formatted(2), SectorUnit(MemoryMedium.formatted(2))
         opening = Opening(13)
-        for call in (lambda: opening.go_on(unit), opening.wanted, lambda: opening.provide(0, bytes(SECTOR))):
-            with self.refused(Status.NOT_OPEN):
-                call()
+        self.closed(lambda: opening.go_on(unit), opening.wanted, lambda: opening.provide(0, bytes(SECTOR)))
         with self.refused(Status.OUT_OF_RANGE), Opening(-1):
             pass
         with opening:
@@ -209,9 +213,7 @@ class BySectors(OverTheLibrary):
 
     def test_the_calls_of_a_unit(self) -> None:
         unit = SectorUnit(MemoryMedium.formatted(2))
-        for call in (unit.wanted, lambda: unit.provide(0, bytes(SECTOR))):
-            with self.refused(Status.NOT_OPEN):
-                call()
+        self.closed(unit.wanted, lambda: unit.provide(0, bytes(SECTOR)))
         with unit:
             with self.refused(Status.NONE_WANTED):
                 unit.wanted()

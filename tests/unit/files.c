@@ -11,7 +11,7 @@
 #include <unistd.h>
 
 /* What the system is to do wrong: a number that each sync fails with, and that each sync of a folder and each drop does. */
-static int writes_left = -1, fails_sync, fails_folder, fails_drop, does_parts;
+static int writes_left = -1, reads_left = -1, fails_sync, fails_folder, fails_drop, does_parts;
 
 /* The calls in their order, a letter for those of a kind that come together: W write, R read, S sync, D drop of the system's copies, F sync of a
  * folder; how many bytes were read; and which folder was synced last. */
@@ -53,6 +53,12 @@ static ssize_t planted_read(int descriptor, void *bytes, size_t len, off_t at) {
         errno = EINTR;
         return -1;
     }
+    if (reads_left == 0) {
+        errno = EIO;
+        return -1;
+    }
+    if (reads_left > 0)
+        reads_left--;
     note('R');
     const ssize_t got = pread(descriptor, bytes, does_parts && len > 100 ? 100 : len, at);
     bytes_read += got > 0 ? (size_t)got : 0;
@@ -87,6 +93,9 @@ static int planted_drop(int descriptor, off_t at, off_t len, int advice) {
 
 static etcs_unit_output outputs[ETCS_UNIT_OUTPUTS];
 static uint32_t count;
+
+/* How a file is opened: over a copy, or by sectors. */
+static uint32_t (*opens_by)(etcs_file *file, const char *path, etcs_unit *unit, uint32_t cold) = etcs_file_open;
 
 static long size_of(const char *path) {
     struct stat told_size;
@@ -151,21 +160,21 @@ static void settles(void) {
     etcs_file file = {0};
     etcs_unit unit = {0};
     forget();
-    is("open", etcs_file_open(&file, "image", &unit, 0), ETCS_FILE_OK);
+    is("open", opens_by(&file, "image", &unit, 0), ETCS_FILE_OK);
     is("a sync, a drop, and reads", strcmp(order, "SDR") == 0, 1);
     is("close", etcs_file_close(&file, &unit), ETCS_FILE_OK);
     forget();
     fails_sync = EIO;
-    is("a sync that fails", etcs_file_open(&file, "image", &unit, 0), ETCS_FILE_CANT_SYNC);
+    is("a sync that fails", opens_by(&file, "image", &unit, 0), ETCS_FILE_CANT_SYNC);
     is("its number", (uint64_t)file.error, EIO);
     is("nothing is read", strcmp(order, "S") == 0, 1);
     fails_sync = EROFS;
-    is("a file that takes no writes", etcs_file_open(&file, "image", &unit, 0), ETCS_FILE_OK);
+    is("a file that takes no writes", opens_by(&file, "image", &unit, 0), ETCS_FILE_OK);
     is("close", etcs_file_close(&file, &unit), ETCS_FILE_OK);
     fails_sync = 0;
     forget();
     fails_drop = ENOSYS;
-    is("a system that drops nothing", etcs_file_open(&file, "image", &unit, 0), ETCS_FILE_CANT_SYNC);
+    is("a system that drops nothing", opens_by(&file, "image", &unit, 0), ETCS_FILE_CANT_SYNC);
     is("its number", (uint64_t)file.error, ENOSYS);
     is("nothing is read", strcmp(order, "SD") == 0, 1);
     fails_drop = 0;
@@ -176,26 +185,26 @@ static void settles(void) {
 static void open_already(void) {
     etcs_file file = {0}, other = {0};
     etcs_unit unit = {0}, second = {0};
-    is("open", etcs_file_open(&file, "image", &unit, 0), ETCS_FILE_OK);
+    is("open", opens_by(&file, "image", &unit, 0), ETCS_FILE_OK);
     const int descriptor = file.descriptor;
-    is("once more", etcs_file_open(&file, "image", &unit, 0), ETCS_FILE_UNIT);
+    is("once more", opens_by(&file, "image", &unit, 0), ETCS_FILE_UNIT);
     is("its status", file.status, ETCS_UNIT_IS_OPEN);
-    is("the file, with another unit", etcs_file_open(&file, "new", &second, 0), ETCS_FILE_UNIT);
+    is("the file, with another unit", opens_by(&file, "new", &second, 0), ETCS_FILE_UNIT);
     is("its status", file.status, ETCS_UNIT_IS_OPEN);
     is("that unit isn't open", second.is_open, 0);
     forget();
-    is("the unit, with another file", etcs_file_open(&other, "new", &unit, 0), ETCS_FILE_UNIT);
+    is("the unit, with another file", opens_by(&other, "new", &unit, 0), ETCS_FILE_UNIT);
     is("its status", other.status, ETCS_UNIT_IS_OPEN);
     is("that file isn't touched", order[0] == 0, 1);
     is("a format of it", etcs_file_format(&file, "new", 4), ETCS_FILE_UNIT);
     is("its status", file.status, ETCS_UNIT_IS_OPEN);
     is("the same descriptor", (uint64_t)file.descriptor, (uint64_t)descriptor);
-    is("the lock is held", etcs_file_open(&other, "image", &second, 0), ETCS_FILE_LOCKED);
-    is("the other file isn't", etcs_file_open(&other, "new", &second, 0), ETCS_FILE_OK);
+    is("the lock is held", opens_by(&other, "image", &second, 0), ETCS_FILE_LOCKED);
+    is("the other file isn't", opens_by(&other, "new", &second, 0), ETCS_FILE_OK);
     is("close the other", etcs_file_close(&other, &second), ETCS_FILE_OK);
     is("the unit goes on", etcs_file_flush(&file, &unit, outputs, &count), ETCS_FILE_OK);
     is("close", etcs_file_close(&file, &unit), ETCS_FILE_OK);
-    is("the lock is given back", etcs_file_open(&file, "image", &unit, 0), ETCS_FILE_OK);
+    is("the lock is given back", opens_by(&file, "image", &unit, 0), ETCS_FILE_OK);
     is("close", etcs_file_close(&file, &unit), ETCS_FILE_OK);
 }
 
@@ -210,7 +219,7 @@ static void zeros(void) {
     is("close a file of zeros", etcs_file_close(&none, &unit), ETCS_FILE_UNIT);
     is("descriptor 0 is open", fcntl(0, F_GETFD) >= 0, 1);
     memset(&none, 0, sizeof none);
-    is("open", etcs_file_open(&file, "image", &unit, 0), ETCS_FILE_OK);
+    is("open", opens_by(&file, "image", &unit, 0), ETCS_FILE_OK);
     forget();
     is("flush to a file of zeros", etcs_file_flush(&none, &unit, outputs, &count) != ETCS_FILE_OK, 1);
     is("its number", (uint64_t)none.error, EBADF);
@@ -227,17 +236,17 @@ static void great(void) {
     const int from = open("image", O_RDONLY), to = open("great", O_RDWR | O_CREAT, 0666);
     is("3 GB", ftruncate(to, (off_t)3 << 30) == 0, 1);
     forget();
-    is("no journal", etcs_file_open(&file, "great", &unit, 0), ETCS_FILE_UNIT);
+    is("no journal", opens_by(&file, "great", &unit, 0), ETCS_FILE_UNIT);
     is("its status", file.status, ETCS_UNIT_OPEN_NOT_FORMATTED);
     is("no more is read than its first sector, twice", bytes_read <= 2 * sizeof first, 1);
     is("the first sector of another one", read(from, first, sizeof first) == (ssize_t)sizeof first && write(to, first, sizeof first) == (ssize_t)sizeof first, 1);
     forget();
-    is("a journal of another size", etcs_file_open(&file, "great", &unit, 0), ETCS_FILE_UNIT);
+    is("a journal of another size", opens_by(&file, "great", &unit, 0), ETCS_FILE_UNIT);
     is("its status", file.status, ETCS_UNIT_OPEN_DAMAGED);
     is("no more is read than its first sector, twice", bytes_read <= 2 * sizeof first, 1);
-    is("cold 3 comes first", etcs_file_open(&file, "great", &unit, 3), ETCS_FILE_UNIT);
+    is("cold 3 comes first", opens_by(&file, "great", &unit, 3), ETCS_FILE_UNIT);
     is("its status", file.status, ETCS_UNIT_OUT_OF_RANGE);
-    is("511 bytes", ftruncate(to, 511) == 0 && etcs_file_open(&file, "great", &unit, 0) == ETCS_FILE_UNIT, 1);
+    is("511 bytes", ftruncate(to, 511) == 0 && opens_by(&file, "great", &unit, 0) == ETCS_FILE_UNIT, 1);
     is("its status", file.status, ETCS_UNIT_OPEN_NOT_FORMATTED);
     close(from);
     close(to);
@@ -247,15 +256,15 @@ static void great(void) {
 static void opens(void) {
     etcs_file file = {0}, other = {0};
     etcs_unit unit = {0}, second = {0};
-    is("no file", etcs_file_open(&file, "none", &unit, 0), ETCS_FILE_CANT_OPEN);
+    is("no file", opens_by(&file, "none", &unit, 0), ETCS_FILE_CANT_OPEN);
     is("its number", (uint64_t)file.error, ENOENT);
-    is("a folder", etcs_file_open(&file, ".", &unit, 0), ETCS_FILE_CANT_OPEN);
-    is("a device that is empty", etcs_file_open(&file, "/dev/null", &unit, 0), ETCS_FILE_UNIT);
+    is("a folder", opens_by(&file, ".", &unit, 0), ETCS_FILE_CANT_OPEN);
+    is("a device that is empty", opens_by(&file, "/dev/null", &unit, 0), ETCS_FILE_UNIT);
     is("its status", file.status, ETCS_UNIT_OPEN_NOT_FORMATTED);
-    is("cold 3", etcs_file_open(&file, "image", &unit, 3), ETCS_FILE_UNIT);
+    is("cold 3", opens_by(&file, "image", &unit, 3), ETCS_FILE_UNIT);
     is("its status", file.status, ETCS_UNIT_OUT_OF_RANGE);
-    is("the lock is given back", etcs_file_open(&file, "image", &unit, 0), ETCS_FILE_OK);
-    is("a second unit on it", etcs_file_open(&other, "image", &second, 0), ETCS_FILE_LOCKED);
+    is("the lock is given back", opens_by(&file, "image", &unit, 0), ETCS_FILE_OK);
+    is("a second unit on it", opens_by(&other, "image", &second, 0), ETCS_FILE_LOCKED);
     is("it isn't open", second.is_open, 0);
     is("a format of it", etcs_file_format(&other, "image", 8), ETCS_FILE_LOCKED);
     is("it is as it was", (uint64_t)size_of("image"), 12800);
@@ -274,7 +283,7 @@ static void lives(void) {
     etcs_file file = {0};
     etcs_unit unit = {0};
     does_parts = 1;
-    is("open", etcs_file_open(&file, "image", &unit, ETCS_COLD_NOT_MOVED), ETCS_FILE_OK);
+    is("open", opens_by(&file, "image", &unit, ETCS_COLD_NOT_MOVED), ETCS_FILE_OK);
     is("an input before the power-up is done", etcs_unit_clock(&unit, 1), ETCS_UNIT_OK);
     is("flush", etcs_file_flush(&file, &unit, outputs, &count), ETCS_FILE_OK);
     is("the power-up, and the event", count, 1);
@@ -291,7 +300,7 @@ static void lives(void) {
     is("nothing", count, 0);
     is("close", etcs_file_close(&file, &unit), ETCS_FILE_OK);
     does_parts = 0;
-    is("open", etcs_file_open(&file, "image", &unit, 0), ETCS_FILE_OK);
+    is("open", opens_by(&file, "image", &unit, 0), ETCS_FILE_OK);
     is("flush", etcs_file_flush(&file, &unit, outputs, &count), ETCS_FILE_OK);
     is("an input", etcs_unit_clock(&unit, 1), ETCS_UNIT_OK);
     is("flush", etcs_file_flush(&file, &unit, outputs, &count), ETCS_FILE_OK);
@@ -304,7 +313,7 @@ static void fails(int at_sync) {
     etcs_file file = {0};
     etcs_unit unit = {0};
     etcs_unit_state_told state;
-    is("open", etcs_file_open(&file, "image", &unit, 0), ETCS_FILE_OK);
+    is("open", opens_by(&file, "image", &unit, 0), ETCS_FILE_OK);
     is("flush", etcs_file_flush(&file, &unit, outputs, &count), ETCS_FILE_OK);
     is("an input", etcs_unit_clock(&unit, 1), ETCS_UNIT_OK);
     fails_sync = at_sync ? EIO : 0;
@@ -322,11 +331,40 @@ static void fails(int at_sync) {
     is("close", etcs_file_close(&file, &unit), ETCS_FILE_OK);
 }
 
-int main(int words, char **word) {
-    if (words != 2 || chdir(word[1]) != 0)
-        return 2;
-    formats();
-    names();
+/* A read that fails: the opening is refused; in a flush of a unit by sectors, which reads the gate of the next slot, the unit has failed. */
+static void fails_to_read(void) {
+    etcs_file file = {0};
+    etcs_unit unit = {0};
+    etcs_unit_state_told state;
+    is("40 slots", etcs_file_format(&file, "longer", 40), ETCS_FILE_OK);
+    for (int made = 0; made < 2; made++) {
+        reads_left = made;
+        is("a read of an opening", opens_by(&file, "longer", &unit, 0), ETCS_FILE_CANT_READ);
+        is("its number", (uint64_t)file.error, EIO);
+        is("no unit is open", unit.is_open, 0);
+        is("those before it were made", (uint64_t)reads_left, 0);
+    }
+    reads_left = -1;
+    is("open", etcs_file_open_sectors(&file, "longer", &unit, 0), ETCS_FILE_OK);
+    is("flush", etcs_file_flush(&file, &unit, outputs, &count), ETCS_FILE_OK);
+    is("an input", etcs_unit_clock(&unit, 1), ETCS_UNIT_OK);
+    forget();
+    is("flush", etcs_file_flush(&file, &unit, outputs, &count), ETCS_FILE_OK);
+    is("one output", count, 1);
+    is("one sector was read", bytes_read, ETCS_UNIT_SECTOR);
+    is("an input", etcs_unit_clock(&unit, 2), ETCS_UNIT_OK);
+    reads_left = 0;
+    is("a read of a flush", etcs_file_flush(&file, &unit, outputs, &count), ETCS_FILE_CANT_READ);
+    is("its number", (uint64_t)file.error, EIO);
+    is("nothing is released", count, 0);
+    reads_left = -1;
+    is("state", etcs_unit_state(&unit, &state), ETCS_UNIT_OK);
+    is("the unit has failed", state.has_failed, 1);
+    is("flush again", etcs_file_flush(&file, &unit, outputs, &count), ETCS_FILE_UNIT);
+    is("close", etcs_file_close(&file, &unit), ETCS_FILE_OK);
+}
+
+static void with_units(void) {
     opens();
     settles();
     open_already();
@@ -334,6 +372,17 @@ int main(int words, char **word) {
     lives();
     fails(0);
     fails(1);
+    fails_to_read();
     zeros();
-    return told("files", 147);
+}
+
+int main(int words, char **word) {
+    if (words != 2 || chdir(word[1]) != 0)
+        return 2;
+    formats();
+    names();
+    with_units();
+    opens_by = etcs_file_open_sectors;
+    with_units();
+    return told("files", 300);
 }

@@ -15,7 +15,7 @@
  *     ...
  *     etcs_file_close(&file, &unit);
  *
- * etcs_file_open_sectors, in place of etcs_file_open, keeps no copy of the file: it reads a sector as the unit wants it, and
+ * etcs_file_open_by_sectors, in place of etcs_file_open, keeps no copy of the file: it reads a sector as the unit wants it, and
  * so does each flush behind it. The unit then takes as much memory whatever the file's size; all else is the same.
  *
  * Each call answers what failed (enum etcs_file_answer). Where the system failed, `error` of the file has its errno;
@@ -307,25 +307,11 @@ static inline uint32_t etcs_file_power_up_(etcs_file *file, etcs_unit *unit, uin
     return answer;
 }
 
-static inline uint32_t etcs_file_open_sectors_(etcs_file *file, const char *path, etcs_unit *unit, uint32_t cold) {
+static inline uint32_t etcs_file_open_by_sectors_(etcs_file *file, const char *path, etcs_unit *unit, uint32_t cold) {
     uint32_t answer = etcs_file_lock_(file, path, 0);
     if (answer == ETCS_FILE_OK)
         answer = etcs_file_settle_(file);
     return answer == ETCS_FILE_OK ? etcs_file_power_up_(file, unit, cold) : answer;
-}
-
-/* Prepares, and reads the sector that the unit wants for it, which it wants only where it holds no copy of the file. */
-static inline uint32_t etcs_file_prepare_(etcs_file *file, etcs_unit *unit) {
-    uint32_t answer = etcs_file_told_(file, etcs_unit_prepare(unit));
-    while (file->status == ETCS_UNIT_SECTOR_WANTED) {
-        answer = etcs_file_hand_in_(file, NULL, unit);
-        if (answer != ETCS_FILE_OK) {
-            etcs_unit_fail(unit);
-            break;
-        }
-        answer = etcs_file_told_(file, etcs_unit_prepare(unit));
-    }
-    return answer;
 }
 
 /* Empties a file, gives it so many bytes of zeros, and syncs its folder; a device must have just so many. */
@@ -387,13 +373,28 @@ static inline uint32_t etcs_file_open(etcs_file *file, const char *path, etcs_un
 
 /** The same with no copy of the file: it reads the sectors alone that the power-up wants, one after the other, and takes no
  * memory for others. */
-static inline uint32_t etcs_file_open_sectors(etcs_file *file, const char *path, etcs_unit *unit, uint32_t cold) {
+static inline uint32_t etcs_file_open_by_sectors(etcs_file *file, const char *path, etcs_unit *unit, uint32_t cold) {
     etcs_unit_state_told state;
     if (etcs_file_at_(file) >= 0 || etcs_unit_state(unit, &state) == ETCS_UNIT_OK)
         return etcs_file_is_open_(file);
-    const uint32_t answer = etcs_file_open_sectors_(file, path, unit, cold);
+    const uint32_t answer = etcs_file_open_by_sectors_(file, path, unit, cold);
     if (answer != ETCS_FILE_OK)
         etcs_file_shut_(file);
+    return answer;
+}
+
+/** Prepares what is pending. Where the unit holds no copy of the file it reads the sector that the unit wants for it, and where
+ * that fails it says so to the unit (etcs_unit_fail). */
+static inline uint32_t etcs_file_prepare(etcs_file *file, etcs_unit *unit) {
+    uint32_t answer = etcs_file_told_(file, etcs_unit_prepare(unit));
+    while (file->status == ETCS_UNIT_SECTOR_WANTED) {
+        answer = etcs_file_hand_in_(file, NULL, unit);
+        if (answer != ETCS_FILE_OK) {
+            etcs_unit_fail(unit);
+            break;
+        }
+        answer = etcs_file_told_(file, etcs_unit_prepare(unit));
+    }
     return answer;
 }
 
@@ -426,19 +427,18 @@ static inline uint32_t etcs_file_release_(etcs_file *file, etcs_unit *unit, etcs
     return etcs_file_told_(file, etcs_unit_release(unit, outputs, ETCS_UNIT_OUTPUTS, count));
 }
 
-/** Prepares what is pending, carries it out, and releases it: `count` outputs, the oldest first, in room for
+/** Prepares what is pending (etcs_file_prepare), carries it out, and releases it: `count` outputs, the oldest first, in room for
  * ETCS_UNIT_OUTPUTS. Behind etcs_file_open it carries out the power-up too. Where requests of an earlier
  * etcs_unit_prepare are owed that hold outputs back, it releases those alone, and what is pending waits for the next
- * flush. Where the unit holds no copy of the file, it reads the sector that a prepare wants, and where that fails it says so
- * to the unit (etcs_unit_fail). Where it answers something else than OK, `count` is 0. */
+ * flush. Where it answers something else than OK, `count` is 0. */
 static inline uint32_t etcs_file_flush(etcs_file *file, etcs_unit *unit, etcs_unit_output *outputs, uint32_t *count) {
     *count = 0;
-    uint32_t answer = etcs_file_prepare_(file, unit);
+    uint32_t answer = etcs_file_prepare(file, unit);
     if (file->status == ETCS_UNIT_REQUESTS_OWED) {
         answer = etcs_file_release_(file, unit, outputs, count);
         if (answer != ETCS_FILE_OK || *count > 0)
             return answer;
-        answer = etcs_file_prepare_(file, unit);
+        answer = etcs_file_prepare(file, unit);
     }
     return answer == ETCS_FILE_OK ? etcs_file_release_(file, unit, outputs, count) : answer;
 }

@@ -10,7 +10,8 @@
 #include <sys/types.h>
 #include <unistd.h>
 
-/* What the system is to do wrong: a number that each sync fails with, and that each sync of a folder and each drop does. */
+/* What the system is to do wrong: how many writes and reads it does before they fail, a number that each sync fails with, and that each sync of a
+ * folder and each drop does. */
 static int writes_left = -1, reads_left = -1, fails_sync, fails_folder, fails_drop, does_parts;
 
 /* The calls in their order, a letter for those of a kind that come together: W write, R read, S sync, D drop of the system's copies, F sync of a
@@ -331,36 +332,75 @@ static void fails(int at_sync) {
     is("close", etcs_file_close(&file, &unit), ETCS_FILE_OK);
 }
 
-/* A read that fails: the opening is refused; in a flush of a unit by sectors, which reads the gate of the next slot, the unit has failed. */
-static void fails_to_read(void) {
+/* The bytes of a file, for the caller to free. */
+static uint8_t *bytes_in(const char *path, size_t *len) {
+    const int from = open(path, O_RDONLY);
+    *len = (size_t)size_of(path);
+    uint8_t *bytes = (uint8_t *)calloc(1, *len + 1);
+    is("its bytes are read", read(from, bytes, *len) == (ssize_t)*len, 1);
+    close(from);
+    return bytes;
+}
+
+/* Some flushes of a life; the first and the last event, and the file behind it, for the caller to free. */
+static uint8_t *flushes(uint32_t (*opens_it)(etcs_file *, const char *, etcs_unit *, uint32_t), const char *path, uint64_t events[2], size_t *len) {
+    etcs_file file = {0};
+    etcs_unit unit = {0};
+    is("open", opens_it(&file, path, &unit, ETCS_COLD_UNKNOWN), ETCS_FILE_OK);
+    for (uint64_t moment = 1; moment <= 12; moment++) {
+        is("an input", etcs_unit_clock(&unit, moment), ETCS_UNIT_OK);
+        is("flush", etcs_file_flush(&file, &unit, outputs, &count), ETCS_FILE_OK);
+        is("its output", count, 1);
+        events[moment > 1] = outputs[0].event;
+    }
+    is("close", etcs_file_close(&file, &unit), ETCS_FILE_OK);
+    return bytes_in(path, len);
+}
+
+/* The same file over sectors that are read as they are wanted, and over a copy. */
+static void by_sectors(void) {
     etcs_file file = {0};
     etcs_unit unit = {0};
     etcs_unit_state_told state;
-    is("40 slots", etcs_file_format(&file, "longer", 40), ETCS_FILE_OK);
-    for (int made = 0; made < 2; made++) {
-        reads_left = made;
-        is("a read of an opening", opens_by(&file, "longer", &unit, 0), ETCS_FILE_CANT_READ);
+    uint64_t copied[2], read_by[2];
+    size_t size, len;
+    is("a file", etcs_file_format(&file, "copied", 64), ETCS_FILE_OK);
+    is("the same", etcs_file_format(&file, "sectors", 64), ETCS_FILE_OK);
+    for (int life = 0; life < 7; life++) {
+        uint8_t *const wanted = flushes(etcs_file_open, "copied", copied, &size);
+        does_parts = life == 3;
+        forget();
+        uint8_t *const found = flushes(etcs_file_open_by_sectors, "sectors", read_by, &len);
+        does_parts = 0;
+        is("it is settled before it is read", strncmp(order, "SDR", 3) == 0, 1);
+        is("it is read in part", bytes_read < size - 12 * ETCS_UNIT_SECTOR, 1);
+        is("the same events", (uint64_t)memcmp(copied, read_by, sizeof copied), 0);
+        is("the same file", len == size && memcmp(found, wanted, size) == 0, 1);
+        free(wanted);
+        free(found);
+    }
+    for (int read_first = 0; read_first < 66; read_first++) {
+        reads_left = read_first;
+        is("a read that fails", etcs_file_open_by_sectors(&file, "sectors", &unit, 0), ETCS_FILE_CANT_READ);
         is("its number", (uint64_t)file.error, EIO);
         is("no unit is open", unit.is_open, 0);
-        is("those before it were made", (uint64_t)reads_left, 0);
     }
     reads_left = -1;
-    is("open", etcs_file_open_sectors(&file, "longer", &unit, 0), ETCS_FILE_OK);
+    is("the lock is given back", etcs_file_open_by_sectors(&file, "sectors", &unit, 0), ETCS_FILE_OK);
     is("flush", etcs_file_flush(&file, &unit, outputs, &count), ETCS_FILE_OK);
-    is("an input", etcs_unit_clock(&unit, 1), ETCS_UNIT_OK);
-    forget();
-    is("flush", etcs_file_flush(&file, &unit, outputs, &count), ETCS_FILE_OK);
-    is("one output", count, 1);
-    is("one sector was read", bytes_read, ETCS_UNIT_SECTOR);
-    is("an input", etcs_unit_clock(&unit, 2), ETCS_UNIT_OK);
     reads_left = 0;
-    is("a read of a flush", etcs_file_flush(&file, &unit, outputs, &count), ETCS_FILE_CANT_READ);
-    is("its number", (uint64_t)file.error, EIO);
+    uint32_t answer = ETCS_FILE_OK;
+    for (uint64_t moment = 1; answer == ETCS_FILE_OK && moment < 100; moment++) {
+        is("an input", etcs_unit_clock(&unit, moment), ETCS_UNIT_OK);
+        answer = etcs_file_flush(&file, &unit, outputs, &count);
+    }
+    is("a gate that can't be read", answer, ETCS_FILE_CANT_READ);
     is("nothing is released", count, 0);
-    reads_left = -1;
     is("state", etcs_unit_state(&unit, &state), ETCS_UNIT_OK);
     is("the unit has failed", state.has_failed, 1);
-    is("flush again", etcs_file_flush(&file, &unit, outputs, &count), ETCS_FILE_UNIT);
+    reads_left = -1;
+    is("prepare", etcs_file_prepare(&file, &unit), ETCS_FILE_UNIT);
+    is("its status", file.status, ETCS_UNIT_FAILED);
     is("close", etcs_file_close(&file, &unit), ETCS_FILE_OK);
 }
 
@@ -372,7 +412,6 @@ static void with_units(void) {
     lives();
     fails(0);
     fails(1);
-    fails_to_read();
     zeros();
 }
 
@@ -382,7 +421,8 @@ int main(int words, char **word) {
     formats();
     names();
     with_units();
-    opens_by = etcs_file_open_sectors;
+    opens_by = etcs_file_open_by_sectors;
     with_units();
-    return told("files", 300);
+    by_sectors();
+    return told("files", 1040);
 }

@@ -68,7 +68,7 @@ static uint32_t carry_out(etcs_file *file, etcs_unit *unit) {
 static uint32_t flush(etcs_file *file, etcs_unit *unit, int prepares) {
     etcs_unit_output outputs[ETCS_UNIT_OUTPUTS];
     uint32_t count = 0, status;
-    if (prepares && etcs_file_prepare_(file, unit) != ETCS_FILE_OK)
+    if (prepares && etcs_file_prepare(file, unit) != ETCS_FILE_OK)
         return file->status;
     if (carry_out(file, unit) != ETCS_FILE_OK)
         return ETCS_UNIT_FAILED;
@@ -131,7 +131,7 @@ int main(int count, char **words) {
         printf("stopped %" PRIu32 " ?\n", stopped(&file, words[2], cold, -1 - left));
         return REFUSED;
     }
-    uint32_t answer = by_sectors ? etcs_file_open_sectors(&file, words[2], &unit, cold) : etcs_file_open(&file, words[2], &unit, cold);
+    uint32_t answer = by_sectors ? etcs_file_open_by_sectors(&file, words[2], &unit, cold) : etcs_file_open(&file, words[2], &unit, cold);
     if (answer != ETCS_FILE_OK && answer != ETCS_FILE_UNIT) {
         puts("device");
         return DEVICE;

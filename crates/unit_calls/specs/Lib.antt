@@ -1,6 +1,5 @@
 pub mod Formatting
 pub mod Handles
-pub mod Held
 pub mod Histories
 pub mod Inputs
 pub mod Mediums

@@ -2,15 +2,10 @@
 use Rattle.std.specs.Prelude.{Option}
 use base.Fml.{Fml}
 use denote.RawPtr.{Ptr}
-use Rattle.std.specs.contracts.alloc.Global as heap
 use Rattle.std.specs.contracts.impls.GlobalAllocator.TheImpl.{ghosts}
-use Rattle.unit_calls.specs.Held.{held_owns}
+use Rattle.handles.specs.Held.{held_owns, the_heap}
 use Rattle.unit_calls.specs.declared.handle.Opened.{Opened}
 use Rattle.unit_calls.specs.contracts.handle.Opened.{the_row}
-
--- the heap of the C library, of which there is one
-abbrev pub the_heap : heap.the_row.Denot
-the_heap = record { memory = record { seal = tt } }
 
 abbrev pub raw_owns : Ptr → Option Opened → Fml
 raw_owns p o = held_owns (ghosts.dealloc_token the_heap) the_row p o

@@ -1,5 +1,5 @@
 //! Taking inputs.
-ghost use Rattle.std.specs.Prelude.{Option};
+ghost use Rattle.std.specs.Prelude.{Option, Some, None};
 ghost use Rattle.driver.specs.Limits.{IsIdentity, IsRunningNumber};
 ghost use Rattle.driver.specs.declared.action.Action.TheVariants.{EnterIdentity, EnterRunningNumber, EnterTrainData};
 ghost use Rattle.events.specs.Limits.{AreOfATelegram};
@@ -15,26 +15,44 @@ use crate::status::{Status, of_accept};
 use events::Input;
 use std::alloc::Global;
 
-// Hands an input to the unit; None is one outside its limits.
-fn accept(opened: &mut Opened, alloc: Global, input: Option<Input>) -> Status
-    ensures { Takes input opened.old opened.new result }
+// Hands an input to the unit.
+fn accept(opened: &mut Opened, alloc: Global, input: Input) -> Status
+    ensures { Takes (Some input) opened.old opened.new result }
 {
-    match input {
-        Some(input) => of_accept(opened.unit.accept(alloc, input)),
-        None => Status::OutOfRange,
-    }
+    of_accept(opened.unit.accept(alloc, input))
 }
 
 // The same through a handle.
-fn take(alloc: Global, handle: &mut EtcsUnit, input: Option<Input>) -> Status
-    ensures { OnHandle handle.old.raw.value handle.new.raw.value result (Takes input) }
+fn hand_in(alloc: Global, handle: &mut EtcsUnit, input: Input) -> Status
+    ensures { OnHandle handle.old.raw.value handle.new.raw.value result (Takes (Some input)) }
 {
     let Some(mut opened) = taken(alloc, handle) else {
         return Status::NotOpen;
     };
     let status = accept(&mut opened, alloc, input);
-    *handle = handle_of(Some(opened));
+    *handle = handle_of(opened);
     status
+}
+
+// Refuses what is no input.
+fn refuse(handle: &mut EtcsUnit) -> Status
+    ensures { OnHandle handle.old.raw.value handle.new.raw.value result (Takes None) }
+{
+    if handle.has_unit() {
+        Status::OutOfRange
+    } else {
+        Status::NotOpen
+    }
+}
+
+// Hands an input in; None is one outside its limits, which is refused before the unit is taken out of its handle.
+fn take(alloc: Global, handle: &mut EtcsUnit, input: Option<Input>) -> Status
+    ensures { OnHandle handle.old.raw.value handle.new.raw.value result (Takes input) }
+{
+    match input {
+        Some(input) => hand_in(alloc, handle, input),
+        None => refuse(handle),
+    }
 }
 
 /// Takes the bytes that a balise sent.

@@ -32,6 +32,6 @@ pub fn unit_why_call(alloc: Global, unit: &mut EtcsUnit, why: &mut EtcsUnitWhy) 
         return Status::NotOpen;
     };
     let status = explain(&opened, why);
-    *unit = handle_of(Some(opened));
+    *unit = handle_of(opened);
     status
 }

@@ -1,8 +1,8 @@
 // A unit that C holds.
-ghost use Rattle.std.specs.Prelude.{◌≡◌, Some, None, IsSome, IfSome, is_some, option_map, true, false};
+ghost use Rattle.std.specs.Prelude.{◌≡◌, Some, None, IsSome, IfSome, is_some};
 
-use crate::held::Held;
 use crate::raw::Raw;
+use handles::Held;
 use onboard::Released;
 use relayed_unit::RelayedUnit;
 use std::alloc::Global;
@@ -38,22 +38,21 @@ impl EtcsUnit {
     }
 }
 
-/// A handle with this unit, or none.
-pub fn handle_of(value: Option<Box<Opened>>) -> EtcsUnit
-    ensures { result.raw.value ≡ option_map (λ b. b.value) value }
+// A handle with no unit.
+fn nothing(alloc: Global) -> EtcsUnit
+    ensures { result.raw.value ≡ None }
 {
-    match value {
-        None => {
-            let nowhere = std::ptr::null_mut();
-            let raw = Raw::none(nowhere);
-            EtcsUnit { raw, is_open: 0 }
-        }
-        Some(value) => {
-            let held = Held::of(value);
-            let raw = Raw::of(held);
-            EtcsUnit { raw, is_open: 1 }
-        }
-    }
+    let nowhere = std::ptr::null_mut();
+    let raw = Raw::of(Held::none(nowhere, alloc));
+    EtcsUnit { raw, is_open: 0 }
+}
+
+/// A handle with this unit.
+pub fn handle_of(opened: Box<Opened>) -> EtcsUnit
+    ensures { result.raw.value ≡ Some opened.value }
+{
+    let raw = Raw::of(Held::of(opened));
+    EtcsUnit { raw, is_open: 1 }
 }
 
 /// Takes the unit out.
@@ -62,7 +61,7 @@ pub fn taken(alloc: Global, handle: &mut EtcsUnit) -> Option<Box<Opened>>
     ensures some { IfSome result (λ b. handle.old.raw.value ≡ Some b.value) }
     ensures none { result ≡ None → handle.old.raw.value ≡ None }
 {
-    let EtcsUnit { raw, is_open } = mem::replace(handle, handle_of(None));
+    let EtcsUnit { raw, is_open } = mem::replace(handle, nothing(alloc));
     if is_open == 1 {
         Some(raw.into_held(alloc).into_box())
     } else {

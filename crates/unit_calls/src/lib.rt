@@ -5,7 +5,6 @@ mod events_in;
 mod explaining;
 mod formatting;
 mod handle;
-mod held;
 mod inputs;
 mod laws;
 mod opening;

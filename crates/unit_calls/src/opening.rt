@@ -28,7 +28,7 @@ pub fn put_unit(
     let last = Released::default();
     match Box::new(alloc, Opened { unit, last }) {
         Ok(opened) => {
-            *handle = handle_of(Some(opened));
+            *handle = handle_of(opened);
             Status::Done
         }
         Err(_) => Status::OpenNoMemory,

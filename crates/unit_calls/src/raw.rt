@@ -1,9 +1,9 @@
 // A pointer that C may hold: of no type that C can't know.
-ghost use Rattle.std.specs.Prelude.{◌≡◌, Option, None};
+ghost use Rattle.std.specs.Prelude.{◌≡◌, Option};
 ghost use Rattle.unit_calls.specs.declared.handle.Opened.{Opened as OpenedValue};
 
 use crate::handle::Opened;
-use crate::held::Held;
+use handles::Held;
 use std::alloc::Global;
 use std::marker::Model;
 
@@ -22,13 +22,6 @@ impl Model for Raw {
 }
 
 impl Raw {
-    /// No unit; the pointer may be any.
-    pub fn none(nowhere: *mut u8) -> Raw
-        ensures { result.value ≡ None }
-    {
-        Raw { at: nowhere }
-    }
-
     /// What is held, for C.
     pub fn of(held: Held<Opened, Global>) -> Raw
         ensures { result.value ≡ held.value }

@@ -29,7 +29,7 @@ pub fn prepare_call(alloc: Global, unit: &mut EtcsUnit) -> Status
         return Status::NotOpen;
     };
     let status = prepare(&mut opened);
-    *unit = handle_of(Some(opened));
+    *unit = handle_of(opened);
     status
 }
 
@@ -72,7 +72,7 @@ pub fn request_call(
         return Status::NotOpen;
     };
     let status = tell(&opened, index, request, bytes);
-    *unit = handle_of(Some(opened));
+    *unit = handle_of(opened);
     status
 }
 
@@ -95,7 +95,7 @@ pub fn done_call(alloc: Global, unit: &mut EtcsUnit, count: u32) -> Status
         return Status::NotOpen;
     };
     let status = say(&mut opened, count);
-    *unit = handle_of(Some(opened));
+    *unit = handle_of(opened);
     status
 }
 
@@ -115,7 +115,7 @@ pub fn fail_call(alloc: Global, unit: &mut EtcsUnit) -> Status
         return Status::NotOpen;
     };
     let status = fail(&mut opened);
-    *unit = handle_of(Some(opened));
+    *unit = handle_of(opened);
     status
 }
 
@@ -163,7 +163,7 @@ pub fn release_call(
         return Status::NotOpen;
     };
     let status = release(&mut opened, outputs, count);
-    *unit = handle_of(Some(opened));
+    *unit = handle_of(opened);
     status
 }
 
@@ -202,6 +202,6 @@ pub fn state_call(alloc: Global, unit: &mut EtcsUnit, state: &mut EtcsState) -> 
         return Status::NotOpen;
     };
     let status = tell_state(&opened, state);
-    *unit = handle_of(Some(opened));
+    *unit = handle_of(opened);
     status
 }

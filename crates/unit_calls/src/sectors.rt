@@ -30,7 +30,7 @@ pub fn wanted_call(alloc: Global, unit: &mut EtcsUnit, sector: &mut u64) -> Stat
         return Status::NotOpen;
     };
     let status = tell_wanted(&opened, sector);
-    *unit = handle_of(Some(opened));
+    *unit = handle_of(opened);
     status
 }
 
@@ -57,6 +57,6 @@ pub fn provide_call(alloc: Global, unit: &mut EtcsUnit, sector: u64, bytes: &[u8
         return Status::NotOpen;
     };
     let status = provide(&mut opened, sector, bytes);
-    *unit = handle_of(Some(opened));
+    *unit = handle_of(opened);
     status
 }

@@ -41,11 +41,11 @@ ups before (Ok (a_going.Open u)) fresh there sectors up medium going = record {
 -- where no unit was open, and this power-up was under way
 module _ (it : Opening) (told : Result Going OpenError) (after : Option Opening) (unit : Option Opened) (status : Status) where
   closed_went : (old : Option Opened) → is_some old ≡ false → IsGoneOn it told → IsLeftOn told after unit status → GoesOn (Some it) old after unit status
-  closed_went (Some opened) no gone left = absurd cc
-  closed_went None no gone left = (told, gone, left)
+  closed_went (Some opened) shut gone left = absurd cc
+  closed_went None shut gone left = (told, gone, left)
 
   pub went : (before : Option Opening) (old : Option Opened) → before ≡ Some it → is_some old ≡ false → IsGoneOn it told → IsLeftOn told after unit status
       → GoesOn before old after unit status
-  went before old is no gone left =
+  went before old is shut gone left =
       let G : Option Opening → Type 0 = λ o. GoesOn o old after unit status in
-      subst G (sym is) (closed_went old no gone left)
+      subst G (sym is) (closed_went old shut gone left)

@@ -1,9 +1,10 @@
 #!/bin/sh
-# Prints what an event costs through the calls of include/etcs_unit.h, beside the same call of the unit in Rattle beneath: the instructions
-# within an accept and within an eighth of a flush (prepare, each request with its bytes, done, release), and of reading a record of an image.
-# What callgrind counts for 48 batches less what it counts for 24, by their events, as bench/onboard.sh has it. The library is that of PREFIX
-# (tools/library PREFIX); the names within it stand in its static library alone. With UNPROVED=yes, and no PREFIX, it is compiled without a
-# proof (bench/unproved).
+# Prints what an event costs through the calls of include/etcs_unit.h, beside the same call of the unit in Rattle beneath:
+# the instructions within an accept and within an eighth of a flush (prepare, each request with its bytes, done, release).
+# What callgrind counts for 48 batches less what it counts for 24, by their events, as bench/onboard.sh has it. Then an
+# opening by sectors beside one over a copy, on rings that were written over. The library is that of PREFIX (tools/library
+# PREFIX); the names within it stand in its static library alone. With UNPROVED=yes, and no PREFIX, it is compiled without
+# a proof (bench/unproved).
 #
 #     bench/unit.sh PREFIX
 set -e
@@ -53,3 +54,8 @@ flush='etcs_unit_prepare_ etcs_unit_request_ etcs_unit_done_ etcs_unit_release_'
 # shellcheck disable=SC2086
 row 'an eighth of a flush, all calls of it' "$(an_event s $flush)" "$(an_event s 'onboard::onboard::Onboard::flush*')"
 row 'an eighth of a flush, prepare alone' "$(an_event s etcs_unit_prepare_)" "$(an_event s 'onboard::onboard::Onboard::flush*')"
+
+printf '\n%-60s %10s %10s\n' 'an opening' 'by sectors' 'a copy'
+for slots in 4 64 1000 7200; do
+    printf '%-60s %10d %10d\n' "of $slots slots" "$(collected "open $slots sectors" opened)" "$(collected "open $slots copy" opened)"
+done

@@ -15,6 +15,9 @@
  *     ...
  *     etcs_file_close(&file, &unit);
  *
+ * etcs_file_open_by_sectors, in place of etcs_file_open, keeps no copy of the file: it reads a sector as the unit wants it, and
+ * so does each flush behind it. The unit then takes as much memory whatever the file's size; all else is the same.
+ *
  * Each call answers what failed (enum etcs_file_answer). Where the system failed, `error` of the file has its errno;
  * where the unit answered something else than OK, `status` has it (enum etcs_unit_status). ANY ANSWER BUT ETCS_FILE_OK
  * MEANS THE EMERGENCY BRAKE.
@@ -120,9 +123,9 @@ static inline uint32_t etcs_file_lock_(etcs_file *file, const char *path, int fl
     return etcs_file_failed_(file, errno == EWOULDBLOCK ? ETCS_FILE_LOCKED : ETCS_FILE_CANT_LOCK);
 }
 
-static inline uint32_t etcs_file_read_(etcs_file *file, uint8_t *bytes, size_t len) {
+static inline uint32_t etcs_file_read_(etcs_file *file, uint8_t *bytes, size_t len, uint64_t from) {
     for (size_t at = 0; at < len;) {
-        const ssize_t got = pread(file->descriptor, bytes + at, len - at, (off_t)at);
+        const ssize_t got = pread(etcs_file_at_(file), bytes + at, len - at, (off_t)(from + at));
         if (got < 0 && errno == EINTR)
             continue;
         if (got == 0)
@@ -232,7 +235,7 @@ static inline uint32_t etcs_file_size_(etcs_file *file, size_t *len) {
     *len = (size_t)end / ETCS_UNIT_SECTOR * ETCS_UNIT_SECTOR;
     if (*len == 0)
         return ETCS_FILE_OK;
-    const uint32_t answer = etcs_file_read_(file, first, sizeof first);
+    const uint32_t answer = etcs_file_read_(file, first, sizeof first, 0);
     if (answer == ETCS_FILE_OK && (etcs_image_facts(first, sizeof first, &facts) != ETCS_UNIT_OK
                                    || *len / ETCS_UNIT_SECTOR != 1 + 6 * facts.slots))
         *len = sizeof first;
@@ -249,7 +252,7 @@ static inline uint8_t *etcs_file_bytes_(etcs_file *file, size_t *len, uint32_t *
         *answer = etcs_file_failed_(file, ETCS_FILE_NO_MEMORY);
         return NULL;
     }
-    *answer = etcs_file_read_(file, bytes, *len);
+    *answer = etcs_file_read_(file, bytes, *len, 0);
     if (*answer == ETCS_FILE_OK)
         return bytes;
     free(bytes);
@@ -269,6 +272,46 @@ static inline uint32_t etcs_file_open_(etcs_file *file, const char *path, etcs_u
     answer = etcs_file_told_(file, etcs_unit_open(unit, bytes, len, cold));
     free(bytes);
     return answer;
+}
+
+/* Reads a sector, and hands it to a power-up, or else to the unit. */
+static inline uint32_t etcs_file_hand_in_(etcs_file *file, etcs_opening *opening, etcs_unit *unit) {
+    uint8_t bytes[ETCS_UNIT_SECTOR];
+    uint64_t sector = 0;
+    uint32_t answer = etcs_file_told_(file, opening ? etcs_opening_wanted(opening, &sector) : etcs_unit_wanted(unit, &sector));
+    if (answer == ETCS_FILE_OK)
+        answer = etcs_file_read_(file, bytes, sizeof bytes, sector * ETCS_UNIT_SECTOR);
+    if (answer != ETCS_FILE_OK)
+        return answer;
+    return etcs_file_told_(file, opening ? etcs_opening_provide(opening, sector, bytes, sizeof bytes)
+                                         : etcs_unit_provide(unit, sector, bytes, sizeof bytes));
+}
+
+/* Powers up in steps, and reads the sector that each wants. */
+static inline uint32_t etcs_file_power_up_(etcs_file *file, etcs_unit *unit, uint32_t cold) {
+    etcs_opening opening;
+    const off_t end = lseek(file->descriptor, 0, SEEK_END);
+    memset(&opening, 0, sizeof opening);
+    if (end < 0)
+        return etcs_file_failed_(file, ETCS_FILE_CANT_READ);
+    uint32_t answer = etcs_file_told_(file, etcs_opening_begin(&opening, (uint64_t)end / ETCS_UNIT_SECTOR, cold));
+    if (answer == ETCS_FILE_OK)
+        answer = etcs_file_told_(file, etcs_opening_go_on(&opening, unit));
+    while (file->status == ETCS_UNIT_SECTOR_WANTED) {
+        answer = etcs_file_hand_in_(file, &opening, NULL);
+        if (answer != ETCS_FILE_OK)
+            break;
+        answer = etcs_file_told_(file, etcs_opening_go_on(&opening, unit));
+    }
+    etcs_opening_close(&opening);
+    return answer;
+}
+
+static inline uint32_t etcs_file_open_by_sectors_(etcs_file *file, const char *path, etcs_unit *unit, uint32_t cold) {
+    uint32_t answer = etcs_file_lock_(file, path, 0);
+    if (answer == ETCS_FILE_OK)
+        answer = etcs_file_settle_(file);
+    return answer == ETCS_FILE_OK ? etcs_file_power_up_(file, unit, cold) : answer;
 }
 
 /* Empties a file, gives it so many bytes of zeros, and syncs its folder; a device must have just so many. */
@@ -328,6 +371,33 @@ static inline uint32_t etcs_file_open(etcs_file *file, const char *path, etcs_un
     return answer;
 }
 
+/** The same with no copy of the file: it reads the sectors alone that the power-up wants, one after the other, and takes no
+ * memory for others. */
+static inline uint32_t etcs_file_open_by_sectors(etcs_file *file, const char *path, etcs_unit *unit, uint32_t cold) {
+    etcs_unit_state_told state;
+    if (etcs_file_at_(file) >= 0 || etcs_unit_state(unit, &state) == ETCS_UNIT_OK)
+        return etcs_file_is_open_(file);
+    const uint32_t answer = etcs_file_open_by_sectors_(file, path, unit, cold);
+    if (answer != ETCS_FILE_OK)
+        etcs_file_shut_(file);
+    return answer;
+}
+
+/** Prepares what is pending. Where the unit holds no copy of the file it reads the sector that the unit wants for it, and where
+ * that fails it says so to the unit (etcs_unit_fail). */
+static inline uint32_t etcs_file_prepare(etcs_file *file, etcs_unit *unit) {
+    uint32_t answer = etcs_file_told_(file, etcs_unit_prepare(unit));
+    while (file->status == ETCS_UNIT_SECTOR_WANTED) {
+        answer = etcs_file_hand_in_(file, NULL, unit);
+        if (answer != ETCS_FILE_OK) {
+            etcs_unit_fail(unit);
+            break;
+        }
+        answer = etcs_file_told_(file, etcs_unit_prepare(unit));
+    }
+    return answer;
+}
+
 /** Carries out the unit's requests that aren't done, one after the other, and says of each that it is done. Where the
  * file fails it says so to the unit (etcs_unit_fail), so that nothing is released any more. */
 static inline uint32_t etcs_file_carry_out(etcs_file *file, etcs_unit *unit) {
@@ -357,18 +427,18 @@ static inline uint32_t etcs_file_release_(etcs_file *file, etcs_unit *unit, etcs
     return etcs_file_told_(file, etcs_unit_release(unit, outputs, ETCS_UNIT_OUTPUTS, count));
 }
 
-/** Prepares what is pending, carries it out, and releases it: `count` outputs, the oldest first, in room for
+/** Prepares what is pending (etcs_file_prepare), carries it out, and releases it: `count` outputs, the oldest first, in room for
  * ETCS_UNIT_OUTPUTS. Behind etcs_file_open it carries out the power-up too. Where requests of an earlier
  * etcs_unit_prepare are owed that hold outputs back, it releases those alone, and what is pending waits for the next
  * flush. Where it answers something else than OK, `count` is 0. */
 static inline uint32_t etcs_file_flush(etcs_file *file, etcs_unit *unit, etcs_unit_output *outputs, uint32_t *count) {
     *count = 0;
-    uint32_t answer = etcs_file_told_(file, etcs_unit_prepare(unit));
+    uint32_t answer = etcs_file_prepare(file, unit);
     if (file->status == ETCS_UNIT_REQUESTS_OWED) {
         answer = etcs_file_release_(file, unit, outputs, count);
         if (answer != ETCS_FILE_OK || *count > 0)
             return answer;
-        answer = etcs_file_told_(file, etcs_unit_prepare(unit));
+        answer = etcs_file_prepare(file, unit);
     }
     return answer == ETCS_FILE_OK ? etcs_file_release_(file, unit, outputs, count) : answer;
 }
@@ -450,20 +520,6 @@ typedef struct {
     uint32_t reserved; /**< zero */
 } etcs_times;
 
-static inline uint32_t etcs_archive_read_(etcs_file *file, uint8_t *bytes, size_t len, uint64_t from) {
-    for (size_t at = 0; at < len;) {
-        const ssize_t got = pread(etcs_file_at_(file), bytes + at, len - at, (off_t)(from + at));
-        if (got < 0 && errno == EINTR)
-            continue;
-        if (got == 0)
-            errno = EIO;
-        if (got <= 0)
-            return etcs_file_failed_(file, ETCS_FILE_CANT_READ);
-        at += (size_t)got;
-    }
-    return ETCS_FILE_OK;
-}
-
 static inline uint64_t etcs_archive_big_(const uint8_t *bytes) {
     uint64_t number = 0;
     for (int at = 0; at < 8; at++)
@@ -506,7 +562,7 @@ static inline uint32_t etcs_archive_begin_(etcs_archive *archive, const char *pa
         return etcs_file_failed_(&archive->file, ETCS_FILE_CANT_READ);
     const size_t some = end < ETCS_UNIT_SECTOR ? (size_t)end : (size_t)ETCS_UNIT_SECTOR;
     etcs_archive_first_(first);
-    uint32_t answer = etcs_archive_read_(&archive->file, there, some, 0);
+    uint32_t answer = etcs_file_read_(&archive->file, there, some, 0);
     if (answer != ETCS_FILE_OK)
         return answer;
     if (memcmp(first, there, some) != 0)
@@ -550,7 +606,7 @@ static inline uint32_t etcs_archive_append_(etcs_archive *archive, const uint8_t
 
 /* The bytes of the block of this number, where the image has it: then `found` is its number, else 0. */
 static inline uint32_t etcs_archive_look_(etcs_archive *archive, etcs_file *file, uint64_t number, uint8_t *slot, uint64_t *found) {
-    const uint32_t answer = etcs_archive_read_(file, slot, ETCS_ARCHIVE_ENTRY, etcs_archive_place_(number % archive->slots));
+    const uint32_t answer = etcs_file_read_(file, slot, ETCS_ARCHIVE_ENTRY, etcs_archive_place_(number % archive->slots));
     *found = answer == ETCS_FILE_OK && etcs_archive_block_(slot) == number ? number : 0;
     return answer;
 }
@@ -560,7 +616,7 @@ static inline uint32_t etcs_archive_range_(etcs_archive *archive, etcs_file *fil
     uint8_t gate[ETCS_UNIT_SECTOR];
     *least = *greatest = 0;
     for (uint64_t slot = 0; slot < archive->slots; slot++) {
-        const uint32_t answer = etcs_archive_read_(file, gate, sizeof gate, etcs_archive_place_(slot));
+        const uint32_t answer = etcs_file_read_(file, gate, sizeof gate, etcs_archive_place_(slot));
         const uint64_t number = answer == ETCS_FILE_OK ? etcs_archive_gate_(gate) : 0;
         if (answer != ETCS_FILE_OK)
             return answer;
@@ -580,7 +636,7 @@ static inline uint32_t etcs_archive_catch_up_(etcs_archive *archive, etcs_file *
     uint64_t last = 0, least = 0, newest = 0, found = 0;
     uint32_t answer = ETCS_FILE_OK;
     for (uint64_t place = before; answer == ETCS_FILE_OK && last == 0 && place > 0; place--) {
-        answer = etcs_archive_read_(&archive->file, entry, sizeof entry, etcs_archive_place_(place - 1));
+        answer = etcs_file_read_(&archive->file, entry, sizeof entry, etcs_archive_place_(place - 1));
         last = answer == ETCS_FILE_OK ? etcs_archive_block_(entry) : 0;
     }
     if (answer == ETCS_FILE_OK)
@@ -592,7 +648,7 @@ static inline uint32_t etcs_archive_catch_up_(etcs_archive *archive, etcs_file *
         const uint64_t place = before + number - last - 1; /* (wraps below 0, and is no place then) */
         int is_there = place < before;
         if (is_there) {
-            answer = etcs_archive_read_(&archive->file, entry, sizeof entry, etcs_archive_place_(place));
+            answer = etcs_file_read_(&archive->file, entry, sizeof entry, etcs_archive_place_(place));
             is_there = answer == ETCS_FILE_OK && memcmp(entry, slot, sizeof entry) == 0;
         }
         if (answer == ETCS_FILE_OK && !is_there)
@@ -610,7 +666,7 @@ static inline uint32_t etcs_archive_next_(etcs_archive *archive, etcs_file *file
     if (answer == ETCS_FILE_OK && *found == 0) {
         /* a slot that is written over, or was: then the next one has a later block, since one gate is closed at a time */
         uint8_t gate[ETCS_UNIT_SECTOR];
-        answer = etcs_archive_read_(file, gate, sizeof gate, etcs_archive_place_((archive->behind + 2) % archive->slots));
+        answer = etcs_file_read_(file, gate, sizeof gate, etcs_archive_place_((archive->behind + 2) % archive->slots));
         if (answer == ETCS_FILE_OK && (etcs_archive_gate_(gate) > archive->behind || etcs_archive_gate_(slot) > archive->behind))
             answer = etcs_archive_range_(archive, file, archive->behind, &least, &greatest);
         if (answer == ETCS_FILE_OK && least != 0)
@@ -640,7 +696,7 @@ static inline uint32_t etcs_archive_keep(etcs_archive *archive, etcs_file *file,
         return etcs_file_failed_(&archive->file, ETCS_FILE_CANT_READ);
     }
     if (archive->slots == 0) {
-        answer = etcs_archive_read_(file, first, sizeof first, 0);
+        answer = etcs_file_read_(file, first, sizeof first, 0);
         if (answer == ETCS_FILE_OK)
             answer = etcs_file_told_(&archive->file, etcs_image_facts(first, sizeof first, &facts));
         if (answer == ETCS_FILE_OK)
@@ -671,7 +727,7 @@ static inline uint32_t etcs_times_life_(etcs_times *times, etcs_file *file) {
     etcs_archive look;
     uint64_t least = 0, newest = 0;
     memset(&look, 0, sizeof look);
-    uint32_t answer = etcs_archive_read_(file, bytes, sizeof bytes, 0);
+    uint32_t answer = etcs_file_read_(file, bytes, sizeof bytes, 0);
     if (answer == ETCS_FILE_OK)
         answer = etcs_file_told_(&times->file, etcs_image_facts(bytes, sizeof bytes, &facts));
     if (answer != ETCS_FILE_OK)
@@ -679,7 +735,7 @@ static inline uint32_t etcs_times_life_(etcs_times *times, etcs_file *file) {
     look.slots = (uint32_t)facts.slots;
     answer = etcs_archive_range_(&look, file, 0, &least, &newest);
     if (answer == ETCS_FILE_OK && newest != 0)
-        answer = etcs_archive_read_(file, bytes, sizeof bytes, etcs_archive_place_(newest % look.slots) + ETCS_UNIT_SECTOR);
+        answer = etcs_file_read_(file, bytes, sizeof bytes, etcs_archive_place_(newest % look.slots) + ETCS_UNIT_SECTOR);
     if (answer == ETCS_FILE_OK)
         times->life = newest == 0 ? 0 : (uint32_t)bytes[24] << 24 | (uint32_t)bytes[25] << 16 | (uint32_t)bytes[26] << 8 | bytes[27];
     return answer;
@@ -693,11 +749,11 @@ static inline uint32_t etcs_times_begin_(etcs_times *times, const char *path) {
     if (end < 0)
         return etcs_file_failed_(&times->file, ETCS_FILE_CANT_READ);
     const size_t some = (size_t)end < len ? (size_t)end : len;
-    uint32_t answer = etcs_archive_read_(&times->file, there, some, 0);
+    uint32_t answer = etcs_file_read_(&times->file, there, some, 0);
     if (answer == ETCS_FILE_OK && memcmp(there, ETCS_TIMES_FIRST, some) != 0)
         return ETCS_FILE_NO_MARKS;
     while (answer == ETCS_FILE_OK && some == len && end > (off_t)len) {
-        answer = etcs_archive_read_(&times->file, there, 1, (uint64_t)end - 1);
+        answer = etcs_file_read_(&times->file, there, 1, (uint64_t)end - 1);
         if (answer == ETCS_FILE_OK && there[0] == '\n')
             break;
         end--;

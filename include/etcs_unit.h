@@ -5,8 +5,9 @@
  * Link with libetcs_unit.a or libetcs_unit.so, which `tools/library PREFIX` builds and installs with this header.
  *
  * The unit opens no file and calls nothing back. Its journal lies on a medium of the maker's own. The unit holds a copy
- * of the medium's sectors, and tells what is to be done on the medium: a list of requests, each to write some sectors
- * or to sync. The maker carries them out in their order, says how many are done, and only then gets outputs:
+ * of the medium's sectors, or only some of them (below), and tells what is to be done on the medium: a list of requests,
+ * each to write some sectors or to sync. The maker carries them out in their order, says how many are done, and only then
+ * gets outputs:
  *
  *     etcs_unit unit = {0};
  *     etcs_unit_output outputs[ETCS_UNIT_OUTPUTS];
@@ -32,26 +33,48 @@
  * where carry_out takes request after request, 0 and on, until one answers ETCS_UNIT_NO_SUCH_REQUEST, and then calls
  * etcs_unit_done with their number, or etcs_unit_fail where the medium failed. etcs_file.h has one for a POSIX file.
  *
+ * A unit that holds no copy of its medium takes as much memory whatever the medium's size. It is powered up in steps, each
+ * as far as sectors are known; the maker reads the sector that is wanted, and hands it in:
+ *
+ *     etcs_opening opening = {0};
+ *     uint8_t bytes[ETCS_UNIT_SECTOR];
+ *     uint64_t sector;
+ *     uint32_t status = etcs_opening_begin(&opening, sectors, ETCS_COLD_UNKNOWN);
+ *
+ *     if (status == ETCS_UNIT_OK)
+ *         status = etcs_opening_go_on(&opening, &unit);
+ *     while (status == ETCS_UNIT_SECTOR_WANTED && etcs_opening_wanted(&opening, &sector) == ETCS_UNIT_OK
+ *            && read_sector(sector, bytes)
+ *            && etcs_opening_provide(&opening, sector, bytes, ETCS_UNIT_SECTOR) == ETCS_UNIT_OK)
+ *         status = etcs_opening_go_on(&opening, &unit);
+ *     if (status != ETCS_UNIT_OK)
+ *         brake();
+ *
+ * Its etcs_unit_prepare may answer ETCS_UNIT_SECTOR_WANTED too: then the sector that etcs_unit_wanted tells is read and
+ * handed in by etcs_unit_provide, and etcs_unit_prepare is called again. All else is as over a copy.
+ *
  * ANY ANSWER BUT ETCS_UNIT_OK MEANS THE EMERGENCY BRAKE, unless it is a mistake that is put right before the next output is
  * due: etcs_status_kind parts what an answer may be. An output reaches the train from etcs_unit_release alone.
  *
  * Every call returns, whatever numbers it is handed, and answers a number of enum etcs_unit_status. A null pointer is
  * answered with ETCS_UNIT_NULL_POINTER. What no call can test, the caller owes:
  *
- * - an etcs_unit is all zeros before its first call, and from then on holds only what these calls left there; while it
- *   is open nobody copies it, moves it or writes to it;
+ * - an etcs_unit and an etcs_opening are all zeros before their first call, and from then on hold only what these calls
+ *   left there; while one is open nobody copies it, moves it or writes to it;
  * - each other pointer is good for what it points to: a buffer for its length, a struct for its size; nobody else
  *   writes there, and none of them overlap, while the call runs;
- * - the sectors that are handed to etcs_unit_open are those of the medium, and nobody but this unit writes there while it
- *   is open;
+ * - the sectors that are handed to etcs_unit_open are those of the medium, a sector that is handed in later is what the
+ *   medium holds then, of which each request that was said to be done was carried out, and nobody but this unit writes
+ *   there while it, or its opening, is open;
  * - requests are carried out in their order, each whole before the next one, and are said to be done only then;
  * - the word on movements without power is true (ETCS_COLD_UNKNOWN in doubt).
  *
  * A unit is for one call at a time. It may be handed from one task to another, as from the one that opens it to a cyclic
- * one, where a lock (or a queue, or the start of the task) orders their calls: the library keeps nothing beside its units,
- * and nothing by thread. Units share nothing, so different ones may be called from different threads at once; but where
- * memory is of the maker's own, see etcs_memory.h. Memory is taken by etcs_unit_open, and by the calls that take an input;
- * close gives all of it back. No call blocks, and none is for a signal handler or an interrupt.
+ * one, where a lock (or a queue, or the start of the task) orders their calls: the library keeps nothing beside its units
+ * and openings, and nothing by thread. Units share nothing, so different ones may be called from different threads at
+ * once; but where memory is of the maker's own, see etcs_memory.h. Memory is taken by etcs_unit_open, etcs_opening_begin and
+ * etcs_opening_go_on, and by the calls that take an input; close gives all of it back. No call blocks, and none is for a
+ * signal handler or an interrupt.
  *
  * Each call that this header defines stands in the library too, by the same name: for Ada, Python, and who else reads no
  * header. There the number of the interface isn't compared: compare etcs_abi first.
@@ -80,7 +103,7 @@ extern "C" {
 #endif
 
 /** The number of this interface: counted up with each change that a caller can see. */
-#define ETCS_UNIT_ABI 4
+#define ETCS_UNIT_ABI 5
 
 /** The bytes of the version, at most. */
 #define ETCS_VERSION_BYTES 32
@@ -98,7 +121,8 @@ extern "C" {
  *
  * - 1 to 6, opening: no unit was opened, and the medium is to be left as it is.
  * - 10 to 13, taking an input: nothing changed.
- * - 21 to 23, preparing and releasing: nothing is released.
+ * - 21 to 24, preparing and releasing: nothing is released; 24 also opening in steps, which goes on then.
+ * - 25, asking for a sector.
  * - 31 to 39, reading an image (etcs_image.h): nothing is written.
  * - 41, formatting.
  * - 247 to 255, the call itself: nothing changed. */
@@ -106,10 +130,10 @@ enum etcs_unit_status {
     ETCS_UNIT_OK = 0, /**< the call did what it was asked */
 
     /* opening */
-    ETCS_UNIT_OPEN_DEVICE_FAULT = 1,  /**< never answered: the copy has room for all requests */
+    ETCS_UNIT_OPEN_DEVICE_FAULT = 1,  /**< never answered: there is room for all requests */
     ETCS_UNIT_OPEN_NOT_FORMATTED = 2, /**< the first sector isn't that of a journal, or there is none */
     ETCS_UNIT_OPEN_DAMAGED = 3,       /**< the size isn't that of the slots, or the newest block isn't readable */
-    ETCS_UNIT_OPEN_NO_MEMORY = 4,     /**< there is no memory for the copy */
+    ETCS_UNIT_OPEN_NO_MEMORY = 4,     /**< there is no memory for the unit and what it holds of the medium */
     ETCS_UNIT_OPEN_WORN_OUT = 6,      /**< there is no block number after 2^40: a new medium */
 
     /* taking an input */
@@ -122,6 +146,10 @@ enum etcs_unit_status {
     ETCS_UNIT_FAILED = 21,        /**< the medium failed: close, and open again */
     ETCS_UNIT_REQUESTS_OWED = 22, /**< requests aren't done, or not released yet */
     ETCS_UNIT_WORN_OUT = 23,      /**< there is no block number after 2^40: a new medium */
+    ETCS_UNIT_SECTOR_WANTED = 24, /**< a sector has to be handed in first (etcs_unit_wanted, etcs_opening_wanted); call again after it */
+
+    /* asking for a sector */
+    ETCS_UNIT_NONE_WANTED = 25, /**< no sector is wanted */
 
     /* reading an image */
     ETCS_UNIT_IMAGE_NOT_FORMATTED = 31, /**< the first sector isn't that of a journal, or there is none */
@@ -139,8 +167,8 @@ enum etcs_unit_status {
     ETCS_UNIT_NOT_RELEASED = 247,    /**< an input is pending, or requests aren't released yet: release first */
     ETCS_UNIT_WRONG_COUNT = 248,     /**< more requests were said to be done than there are, or fewer than before */
     ETCS_UNIT_NO_SUCH_REQUEST = 249, /**< the list ends before it */
-    ETCS_UNIT_NOT_OPEN = 250,        /**< the unit is closed, or was never opened */
-    ETCS_UNIT_IS_OPEN = 251,         /**< the unit is open already */
+    ETCS_UNIT_NOT_OPEN = 250,        /**< the unit, or the opening, is closed, or was never opened */
+    ETCS_UNIT_IS_OPEN = 251,         /**< the unit, or the opening, is open already */
     ETCS_UNIT_NO_ROOM = 252,         /**< the buffer is too small */
     ETCS_UNIT_NULL_POINTER = 253,    /**< a pointer is null */
     ETCS_UNIT_OTHER_ABI = 254,       /**< the header is of another interface than the library */
@@ -273,6 +301,12 @@ typedef struct {
     void *at;         /**< where the unit is */
     uint64_t is_open; /**< 1 where it is open, else 0 */
 } etcs_unit;
+
+/** A power-up that is under way, in the caller's memory. Its fields are the library's. */
+typedef struct {
+    void *at;         /**< where the power-up is */
+    uint64_t is_open; /**< 1 where one is under way, else 0 */
+} etcs_opening;
 
 /** An output that may reach the train. */
 typedef struct {
@@ -435,6 +469,13 @@ uint32_t etcs_unit_action_(etcs_unit *unit, uint32_t action);
 uint32_t etcs_unit_identity_(etcs_unit *unit, const uint8_t *bytes, size_t len);
 uint32_t etcs_unit_running_number_(etcs_unit *unit, uint32_t number);
 uint32_t etcs_unit_train_data_(etcs_unit *unit, const etcs_train_data *data);
+uint32_t etcs_opening_begin_(etcs_opening *opening, uint64_t sectors, uint32_t cold, uint32_t abi);
+uint32_t etcs_opening_go_on_(etcs_opening *opening, etcs_unit *unit);
+uint32_t etcs_opening_wanted_(etcs_opening *opening, uint64_t *sector);
+uint32_t etcs_opening_provide_(etcs_opening *opening, uint64_t sector, const uint8_t *bytes, size_t size);
+uint32_t etcs_opening_close_(etcs_opening *opening);
+uint32_t etcs_unit_wanted_(etcs_unit *unit, uint64_t *sector);
+uint32_t etcs_unit_provide_(etcs_unit *unit, uint64_t sector, const uint8_t *bytes, size_t size);
 uint32_t etcs_unit_prepare_(etcs_unit *unit);
 uint32_t etcs_unit_request_(etcs_unit *unit, uint32_t index, etcs_unit_request_told *request, uint8_t *bytes, size_t room);
 uint32_t etcs_unit_done_(etcs_unit *unit, uint32_t count);
@@ -477,6 +518,8 @@ static inline const char *etcs_status_text(uint32_t status) {
     case (uint32_t)ETCS_UNIT_FAILED: text = "FAILED"; break;
     case (uint32_t)ETCS_UNIT_REQUESTS_OWED: text = "REQUESTS_OWED"; break;
     case (uint32_t)ETCS_UNIT_WORN_OUT: text = "WORN_OUT"; break;
+    case (uint32_t)ETCS_UNIT_SECTOR_WANTED: text = "SECTOR_WANTED"; break;
+    case (uint32_t)ETCS_UNIT_NONE_WANTED: text = "NONE_WANTED"; break;
     case (uint32_t)ETCS_UNIT_IMAGE_NOT_FORMATTED: text = "IMAGE_NOT_FORMATTED"; break;
     case (uint32_t)ETCS_UNIT_IMAGE_DAMAGED: text = "IMAGE_DAMAGED"; break;
     case (uint32_t)ETCS_UNIT_NO_SUCH_SLOT: text = "NO_SUCH_SLOT"; break;
@@ -514,6 +557,8 @@ static inline uint32_t etcs_status_kind(uint32_t status, uint32_t source) {
         break;
     case (uint32_t)ETCS_UNIT_PENDING_FULL:
     case (uint32_t)ETCS_UNIT_REQUESTS_OWED:
+    case (uint32_t)ETCS_UNIT_SECTOR_WANTED:
+    case (uint32_t)ETCS_UNIT_NONE_WANTED:
     case (uint32_t)ETCS_UNIT_NOT_RELEASED:
     case (uint32_t)ETCS_UNIT_WRONG_COUNT:
     case (uint32_t)ETCS_UNIT_NO_SUCH_REQUEST:
@@ -535,6 +580,53 @@ static inline uint32_t etcs_status_kind(uint32_t status, uint32_t source) {
  * before. Takes memory: the copy, some 9 kB of room for requests, and the unit. */
 static inline uint32_t etcs_unit_open(etcs_unit *unit, const uint8_t *image, size_t len, uint32_t cold) {
     return ((unit != NULL) && (image != NULL)) ? etcs_unit_open_(unit, image, len, cold, ETCS_UNIT_ABI) : (uint32_t)ETCS_UNIT_NULL_POINTER;
+}
+
+/* ---- a power-up over a medium that isn't copied: a unit that is opened so holds 16 sectors and its requests, whatever the
+ * medium's size. It wants the first sector, of each slot the gate, and the head where the gate is open, then the six sectors
+ * of the newest block's slot, and the gate of the next one. */
+
+/** Begins a power-up on a medium of so many sectors, of which none is known yet. Answers OK, IS_OPEN, OTHER_ABI,
+ * OUT_OF_RANGE (the word) or OPEN_NO_MEMORY; but for OK nothing changed. */
+static inline uint32_t etcs_opening_begin(etcs_opening *opening, uint64_t sectors, uint32_t cold) {
+    return (opening != NULL) ? etcs_opening_begin_(opening, sectors, cold, ETCS_UNIT_ABI) : (uint32_t)ETCS_UNIT_NULL_POINTER;
+}
+
+/** Goes on as far as sectors are known. OK: the opening is closed and the unit open, as etcs_unit_open leaves one, with the
+ * requests of the power-up in the list. SECTOR_WANTED: hand in the sector that etcs_opening_wanted tells, and call again.
+ * A status of opening: the opening is closed, no unit is open, and the medium is to be left as it is. IS_OPEN, where the unit
+ * is open already, and NOT_OPEN, where no opening is: nothing changed. */
+static inline uint32_t etcs_opening_go_on(etcs_opening *opening, etcs_unit *unit) {
+    return ((opening != NULL) && (unit != NULL)) ? etcs_opening_go_on_(opening, unit) : (uint32_t)ETCS_UNIT_NULL_POINTER;
+}
+
+/** Tells the sector that the opening wants, from 0 on, until it is handed in. Answers OK, NONE_WANTED or NOT_OPEN; but for OK
+ * `sector` isn't written. */
+static inline uint32_t etcs_opening_wanted(etcs_opening *opening, uint64_t *sector) {
+    return ((opening != NULL) && (sector != NULL)) ? etcs_opening_wanted_(opening, sector) : (uint32_t)ETCS_UNIT_NULL_POINTER;
+}
+
+/** Hands in what the medium holds of a sector, ETCS_UNIT_SECTOR bytes. Answers OK, NOT_OPEN, or OUT_OF_RANGE where the medium
+ * has no such sector or `size` is another; but for OK nothing changed. */
+static inline uint32_t etcs_opening_provide(etcs_opening *opening, uint64_t sector, const uint8_t *bytes, size_t size) {
+    return ((opening != NULL) && (bytes != NULL)) ? etcs_opening_provide_(opening, sector, bytes, size) : (uint32_t)ETCS_UNIT_NULL_POINTER;
+}
+
+/** Gives a power-up up, and its memory back; nothing was written to the medium. Answers OK, or NOT_OPEN, which is allowed. */
+static inline uint32_t etcs_opening_close(etcs_opening *opening) {
+    return (opening != NULL) ? etcs_opening_close_(opening) : (uint32_t)ETCS_UNIT_NULL_POINTER;
+}
+
+/** Tells the sector that the unit wants, from 0 on, until it is handed in: where etcs_unit_prepare answered SECTOR_WANTED.
+ * Answers OK, NONE_WANTED or NOT_OPEN; but for OK `sector` isn't written. */
+static inline uint32_t etcs_unit_wanted(etcs_unit *unit, uint64_t *sector) {
+    return ((unit != NULL) && (sector != NULL)) ? etcs_unit_wanted_(unit, sector) : (uint32_t)ETCS_UNIT_NULL_POINTER;
+}
+
+/** Hands in what the medium holds of a sector, ETCS_UNIT_SECTOR bytes. Answers OK, NOT_OPEN, or OUT_OF_RANGE where the medium
+ * has no such sector or `size` is another; but for OK nothing changed. */
+static inline uint32_t etcs_unit_provide(etcs_unit *unit, uint64_t sector, const uint8_t *bytes, size_t size) {
+    return ((unit != NULL) && (bytes != NULL)) ? etcs_unit_provide_(unit, sector, bytes, size) : (uint32_t)ETCS_UNIT_NULL_POINTER;
 }
 
 /* ---- inputs: each takes one input into memory, also while requests are carried out. Nothing is released. They answer
@@ -578,8 +670,9 @@ static inline uint32_t etcs_unit_train_data(etcs_unit *unit, const etcs_train_da
 
 /* ---- from inputs to outputs */
 
-/** Puts what is pending onto the copy: its requests are then in the list, and its outputs held back. Where nothing is
- * pending the list stays empty. Answers OK, NOT_OPEN, or a status of preparing. */
+/** Puts what is pending into requests: they are then in the list, and its outputs held back. Where nothing is pending the list
+ * stays empty. Answers OK, NOT_OPEN, or a status of preparing; SECTOR_WANTED only where the unit holds no copy of its
+ * medium: hand in the sector that etcs_unit_wanted tells, and call again. */
 static inline uint32_t etcs_unit_prepare(etcs_unit *unit) {
     return (unit != NULL) ? etcs_unit_prepare_(unit) : (uint32_t)ETCS_UNIT_NULL_POINTER;
 }

@@ -81,7 +81,7 @@ nm --defined-only --extern-only "$static" | sed -n 's/^[0-9a-f]* . //p' | LC_ALL
 diff "$made/names" "$made/in_archive" || fails "the library without malloc shows other names than the headers declare"
 asked=$(nm -u "$static" | sed -n 's/^ *U //p' | LC_ALL=C sort -u | tr '\n' ' ')
 [ "$asked" = "memcpy memmove memset " ] || fails "the library without malloc asks for $asked"
-counted "names of the library" "$(wc -l <"$made/shown")" 64
+counted "names of the library" "$(wc -l <"$made/shown")" 78
 "$python" "$top/tests/unit/symbols.py" "$shared" $(cat "$made/shown") || fails "the calls as symbols"
 needed=$(objdump -p "$shared" | sed -n 's/^ *NEEDED *//p' | tr '\n' ' ')
 soname=$(objdump -p "$shared" | sed -n 's/^ *SONAME *//p')
@@ -100,13 +100,13 @@ build() {
 built=0
 link=("$archive")
 "$python" "$top/tests/unit/layout.py" --program >"$made/places.c" || fails "layout.py prints no program"
-for name in layout misuse files kept two life reading listing again explained telegrams; do
+for name in layout misuse sectors files kept two life reading listing again explained telegrams; do
     source=$top/tests/unit/$name.c
     [ "$name" != layout ] || source=$made/places.c
     for compiler in "${compilers[@]}"; do build "$name.$compiler" "$source" "$compiler" -x c -std=c99 -O2; done
     build "$name.cpp" "$source" g++ -x c++ -std=c++17 -O2 -Wno-missing-field-initializers
 done
-for name in misuse files kept two life reading listing again explained telegrams; do
+for name in misuse sectors files kept two life reading listing again explained telegrams; do
     build "$name.checked" "$top/tests/unit/$name.c" gcc -x c -std=c99 -O1 "${sanitizers[@]}"
 done
 for name in brake flash why; do
@@ -125,7 +125,7 @@ link=(-L "$prefix/lib" -letcs_unit)
 for name in misuse two reading; do build "$name.shared" "$top/tests/unit/$name.c" gcc -x c -std=c99 -O2; done
 rustc --edition 2021 -D warnings -O -L "$prefix/lib" -l static=etcs_unit "$top/examples/embedding/rust/brake.rs" -o "$made/brake.rs" &&
     built=$((built + 1)) || fails "examples/embedding/rust doesn't compile"
-counted "programs built" $built 43
+counted "programs built" $built 46
 
 # ---- what they answer
 
@@ -137,7 +137,7 @@ runs_well() {
 }
 
 "$python" "$top/tests/unit/layout.py" "$made"/layout.* || fails "sizes and places differ"
-for program in "$made"/misuse.* "$made"/two.* "$made"/reading.* "$made"/telegrams.*; do runs_well "$program"; done
+for program in "$made"/misuse.* "$made"/sectors.* "$made"/two.* "$made"/reading.* "$made"/telegrams.*; do runs_well "$program"; done
 for program in "$made"/files.* "$made"/kept.*; do
     rm -rf "$made/room"
     mkdir "$made/room"
@@ -145,14 +145,14 @@ for program in "$made"/files.* "$made"/kept.*; do
 done
 for program in "$made"/flash.*; do runs_well "$program"; done
 mv "$made/said" "$made/flash"
-for program in misuse.gcc two.gcc reading.gcc telegrams.gcc "files.gcc $made/room" "kept.gcc $made/room" "brake.gcc $made/image.valgrind" flash.gcc "why.gcc $made/image.valgrind" \
+for program in misuse.gcc sectors.gcc two.gcc reading.gcc telegrams.gcc "files.gcc $made/room" "kept.gcc $made/room" "brake.gcc $made/image.valgrind" flash.gcc "why.gcc $made/image.valgrind" \
     "again.gcc $made/image.valgrind why 7"; do
     rm -rf "$made/room"
     mkdir "$made/room"
     # shellcheck disable=SC2086
     runs_well valgrind -q --error-exitcode=9 --leak-check=full --errors-for-leak-kinds=all --show-leak-kinds=all $(echo "$made/$program")
 done
-counted "runs of them, 10 of them under valgrind" $runs 33
+counted "runs of them, 11 of them under valgrind" $runs 37
 
 # ---- the examples: the same train in each language, over the same file
 
@@ -219,6 +219,14 @@ link=("$static")
 build bounded.gcc "$top/tests/unit/bounded.c" gcc -x c -std=c99 -O2
 "$python" "$top/tests/unit/bounded_lives.py" "$made/bounded.gcc" || status=1
 "$python" "$top/tests/unit/bounded_lives.py" "$made/bounded.gcc" hours 24 || status=1
+"$python" "$top/tests/unit/bounded_lives.py" "$made/bounded.gcc" hours 1 sectors || status=1
+
+# ---- a unit by sectors: what it reads, and that its memory is the same over any ring
+
+build sized.buffer "$top/tests/unit/sized.c" gcc -x c -std=c99 -O2 -DOWN_MEMORY
+link=("$archive")
+build sized.malloc "$top/tests/unit/sized.c" gcc -x c -std=c99 -O2
+"$python" "$top/tests/unit/sized.py" "$made/sized.malloc" "$made/sized.buffer" || status=1
 # (the archive as the toolchain built it, which asks for memory by three names)
 raw=${ETCS_UNIT_ARCHIVE:-$top/crates/etcs_unit/out/libetcs_unit.a}
 link=("$raw" -Wl,--wrap=rattle_alloc,--wrap=rattle_realloc,--wrap=rattle_dealloc)
@@ -230,8 +238,8 @@ for program in "$made"/refused.*; do "$python" "$top/tests/unit/refused_lives.py
 
 # ---- the package in Python, and the pages
 
-(cd "$top/python" && "$python" -m unittest -q tests.test_unit) >"$made/said" 2>&1 && grep -q '^Ran 17 tests' "$made/said" && ! grep -q skipped "$made/said" ||
-    { cat "$made/said"; fails "python/tests/test_unit.py: failures, or other than 17 tests"; }
+(cd "$top/python" && "$python" -m unittest -q tests.test_unit) >"$made/said" 2>&1 && grep -q '^Ran 24 tests' "$made/said" && ! grep -q skipped "$made/said" ||
+    { cat "$made/said"; fails "python/tests/test_unit.py: failures, or other than 24 tests"; }
 "$python" "$top/tests/unit/integration.py" || status=1
 ETCS_LAB=$lab ETCS_UNIT_ARCHIVE=$raw ETCS_C_ARCHIVE=${ETCS_C_ARCHIVE:-$top/crates/etcs_c/out/libetcs_c.a} "$python" "$top/tests/pages.py" EMBEDDING || status=1
 echo "the unit: $([ $status -eq 0 ] && echo "no failures" || echo "failures, see above")"

@@ -1,5 +1,6 @@
 /* The unit on a board without an operating system and without a C library: QEMU's `virt`, 64 bits of ARM. Its memory is a
- * buffer, its journal lies where a reset leaves it, and what is commanded goes to the serial line.
+ * buffer, its journal lies where a reset leaves it, and what is commanded goes to the serial line. The unit holds no copy of
+ * the journal: it is handed the sectors that it wants.
  *
  * A cycle of 100 ms, as a timer would call it: the odometer, the clock, and where there is one a telegram; then all of it
  * goes onto the medium, and what is released is obeyed. The train is simulated: it gets an authority of 1,000 m, and
@@ -9,10 +10,12 @@
 
 enum { CYCLE_MS = 100, MOST_CYCLES = 2000, SLOTS = 64, SECTORS = 1 + 6 * SLOTS };
 
-/* What the unit may take: groups of at most 16 packets, 32 restrictions, 100 gradients, 100 static speeds at once. */
-static _Alignas(16) uint8_t memory[ETCS_MEMORY_BYTES(SLOTS, 16, 32, 100, 100)];
+/* What the unit may take: groups of at most 16 packets, 32 restrictions, 100 gradients, 100 static speeds at once. Whatever
+ * the slots, it holds 16 sectors. */
+static _Alignas(16) uint8_t memory[ETCS_MEMORY_BYTES(0, 16, 32, 100, 100)];
 
-/* The medium: memory that keeps what it has where the board is reset. A driver of a flash stands in its place. */
+/* The medium: memory that keeps what it has where the board is reset. A driver of a flash stands in its place, by which a
+ * sector is read before it is handed in. */
 static uint8_t (*const medium)[ETCS_UNIT_SECTOR] = (uint8_t (*)[ETCS_UNIT_SECTOR])UINT64_C(0x4A000000);
 
 typedef struct {
@@ -54,6 +57,39 @@ static int carries_out(const etcs_unit_request_told *request, const uint8_t *byt
         medium[request->sector][i] = bytes[i];
     }
     return 1;
+}
+
+/* Powers up: goes on as far as it is known what the medium holds, and hands in the sector that is wanted. */
+static uint32_t power_up(etcs_unit *unit) {
+    etcs_opening opening = {0};
+    uint64_t sector = 0;
+    uint32_t status = etcs_opening_begin(&opening, SECTORS, ETCS_COLD_UNKNOWN);
+    if (status != ETCS_UNIT_OK) {
+        return status;
+    }
+    while ((status = etcs_opening_go_on(&opening, unit)) == ETCS_UNIT_SECTOR_WANTED) {
+        (void)etcs_opening_wanted(&opening, &sector);
+        status = etcs_opening_provide(&opening, sector, medium[sector], ETCS_UNIT_SECTOR);
+        if (status != ETCS_UNIT_OK) {
+            (void)etcs_opening_close(&opening);
+            break;
+        }
+    }
+    return status;
+}
+
+/* Prepares: the unit wants the gate of the slot that it will write to, where it doesn't know it. */
+static uint32_t prepare(etcs_unit *unit) {
+    uint64_t sector = 0;
+    uint32_t status;
+    while ((status = etcs_unit_prepare(unit)) == ETCS_UNIT_SECTOR_WANTED) {
+        (void)etcs_unit_wanted(unit, &sector);
+        status = etcs_unit_provide(unit, sector, medium[sector], ETCS_UNIT_SECTOR);
+        if (status != ETCS_UNIT_OK) {
+            break;
+        }
+    }
+    return status;
 }
 
 /* Carries out the list, one request after the other, and releases what was held back. */
@@ -138,7 +174,7 @@ static uint32_t cycle(etcs_unit *unit, train *our) {
         status = etcs_unit_clock(unit, our->moment_ms);
     }
     if (status == ETCS_UNIT_OK) {
-        status = etcs_unit_prepare(unit);
+        status = prepare(unit);
     }
     if (status == ETCS_UNIT_OK) {
         status = release(unit, outputs, &count);
@@ -154,7 +190,7 @@ static uint32_t live(int is_ready, int cycles) {
     train our = {0, 0, 0, ETCS_BRAKE_EMERGENCY};
     etcs_unit unit = {0};
     etcs_unit_output outputs[ETCS_UNIT_OUTPUTS];
-    uint32_t count = 0, status = etcs_unit_open(&unit, medium[0], sizeof medium[0] * SECTORS, ETCS_COLD_UNKNOWN);
+    uint32_t count = 0, status = power_up(&unit);
     if (status == ETCS_UNIT_OK) {
         status = release(&unit, outputs, &count);
     }

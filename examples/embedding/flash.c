@@ -1,4 +1,5 @@
 /* The journal on a flash behind a driver of the maker's own, without a file and without memory of the C library's own use.
+ * The unit holds no copy of it: the driver reads the sectors that are wanted.
  * Power is lost behind each number of requests of a flush, and the next power-up goes on from what is on the flash: either
  * all of the batch is there, or nothing of it, and none of its outputs reached the train before all of it was.
  *
@@ -25,6 +26,10 @@ static int has_power(void) {
     if (calls_left > 0)
         calls_left--;
     return 1;
+}
+
+static void flash_read(uint64_t sector, uint8_t *bytes) {
+    memcpy(bytes, cells + sector * ETCS_UNIT_SECTOR, ETCS_UNIT_SECTOR);
 }
 
 static int flash_write(uint64_t sector, const uint8_t *bytes, uint64_t sectors) {
@@ -75,9 +80,38 @@ static uint32_t release(etcs_unit *unit, etcs_unit_output *outputs, uint32_t *co
     return status == ETCS_UNIT_OK ? etcs_unit_release(unit, outputs, ETCS_UNIT_OUTPUTS, count) : status;
 }
 
+/* Goes on as far as it is known what the flash holds, and reads the sector that is wanted. */
+static uint32_t open_by_sectors(etcs_unit *unit) {
+    etcs_opening opening = {0};
+    uint8_t bytes[ETCS_UNIT_SECTOR];
+    uint64_t sector;
+    uint32_t status = etcs_opening_begin(&opening, SECTORS, ETCS_COLD_UNKNOWN);
+    if (status != ETCS_UNIT_OK)
+        return status;
+    while ((status = etcs_opening_go_on(&opening, unit)) == ETCS_UNIT_SECTOR_WANTED) {
+        etcs_opening_wanted(&opening, &sector);
+        flash_read(sector, bytes);
+        etcs_opening_provide(&opening, sector, bytes, sizeof bytes);
+    }
+    return status;
+}
+
+/* The same of a flush: it has to be known whether the gate of the next slot is closed. */
+static uint32_t prepare(etcs_unit *unit) {
+    uint8_t bytes[ETCS_UNIT_SECTOR];
+    uint64_t sector;
+    uint32_t status;
+    while ((status = etcs_unit_prepare(unit)) == ETCS_UNIT_SECTOR_WANTED) {
+        etcs_unit_wanted(unit, &sector);
+        flash_read(sector, bytes);
+        etcs_unit_provide(unit, sector, bytes, sizeof bytes);
+    }
+    return status;
+}
+
 static uint32_t power_up(etcs_unit *unit) {
     etcs_unit_output outputs[ETCS_UNIT_OUTPUTS];
-    uint32_t count, status = etcs_unit_open(unit, cells, sizeof cells, ETCS_COLD_UNKNOWN);
+    uint32_t count, status = open_by_sectors(unit);
     return status == ETCS_UNIT_OK ? release(unit, outputs, &count) : status;
 }
 
@@ -99,7 +133,7 @@ static uint32_t first_life(int requests, uint32_t *count) {
     if (status == ETCS_UNIT_OK)
         status = accept(&unit, BATCH);
     if (status == ETCS_UNIT_OK)
-        status = etcs_unit_prepare(&unit);
+        status = prepare(&unit);
     calls_left = requests;
     if (status == ETCS_UNIT_OK)
         status = release(&unit, outputs, count);
@@ -116,7 +150,7 @@ static uint32_t second_life(uint64_t *event) {
     if (status == ETCS_UNIT_OK)
         status = accept(&unit, 1);
     if (status == ETCS_UNIT_OK)
-        status = etcs_unit_prepare(&unit);
+        status = prepare(&unit);
     if (status == ETCS_UNIT_OK)
         status = release(&unit, outputs, &count);
     if (status == ETCS_UNIT_OK && count == 1)

@@ -3,7 +3,7 @@ import enum
 from ctypes import POINTER, Structure, c_char_p, c_int64, c_size_t, c_uint8, c_uint16, c_uint32, c_uint64, c_void_p
 
 TELEGRAM_BYTES = 104
-ABI = 4
+ABI = 5
 VERSION_BYTES = 32
 SECTOR = 512
 OUTPUTS = 8
@@ -45,6 +45,8 @@ class Status(enum.IntEnum):
     FAILED = 21
     REQUESTS_OWED = 22
     WORN_OUT = 23
+    SECTOR_WANTED = 24
+    NONE_WANTED = 25
     IMAGE_NOT_FORMATTED = 31
     IMAGE_DAMAGED = 32
     NO_SUCH_SLOT = 35
@@ -334,6 +336,10 @@ class etcs_unit(Structure):
     _fields_ = [("at", c_void_p), ("is_open", c_uint64)]
 
 
+class etcs_opening(Structure):
+    _fields_ = [("at", c_void_p), ("is_open", c_uint64)]
+
+
 class etcs_unit_output(Structure):
     _fields_ = [("event", c_uint64), ("limit_m_per_h", c_uint32), ("mode", c_uint8), ("level", c_uint8),
                 ("brake", c_uint8), ("indications", c_uint8)]
@@ -446,6 +452,13 @@ CALLS: dict[str, tuple[object, ...]] = {
     "etcs_unit_identity_": (POINTER(etcs_unit), c_char_p, c_size_t),
     "etcs_unit_running_number_": (POINTER(etcs_unit), c_uint32),
     "etcs_unit_train_data_": (POINTER(etcs_unit), POINTER(etcs_train_data)),
+    "etcs_opening_begin_": (POINTER(etcs_opening), c_uint64, c_uint32, c_uint32),
+    "etcs_opening_go_on_": (POINTER(etcs_opening), POINTER(etcs_unit)),
+    "etcs_opening_wanted_": (POINTER(etcs_opening), POINTER(c_uint64)),
+    "etcs_opening_provide_": (POINTER(etcs_opening), c_uint64, c_char_p, c_size_t),
+    "etcs_opening_close_": (POINTER(etcs_opening),),
+    "etcs_unit_wanted_": (POINTER(etcs_unit), POINTER(c_uint64)),
+    "etcs_unit_provide_": (POINTER(etcs_unit), c_uint64, c_char_p, c_size_t),
     "etcs_unit_prepare_": (POINTER(etcs_unit),),
     "etcs_unit_request_": (POINTER(etcs_unit), c_uint32, POINTER(etcs_unit_request_told), c_char_p, c_size_t),
     "etcs_unit_done_": (POINTER(etcs_unit), c_uint32),

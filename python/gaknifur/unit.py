@@ -8,7 +8,8 @@
 `$GAKNIFUR_ETCS_UNIT` names the library; without it the one that is installed beside this package is taken, or else the
 system's loader looks for `libetcs_unit.so.N`, N being the number of the interface (`ABI`). A unit opens no file: its
 journal lies on a `Medium`, here a file (`FileMedium`) or sectors in memory (`MemoryMedium`), or a class of the user's
-own.
+own. A `Unit` holds a copy of its medium. A `SectorUnit` holds 16 sectors, whatever the medium's size, and reads those that
+it has to know.
 
 `journal(path)` iterates over the records that a file holds, and `records`, `facts` and `slots` read bytes. The module
 `lives` runs the lives of a journal again.
@@ -21,7 +22,9 @@ import errno
 import fcntl
 import functools
 import os
+from abc import ABC, abstractmethod
 from collections.abc import Callable, Iterator
+from contextlib import contextmanager
 from dataclasses import dataclass
 from pathlib import Path
 from types import TracebackType
@@ -33,11 +36,11 @@ from ._header import (ABI, OUTPUTS, REQUEST_BYTES, SECTOR, TELEGRAM_BYTES, VERSI
                       Status, UnusedReason)
 from .program import TOP
 
-__all__ = ["ABI", "OUTPUTS", "REQUEST_BYTES", "SECTOR", "VERSION_BYTES", "Acknowledgement", "Action", "Brake", "BrakeCause",
-           "Cold", "Facts", "FileMedium", "Indication", "Kind", "Level", "LimitCause", "Medium", "MemoryMedium", "Mode",
-           "Output", "OverrideLeft", "Record", "Refused", "Slot", "SlotState", "State", "Status", "Target", "TrainData", "Unit",
-           "UnitWhy", "Waiting", "decode", "facts", "first_request", "format_medium", "journal", "library", "records", "slots",
-           "version"]
+__all__ = ["ABI", "OUTPUTS", "REQUEST_BYTES", "SECTOR", "VERSION_BYTES", "Acknowledgement", "Action", "AnyUnit", "Brake",
+           "BrakeCause", "Cold", "Facts", "FileMedium", "Indication", "Kind", "Level", "LimitCause", "Medium", "MemoryMedium",
+           "Mode", "Opening", "Output", "OverrideLeft", "Record", "Refused", "SectorMedium", "SectorUnit", "Slot", "SlotState",
+           "State", "Status", "Target", "TrainData", "Unit", "UnitWhy", "Waiting", "Writable", "decode", "facts", "first_request",
+           "format_medium", "journal", "library", "records", "slots", "version"]
 
 @dataclass(frozen=True, slots=True)
 class Output:
@@ -180,17 +183,31 @@ class Refused(Exception):
         super().__init__(f"{number} {self.name}")
 
 
-class Medium(Protocol):
-    """Where a journal lies. A call that fails raises, and then the unit is told that its medium failed."""
-
-    def read(self) -> bytes:
-        """All of its bytes."""
+class Writable(Protocol):
+    """What a journal is written to. A call that fails raises, and then the unit is told that its medium failed."""
 
     def write(self, sector: int, data: bytes) -> None:
         """Writes whole sectors from this one on."""
 
     def sync(self) -> None:
         """Returns when all that was written is kept also without power."""
+
+
+class Medium(Writable, Protocol):
+    """Where a journal lies of which a unit holds a copy."""
+
+    def read(self) -> bytes:
+        """All of its bytes."""
+
+
+class SectorMedium(Writable, Protocol):
+    """Where a journal lies of which a unit holds no copy."""
+
+    def sectors(self) -> int:
+        """How many whole sectors it has. It is asked before each power-up; from then on what is read is what the medium has."""
+
+    def read_sector(self, sector: int) -> bytes:
+        """The bytes of one sector, from 0 on."""
 
 
 class MemoryMedium:
@@ -202,6 +219,14 @@ class MemoryMedium:
     def read(self) -> bytes:
         """All of its bytes."""
         return bytes(self.data)
+
+    def sectors(self) -> int:
+        """How many whole sectors it has."""
+        return len(self.data) // SECTOR
+
+    def read_sector(self, sector: int) -> bytes:
+        """The bytes of one sector, from 0 on."""
+        return bytes(self.data[SECTOR * sector:SECTOR * (sector + 1)])
 
     def write(self, sector: int, data: bytes) -> None:
         """Writes whole sectors from this one on."""
@@ -265,13 +290,16 @@ class FileMedium:
     def read(self) -> bytes:
         """All of its bytes, as the medium has them."""
         self._settle()
-        size, data = os.lseek(self.descriptor, 0, os.SEEK_END), bytearray()
-        while len(data) < size:
-            part = os.pread(self.descriptor, size - len(data), len(data))
-            if not part:
-                raise OSError("the file ends before its length")
-            data += part
-        return bytes(data)
+        return self._read(self._size(), 0)
+
+    def sectors(self) -> int:
+        """How many whole sectors it has, as the medium has them."""
+        self._settle()
+        return self._size() // SECTOR
+
+    def read_sector(self, sector: int) -> bytes:
+        """The bytes of one sector, from 0 on."""
+        return self._read(SECTOR, SECTOR * sector)
 
     def write(self, sector: int, data: bytes) -> None:
         """Writes whole sectors from this one on."""
@@ -282,6 +310,19 @@ class FileMedium:
     def sync(self) -> None:
         """Returns when the system says that all is kept."""
         os.fsync(self.descriptor)
+
+    def _size(self) -> int:
+        return os.lseek(self.descriptor, 0, os.SEEK_END)
+
+    def _read(self, count: int, place: int) -> bytes:
+        """So many bytes from this place on."""
+        data = bytearray()
+        while len(data) < count:
+            part = os.pread(self.descriptor, count - len(data), place + len(data))
+            if not part:
+                raise OSError("the file ends before its length")
+            data += part
+        return bytes(data)
 
     def _settle(self) -> None:
         """Syncs, and drops the system's copies of the pages: a failed sync may have left them other than the medium."""
@@ -355,7 +396,7 @@ def _unit_why(told: _header.etcs_unit_why_told) -> UnitWhy:
         OverrideLeft(told.override_ms if told.override_ends else None, told.override_cm) if told.has_override else None)
 
 
-def _carry_out(medium: Medium, request: _header.etcs_unit_request_told, room: ctypes.Array[ctypes.c_char]) -> None:
+def _carry_out(medium: Writable, request: _header.etcs_unit_request_told, room: ctypes.Array[ctypes.c_char]) -> None:
     if request.kind == RequestKind.WRITE:
         medium.write(request.sector, room.raw[:SECTOR * request.sectors])
     else:
@@ -371,7 +412,7 @@ def first_request(slots: int) -> None:
     _told(_format_request(slots, 0, _header.etcs_unit_request_told(), ctypes.create_string_buffer(SECTOR)))
 
 
-def format_medium(medium: Medium, slots: int) -> None:
+def format_medium(medium: Writable, slots: int) -> None:
     """Makes a medium of 1 + 6 * slots sectors an empty journal."""
     request, room, index = _header.etcs_unit_request_told(), ctypes.create_string_buffer(SECTOR), 0
     while (status := _format_request(slots, index, request, room)) == Status.OK:
@@ -499,12 +540,40 @@ def slots(image: bytes) -> Iterator[Slot]:
                    (told.fault_record, told.fault_at) if told.has_fault else None)
 
 
-class Unit:
-    """A unit over a medium, open from `with` on to its end. It is for one thread, and for one call at a time."""
+class _Handle:
+    """What the library keeps of a unit, or of a power-up, and the calls on it."""
 
-    def __init__(self, medium: Medium, cold: Cold = Cold.UNKNOWN) -> None:
+    def __init__(self, kind: str, handle: ctypes.Structure) -> None:
+        self._kind, self._handle = kind, handle
+
+    def _status(self, name: str, *words: object) -> int:
+        return _called(f"etcs_{self._kind}_{name}_", ctypes.byref(self._handle), *words)
+
+    def _call(self, name: str, *words: object) -> None:
+        _told(self._status(name, *words))
+
+
+class _Wanting(_Handle):
+    """What holds only some sectors of its medium."""
+
+    def wanted(self) -> int:
+        """The sector that is wanted, until it is handed in. NONE_WANTED where none is."""
+        sector = ctypes.c_uint64()
+        self._call("wanted", ctypes.byref(sector))
+        return sector.value
+
+    def provide(self, sector: int, data: bytes) -> None:
+        """Hands in the 512 bytes of a sector, just as the medium holds them."""
+        self._call("provide", _number(sector, 64), data, len(data))
+
+
+class AnyUnit(_Handle, ABC):
+    """What a unit takes and answers, whatever it holds of its medium: open from `with` on to its end. It is for one thread,
+    and for one call at a time."""
+
+    def __init__(self, medium: Writable, cold: Cold) -> None:
+        super().__init__("unit", _header.etcs_unit())
         self.medium, self.cold = medium, cold
-        self._handle = _header.etcs_unit()
 
     def __enter__(self) -> Self:
         self.open()
@@ -514,13 +583,17 @@ class Unit:
                  trace: TracebackType | None) -> None:
         self.close()
 
-    def _call(self, name: str, *words: object) -> None:
-        _told(_called(f"etcs_unit_{name}_", ctypes.byref(self._handle), *words))
+    @abstractmethod
+    def _power_up(self) -> None:
+        """Opens it on what the medium holds."""
+
+    @abstractmethod
+    def _prepare(self) -> None:
+        """Makes requests of what is pending."""
 
     def open(self) -> None:
-        """Powers up on the medium's bytes, and carries the power-up out."""
-        image = self.medium.read()
-        self._call("open", image, len(image), self.cold, ABI)
+        """Powers up on what the medium holds, and carries the power-up out."""
+        self._power_up()
         try:
             self._release()
         except BaseException:
@@ -529,7 +602,7 @@ class Unit:
 
     def close(self) -> None:
         """Closes it; a unit that isn't open stays so. What is pending is lost to this life."""
-        _called("etcs_unit_close_", ctypes.byref(self._handle))
+        self._status("close")
 
     # ---- inputs
 
@@ -568,7 +641,7 @@ class Unit:
     def flush(self) -> list[Output]:
         """Puts what is pending onto the medium, and answers what may reach the train, the oldest first. Where the
         medium raises, the unit has failed, and nothing is released any more."""
-        self._call("prepare")
+        self._prepare()
         return self._release()
 
     def _release(self) -> list[Output]:
@@ -577,16 +650,21 @@ class Unit:
         self._call("release", outputs, OUTPUTS, ctypes.byref(count))
         return [_output(outputs[place]) for place in range(count.value)]
 
+    @contextmanager
+    def _fails_with_its_medium(self) -> Iterator[None]:
+        try:
+            yield
+        except BaseException:
+            self._call("fail")
+            raise
+
     def _carry_out(self) -> None:
         request, room = _header.etcs_unit_request_told(), ctypes.create_string_buffer(REQUEST_BYTES)
         state = self.state()
         for index in range(state.done, state.requests):
             self._call("request", index, ctypes.byref(request), room, REQUEST_BYTES)
-            try:
+            with self._fails_with_its_medium():
                 _carry_out(self.medium, request, room)
-            except BaseException:
-                self._call("fail")
-                raise
             self._call("done", index + 1)
 
     def state(self) -> State:
@@ -601,3 +679,72 @@ class Unit:
         told = _header.etcs_unit_why_told()
         self._call("why", ctypes.byref(told))
         return _unit_why(told)
+
+
+class Unit(AnyUnit):
+    """A unit that holds a copy of its medium."""
+
+    def __init__(self, medium: Medium, cold: Cold = Cold.UNKNOWN) -> None:
+        super().__init__(medium, cold)
+        self._read = medium.read
+
+    def _power_up(self) -> None:
+        image = self._read()
+        self._call("open", image, len(image), self.cold, ABI)
+
+    def _prepare(self) -> None:
+        self._call("prepare")
+
+
+class Opening(_Wanting):
+    """A power-up that is under way on a medium of so many sectors: begun by `with`, and given up at its end.
+
+        with Opening(sectors, cold) as opening:
+            while not opening.go_on(unit):
+                sector = opening.wanted()
+                opening.provide(sector, read(sector))
+    """
+
+    def __init__(self, sectors: int, cold: Cold = Cold.UNKNOWN) -> None:
+        super().__init__("opening", _header.etcs_opening())
+        self.sectors, self.cold = sectors, cold
+
+    def __enter__(self) -> Self:
+        self._call("begin", _number(self.sectors, 64), self.cold, ABI)
+        return self
+
+    def __exit__(self, kind: type[BaseException] | None, error: BaseException | None,
+                 trace: TracebackType | None) -> None:
+        self._status("close")
+
+    def go_on(self, unit: "SectorUnit") -> bool:
+        """Goes on as far as sectors are known. True where the unit is open: then the requests of the power-up are in its
+        list. False where a sector is wanted."""
+        status = self._status("go_on", ctypes.byref(unit._handle))
+        if status != Status.SECTOR_WANTED:
+            _told(status)
+        return status == Status.OK
+
+
+class SectorUnit(AnyUnit, _Wanting):
+    """A unit that holds 16 sectors, whatever the size of its medium, and reads those that it has to know: in a power-up the
+    gate of each slot and the head behind it, in a flush one gate."""
+
+    def __init__(self, medium: SectorMedium, cold: Cold = Cold.UNKNOWN) -> None:
+        super().__init__(medium, cold)
+        self._sectors, self._read_sector = medium.sectors, medium.read_sector
+
+    def _hand_in(self, to: _Wanting) -> None:
+        sector = to.wanted()
+        to.provide(sector, self._read_sector(sector))
+
+    def _power_up(self) -> None:
+        with Opening(self._sectors(), self.cold) as opening:
+            while not opening.go_on(self):
+                self._hand_in(opening)
+
+    def _prepare(self) -> None:
+        while (status := self._status("prepare")) == Status.SECTOR_WANTED:
+            with self._fails_with_its_medium():
+                self._hand_in(self)
+        _told(status)

@@ -18,11 +18,12 @@ from gaknifur import lives
 from gaknifur import unit as units
 from gaknifur._header import Adaptation, Direction, DroppedVariable, Fault, RequestKind, Source, StatusKind, UnusedReason
 from gaknifur.lives import BrakeCause, Datum, KeptField, LimitCause, RecordField, TripCause, Verdict
-from gaknifur.unit import (Acknowledgement, Action, Brake, Cold, FileMedium, Indication, Kind, Level, MemoryMedium, Mode, Output, Record,
-                           Refused, SlotState, Status, TrainData, Unit, UnitWhy, Waiting)
+from gaknifur.unit import (Acknowledgement, Action, AnyUnit, Brake, Cold, FileMedium, Indication, Kind, Level, MemoryMedium, Mode, Opening,
+                           Output, Record, Refused, SectorUnit, SlotState, Status, TrainData, Unit, UnitWhy, Waiting)
 
 INCLUDE = Path(__file__).resolve().parents[2] / "include"
 HEADER = INCLUDE / "etcs_unit.h"
+SECTOR = units.SECTOR
 TRAIN = TrainData(20_000, 160_000, 70, 1_000, 15)
 BEFORE = Output(0, Mode.STAND_BY, Level.INVALID, Brake.EMERGENCY, 0, Indication.NOT_REVALIDATED)
 
@@ -67,12 +68,185 @@ class Failing(MemoryMedium):
         super().write(sector, data)
 
 
-@unittest.skipUnless(os.environ.get("GAKNIFUR_ETCS_UNIT"), "GAKNIFUR_ETCS_UNIT names no library")
-class Calls(unittest.TestCase):
-    """Over the library."""
+class Noted(MemoryMedium):
+    """A medium that tells which sectors were read, and fails, or reads too little, at one of them."""
+
+    def __init__(self, data: bytes = b"") -> None:
+        super().__init__(data)
+        self.read_so_far: list[int] = []
+        self.fails_at = self.short_at = -1
+
+    def read_sector(self, sector: int) -> bytes:
+        self.read_so_far.append(sector)
+        if sector == self.fails_at:
+            raise OSError("no power")
+        return super().read_sector(sector)[:SECTOR - (sector == self.short_at)]
+
+    def told(self) -> list[int]:
+        """The sectors that were read since this was asked last."""
+        read, self.read_so_far = self.read_so_far, []
+        return read
+
+
+def gates(slots: range) -> list[int]:
+    """The sectors of the gates of these slots (docs/FORMAT.md)."""
+    return [1 + 6 * slot for slot in slots]
+
+
+class OverTheLibrary(unittest.TestCase):
+    """What a call answers."""
 
     def refused(self, status: Status) -> "unittest.case._AssertRaisesContext[Refused]":
         return self.assertRaisesRegex(Refused, f"^{status.value} {status.name}$")
+
+
+@unittest.skipUnless(os.environ.get("GAKNIFUR_ETCS_UNIT"), "GAKNIFUR_ETCS_UNIT names no library")
+class BySectors(OverTheLibrary):
+    """Units that hold no copy of their medium."""
+
+    def closed(self, *calls: Callable[[], object]) -> None:
+        """Each of these is refused, since it isn't open."""
+        for call in calls:
+            with self.refused(Status.NOT_OPEN):
+                call()
+
+    def test_a_life_beside_a_copy(self) -> None:
+        """The same outputs, and the same bytes, in each of some lives on a ring that is written over."""
+        media = MemoryMedium.formatted(3), MemoryMedium.formatted(3)
+        for cold in (Cold.UNKNOWN, Cold.NOT_MOVED, Cold.MOVED):
+            units_of_both: list[AnyUnit] = [Unit(media[0], cold), SectorUnit(media[1], cold)]
+            told: list[list[object]] = []
+            for unit in units_of_both:
+                with unit:
+                    unit.identity("IC 704")
+                    unit.train_data(TRAIN)
+                    unit.action(Action.CHOOSE_LEVEL_1)
+                    told.append([unit.flush()])
+                    for moment in range(4):
+                        unit.clock(moment)
+                        unit.odometer(-10, 300)
+                        told[-1].append(unit.flush())
+                    told[-1] += [unit.state(), unit.why(), unit.flush()]
+            self.assertEqual(told[0], told[1])
+            self.assertEqual(media[0].data, media[1].data)
+
+    def test_which_sectors_are_read(self) -> None:
+        """In a power-up the first sector, each gate, the head of each slot whose gate is open, the newest block, and the next gate; in a flush
+        that gate, where it isn't one of the 16 sectors that are held."""
+        medium = Noted(bytes(MemoryMedium.formatted(4).data))
+        with SectorUnit(medium) as unit:
+            self.assertEqual(medium.told(), [0, *gates(range(4))])
+            for moment in range(2):
+                unit.clock(moment)
+                unit.flush()
+            self.assertEqual(medium.told(), [])
+        # Slots 1 to 3 hold blocks 1 to 3. The newest is in slot 3, whose gate and head are known by then.
+        with SectorUnit(medium):
+            self.assertEqual(medium.told(), [0, 1, 7, 8, 13, 14, 19, 20, 21, 22, 23, 24])
+        medium = Noted(bytes(MemoryMedium.formatted(40).data))
+        with SectorUnit(medium) as unit:
+            self.assertEqual(medium.told(), [0, *gates(range(40)), *gates(range(1, 2))])
+            for slot in (2, 3, 4):
+                unit.clock(slot)
+                self.assertEqual(len(unit.flush()), 1)
+                self.assertEqual(medium.told(), gates(range(slot, slot + 1)))
+            # one that was handed in before isn't asked for
+            gate, = gates(range(5, 6))
+            unit.provide(gate, medium.read_sector(gate))
+            unit.clock(5)
+            self.assertEqual((len(unit.flush()), medium.told()), (1, [gate]))
+        self.assertEqual([one.event for one in units.records(bytes(medium.data))], [0, 1, 2, 3, 4])
+
+    def test_images_that_do_not_open(self) -> None:
+        for data, status in ((b"", Status.OPEN_NOT_FORMATTED), (bytes(12_800), Status.OPEN_NOT_FORMATTED),
+                             (MemoryMedium.formatted(4).data[:-512], Status.OPEN_DAMAGED)):
+            with self.refused(status):
+                SectorUnit(MemoryMedium(bytes(data))).open()
+
+    def test_a_medium_that_cannot_be_read(self) -> None:
+        medium = Noted(bytes(MemoryMedium.formatted(40).data))
+        unit = SectorUnit(medium)
+        for sector in (0, 7):
+            medium.fails_at = sector
+            self.assertRaisesRegex(OSError, "no power", unit.open)
+            with self.refused(Status.NOT_OPEN):
+                unit.clock(1)
+        medium.fails_at, medium.short_at = -1, 13
+        with self.refused(Status.OUT_OF_RANGE):
+            unit.open()
+        medium.short_at = -1
+        with unit:
+            unit.clock(1)
+            medium.fails_at = 13
+            before = bytes(medium.data)
+            self.assertRaisesRegex(OSError, "no power", unit.flush)
+            self.assertEqual((unit.state().has_failed, unit.state().pending, bytes(medium.data)), (True, 1, before))
+            with self.refused(Status.FAILED):
+                unit.flush()
+
+    def test_the_calls_of_an_opening(self) -> None:
+        medium, unit = MemoryMedium.formatted(2), SectorUnit(MemoryMedium.formatted(2))
+        opening = Opening(13)
+        self.closed(lambda: opening.go_on(unit), opening.wanted, lambda: opening.provide(0, bytes(SECTOR)))
+        with self.refused(Status.OUT_OF_RANGE), Opening(-1):
+            pass
+        with opening:
+            with self.refused(Status.IS_OPEN):
+                opening.__enter__()
+            with self.refused(Status.NONE_WANTED):
+                opening.wanted()
+            wanted = []
+            while not opening.go_on(unit):
+                wanted.append(opening.wanted())
+                for sector, size in ((13, SECTOR), (wanted[-1], SECTOR - 1), (wanted[-1], SECTOR + 1), (1 << 64, SECTOR)):
+                    with self.refused(Status.OUT_OF_RANGE):
+                        opening.provide(sector, bytes(size))
+                self.assertEqual(opening.wanted(), wanted[-1])
+                opening.provide(wanted[-1], medium.read_sector(wanted[-1]))
+            self.assertEqual(wanted, [0, 1, 7])
+            with self.refused(Status.NOT_OPEN):
+                opening.wanted()
+        with Opening(13) as another, self.refused(Status.IS_OPEN):
+            another.go_on(unit)
+        self.assertEqual(unit.state().pending, 0)
+        unit.close()
+
+    def test_the_calls_of_a_unit(self) -> None:
+        unit = SectorUnit(MemoryMedium.formatted(2))
+        self.closed(unit.wanted, lambda: unit.provide(0, bytes(SECTOR)))
+        with unit:
+            with self.refused(Status.NONE_WANTED):
+                unit.wanted()
+            for sector, size in ((13, SECTOR), (0, SECTOR - 1), (0, 0), (-1, SECTOR)):
+                with self.refused(Status.OUT_OF_RANGE):
+                    unit.provide(sector, bytes(size))
+            unit.provide(12, bytes(SECTOR))
+
+    def test_a_file(self) -> None:
+        """The file is settled before its sectors are read, and then holds what a copy would leave."""
+        with tempfile.TemporaryDirectory() as folder:
+            path, memory = Path(folder) / "image", MemoryMedium.formatted(4)
+            with FileMedium.formatted(path, 4) as medium:
+                for place in (SectorUnit(medium), Unit(memory)):
+                    with place as unit:
+                        unit.clock(1)
+                        unit.flush()
+                self.assertEqual(path.read_bytes(), memory.data)
+                self.assertEqual((medium.sectors(), medium.read_sector(24)), (25, memory.read_sector(24)))
+                self.assertRaises(OSError, medium.read_sector, 25)
+                calls: list[str] = []
+
+                def read(sector: int) -> bytes:
+                    calls.append("read")
+                    return memory.read_sector(sector)
+
+                with mock.patch.object(medium, "_settle", lambda: calls.append("settled")), mock.patch.object(medium, "read_sector", read), SectorUnit(medium):
+                    self.assertEqual((calls[:2], calls.count("settled")), (["settled", "read"], 1))
+
+
+@unittest.skipUnless(os.environ.get("GAKNIFUR_ETCS_UNIT"), "GAKNIFUR_ETCS_UNIT names no library")
+class Calls(OverTheLibrary):
+    """Over the library."""
 
     def test_a_life(self) -> None:
         medium = MemoryMedium.formatted(4)

@@ -4,10 +4,16 @@
  * A line of the script is a word and numbers. `unit N` chooses one of two handles for the lines behind it, `medium N` one of two media.
  *
  *     slots N                      the medium gets so many slots, and is formatted
- *     open COLD, flush, close      as etcs_unit.h says; open and flush carry out all requests, and release
+ *     kind N                       how a unit is opened from now on: 0 over a copy, 1 by sectors
+ *     open COLD, flush, close      as etcs_unit.h says; open and flush hand in what is wanted, carry out all requests, and release
  *     cut REQUESTS BYTES           prepares, and carries out so many requests and so many bytes of the next one; then power is lost
+ *     dies COLD REQUESTS BYTES     the same of a power-up
+ *     stops COLD SECTORS           an opening to which so many sectors are handed in; then power is lost
  *     telegram HEX, odometer CM SPEED, clock MS, action N, identity HEX, number N, train LENGTH MAXIMUM DECELERATION REACTION CATEGORY
  *     prepare, request INDEX ROOM, done COUNT, fail, release ROOM, state, version ROOM, format SLOTS INDEX ROOM
+ *     wants, hands SECTOR SIZE FROM  which sector the unit wants; hands in bytes of the medium from there on
+ *     begin SECTORS COLD, begins COLD, wanted, provide SECTOR SIZE FROM, give_up  the calls of an opening; begins has the medium's sectors
+ *     goes MOST                    goes on, and hands in what is wanted, at most so many sectors
  *     image                        a digest of the medium
  *     whole, size BYTES            reads all of the medium, or so many bytes of it, from now on
  *     flip OFFSET BITS             alters a byte of the medium
@@ -25,6 +31,8 @@
 static uint8_t media[2][SECTORS * ETCS_UNIT_SECTOR];
 static size_t lengths[2];
 static etcs_unit units[2];
+static etcs_opening openings[2];
+static unsigned by_sectors;
 static etcs_journal journal;
 static size_t reads_at_most;
 static unsigned on, which, line_number;
@@ -76,6 +84,65 @@ static void carries_out(const etcs_unit_request_told *request, const uint8_t *by
     if (request->kind == ETCS_REQUEST_WRITE)
         for (size_t i = 0; i < length && request->sector * ETCS_UNIT_SECTOR + i < sizeof media[0]; i++)
             media[on][request->sector * ETCS_UNIT_SECTOR + i] = bytes[i];
+}
+
+/* ---- what is wanted of the medium */
+
+static etcs_opening *opening(void) {
+    return &openings[which];
+}
+
+/* A buffer of so many bytes, with what the medium has from a place on. */
+static const uint8_t *bytes_from(uint64_t from, size_t size) {
+    static uint8_t some[2 * ETCS_UNIT_SECTOR];
+    for (size_t i = 0; i < size && i < sizeof some; i++)
+        some[i] = media[on][(from % sizeof media[0] + i) % sizeof media[0]];
+    return some;
+}
+
+static size_t limited(uint64_t wanted) {
+    return wanted < 2 * ETCS_UNIT_SECTOR ? (size_t)wanted : 2 * ETCS_UNIT_SECTOR;
+}
+
+/* Goes on with an opening, and hands in what it wants, at most so many sectors. */
+static uint32_t goes_on(etcs_opening *with, uint64_t most) {
+    uint64_t sector;
+    uint32_t status;
+    while ((status = etcs_opening_go_on(with, unit())) == ETCS_UNIT_SECTOR_WANTED && most-- > 0) {
+        status = etcs_opening_wanted(with, &sector);
+        if (status == ETCS_UNIT_OK)
+            status = etcs_opening_provide(with, sector, bytes_from(sector * ETCS_UNIT_SECTOR, ETCS_UNIT_SECTOR), ETCS_UNIT_SECTOR);
+        if (status != ETCS_UNIT_OK)
+            return status;
+    }
+    return status;
+}
+
+static uint32_t open_by_sectors(uint32_t cold, uint64_t most) {
+    etcs_opening begun = {0};
+    uint32_t status = etcs_opening_begin(&begun, lengths[on] / ETCS_UNIT_SECTOR, cold);
+    if (status == ETCS_UNIT_OK)
+        status = goes_on(&begun, most);
+    (void)etcs_opening_close(&begun);
+    return status;
+}
+
+static uint32_t opens(uint32_t cold) {
+    return by_sectors != 0 ? open_by_sectors(cold, UINT64_MAX) : etcs_unit_open(unit(), media[on], lengths[on], cold);
+}
+
+/* Prepares, and hands in what is wanted. */
+static uint32_t prepares(void) {
+    uint64_t sector;
+    uint32_t status;
+    while ((status = etcs_unit_prepare(unit())) == ETCS_UNIT_SECTOR_WANTED) {
+        status = etcs_unit_wanted(unit(), &sector);
+        if (status == ETCS_UNIT_OK)
+            status = etcs_unit_provide(unit(), sector, bytes_from(sector * ETCS_UNIT_SECTOR, ETCS_UNIT_SECTOR), ETCS_UNIT_SECTOR);
+        if (status != ETCS_UNIT_OK)
+            return status;
+    }
+    return status;
 }
 
 /* Carries out all requests, or so many and then some bytes of the next one. */
@@ -134,20 +201,26 @@ static int about_units(uint32_t *status) {
     etcs_unit_state_told state;
     uint32_t first, second;
     if (word("open")) {
-        *status = etcs_unit_open(unit(), media[on], lengths[on], (uint32_t)number());
+        *status = opens((uint32_t)number());
         if (*status == ETCS_UNIT_OK)
             *status = carry_out(UINT64_MAX, 0);
         if (*status == ETCS_UNIT_OK)
             *status = release(ETCS_UNIT_OUTPUTS);
     } else if (word("flush")) {
-        *status = etcs_unit_prepare(unit());
+        *status = prepares();
         if (*status == ETCS_UNIT_OK)
             *status = carry_out(UINT64_MAX, 0);
         if (*status == ETCS_UNIT_OK)
             *status = release(ETCS_UNIT_OUTPUTS);
     } else if (word("cut")) {
         const uint64_t most = number();
-        *status = etcs_unit_prepare(unit());
+        *status = prepares();
+        if (*status == ETCS_UNIT_OK)
+            *status = carry_out(most, number());
+        (void)etcs_unit_close(unit());
+    } else if (word("dies")) {
+        *status = opens((uint32_t)number());
+        const uint64_t most = number();
         if (*status == ETCS_UNIT_OK)
             *status = carry_out(most, number());
         (void)etcs_unit_close(unit());
@@ -173,6 +246,44 @@ static int about_units(uint32_t *status) {
         *status = etcs_unit_state(unit(), &state);
         if (*status == ETCS_UNIT_OK)
             add(&state, sizeof state);
+    } else {
+        return 0;
+    }
+    return 1;
+}
+
+static int about_sectors(uint32_t *status) {
+    uint64_t sector = 0;
+    size_t size;
+    if (word("kind")) {
+        by_sectors = (unsigned)number() % 2;
+        *status = 0;
+    } else if (word("stops")) {
+        const uint32_t cold = (uint32_t)number();
+        *status = open_by_sectors(cold, number());
+    } else if (word("begin")) {
+        sector = number();
+        *status = etcs_opening_begin(opening(), sector, (uint32_t)number());
+    } else if (word("begins")) {
+        *status = etcs_opening_begin(opening(), lengths[on] / ETCS_UNIT_SECTOR, (uint32_t)number());
+    } else if (word("goes")) {
+        *status = goes_on(opening(), number());
+    } else if (word("wanted")) {
+        *status = etcs_opening_wanted(opening(), &sector);
+        add(&sector, sizeof sector);
+    } else if (word("wants")) {
+        *status = etcs_unit_wanted(unit(), &sector);
+        add(&sector, sizeof sector);
+    } else if (word("provide")) {
+        sector = number();
+        size = limited(number());
+        *status = etcs_opening_provide(opening(), sector, bytes_from(number(), size), size);
+    } else if (word("hands")) {
+        sector = number();
+        size = limited(number());
+        *status = etcs_unit_provide(unit(), sector, bytes_from(number(), size), size);
+    } else if (word("give_up")) {
+        *status = etcs_opening_close(opening());
     } else {
         return 0;
     }
@@ -288,6 +399,8 @@ static uint32_t nulls(void) {
     static etcs_replay replay;
     static etcs_block block;
     etcs_unit none = {0};
+    etcs_opening no_opening = {0};
+    uint64_t sector = 0;
     etcs_unit_request_told request;
     etcs_unit_state_told state;
     etcs_unit_output outputs[ETCS_UNIT_OUTPUTS];
@@ -308,6 +421,10 @@ static uint32_t nulls(void) {
         etcs_unit_done(NULL, 0), etcs_unit_fail(NULL),
         etcs_unit_release(NULL, outputs, 8, &length), etcs_unit_release(&none, NULL, 8, &length), etcs_unit_release(&none, outputs, 8, NULL),
         etcs_unit_state(NULL, &state), etcs_unit_state(&none, NULL), etcs_unit_close(NULL),
+        etcs_unit_wanted(NULL, &sector), etcs_unit_wanted(&none, NULL), etcs_unit_provide(NULL, 0, bytes, 512), etcs_unit_provide(&none, 0, NULL, 512),
+        etcs_opening_begin(NULL, 13, 0), etcs_opening_go_on(NULL, &none), etcs_opening_go_on(&no_opening, NULL), etcs_opening_wanted(NULL, &sector),
+        etcs_opening_wanted(&no_opening, NULL), etcs_opening_provide(NULL, 0, bytes, 512), etcs_opening_provide(&no_opening, 0, NULL, 512),
+        etcs_opening_close(NULL),
         etcs_unit_format_request(2, 0, NULL, bytes, 512), etcs_unit_format_request(2, 0, &request, NULL, 512),
         etcs_image_facts(NULL, 512, &facts), etcs_image_facts(media[on], 512, NULL),
         etcs_image_slot(NULL, 512, 0, 0, &slot), etcs_image_slot(media[on], 512, 0, 0, NULL),
@@ -332,7 +449,7 @@ void drive(void) {
         digest = UINT64_C(0xCBF29CE484222325);
         if (word("null"))
             status = nulls();
-        else if (!about_units(&status) && !about_inputs(&status) && !about_media(&status) && !about_images(&status))
+        else if (!about_units(&status) && !about_sectors(&status) && !about_inputs(&status) && !about_media(&status) && !about_images(&status))
             put("no such word\n");
         answer(status);
     }

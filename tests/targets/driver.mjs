@@ -5,7 +5,7 @@ import fs from 'node:fs';
 
 const { instance } = await WebAssembly.instantiate(fs.readFileSync(process.argv[2]), {});
 const x = instance.exports;
-const SECTOR = 512, SECTORS = 1 + 6 * 64, MOST = SECTOR * SECTORS, OUTPUTS = 8, REQUEST = 8192, OK = 0, FAILED = 21, NO_SUCH_REQUEST = 249;
+const SECTOR = 512, SECTORS = 1 + 6 * 64, MOST = SECTOR * SECTORS, OUTPUTS = 8, REQUEST = 8192, OK = 0, FAILED = 21, SECTOR_WANTED = 24, NO_SUCH_REQUEST = 249;
 const SIZE = { request: 24, output: 16, state: 80, facts: 32, slot: 32, block: 208, record: 160, journal: 24, replay: 720, why: 160, train: 20 };
 
 const bytesAt = (at, length) => new Uint8Array(x.memory.buffer, Number(at), Number(length));
@@ -19,7 +19,8 @@ const take = size => {
 const media = [take(MOST), take(MOST)], lengths = [0, 0], units = [take(16), take(16)];
 const journal = take(SIZE.journal), bytes = take(REQUEST), request = take(SIZE.request), outputs = take(OUTPUTS * SIZE.output), count = take(8);
 const state = take(SIZE.state), train = take(SIZE.train), told = take(SIZE.replay), none = take(16);
-let on = 0, which = 0, readsAtMost = MOST, digest = 0n, words = [], answers = [];
+const openings = [take(16), take(16)], begun = take(16), sector = take(8), some = take(2 * SECTOR);
+let on = 0, which = 0, bySectors = false, readsAtMost = MOST, digest = 0n, words = [], answers = [];
 
 const U64 = (1n << 64n) - 1n;
 const add = (at, length) => {
@@ -36,6 +37,42 @@ const hex = most => {
 
 const unit = () => units[which];
 const told64 = (at, place) => new DataView(x.memory.buffer).getBigUint64(Number(at) + 8 * place, true);
+const opening = () => openings[which];
+const bytesFrom = (from, size) => {
+    const medium = bytesAt(media[on], MOST), room = bytesAt(some, 2 * SECTOR), place = Number(from % BigInt(MOST));
+    for (let i = 0; i < Number(size); i++) room[i] = medium[(place + i) % MOST];
+    return some;
+};
+const provides = (call, to, number, size, from) => x[call](to, number, bytesFrom(from, size), size);
+const handsIn = (kind, to) => {
+    const status = x[`etcs_${kind}_wanted`](to, sector), wanted = told64(sector, 0);
+    return status === OK ? provides(`etcs_${kind}_provide`, to, wanted, BigInt(SECTOR), wanted * BigInt(SECTOR)) : status;
+};
+const goesOn = (by, most) => {
+    let status;
+    while ((status = x.etcs_opening_go_on(by, unit())) === SECTOR_WANTED && most-- > 0n)
+        if ((status = handsIn('opening', by)) !== OK) return status;
+    return status;
+};
+const openBySectors = (cold, most) => {
+    bytesAt(begun, 16).fill(0);
+    const status = then(x.etcs_opening_begin(begun, BigInt(lengths[on] / SECTOR), cold), () => goesOn(begun, most));
+    x.etcs_opening_close(begun);
+    return status;
+};
+const opens = cold => bySectors ? openBySectors(cold, U64) : x.etcs_unit_open(unit(), media[on], BigInt(lengths[on]), cold);
+const prepares = () => {
+    let status;
+    while ((status = x.etcs_unit_prepare(unit())) === SECTOR_WANTED)
+        if ((status = handsIn('unit', unit())) !== OK) return status;
+    return status;
+};
+const tellsSector = (call, of) => {
+    bytesAt(sector, 8).fill(0);
+    const status = x[call](of, sector);
+    add(sector, 8);
+    return status;
+};
 const carriesOut = (at, length) => {
     if (told64(request, 2) !== 1n) return;
     const from = Number(told64(request, 0)) * SECTOR, room = Math.min(length, MOST - from);
@@ -100,7 +137,10 @@ const nulls = () => {
         x.etcs_unit_running_number(z, 1), x.etcs_unit_train_data(z, train), x.etcs_unit_train_data(n, z), x.etcs_unit_prepare(z),
         x.etcs_unit_request(z, 0, request, b, 512n), x.etcs_unit_request(n, 0, z, b, 512n), x.etcs_unit_request(n, 0, request, z, 512n),
         x.etcs_unit_done(z, 0), x.etcs_unit_fail(z), x.etcs_unit_release(z, outputs, 8n, count), x.etcs_unit_release(n, z, 8n, count),
-        x.etcs_unit_release(n, outputs, 8n, z), x.etcs_unit_state(z, state), x.etcs_unit_state(n, z), x.etcs_unit_close(z),
+        x.etcs_unit_release(n, outputs, 8n, z), x.etcs_unit_wanted(z, sector), x.etcs_unit_wanted(n, z), x.etcs_unit_provide(z, 0n, b, 512n),
+        x.etcs_unit_provide(n, 0n, z, 512n), x.etcs_opening_begin(z, 13n, 0), x.etcs_opening_go_on(z, n), x.etcs_opening_go_on(n, z),
+        x.etcs_opening_wanted(z, sector), x.etcs_opening_wanted(n, z), x.etcs_opening_provide(z, 0n, b, 512n), x.etcs_opening_provide(n, 0n, z, 512n),
+        x.etcs_opening_close(z), x.etcs_unit_state(z, state), x.etcs_unit_state(n, z), x.etcs_unit_close(z),
         x.etcs_unit_format_request(2, 0, z, b, 512n), x.etcs_unit_format_request(2, 0, request, z, 512n),
         x.etcs_image_facts(z, 512n, told), x.etcs_image_facts(m, 512n, z), x.etcs_image_slot(z, 512n, 0n, 0n, told), x.etcs_image_slot(m, 512n, 0n, 0n, z),
         x.etcs_image_block(z, 512n, 1n, told), x.etcs_image_block(m, 512n, 1n, z), x.etcs_image_record(z, 512n, 1n, 0, told),
@@ -113,13 +153,28 @@ const nulls = () => {
 const image = (call, length, ...numbers) => tells(x[call](media[on], size(), ...numbers, told), told, length);
 
 const CALLS = {
-    open: () => then(x.etcs_unit_open(unit(), media[on], BigInt(lengths[on]), small()), whole, all),
-    flush: () => then(x.etcs_unit_prepare(unit()), whole, all),
+    kind: () => { bySectors = number() % 2n === 1n; return 0; },
+    open: () => then(opens(small()), whole, all),
+    flush: () => then(prepares(), whole, all),
     cut: () => {
-        const most = number(), status = then(x.etcs_unit_prepare(unit()), () => carryOut(most, number()));
+        const most = number(), status = then(prepares(), () => carryOut(most, number()));
         x.etcs_unit_close(unit());
         return status;
     },
+    dies: () => {
+        const opened = opens(small()), most = number(), status = then(opened, () => carryOut(most, number()));
+        x.etcs_unit_close(unit());
+        return status;
+    },
+    stops: () => { const cold = small(); return openBySectors(cold, number()); },
+    wants: () => tellsSector('etcs_unit_wanted', unit()),
+    hands: () => { const at = number(), size = limited(number(), 2 * SECTOR); return provides('etcs_unit_provide', unit(), at, size, number()); },
+    begin: () => { const sectors = number(); return x.etcs_opening_begin(opening(), sectors, small()); },
+    begins: () => x.etcs_opening_begin(opening(), BigInt(lengths[on] / SECTOR), small()),
+    goes: () => goesOn(opening(), number()),
+    wanted: () => tellsSector('etcs_opening_wanted', opening()),
+    provide: () => { const at = number(), size = limited(number(), 2 * SECTOR); return provides('etcs_opening_provide', opening(), at, size, number()); },
+    give_up: () => x.etcs_opening_close(opening()),
     close: () => x.etcs_unit_close(unit()),
     prepare: () => x.etcs_unit_prepare(unit()),
     request: () => { const index = small(), room = BigInt(small()); return tellsRequest(x.etcs_unit_request(unit(), index, request, bytes, limited(room, REQUEST))); },

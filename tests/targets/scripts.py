@@ -15,12 +15,12 @@ TESTS = Path(__file__).resolve().parents[1]
 sys.path[:0] = [str(TESTS), str(TESTS / "unit"), str(TESTS / "hostile"), str(TESTS / "plain"), str(TESTS.parent / "python")]
 
 from compared import Compared  # noqa: E402
-from lives import LIVES, scenario_of, word_of  # noqa: E402
+from lives import LIVES, scenario_of, slots_of, word_of  # noqa: E402
 from program import inputs_of  # noqa: E402
 from random_inputs import headed, mutated  # noqa: E402
 
 PENDING, MOST_SLOTS = 8, 64
-CUT_KINDS, LEAST_STATUSES, END, NULL_CALLS = 21, 22, 241, 46
+CUT_KINDS, LEAST_STATUSES, NULL_CALLS, WANTED = 21, 24, 58, 24
 EDGES = (0, 1, 2, 7, 8, 9, 104, 105, 255, 256, 511, 512, 8_191, 8_192, 10_000, 10_001, 600_000, 600_001, 99_999_999, 100_000_000, (1 << 31) - 1, 1 << 31,
          (1 << 32) - 1, 1 << 32, (1 << 40) - 1, 1 << 40, (1 << 63) - 1, 1 << 63, (1 << 64) - 1)
 
@@ -30,9 +30,14 @@ def wild(r):
 
 
 def life(r):
-    """A life on the medium: whole, or cut off in one of its flushes."""
+    """A life on the medium, of a unit over a copy or by sectors: whole, or cut off in one of its flushes. Before some lives power is lost while
+    sectors are still wanted, or within the power-up."""
     scenario = scenario_of(r)
-    lines, pending = [f"open {scenario.get('cold', 0)}"], 0
+    cold = scenario.get("cold", 0)
+    lines, pending = [f"kind {r.randrange(2)}"], 0
+    if r.randrange(4) == 0:
+        lines += [f"stops {cold} {r.randrange(40)}", f"dies {cold} {r.randrange(9)} {r.randrange(4_097)}", "image"]
+    lines.append(f"open {cold}")
     for asked in inputs_of(scenario):
         one = word_of(asked)
         if one == "flush" or pending == PENDING:
@@ -57,7 +62,7 @@ def reading(r):
 
 def call(r):
     """A call with numbers of any kind, also where the unit isn't open or its requests are owed."""
-    kind = r.randrange(36)
+    kind = r.randrange(44)
     if kind < 6:
         return r.choice(("prepare", "flush", f"open {r.randrange(4)}", f"done {r.randrange(6)}", f"release {r.randrange(10)}", "close"))
     if kind < 12:
@@ -70,7 +75,15 @@ def call(r):
     if kind < 24:
         return r.choice((f"request {r.randrange(5)} {r.choice((0, 511, 512, 8_192))}", f"request {wild(r)} {wild(r)}", f"done {wild(r)}", f"release {wild(r)}",
                          "state", f"version {wild(r)}", f"format {wild(r)} {wild(r)} {wild(r)}", f"unit {r.randrange(2)}", f"medium {r.randrange(2)}"))
-    if kind < 34:
+    if kind < 28:
+        return r.choice((f"begins {r.randrange(3)}", f"begins {r.randrange(3)}", "goes 0", f"goes {r.randrange(40)}", f"goes {1 << 10}", f"goes {1 << 10}", "wanted",
+                         f"kind {r.randrange(2)}", f"open {r.randrange(3)}", "wants"))
+    if kind < 32:
+        return r.choice((f"begin {r.choice((0, 1, 12, 13, 25, wild(r)))} {r.choice((0, 1, 2, 3, wild(r)))}", f"provide {r.randrange(30)} 512 {512 * r.randrange(30)}",
+                         f"provide {wild(r)} {r.choice((0, 511, 512, 513, wild(r)))} {wild(r)}", f"hands {r.randrange(30)} 512 {512 * r.randrange(30)}",
+                         f"hands {wild(r)} {r.choice((0, 511, 512, 513, wild(r)))} {wild(r)}", "give_up", f"stops {r.randrange(4)} {r.randrange(40)}",
+                         f"dies {r.randrange(3)} {r.randrange(9)} {r.randrange(4_097)}"))
+    if kind < 42:
         return r.choice(("facts", "journal", "next", "next", "replay", f"cursor {wild(r)} {wild(r)} {wild(r)}", f"slot {wild(r)} {wild(r)}", f"block {wild(r)}",
                          f"record {wild(r)} {wild(r)}", f"why {wild(r)} {wild(r)}", f"why {r.randrange(1, 30)} {r.randrange(60)}", f"size {wild(r)}", "whole",
                          "whole"))
@@ -82,12 +95,21 @@ def script(lives, calls, telegrams, seed=2026):
     r, lines = random.Random(seed), ["null", "version 32"]
     for number in range(lives):
         if number % LIVES == 0:
-            lines.append(f"slots {2 + r.randrange(8)}")
+            lines.append(f"slots {slots_of(r)}")
         lines += life(r)
         if r.randrange(4) == 0:
             lines += reading(r)
-    lines += ["slots 4", *(call(r) for _ in range(calls)), "unit 0", "close", "unit 1", "close", "null"]
+    lines += ["slots 4", *(call(r) for _ in range(calls)), "unit 0", "close", "give_up", "unit 1", "close", "give_up", "null"]
     return lines + ["decode " + (headed if r.randrange(2) else mutated)(r)[:256].hex() for _ in range(telegrams)]
+
+
+def with_kinds(lines):
+    """Each word of a script with the kind by which a unit is opened then."""
+    kind = "0"
+    for one in lines:
+        word, *numbers = one.split()
+        kind = str(int(numbers[0]) % 2) if word == "kind" else kind
+        yield kind, word
 
 
 def compare(asked, wanted, *found):
@@ -99,19 +121,24 @@ def compare(asked, wanted, *found):
     compared.unless(len(answers) == len(lines) and told[-1:] == ["end"], f"{wanted}: {len(answers)} answers to {len(lines)} lines")
     statuses = Counter(int(status) for _, status, _ in answers)
     words = [line.split()[0] for line in lines]
-    cuts = sum(word == "cut" and int(status) == CUT_KINDS for word, (_, status, _) in zip(words, answers))
+    cuts = sum(word in ("cut", "dies") and int(status) == CUT_KINDS for word, (_, status, _) in zip(words, answers))
+    stopped = sum(word == "stops" and int(status) == WANTED for word, (_, status, _) in zip(words, answers))
     outputs, lives = sum(line.startswith("event ") for line in told), words.count("open")
+    by_sectors = Counter(kind for kind, word in with_kinds(lines) if word == "open")
     decoded = [int(status) for word, (_, status, _) in zip(words, answers) if word == "decode"]
     compared.unless(all(int(status) == NULL_CALLS for word, (_, status, _) in zip(words, answers) if word == "null") and "null" in words, "null pointers aren't answered")
     compared.unless("no such word" not in told, "a word that the driver doesn't have")
     compared.unless(outputs >= 4 * lives // 3 and cuts >= words.count("cut") // 4 > 0, f"{outputs} outputs of {lives} lives, {cuts} of them cut off")
+    compared.unless(min(by_sectors["0"], by_sectors["1"]) >= lives // 4 and stopped >= words.count("stops") // 4 > 0,
+                    f"openings by kind {dict(by_sectors)}, {stopped} cut off while a sector was wanted")
     compared.unless(len(statuses) >= LEAST_STATUSES, f"{len(statuses)} kinds of answers")
     compared.unless(decoded.count(0) * 10 >= len(decoded) > 0, f"{decoded.count(0)} of {len(decoded)} telegrams can be read")
     for path in found:
         other = Path(path).read_text().splitlines()
         compared.unless(len(other) == len(told), f"{path}: {len(other)} lines, wanted {len(told)}")
         compared.same(path, [pair for pair in zip(other, told) if pair[0] != pair[1]][:5], [])
-    return compared.end(f"{len(found)} machines beside the first: {len(lines)} calls with {outputs} outputs, {lives} openings, {cuts} losses of power, "
+    return compared.end(f"{len(found)} machines beside the first: {len(lines)} calls with {outputs} outputs, {lives} openings, {by_sectors['1']} of them by sectors, "
+                        f"{cuts} losses of power and {stopped} more while a sector was wanted, "
                         f"{len(statuses)} kinds of answers, {len(decoded)} telegrams")
 
 

@@ -30,8 +30,9 @@ MOST_READING = 45_000
 MOST_SUMS = 140_000
 # A reading with twice the restrictions, or twice the gradients, takes at most twice as much, and a little for the call itself.
 MOST_DOUBLED = 2.05
-# Bytes of stack: of an opening, and of any other call.
-MOST_STACK_OF_OPEN, MOST_STACK, LEAST_CALLS = 16_384, 11_776, 15
+# Bytes of stack: of the calls that power up, and of any other one.
+POWER_UPS = ("etcs_unit_open_", "etcs_opening_go_on_")
+MOST_STACK_OF_OPEN, MOST_STACK, LEAST_CALLS = 16_384, 11_776, 22
 
 
 def rows():
@@ -60,9 +61,9 @@ def counted(scenarios):
 
 
 def stacks(program):
-    """The bytes of stack that each call of the unit takes at most, by its name."""
+    """The bytes of stack that each call of a unit, or of an opening, takes at most, by its name."""
     functions = stack_bound.functions_of(program)
-    return {name: stack_bound.deepest(functions, name)[0] for name in functions if re.fullmatch("etcs_unit_.*_", name)}
+    return {name: stack_bound.deepest(functions, name)[0] for name in functions if re.fullmatch("etcs_(unit|opening)_.*_", name)}
 
 
 def main(program, *words):
@@ -87,14 +88,14 @@ def main(program, *words):
               ("a reading before stairs of each kind, the authority's end before them", summed, MOST_SUMS)]
     faults += [f"{what}: {number} instructions, and {most:.0f} are its bound" for what, number, most in bounds if number > most]
     taken = stacks(program)
-    most = {name: MOST_STACK_OF_OPEN if name == "etcs_unit_open_" else MOST_STACK for name in taken}
+    most = {name: MOST_STACK_OF_OPEN if name in POWER_UPS else MOST_STACK for name in taken}
     faults += [f"{name}: {number} bytes of stack, and {most[name]} are its bound" for name, number in taken.items() if number > most[name]]
-    if len(taken) < LEAST_CALLS or "etcs_unit_open_" not in taken:
+    if len(taken) < LEAST_CALLS or not set(POWER_UPS) <= set(taken):
         faults.append(f"the stack of {len(taken)} calls is known: {sorted(taken)}")
     for fault in faults:
         print(fault)
     print(f"instructions of calls: {len(numbers)} rows beside kept ones, {len(bounds)} bounds; the stack of {len(taken)} calls, "
-          f"{taken.get('etcs_unit_open_')} bytes of an opening")
+          f"{' and '.join(str(taken.get(name)) for name in POWER_UPS)} bytes of an opening")
     return 1 if faults else 0
 
 

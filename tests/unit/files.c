@@ -10,8 +10,9 @@
 #include <sys/types.h>
 #include <unistd.h>
 
-/* What the system is to do wrong: a number that each sync fails with, and that each sync of a folder and each drop does. */
-static int writes_left = -1, fails_sync, fails_folder, fails_drop, does_parts;
+/* What the system is to do wrong: how many writes and reads it does before they fail, a number that each sync fails with, and that each sync of a
+ * folder and each drop does. */
+static int writes_left = -1, reads_left = -1, fails_sync, fails_folder, fails_drop, does_parts;
 
 /* The calls in their order, a letter for those of a kind that come together: W write, R read, S sync, D drop of the system's copies, F sync of a
  * folder; how many bytes were read; and which folder was synced last. */
@@ -53,6 +54,12 @@ static ssize_t planted_read(int descriptor, void *bytes, size_t len, off_t at) {
         errno = EINTR;
         return -1;
     }
+    if (reads_left == 0) {
+        errno = EIO;
+        return -1;
+    }
+    if (reads_left > 0)
+        reads_left--;
     note('R');
     const ssize_t got = pread(descriptor, bytes, does_parts && len > 100 ? 100 : len, at);
     bytes_read += got > 0 ? (size_t)got : 0;
@@ -87,6 +94,9 @@ static int planted_drop(int descriptor, off_t at, off_t len, int advice) {
 
 static etcs_unit_output outputs[ETCS_UNIT_OUTPUTS];
 static uint32_t count;
+
+/* How a file is opened: over a copy, or by sectors. */
+static uint32_t (*opens_by)(etcs_file *file, const char *path, etcs_unit *unit, uint32_t cold) = etcs_file_open;
 
 static long size_of(const char *path) {
     struct stat told_size;
@@ -151,21 +161,21 @@ static void settles(void) {
     etcs_file file = {0};
     etcs_unit unit = {0};
     forget();
-    is("open", etcs_file_open(&file, "image", &unit, 0), ETCS_FILE_OK);
+    is("open", opens_by(&file, "image", &unit, 0), ETCS_FILE_OK);
     is("a sync, a drop, and reads", strcmp(order, "SDR") == 0, 1);
     is("close", etcs_file_close(&file, &unit), ETCS_FILE_OK);
     forget();
     fails_sync = EIO;
-    is("a sync that fails", etcs_file_open(&file, "image", &unit, 0), ETCS_FILE_CANT_SYNC);
+    is("a sync that fails", opens_by(&file, "image", &unit, 0), ETCS_FILE_CANT_SYNC);
     is("its number", (uint64_t)file.error, EIO);
     is("nothing is read", strcmp(order, "S") == 0, 1);
     fails_sync = EROFS;
-    is("a file that takes no writes", etcs_file_open(&file, "image", &unit, 0), ETCS_FILE_OK);
+    is("a file that takes no writes", opens_by(&file, "image", &unit, 0), ETCS_FILE_OK);
     is("close", etcs_file_close(&file, &unit), ETCS_FILE_OK);
     fails_sync = 0;
     forget();
     fails_drop = ENOSYS;
-    is("a system that drops nothing", etcs_file_open(&file, "image", &unit, 0), ETCS_FILE_CANT_SYNC);
+    is("a system that drops nothing", opens_by(&file, "image", &unit, 0), ETCS_FILE_CANT_SYNC);
     is("its number", (uint64_t)file.error, ENOSYS);
     is("nothing is read", strcmp(order, "SD") == 0, 1);
     fails_drop = 0;
@@ -176,26 +186,26 @@ static void settles(void) {
 static void open_already(void) {
     etcs_file file = {0}, other = {0};
     etcs_unit unit = {0}, second = {0};
-    is("open", etcs_file_open(&file, "image", &unit, 0), ETCS_FILE_OK);
+    is("open", opens_by(&file, "image", &unit, 0), ETCS_FILE_OK);
     const int descriptor = file.descriptor;
-    is("once more", etcs_file_open(&file, "image", &unit, 0), ETCS_FILE_UNIT);
+    is("once more", opens_by(&file, "image", &unit, 0), ETCS_FILE_UNIT);
     is("its status", file.status, ETCS_UNIT_IS_OPEN);
-    is("the file, with another unit", etcs_file_open(&file, "new", &second, 0), ETCS_FILE_UNIT);
+    is("the file, with another unit", opens_by(&file, "new", &second, 0), ETCS_FILE_UNIT);
     is("its status", file.status, ETCS_UNIT_IS_OPEN);
     is("that unit isn't open", second.is_open, 0);
     forget();
-    is("the unit, with another file", etcs_file_open(&other, "new", &unit, 0), ETCS_FILE_UNIT);
+    is("the unit, with another file", opens_by(&other, "new", &unit, 0), ETCS_FILE_UNIT);
     is("its status", other.status, ETCS_UNIT_IS_OPEN);
     is("that file isn't touched", order[0] == 0, 1);
     is("a format of it", etcs_file_format(&file, "new", 4), ETCS_FILE_UNIT);
     is("its status", file.status, ETCS_UNIT_IS_OPEN);
     is("the same descriptor", (uint64_t)file.descriptor, (uint64_t)descriptor);
-    is("the lock is held", etcs_file_open(&other, "image", &second, 0), ETCS_FILE_LOCKED);
-    is("the other file isn't", etcs_file_open(&other, "new", &second, 0), ETCS_FILE_OK);
+    is("the lock is held", opens_by(&other, "image", &second, 0), ETCS_FILE_LOCKED);
+    is("the other file isn't", opens_by(&other, "new", &second, 0), ETCS_FILE_OK);
     is("close the other", etcs_file_close(&other, &second), ETCS_FILE_OK);
     is("the unit goes on", etcs_file_flush(&file, &unit, outputs, &count), ETCS_FILE_OK);
     is("close", etcs_file_close(&file, &unit), ETCS_FILE_OK);
-    is("the lock is given back", etcs_file_open(&file, "image", &unit, 0), ETCS_FILE_OK);
+    is("the lock is given back", opens_by(&file, "image", &unit, 0), ETCS_FILE_OK);
     is("close", etcs_file_close(&file, &unit), ETCS_FILE_OK);
 }
 
@@ -210,7 +220,7 @@ static void zeros(void) {
     is("close a file of zeros", etcs_file_close(&none, &unit), ETCS_FILE_UNIT);
     is("descriptor 0 is open", fcntl(0, F_GETFD) >= 0, 1);
     memset(&none, 0, sizeof none);
-    is("open", etcs_file_open(&file, "image", &unit, 0), ETCS_FILE_OK);
+    is("open", opens_by(&file, "image", &unit, 0), ETCS_FILE_OK);
     forget();
     is("flush to a file of zeros", etcs_file_flush(&none, &unit, outputs, &count) != ETCS_FILE_OK, 1);
     is("its number", (uint64_t)none.error, EBADF);
@@ -227,17 +237,17 @@ static void great(void) {
     const int from = open("image", O_RDONLY), to = open("great", O_RDWR | O_CREAT, 0666);
     is("3 GB", ftruncate(to, (off_t)3 << 30) == 0, 1);
     forget();
-    is("no journal", etcs_file_open(&file, "great", &unit, 0), ETCS_FILE_UNIT);
+    is("no journal", opens_by(&file, "great", &unit, 0), ETCS_FILE_UNIT);
     is("its status", file.status, ETCS_UNIT_OPEN_NOT_FORMATTED);
     is("no more is read than its first sector, twice", bytes_read <= 2 * sizeof first, 1);
     is("the first sector of another one", read(from, first, sizeof first) == (ssize_t)sizeof first && write(to, first, sizeof first) == (ssize_t)sizeof first, 1);
     forget();
-    is("a journal of another size", etcs_file_open(&file, "great", &unit, 0), ETCS_FILE_UNIT);
+    is("a journal of another size", opens_by(&file, "great", &unit, 0), ETCS_FILE_UNIT);
     is("its status", file.status, ETCS_UNIT_OPEN_DAMAGED);
     is("no more is read than its first sector, twice", bytes_read <= 2 * sizeof first, 1);
-    is("cold 3 comes first", etcs_file_open(&file, "great", &unit, 3), ETCS_FILE_UNIT);
+    is("cold 3 comes first", opens_by(&file, "great", &unit, 3), ETCS_FILE_UNIT);
     is("its status", file.status, ETCS_UNIT_OUT_OF_RANGE);
-    is("511 bytes", ftruncate(to, 511) == 0 && etcs_file_open(&file, "great", &unit, 0) == ETCS_FILE_UNIT, 1);
+    is("511 bytes", ftruncate(to, 511) == 0 && opens_by(&file, "great", &unit, 0) == ETCS_FILE_UNIT, 1);
     is("its status", file.status, ETCS_UNIT_OPEN_NOT_FORMATTED);
     close(from);
     close(to);
@@ -247,15 +257,15 @@ static void great(void) {
 static void opens(void) {
     etcs_file file = {0}, other = {0};
     etcs_unit unit = {0}, second = {0};
-    is("no file", etcs_file_open(&file, "none", &unit, 0), ETCS_FILE_CANT_OPEN);
+    is("no file", opens_by(&file, "none", &unit, 0), ETCS_FILE_CANT_OPEN);
     is("its number", (uint64_t)file.error, ENOENT);
-    is("a folder", etcs_file_open(&file, ".", &unit, 0), ETCS_FILE_CANT_OPEN);
-    is("a device that is empty", etcs_file_open(&file, "/dev/null", &unit, 0), ETCS_FILE_UNIT);
+    is("a folder", opens_by(&file, ".", &unit, 0), ETCS_FILE_CANT_OPEN);
+    is("a device that is empty", opens_by(&file, "/dev/null", &unit, 0), ETCS_FILE_UNIT);
     is("its status", file.status, ETCS_UNIT_OPEN_NOT_FORMATTED);
-    is("cold 3", etcs_file_open(&file, "image", &unit, 3), ETCS_FILE_UNIT);
+    is("cold 3", opens_by(&file, "image", &unit, 3), ETCS_FILE_UNIT);
     is("its status", file.status, ETCS_UNIT_OUT_OF_RANGE);
-    is("the lock is given back", etcs_file_open(&file, "image", &unit, 0), ETCS_FILE_OK);
-    is("a second unit on it", etcs_file_open(&other, "image", &second, 0), ETCS_FILE_LOCKED);
+    is("the lock is given back", opens_by(&file, "image", &unit, 0), ETCS_FILE_OK);
+    is("a second unit on it", opens_by(&other, "image", &second, 0), ETCS_FILE_LOCKED);
     is("it isn't open", second.is_open, 0);
     is("a format of it", etcs_file_format(&other, "image", 8), ETCS_FILE_LOCKED);
     is("it is as it was", (uint64_t)size_of("image"), 12800);
@@ -274,7 +284,7 @@ static void lives(void) {
     etcs_file file = {0};
     etcs_unit unit = {0};
     does_parts = 1;
-    is("open", etcs_file_open(&file, "image", &unit, ETCS_COLD_NOT_MOVED), ETCS_FILE_OK);
+    is("open", opens_by(&file, "image", &unit, ETCS_COLD_NOT_MOVED), ETCS_FILE_OK);
     is("an input before the power-up is done", etcs_unit_clock(&unit, 1), ETCS_UNIT_OK);
     is("flush", etcs_file_flush(&file, &unit, outputs, &count), ETCS_FILE_OK);
     is("the power-up, and the event", count, 1);
@@ -291,7 +301,7 @@ static void lives(void) {
     is("nothing", count, 0);
     is("close", etcs_file_close(&file, &unit), ETCS_FILE_OK);
     does_parts = 0;
-    is("open", etcs_file_open(&file, "image", &unit, 0), ETCS_FILE_OK);
+    is("open", opens_by(&file, "image", &unit, 0), ETCS_FILE_OK);
     is("flush", etcs_file_flush(&file, &unit, outputs, &count), ETCS_FILE_OK);
     is("an input", etcs_unit_clock(&unit, 1), ETCS_UNIT_OK);
     is("flush", etcs_file_flush(&file, &unit, outputs, &count), ETCS_FILE_OK);
@@ -304,7 +314,7 @@ static void fails(int at_sync) {
     etcs_file file = {0};
     etcs_unit unit = {0};
     etcs_unit_state_told state;
-    is("open", etcs_file_open(&file, "image", &unit, 0), ETCS_FILE_OK);
+    is("open", opens_by(&file, "image", &unit, 0), ETCS_FILE_OK);
     is("flush", etcs_file_flush(&file, &unit, outputs, &count), ETCS_FILE_OK);
     is("an input", etcs_unit_clock(&unit, 1), ETCS_UNIT_OK);
     fails_sync = at_sync ? EIO : 0;
@@ -322,11 +332,79 @@ static void fails(int at_sync) {
     is("close", etcs_file_close(&file, &unit), ETCS_FILE_OK);
 }
 
-int main(int words, char **word) {
-    if (words != 2 || chdir(word[1]) != 0)
-        return 2;
-    formats();
-    names();
+/* The bytes of a file, for the caller to free. */
+static uint8_t *bytes_in(const char *path, size_t *len) {
+    const int from = open(path, O_RDONLY);
+    *len = (size_t)size_of(path);
+    uint8_t *bytes = (uint8_t *)calloc(1, *len + 1);
+    is("its bytes are read", read(from, bytes, *len) == (ssize_t)*len, 1);
+    close(from);
+    return bytes;
+}
+
+/* Some flushes of a life; the first and the last event, and the file behind it, for the caller to free. */
+static uint8_t *flushes(uint32_t (*opens_it)(etcs_file *, const char *, etcs_unit *, uint32_t), const char *path, uint64_t events[2], size_t *len) {
+    etcs_file file = {0};
+    etcs_unit unit = {0};
+    is("open", opens_it(&file, path, &unit, ETCS_COLD_UNKNOWN), ETCS_FILE_OK);
+    for (uint64_t moment = 1; moment <= 12; moment++) {
+        is("an input", etcs_unit_clock(&unit, moment), ETCS_UNIT_OK);
+        is("flush", etcs_file_flush(&file, &unit, outputs, &count), ETCS_FILE_OK);
+        is("its output", count, 1);
+        events[moment > 1] = outputs[0].event;
+    }
+    is("close", etcs_file_close(&file, &unit), ETCS_FILE_OK);
+    return bytes_in(path, len);
+}
+
+/* The same file over sectors that are read as they are wanted, and over a copy. */
+static void by_sectors(void) {
+    etcs_file file = {0};
+    etcs_unit unit = {0};
+    etcs_unit_state_told state;
+    uint64_t copied[2], read_by[2];
+    size_t size, len;
+    is("a file", etcs_file_format(&file, "copied", 64), ETCS_FILE_OK);
+    is("the same", etcs_file_format(&file, "sectors", 64), ETCS_FILE_OK);
+    for (int life = 0; life < 7; life++) {
+        uint8_t *const wanted = flushes(etcs_file_open, "copied", copied, &size);
+        does_parts = life == 3;
+        forget();
+        uint8_t *const found = flushes(etcs_file_open_by_sectors, "sectors", read_by, &len);
+        does_parts = 0;
+        is("it is settled before it is read", strncmp(order, "SDR", 3) == 0, 1);
+        is("it is read in part", bytes_read < size - 12 * ETCS_UNIT_SECTOR, 1);
+        is("the same events", (uint64_t)memcmp(copied, read_by, sizeof copied), 0);
+        is("the same file", len == size && memcmp(found, wanted, size) == 0, 1);
+        free(wanted);
+        free(found);
+    }
+    for (int read_first = 0; read_first < 66; read_first++) {
+        reads_left = read_first;
+        is("a read that fails", etcs_file_open_by_sectors(&file, "sectors", &unit, 0), ETCS_FILE_CANT_READ);
+        is("its number", (uint64_t)file.error, EIO);
+        is("no unit is open", unit.is_open, 0);
+    }
+    reads_left = -1;
+    is("the lock is given back", etcs_file_open_by_sectors(&file, "sectors", &unit, 0), ETCS_FILE_OK);
+    is("flush", etcs_file_flush(&file, &unit, outputs, &count), ETCS_FILE_OK);
+    reads_left = 0;
+    uint32_t answer = ETCS_FILE_OK;
+    for (uint64_t moment = 1; answer == ETCS_FILE_OK && moment < 100; moment++) {
+        is("an input", etcs_unit_clock(&unit, moment), ETCS_UNIT_OK);
+        answer = etcs_file_flush(&file, &unit, outputs, &count);
+    }
+    is("a gate that can't be read", answer, ETCS_FILE_CANT_READ);
+    is("nothing is released", count, 0);
+    is("state", etcs_unit_state(&unit, &state), ETCS_UNIT_OK);
+    is("the unit has failed", state.has_failed, 1);
+    reads_left = -1;
+    is("prepare", etcs_file_prepare(&file, &unit), ETCS_FILE_UNIT);
+    is("its status", file.status, ETCS_UNIT_FAILED);
+    is("close", etcs_file_close(&file, &unit), ETCS_FILE_OK);
+}
+
+static void with_units(void) {
     opens();
     settles();
     open_already();
@@ -335,5 +413,16 @@ int main(int words, char **word) {
     fails(0);
     fails(1);
     zeros();
-    return told("files", 147);
+}
+
+int main(int words, char **word) {
+    if (words != 2 || chdir(word[1]) != 0)
+        return 2;
+    formats();
+    names();
+    with_units();
+    opens_by = etcs_file_open_by_sectors;
+    with_units();
+    by_sectors();
+    return told("files", 1040);
 }

@@ -1,6 +1,7 @@
 /* Lives one life on an image, and prints what `etcs run` prints of it: a line for each output that is released.
  *
- *     life IMAGE COLD [CUT]    reads inputs from standard input, one a line; with CUT it stops behind so many requests
+ *     life copy|sectors IMAGE COLD [CUT]    reads inputs from standard input, one a line; with CUT it stops behind so many requests; by sectors with
+ *                                           -1 - CUT while it opens, behind so many sectors
  *     life format IMAGE SLOTS
  *
  * The inputs stand in inputs.h; a line may also be `flush`. */
@@ -66,9 +67,9 @@ static uint32_t carry_out(etcs_file *file, etcs_unit *unit) {
 /* Puts what is pending onto the file, and prints what is released. */
 static uint32_t flush(etcs_file *file, etcs_unit *unit, int prepares) {
     etcs_unit_output outputs[ETCS_UNIT_OUTPUTS];
-    uint32_t count = 0, status = prepares ? etcs_unit_prepare(unit) : (uint32_t)ETCS_UNIT_OK;
-    if (status != ETCS_UNIT_OK)
-        return status;
+    uint32_t count = 0, status;
+    if (prepares && etcs_file_prepare(file, unit) != ETCS_FILE_OK)
+        return file->status;
     if (carry_out(file, unit) != ETCS_FILE_OK)
         return ETCS_UNIT_FAILED;
     status = etcs_unit_release(unit, outputs, ETCS_UNIT_OUTPUTS, &count);
@@ -96,15 +97,41 @@ static uint32_t live(etcs_file *file, etcs_unit *unit) {
     return status == ETCS_UNIT_OK ? flush(file, unit, 1) : status;
 }
 
+/* An opening by sectors that ends behind so many of them: what going on answers then. */
+static uint32_t stopped(etcs_file *file, const char *path, uint32_t cold, long sectors) {
+    etcs_unit unit = {0};
+    etcs_opening opening = {0};
+    uint8_t bytes[ETCS_UNIT_SECTOR];
+    uint64_t sector = 0;
+    uint32_t status = ETCS_UNIT_FAILED;
+    if (etcs_file_lock_(file, path, 0) == ETCS_FILE_OK && etcs_file_settle_(file) == ETCS_FILE_OK)
+        status = etcs_opening_begin(&opening, (uint64_t)lseek(file->descriptor, 0, SEEK_END) / ETCS_UNIT_SECTOR, cold);
+    if (status != ETCS_UNIT_OK)
+        return status;
+    while ((status = etcs_opening_go_on(&opening, &unit)) == ETCS_UNIT_SECTOR_WANTED && sectors-- > 0)
+        if (etcs_opening_wanted(&opening, &sector) != ETCS_UNIT_OK
+            || pread(file->descriptor, bytes, sizeof bytes, (off_t)(sector * ETCS_UNIT_SECTOR)) != (ssize_t)sizeof bytes
+            || etcs_opening_provide(&opening, sector, bytes, sizeof bytes) != ETCS_UNIT_OK)
+            return ETCS_UNIT_FAILED;
+    (void)etcs_opening_close(&opening);
+    return status;
+}
+
 int main(int count, char **words) {
     etcs_unit unit = {0};
     etcs_file file = {0};
     if (count == 4 && strcmp(words[1], "format") == 0)
         return etcs_file_format(&file, words[2], (uint32_t)strtoul(words[3], NULL, 10)) == ETCS_FILE_OK ? DONE : DEVICE;
-    if (count != 3 && count != 4)
+    if (count != 4 && count != 5)
         return WRONG_WORDS;
-    left = count == 4 ? strtol(words[3], NULL, 10) : -1;
-    uint32_t answer = etcs_file_open(&file, words[1], &unit, (uint32_t)strtoul(words[2], NULL, 10));
+    const int by_sectors = strcmp(words[1], "sectors") == 0;
+    const uint32_t cold = (uint32_t)strtoul(words[3], NULL, 10);
+    left = count == 5 ? strtol(words[4], NULL, 10) : -1;
+    if (count == 5 && left < 0) {
+        printf("stopped %" PRIu32 " ?\n", stopped(&file, words[2], cold, -1 - left));
+        return REFUSED;
+    }
+    uint32_t answer = by_sectors ? etcs_file_open_by_sectors(&file, words[2], &unit, cold) : etcs_file_open(&file, words[2], &unit, cold);
     if (answer != ETCS_FILE_OK && answer != ETCS_FILE_UNIT) {
         puts("device");
         return DEVICE;

@@ -3,9 +3,10 @@
 
     tests/unit/lives.py LIFE [LIVES [SEED]]    LIFE is life.c with the library; 400 lives, seed 2026; $ETCS names another program than the gate's
 
-Both print the same and end with the same status. Their writes and syncs of the file are the same, in the same order and with the same bytes, so
-that power may be lost between any two of them and the file is the same. In every second life it is, between two requests: the life from C stops
-there, and has released just what `etcs run` had printed by then. Then both go on from that file.
+Each life is lived over a copy of the file, and by sectors. All print the same and end with the same status. Their writes and syncs of the file are the
+same, in the same order and with the same bytes, so that power may be lost between any two of them and the file is the same. In every second life it is,
+between two requests: the life from C stops there, and has released just what `etcs run` had printed by then. Or it is while sectors are still wanted:
+then nothing was written. Then both go on from that file.
 """
 import json
 import os
@@ -24,6 +25,7 @@ from program import inputs_of  # noqa: E402
 from random_inputs import headed, mutated  # noqa: E402
 
 LIVES = 10  # so many on one image
+KINDS = ("copy", "sectors")
 LEAST_CALLS, LEAST_LINES = 10, 5  # of a life, on the average
 
 ALONE = {6: 7, 7: 8, 8: 9, 9: 10, 11: 15}
@@ -59,6 +61,11 @@ def scenario_of(numbers):
     if numbers.randrange(10) == 0:
         told["steps"].append({"clock": numbers.randrange(2_000)})
     return told
+
+
+def slots_of(numbers):
+    """How many slots a ring has that is written over in some lives: a few, or more than a unit by sectors holds gates of."""
+    return 2 + numbers.randrange(8) if numbers.randrange(2) else 17 + numbers.randrange(16)
 
 
 def recorded(record, image, words, text=""):
@@ -104,12 +111,13 @@ class Pair:
     def __init__(self, life, folder, record, failures):
         self.life, self.record, self.failures = life, record, failures
         self.one, self.other, self.path = folder / "one", folder / "other", folder / "scenario"
-        self.calls = self.lines = self.cuts = self.within = 0
+        self.calls = self.lines = self.cuts = self.within = self.stops = self.slots = 0
 
     def same(self, name):
         self.failures.unless(self.one.read_bytes() == self.other.read_bytes(), f"{name}: the files hold other bytes")
 
     def format(self, name, slots):
+        self.slots = slots
         subprocess.run([PROGRAM, "format", self.one, str(slots)], check=True, stdout=subprocess.DEVNULL)
         self.other.unlink(missing_ok=True)
         done = subprocess.run([self.life, "format", self.other, str(slots)]).returncode
@@ -121,14 +129,17 @@ class Pair:
         self.path.write_text(json.dumps(scenario))
         text = "".join(word_of(asked) + "\n" for asked in inputs_of(scenario))
         status, printed, calls = recorded(self.record, self.one, [PROGRAM, "run", self.path, self.one])
-        words = [self.life, self.other, scenario.get("cold", 0)]
-        if numbers.randrange(2):
-            self.cut(name, before, calls, words, text, numbers)
-        self.other.write_bytes(before)
-        found = recorded(self.record, self.other, words, text)
-        self.failures.unless(found[:2] == (status, printed), f"{name}: from C {found[0]} {found[1][:400]}, wanted {status} {printed[:400]}")
-        self.failures.unless(requests_of(behind_settling(found[2])) == requests_of(calls), f"{name}: from C the file is handed other calls")
-        self.same(name)
+        for kind in KINDS:
+            words = [self.life, kind, self.other, scenario.get("cold", 0)]
+            if numbers.randrange(2):
+                self.cut(f"{name}, {kind}", before, calls, words, text, numbers)
+            if kind == "sectors" and numbers.randrange(4) == 0:
+                self.stop(name, before, words, text, numbers)
+            self.other.write_bytes(before)
+            found = recorded(self.record, self.other, words, text)
+            self.failures.unless(found[:2] == (status, printed), f"{name}, {kind}: from C {found[0]} {found[1][:400]}, wanted {status} {printed[:400]}")
+            self.failures.unless(requests_of(behind_settling(found[2])) == requests_of(calls), f"{name}, {kind}: from C the file is handed other calls")
+            self.same(f"{name}, {kind}")
         self.calls += len(requests_of(calls))
         self.lines += printed.count("\n")
 
@@ -143,6 +154,15 @@ class Pair:
         self.cuts += 1
         self.within += held != before
 
+    def stop(self, name, before, words, text, numbers):
+        """Power is lost while a sector is wanted: the first one, or a gate."""
+        count = numbers.randrange(1 + self.slots)
+        self.other.write_bytes(before)
+        status, printed, calls = recorded(self.record, self.other, [*words, -1 - count], text)
+        self.failures.unless((status, printed, behind_settling(calls)) == (1, "stopped 24 ?\n", []), f"{name}, stopped behind {count} sectors: {status} {printed} {calls}")
+        self.failures.unless(self.other.read_bytes() == before, f"{name}, stopped behind {count} sectors: the file holds other bytes")
+        self.stops += 1
+
     def go_on(self, name, numbers, scenario):
         """A life that is cut off, from which both go on."""
         before = self.one.read_bytes()
@@ -150,7 +170,7 @@ class Pair:
         _, _, calls = recorded(self.record, self.one, [PROGRAM, "run", self.path, self.one])
         text = "".join(word_of(asked) + "\n" for asked in inputs_of(scenario))
         self.other.write_bytes(before)
-        self.cut(name, before, calls, [self.life, self.other, scenario.get("cold", 0)], text, numbers)
+        self.cut(name, before, calls, [self.life, numbers.choice(KINDS), self.other, scenario.get("cold", 0)], text, numbers)
         self.one.write_bytes(self.other.read_bytes())
 
 
@@ -162,14 +182,14 @@ def main(words):
         pair = Pair(Path(life).resolve(), Path(name), built("record"), failures)
         for number in range(count):
             if number % LIVES == 0:
-                pair.format(f"image before life {number}", 2 + numbers.randrange(8))
+                pair.format(f"image before life {number}", slots_of(numbers))
             if numbers.randrange(3) == 0:
                 pair.go_on(f"a cut before life {number}", numbers, scenario_of(numbers))
             pair.live(f"life {number}", scenario_of(numbers), numbers)
     failures.unless(pair.calls >= LEAST_CALLS * count and pair.lines >= LEAST_LINES * count, "the lives are too short")
-    failures.unless(pair.cuts >= count // 2 and pair.within >= count // 4, "too few lives are cut off")
-    return failures.end(f"lives from C: {count}, with {pair.calls} requests and {pair.lines} lines, and {pair.cuts} cut off, "
-                        f"{pair.within} of them behind a write")
+    failures.unless(pair.cuts >= count and pair.within >= count // 2 and pair.stops >= count // 8, "too few lives are cut off")
+    return failures.end(f"lives from C: {count} over a copy and by sectors, with {pair.calls} requests and {pair.lines} lines each, and {pair.cuts} cut off, "
+                        f"{pair.within} of them behind a write, and {pair.stops} while a sector was wanted")
 
 
 if __name__ == "__main__":

@@ -59,21 +59,71 @@ static inline uint32_t carry_out(medium *on, etcs_unit *unit) {
     return status == ETCS_UNIT_NO_SUCH_REQUEST ? etcs_unit_done(unit, count) : status;
 }
 
+/* The bytes of a sector. */
+static inline const uint8_t *sector_of(const medium *on, uint64_t sector) {
+    return on->bytes + sector * ETCS_UNIT_SECTOR;
+}
+
+/* Prepares; of a unit that holds only some sectors hands in what it wants. */
+static inline uint32_t prepared(const medium *on, etcs_unit *unit) {
+    uint64_t sector;
+    uint32_t status;
+    while ((status = etcs_unit_prepare(unit)) == ETCS_UNIT_SECTOR_WANTED) {
+        status = etcs_unit_wanted(unit, &sector);
+        if (status == ETCS_UNIT_OK)
+            status = etcs_unit_provide(unit, sector, sector_of(on, sector), ETCS_UNIT_SECTOR);
+        if (status != ETCS_UNIT_OK)
+            return status;
+    }
+    return status;
+}
+
+/* Opens a unit by sectors; how many were handed in goes to `sectors`. */
+static inline uint32_t opened_by_sectors(const medium *on, etcs_unit *unit, uint32_t cold, uint64_t *sectors) {
+    etcs_opening opening = {0};
+    uint64_t sector;
+    uint32_t status = etcs_opening_begin(&opening, on->len / ETCS_UNIT_SECTOR, cold);
+    *sectors = 0;
+    if (status != ETCS_UNIT_OK)
+        return status;
+    while ((status = etcs_opening_go_on(&opening, unit)) == ETCS_UNIT_SECTOR_WANTED) {
+        status = etcs_opening_wanted(&opening, &sector);
+        if (status == ETCS_UNIT_OK)
+            status = etcs_opening_provide(&opening, sector, sector_of(on, sector), ETCS_UNIT_SECTOR);
+        if (status != ETCS_UNIT_OK)
+            break;
+        ++*sectors;
+    }
+    (void)etcs_opening_close(&opening);
+    return status;
+}
+
 /* Prepares, carries out and releases; how many outputs there are goes to `count`. */
 static inline uint32_t flushed(medium *on, etcs_unit *unit, etcs_unit_output *outputs, uint32_t *count) {
-    uint32_t status = etcs_unit_prepare(unit);
+    uint32_t status = prepared(on, unit);
     if (status == ETCS_UNIT_OK)
         status = carry_out(on, unit);
     return status == ETCS_UNIT_OK ? etcs_unit_release(unit, outputs, ETCS_UNIT_OUTPUTS, count) : status;
 }
 
-/* Opens a unit, and carries out its power-up. */
-static inline uint32_t powered_up(medium *on, etcs_unit *unit, uint32_t cold) {
+/* Carries out a power-up that answered so, and releases it. */
+static inline uint32_t released_power_up(medium *on, etcs_unit *unit, uint32_t status) {
     etcs_unit_output outputs[ETCS_UNIT_OUTPUTS];
-    uint32_t count, status = etcs_unit_open(unit, on->bytes, on->len, cold);
+    uint32_t count;
     if (status == ETCS_UNIT_OK)
         status = carry_out(on, unit);
     return status == ETCS_UNIT_OK ? etcs_unit_release(unit, outputs, ETCS_UNIT_OUTPUTS, &count) : status;
+}
+
+/* Opens a unit over a copy, and carries out its power-up. */
+static inline uint32_t powered_up(medium *on, etcs_unit *unit, uint32_t cold) {
+    return released_power_up(on, unit, etcs_unit_open(unit, on->bytes, on->len, cold));
+}
+
+/* The same by sectors. */
+static inline uint32_t powered_up_by_sectors(medium *on, etcs_unit *unit, uint32_t cold) {
+    uint64_t sectors;
+    return released_power_up(on, unit, opened_by_sectors(on, unit, cold, &sectors));
 }
 
 #endif

@@ -14,7 +14,21 @@ static const etcs_train_data train = {20000, 160000, 70, 1000, 15};
 
 static void null_pointers(medium *on) {
     etcs_unit unit = {0};
+    etcs_opening opening = {0};
+    uint64_t sector;
     const uint32_t wanted = ETCS_UNIT_NULL_POINTER;
+    is("begin, no opening", etcs_opening_begin(NULL, 25, 0), wanted);
+    is("go on, no opening", etcs_opening_go_on(NULL, &unit), wanted);
+    is("go on, no unit", etcs_opening_go_on(&opening, NULL), wanted);
+    is("wanted, no opening", etcs_opening_wanted(NULL, &sector), wanted);
+    is("wanted, nowhere to tell", etcs_opening_wanted(&opening, NULL), wanted);
+    is("provide, no opening", etcs_opening_provide(NULL, 0, bytes, ETCS_UNIT_SECTOR), wanted);
+    is("provide, no bytes", etcs_opening_provide(&opening, 0, NULL, ETCS_UNIT_SECTOR), wanted);
+    is("give up, no opening", etcs_opening_close(NULL), wanted);
+    is("wanted, no unit", etcs_unit_wanted(NULL, &sector), wanted);
+    is("wanted of a unit, nowhere to tell", etcs_unit_wanted(&unit, NULL), wanted);
+    is("provide, no unit", etcs_unit_provide(NULL, 0, bytes, ETCS_UNIT_SECTOR), wanted);
+    is("provide to a unit, no bytes", etcs_unit_provide(&unit, 0, NULL, ETCS_UNIT_SECTOR), wanted);
     is("open, no unit", etcs_unit_open(NULL, on->bytes, on->len, 0), wanted);
     is("open, no image", etcs_unit_open(&unit, NULL, on->len, 0), wanted);
     is("telegram, no unit", etcs_unit_telegram(NULL, telegram, 8), wanted);
@@ -66,7 +80,12 @@ static void touch(void) {
 /* Each call on a unit that isn't open, also with a number that is out of range. */
 static void not_open(etcs_unit *unit) {
     const uint32_t wanted = ETCS_UNIT_NOT_OPEN;
+    uint64_t sector = 77;
     touch();
+    is("wanted, not open", etcs_unit_wanted(unit, &sector), wanted);
+    is("it writes nothing", sector, 77);
+    is("provide, not open", etcs_unit_provide(unit, 0, bytes, ETCS_UNIT_SECTOR), wanted);
+    is("provide of no byte, not open", etcs_unit_provide(unit, 0, bytes, 0), wanted);
     is("telegram, not open", etcs_unit_telegram(unit, telegram, 8), wanted);
     is("telegram of no byte, not open", etcs_unit_telegram(unit, telegram, 0), wanted);
     is("odometer, not open", etcs_unit_odometer(unit, 0, 0), wanted);
@@ -135,6 +154,139 @@ static void opening(medium *on) {
     is("closed again", etcs_unit_close(&unit), ETCS_UNIT_OK);
     not_open(&unit);
     free(other);
+}
+
+/* ---- openings by sectors */
+
+/* Each call on an opening that isn't begun, or is closed. */
+static void no_opening(etcs_opening *opening) {
+    etcs_unit unit = {0};
+    uint64_t sector = 77;
+    const uint32_t wanted = ETCS_UNIT_NOT_OPEN;
+    is("go on, not begun", etcs_opening_go_on(opening, &unit), wanted);
+    is("no unit is open", etcs_unit_close(&unit), wanted);
+    is("wanted, not begun", etcs_opening_wanted(opening, &sector), wanted);
+    is("it writes nothing", sector, 77);
+    is("provide, not begun", etcs_opening_provide(opening, 0, bytes, ETCS_UNIT_SECTOR), wanted);
+    is("give up, not begun", etcs_opening_close(opening), wanted);
+}
+
+/* An image that doesn't open: the opening is closed then, and no unit is open. */
+static void refused_by_sectors(const char *what, const uint8_t *image, size_t len, uint32_t wanted) {
+    etcs_opening opening = {0};
+    etcs_unit unit = {0};
+    uint64_t sector;
+    uint32_t status;
+    is("begin", etcs_opening_begin(&opening, len / ETCS_UNIT_SECTOR, 0), ETCS_UNIT_OK);
+    while ((status = etcs_opening_go_on(&opening, &unit)) == ETCS_UNIT_SECTOR_WANTED) {
+        is("wanted", etcs_opening_wanted(&opening, &sector), ETCS_UNIT_OK);
+        is("provide", etcs_opening_provide(&opening, sector, image + sector * ETCS_UNIT_SECTOR, ETCS_UNIT_SECTOR), ETCS_UNIT_OK);
+    }
+    is(what, status, wanted);
+    no_opening(&opening);
+    is(what, etcs_unit_close(&unit), ETCS_UNIT_NOT_OPEN);
+}
+
+static void openings_that_are_refused(const medium *on) {
+    etcs_opening opening = {0};
+    uint8_t *other = (uint8_t *)calloc(1, on->len + ETCS_UNIT_SECTOR);
+    const uint64_t sectors = on->len / ETCS_UNIT_SECTOR;
+    is("an older header", etcs_opening_begin_(&opening, sectors, 0, ETCS_UNIT_ABI - 1), ETCS_UNIT_OTHER_ABI);
+    is("a newer header", etcs_opening_begin_(&opening, sectors, 0, ETCS_UNIT_ABI + 1), ETCS_UNIT_OTHER_ABI);
+    is("cold 3", etcs_opening_begin(&opening, sectors, 3), ETCS_UNIT_OUT_OF_RANGE);
+    is("cold -1", etcs_opening_begin(&opening, sectors, UINT32_MAX), ETCS_UNIT_OUT_OF_RANGE);
+    no_opening(&opening);
+    refused_by_sectors("no sector", other, 0, ETCS_UNIT_OPEN_NOT_FORMATTED);
+    refused_by_sectors("one sector of zeros", other, ETCS_UNIT_SECTOR, ETCS_UNIT_OPEN_NOT_FORMATTED);
+    refused_by_sectors("zeros", other, on->len, ETCS_UNIT_OPEN_NOT_FORMATTED);
+    memcpy(other, on->bytes, on->len);
+    refused_by_sectors("one sector", other, ETCS_UNIT_SECTOR, ETCS_UNIT_OPEN_DAMAGED);
+    refused_by_sectors("a sector too few", other, on->len - ETCS_UNIT_SECTOR, ETCS_UNIT_OPEN_DAMAGED);
+    refused_by_sectors("a sector too many", other, on->len + ETCS_UNIT_SECTOR, ETCS_UNIT_OPEN_DAMAGED);
+    is("the most sectors", etcs_opening_begin(&opening, UINT64_MAX, 0), ETCS_UNIT_OK);
+    is("give up", etcs_opening_close(&opening), ETCS_UNIT_OK);
+    no_opening(&opening);
+    free(other);
+}
+
+/* The sector that a unit, or an opening, is handed wrongly: nothing of it is taken. */
+#define PROVIDES_WRONGLY(kind, to, sectors, sector)                                                                                        \
+    do {                                                                                                                                   \
+        is("no byte", etcs_##kind##_provide(to, sector, bytes, 0), ETCS_UNIT_OUT_OF_RANGE);                                                \
+        is("511 bytes", etcs_##kind##_provide(to, sector, bytes, 511), ETCS_UNIT_OUT_OF_RANGE);                                            \
+        is("513 bytes", etcs_##kind##_provide(to, sector, bytes, 513), ETCS_UNIT_OUT_OF_RANGE);                                            \
+        is("two sectors", etcs_##kind##_provide(to, sector, bytes, 1024), ETCS_UNIT_OUT_OF_RANGE);                                         \
+        is("the sector behind the last one", etcs_##kind##_provide(to, sectors, bytes, ETCS_UNIT_SECTOR), ETCS_UNIT_OUT_OF_RANGE);         \
+        is("the greatest number", etcs_##kind##_provide(to, UINT64_MAX, bytes, ETCS_UNIT_SECTOR), ETCS_UNIT_OUT_OF_RANGE);                 \
+    } while (0)
+
+static void opening_by_sectors(const medium *on) {
+    etcs_opening opening = {0}, another = {0};
+    etcs_unit unit = {0};
+    const uint64_t sectors = on->len / ETCS_UNIT_SECTOR;
+    uint64_t sector = 77, again = 77, handed = 0;
+    uint32_t status;
+    is("begin", etcs_opening_begin(&opening, sectors, ETCS_COLD_MOVED), ETCS_UNIT_OK);
+    is("begun twice", etcs_opening_begin(&opening, sectors, 0), ETCS_UNIT_IS_OPEN);
+    is("nothing is wanted yet", etcs_opening_wanted(&opening, &sector), ETCS_UNIT_NONE_WANTED);
+    is("it writes nothing", sector, 77);
+    while ((status = etcs_opening_go_on(&opening, &unit)) == ETCS_UNIT_SECTOR_WANTED) {
+        is("once more without it", etcs_opening_go_on(&opening, &unit), ETCS_UNIT_SECTOR_WANTED);
+        is("no unit is open", etcs_unit_state(&unit, &state), ETCS_UNIT_NOT_OPEN);
+        is("wanted", etcs_opening_wanted(&opening, &sector), ETCS_UNIT_OK);
+        PROVIDES_WRONGLY(opening, &opening, sectors, sector);
+        is("it is wanted as before", etcs_opening_wanted(&opening, &again), ETCS_UNIT_OK);
+        is("the same", again, sector);
+        is("provide", etcs_opening_provide(&opening, sector, sector_of(on, sector), ETCS_UNIT_SECTOR), ETCS_UNIT_OK);
+        is("nothing is wanted then", etcs_opening_wanted(&opening, &again), ETCS_UNIT_NONE_WANTED);
+        handed++;
+    }
+    is("go on", status, ETCS_UNIT_OK);
+    is("it wanted some", handed > 0, 1);
+    no_opening(&opening);
+    is("another begins", etcs_opening_begin(&another, sectors, 0), ETCS_UNIT_OK);
+    is("a unit is open already", etcs_opening_go_on(&another, &unit), ETCS_UNIT_IS_OPEN);
+    is("that one goes on", etcs_opening_provide(&another, 0, sector_of(on, 0), ETCS_UNIT_SECTOR), ETCS_UNIT_OK);
+    is("give up", etcs_opening_close(&another), ETCS_UNIT_OK);
+    is("prepare before the power-up is done", etcs_unit_prepare(&unit), ETCS_UNIT_REQUESTS_OWED);
+    is("close", etcs_unit_close(&unit), ETCS_UNIT_OK);
+}
+
+/* A unit wants the gate of the slot that it writes next, where it doesn't know it: here of slots 2 and 3. */
+static void wanting(void) {
+    medium on = formatted(40);
+    etcs_unit unit = {0};
+    uint64_t sector = 77;
+    is("power-up", powered_up_by_sectors(&on, &unit, 0), ETCS_UNIT_OK);
+    is("nothing is wanted", etcs_unit_wanted(&unit, &sector), ETCS_UNIT_NONE_WANTED);
+    is("it writes nothing", sector, 77);
+    is("prepare of nothing", etcs_unit_prepare(&unit), ETCS_UNIT_OK);
+    for (uint64_t slot = 2; slot < 4; slot++) {
+        is("an input", etcs_unit_clock(&unit, slot), ETCS_UNIT_OK);
+        is("prepare", etcs_unit_prepare(&unit), ETCS_UNIT_SECTOR_WANTED);
+        is("prepare again", etcs_unit_prepare(&unit), ETCS_UNIT_SECTOR_WANTED);
+        is("wanted", etcs_unit_wanted(&unit, &sector), ETCS_UNIT_OK);
+        is("the gate of the next slot", sector, 1 + 6 * slot);
+        is("state", etcs_unit_state(&unit, &state), ETCS_UNIT_OK);
+        is("the input is pending as before", state.pending, 1);
+        is("there is no request", state.requests, 0);
+        PROVIDES_WRONGLY(unit, &unit, on.len / ETCS_UNIT_SECTOR, sector);
+        is("provide", etcs_unit_provide(&unit, sector, sector_of(&on, sector), ETCS_UNIT_SECTOR), ETCS_UNIT_OK);
+        is("nothing is wanted then", etcs_unit_wanted(&unit, &sector), ETCS_UNIT_NONE_WANTED);
+        is("flush", flushed(&on, &unit, outputs, &count), ETCS_UNIT_OK);
+        is("one", count, 1);
+    }
+    is("an input", etcs_unit_clock(&unit, 9), ETCS_UNIT_OK);
+    is("prepare", etcs_unit_prepare(&unit), ETCS_UNIT_SECTOR_WANTED);
+    is("the medium failed", etcs_unit_fail(&unit), ETCS_UNIT_OK);
+    is("prepare behind a failure", etcs_unit_prepare(&unit), ETCS_UNIT_FAILED);
+    is("close", etcs_unit_close(&unit), ETCS_UNIT_OK);
+    is("power-up over a copy", powered_up(&on, &unit, 0), ETCS_UNIT_OK);
+    is("an input", etcs_unit_clock(&unit, 1), ETCS_UNIT_OK);
+    is("prepare", etcs_unit_prepare(&unit), ETCS_UNIT_OK);
+    is("a copy wants nothing", etcs_unit_wanted(&unit, &sector), ETCS_UNIT_NONE_WANTED);
+    is("close", etcs_unit_close(&unit), ETCS_UNIT_OK);
+    free(on.bytes);
 }
 
 /* Train data with one number changed. */
@@ -368,7 +520,7 @@ static void formatting(void) {
 
 /* What an answer is, of the driver's values and of the equipment's: by hand, from what etcs_unit.h says of each status. */
 static void kinds(void) {
-    static const uint8_t mistakes[] = {10, 22, 41, 247, 248, 249, 251, 252, 253};
+    static const uint8_t mistakes[] = {10, 22, 24, 25, 41, 247, 248, 249, 251, 252, 253};
     for (uint32_t status = 0; status < 300; status++) {
         uint32_t driver = status == 0 ? ETCS_KIND_OK : ETCS_KIND_FAULT, equipment;
         for (size_t i = 0; i < sizeof mistakes; i++)
@@ -391,10 +543,13 @@ int main(void) {
     etcs_unit unit = {0};
     not_open(&unit);
     opening(&on);
+    openings_that_are_refused(&on);
+    opening_by_sectors(&on);
+    wanting();
     limits(&on);
     relaying(&on);
     failing(&on);
     formatting();
     free(on.bytes);
-    return told("misuse", 1270);
+    return told("misuse", 1500);
 }

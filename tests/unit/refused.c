@@ -1,7 +1,8 @@
 /* Refuses memory to the unit: lives one life on an image again and again, and refuses in each run one request for memory of the library's,
  * in turn, until a run meets no refusal.
  *
- *     refused IMAGE    reads the life from standard input: `open COLD`, an input (inputs.h), `flush` or `close` on each line
+ *     refused IMAGE [sectors]    reads the life from standard input: `open COLD`, an input (inputs.h), `flush` or `close` on each line; opens by
+ *                                sectors, or over a copy
  *
  * A call that is refused memory says so and changes nothing that is told; it is made once more. All else is as in a run without a refusal:
  * each status, request, byte and output, and what the medium holds in the end. Only `open` and the inputs ask for memory, and behind the
@@ -113,12 +114,20 @@ static unsigned many;
 static uint8_t image[MOST_BYTES], bytes[MOST_BYTES];
 static medium on = {bytes, 0};
 static etcs_unit unit;
+static int by_sectors;
 static unsigned refused_open, refused_inputs;
 
 /* Goes on with a digest of bytes (FNV-1a). */
 static void digest(uint64_t *to, const void *from, size_t len) {
     for (size_t i = 0; i < len; i++)
         *to = (*to ^ ((const uint8_t *)from)[i]) * UINT64_C(0x100000001B3);
+}
+
+static uint32_t tries(const char *line, int opens, uint32_t cold) {
+    uint64_t sectors;
+    if (!opens)
+        return take(&unit, line);
+    return by_sectors ? opened_by_sectors(&on, &unit, cold, &sectors) : etcs_unit_open(&unit, on.bytes, on.len, cold);
 }
 
 /* Opens, or hands in an input. Where it is refused memory it is made once more. */
@@ -129,7 +138,7 @@ static uint32_t asks(const char *line, int opens, uint32_t cold) {
     const uint32_t was = etcs_unit_state(&unit, &before);
     const long had = held;
     is_refused = 0;
-    const uint32_t status = opens ? etcs_unit_open(&unit, on.bytes, on.len, cold) : take(&unit, line);
+    const uint32_t status = tries(line, opens, cold);
     if (!is_refused)
         return status;
     is(line, status, opens ? ETCS_UNIT_OPEN_NO_MEMORY : ETCS_UNIT_NO_MEMORY);
@@ -141,7 +150,7 @@ static uint32_t asks(const char *line, int opens, uint32_t cold) {
     } else {
         refused_inputs++;
     }
-    return opens ? etcs_unit_open(&unit, on.bytes, on.len, cold) : take(&unit, line);
+    return tries(line, opens, cold);
 }
 
 /* Carries out the list and releases. */
@@ -170,7 +179,7 @@ static answer answer_to(const char *line) {
         found.status = asks(line, opens, cold);
     const unsigned long before = asked;
     if (flushes)
-        found.status = etcs_unit_prepare(&unit);
+        found.status = prepared(&on, &unit);
     if (closes)
         found.status = etcs_unit_close(&unit);
     if (found.status == ETCS_UNIT_OK && (opens || flushes))
@@ -216,7 +225,8 @@ static int read_all(const char *path) {
 int main(int count, char **words) {
     static answer wanted[MOST_LINES], found[MOST_LINES];
     static uint8_t left[MOST_BYTES];
-    if (count != 2 || !read_all(words[1]))
+    by_sectors = count == 3 && strcmp(words[2], "sectors") == 0;
+    if (count != 2 + by_sectors || !read_all(words[1]))
         return 2;
     begin();
     live(0, wanted);

@@ -14,7 +14,7 @@ sys.path[:0] = [str(TOP / "tests")]
 from compared import Compared  # noqa: E402
 
 NULL_POINTER, WITHOUT_POINTER = 253, ("etcs_abi", "etcs_status_text", "etcs_status_kind", "etcs_dropped_text", "etcs_decode", "etcs_packet_count")
-SECTOR, SLOTS, LEAST = 512, 4, 29
+SECTOR, SLOTS, LEAST = 512, 4, 36
 
 
 def life(library, same):

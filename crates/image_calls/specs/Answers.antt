@@ -19,7 +19,7 @@ answer_number an_answer.OutOfRange = 255
 
 -- the number of the interface
 abbrev pub this_abi : ℕ
-this_abi = 4
+this_abi = 5
 
 -- the first where this is so, else the second
 abbrev pub Where : Bool → Type 0 → Type 0 → Type 0

@@ -7,7 +7,7 @@ use std::fmt;
 use std::mem::size_of;
 use std::ptr;
 
-const ABI: u32 = 4;
+const ABI: u32 = 5;
 const SECTOR: usize = 512;
 const OUTPUTS: usize = 8;
 const REQUEST_BYTES: usize = 8192;

@@ -1,0 +1,4 @@
+pub mod Calls
+pub mod Goings
+pub mod Owned
+pub mod Places

@@ -1,0 +1,11 @@
+-- What the pointer of a handle owns (this project's profile). Assumes nothing: this is a definition.
+use Rattle.std.specs.Prelude.{Option}
+use base.Fml.{Fml}
+use denote.RawPtr.{Ptr}
+use Rattle.std.specs.contracts.impls.GlobalAllocator.TheImpl.{ghosts}
+use Rattle.handles.specs.Held.{held_owns, the_heap}
+use Rattle.opening_calls.specs.declared.handle.Place.{Place}
+use Rattle.opening_calls.specs.contracts.handle.Place.{the_row}
+
+abbrev pub raw_owns : Ptr → Option Place → Fml
+raw_owns p o = held_owns (ghosts.dealloc_token the_heap) the_row p o

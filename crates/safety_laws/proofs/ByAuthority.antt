@@ -1,6 +1,6 @@
 -- In Full Supervision and On Sight an authority is stored.
-use Rattle.std.proofs.Common.{◌≡◌, Bool, true, false, List, [], ◌∷◌, cond, refl, sym, subst, inl, inr, ◌⊎◌, ℕ}
-use Rattle.std.specs.Prelude.{Option, Some, None, unwrap_or, is_some}
+use Rattle.std.proofs.Common.{◌≡◌, Bool, true, false, List, [], ◌∷◌, refl, sym, subst, inl, inr, ◌⊎◌, ℕ}
+use Rattle.std.specs.Prelude.{Option, Some, None, is_some}
 use Rattle.std.specs.Option.{option_map, option_map_or}
 use Rattle.authority.specs.Entries as authority
 use Rattle.authority.specs.Entries.AuthorityEntry.{Accepted as Granted}
@@ -27,7 +27,7 @@ use Rattle.mode_control.specs.Sentences.{told, entry_of}
 use Rattle.kernel.specs.Lives.{life_of}
 use Rattle.safety_laws.specs.Running.{modes_by_authority}
 use Rattle.safety_laws.proofs.AuthorityTold.{authorities, after_clock, after_told, after_train, after_entered, by_event}
-use Rattle.safety_laws.proofs.Events.{event_seen, train, found}
+use Rattle.safety_laws.proofs.Events.{past_turn, event_seen, train, found}
 
 abbrev runs : Mode → Bool
 runs mode = is_one_of modes_by_authority mode
@@ -62,12 +62,6 @@ past_mode : (mode : Mode) (entries : List authority.AuthorityEntry) → runs mod
 past_mode FullSupervision entries h s = s
 past_mode OnSight entries h s = s
 past_mode mode entries h s = absurd (let no : false ≡ true = h in cc)
-
-past_turn : (same : Bool) (old new : Mode) (entries : List authority.AuthorityEntry) → runs (unwrap_or (cond same None (Some new)) old) ≡ true →
-    (runs old ≡ true → stored entries) → (runs new ≡ true → stored entries) →
-    stored (after_entered (cond same None (Some new)) entries)
-past_turn true old new entries h before entering = before h
-past_turn false old new entries h before entering = past_mode new entries h (entering h)
 
 -- ---- who enters such a mode from another one has an authority
 
@@ -145,14 +139,14 @@ module _ (life : Life) (input : Input) where
       let event = told life input in
       let still : stored was → stored seen = λ s. past_groups event.used.groups (after_clock event.begun.clock was) (past_clock event.begun.clock was s) in
       subst stored (sym (by_event (entry_of life input).track (tracks life.entries)))
-      (past_turn (is_mode old new) old new seen now (λ h. still (before h))
-      (λ h. elim (enters old c h) [
-        | inl runs ↦ still (before runs)
+      (past_turn runs (λ (entered : Option Mode). stored (after_entered entered seen)) (is_mode old new) old new now (λ h. still (before h))
+      (λ h. past_mode new seen h (elim (enters old c h) [
+        | inl ran ↦ still (before ran)
         | inr full ↦ subst stored (by_event (event_seen life input).track (tracks life.entries))
             (subst (λ (fact : Option authority.Fact). is_some fact ≡ true) (same_accepted (tracks (event_seen life input ∷ life.entries)))
             (full_stored (authority.accepted read) (λ (fact : authority.Fact). end_now fact (authority.now_of read) (authority.sights read))
             (is_full_to (grown life (event_seen life input)) (train life input).max_front) full))
-      ]))
+      ])))
 
 runs_stored : (events : List Event) → runs (mode_of (life_of events).entries) ≡ true → stored (authorities (tracks (life_of events).entries))
 runs_stored [] h = absurd (let no : false ≡ true = h in cc)

@@ -1,20 +1,20 @@
 -- In each mode in which the train runs, its data are valid.
-use Rattle.std.proofs.Common.{◌≡◌, Bool, true, false, List, [], ◌∷◌, cond, refl, inl, inr, ◌⊎◌}
-use Rattle.std.specs.Prelude.{Option, Some, None, unwrap_or, ◌&&◌}
+use Rattle.std.proofs.Common.{◌≡◌, Bool, true, false, List, [], ◌∷◌, refl, inl, inr, ◌⊎◌}
+use Rattle.std.specs.Prelude.{Option, Some, None, ◌&&◌}
 use Rattle.std.proofs.lemmas.Bool.{and_parts}
 use Rattle.driver.specs.Accepting.{stands_in, may_leave}
 use Rattle.driver.specs.declared.action.Action.{Action}
 use Rattle.driver.specs.declared.action.Action.TheVariants.{Confirm}
 use Rattle.driver.specs.declared.action.Confirmed.TheVariants as confirm
 use Rattle.driver.specs.declared.datum.Datum.{Datum}
-use Rattle.driver.specs.declared.datum.Datum.TheVariants.{Unknown, Valid, Invalid}
+use Rattle.driver.specs.declared.datum.Datum.TheVariants.{Unknown}
 use Rattle.driver.specs.declared.occasion.Occasion.{Occasion}
 use Rattle.driver.specs.Data.{is_valid}
 use Rattle.driver.specs.Entries.{DriverEntry}
 use Rattle.driver.specs.Entries.DriverEntry.{Did, ModeEntered}
 use Rattle.driver.specs.Limits.{Train}
 use Rattle.driver.specs.Telling.{ItemTold, after_told, datum_after, train_data_told, ends}
-use Rattle.driver.specs.Telling.ItemTold.{Gives, Confirms, Leaves, Nothing}
+use Rattle.driver.specs.Telling.ItemTold.{Confirms, Leaves, Nothing}
 use Rattle.events.specs.declared.input.Event.{Event}
 use Rattle.events.specs.declared.input.Event.TheVariants as an_event
 use Rattle.events.specs.declared.input.Input.{Input}
@@ -22,7 +22,7 @@ use Rattle.mode_table.specs.declared.conditions.Conditions.{Conditions}
 use Rattle.mode_table.specs.declared.level.TrainLevel.{TrainLevel}
 use Rattle.mode_table.specs.declared.mode.Mode.{Mode}
 use Rattle.mode_table.specs.declared.mode.Mode.TheVariants.{Shunting, StandBy, PostTrip, SystemFailure}
-use Rattle.mode_table.specs.declared.statuses.Fate.TheVariants.{Kept as K, Invalid as I, Deleted as D}
+use Rattle.mode_table.specs.declared.statuses.Fate.TheVariants.{Kept as K}
 use Rattle.mode_table.specs.Modes.{is_mode, is_one_of}
 use Rattle.mode_table.specs.Rows.{next_mode}
 use Rattle.mode_control.specs.declared.deed.Deed.{Deed}
@@ -32,7 +32,7 @@ use Rattle.mode_control.specs.Life.{Life, driver_of, left_at_power_up, grown}
 use Rattle.mode_control.specs.Sentences.{situation, deed_of, entry_of}
 use Rattle.kernel.specs.Lives.{life_of}
 use Rattle.safety_laws.specs.Running.{modes_by_data}
-use Rattle.safety_laws.proofs.Events.{event_seen, found}
+use Rattle.safety_laws.proofs.Events.{past_turn, event_seen, found}
 use Rattle.safety_laws.proofs.Leaving.{started}
 
 abbrev runs : Mode → Bool
@@ -41,14 +41,11 @@ runs mode = is_one_of modes_by_data mode
 -- ---- what an entry leaves valid
 
 told_keeps : (told : ItemTold Train) (before : Datum Train) → ends told ≡ false → is_valid before ≡ true → is_valid (after_told told before) ≡ true
-told_keeps (Gives value) before e h = refl
 told_keeps Confirms Unknown e h = h
-told_keeps Confirms (Valid value) e h = refl
-told_keeps Confirms (Invalid value) e h = refl
 told_keeps (Leaves K) before e h = h
-told_keeps (Leaves I) before e h = absurd (let no : true ≡ false = e in cc)
-told_keeps (Leaves D) before e h = absurd (let no : true ≡ false = e in cc)
+told_keeps (Leaves fate) before e h = absurd (let no : true ≡ false = e in cc)
 told_keeps Nothing before e h = h
+told_keeps told before e h = refl
 
 by_action : (action : Action) (occasion : Occasion) → ends (train_data_told (Did action occasion)) ≡ false
 by_action (Confirm confirm.TrainData) occasion = refl
@@ -73,12 +70,6 @@ module _ (kept : Datum Train) where
 
   past_mode : (mode : Mode) (rest : List DriverEntry) → runs mode ≡ true → is_so rest → is_so (ModeEntered mode ∷ rest)
   past_mode mode rest runs h = told_keeps (train_data_told (ModeEntered mode)) (datum_after train_data_told kept rest) (by_mode mode runs) h
-
-  -- the mode that is entered, if it is another one
-  past_turn : (same : Bool) (old new : Mode) (rest : List DriverEntry) → runs (unwrap_or (cond same None (Some new)) old) ≡ true →
-      (runs old ≡ true → is_so rest) → (runs new ≡ true → is_so rest) → is_so (after_mode (cond same None (Some new)) rest)
-  past_turn true old new rest h before entering = before h
-  past_turn false old new rest h before entering = past_mode new rest h (entering h)
 
 -- ---- who enters such a mode from another one has started
 
@@ -121,8 +112,8 @@ module _ (life : Life) (input : Input) where
       let was : List DriverEntry = deeds life.entries in
       let rest : List DriverEntry = after_level level (after_deed deed was) in
       let still : is_valid (driver_of life).train_data ≡ true → is_so kept rest = λ h. past_level kept level (after_deed deed was) (past_deed kept deed was h) in
-      past_turn kept (is_mode old new) old new rest now (λ h. still (before h))
-      (λ h. elim (enters old c h) [ inl runs ↦ still (before runs) | inr s ↦ still (started_with life input s) ])
+      past_turn runs (λ (entered : Option Mode). is_so kept (after_mode entered rest)) (is_mode old new) old new now (λ h. still (before h))
+      (λ h. past_mode kept new rest h (elim (enters old c h) [ inl ran ↦ still (before ran) | inr s ↦ still (started_with life input s) ]))
 
 pub runs_by_data : (events : List Event) → runs (mode_of (life_of events).entries) ≡ true → is_valid (driver_of (life_of events)).train_data ≡ true
 runs_by_data [] h = absurd (let no : false ≡ true = h in cc)

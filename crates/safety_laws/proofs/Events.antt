@@ -1,6 +1,6 @@
 -- One event of a life: what its change of mode is read off.
-use Rattle.std.proofs.Common.{◌≡◌, ◌∷◌, refl}
-use Rattle.std.specs.Prelude.{unwrap_or}
+use Rattle.std.proofs.Common.{◌≡◌, ◌∷◌, Bool, true, false, cond, refl}
+use Rattle.std.specs.Prelude.{Option, Some, None, unwrap_or}
 use Rattle.events.specs.declared.input.Input.{Input}
 use Rattle.mode_table.specs.declared.conditions.Conditions.{Conditions}
 use Rattle.mode_table.specs.declared.mode.Mode.{Mode}
@@ -15,6 +15,12 @@ use Rattle.mode_control.specs.Sentences.{changed, deed_of, told, span_of, the_tr
 -- the mode behind an event, by the one before it and the conditions
 abbrev pub turned : Mode → Conditions → Mode
 turned old c = unwrap_or (changed old (next_mode old c)) old
+
+-- what is so in some modes, where it is so both with no mode that is entered and with one
+pub past_turn : (runs : Mode → Bool) (P : Option Mode → Type 0) (same : Bool) (old new : Mode) → runs (unwrap_or (cond same None (Some new)) old) ≡ true →
+    (runs old ≡ true → P None) → (runs new ≡ true → P (Some new)) → P (cond same None (Some new))
+past_turn runs P true old new h before entering = before h
+past_turn runs P false old new h before entering = entering h
 
 module _ (life : Life) (input : Input) where
   abbrev pub event_begun : SupervisionEntry

@@ -1,5 +1,5 @@
 -- The starts of lower speeds ask what each centimetre does.
-use Rattle.std.proofs.Common.{◌≡◌, ℕ, zero, suc, ◌≤◌, ℤ, pos, ◌+ℤ◌, ◌-ℤ◌, ◌≤ℤ◌, ◌<ℤ◌, List, [], ◌∷◌, ◌++◌, ◌⊎◌, inl, inr, Bool, true, false, cond, min, refl, ap, sym, ◌∙◌, subst, arith, append_assoc}
+use Rattle.std.proofs.Common.{◌≡◌, ℕ, zero, suc, ◌≤◌, ℤ, pos, ◌+ℤ◌, ◌-ℤ◌, ◌≤ℤ◌, ◌<ℤ◌, List, [], ◌∷◌, ◌++◌, ◌⊎◌, inl, inr, Bool, true, false, cond, refl, ap, sym, ◌∙◌, subst, arith, append_assoc}
 use Rattle.std.specs.Prelude.{Option, None, Some, int_lt, nat_lt, map}
 use Rattle.std.specs.List.{filter_map, cons_option}
 use Rattle.std.proofs.lemmas.Bool.Decides.{nat_tests}
@@ -26,7 +26,7 @@ use Rattle.speed_profile.specs.Targets.{AskTheSame}
 use Rattle.speed_profile.specs.Track.{TrackSpeeds}
 use Rattle.speed_profile.proofs.There.{at_place}
 use Rattle.track_store.specs.Profiles.{listed}
-use Rattle.track_store.proofs.Jumps.{least_below, natural_is}
+use Rattle.track_store.proofs.Jumps.{least_below, least_one_of, natural_is}
 use Rattle.units.proofs.Gathering.{IsIn, over_at, in_over}
 use Rattle.units.specs.Stretches.{natural, least}
 use Rattle.safety_laws.specs.Starts.{least_asked, asked_before, is_lower, lower_start, lower_starts, starts_by_kind}
@@ -37,18 +37,10 @@ speeds targets = map (λ (t : Target). t.speed) targets
 
 -- ---- the least of some is one of them, and above none
 
-least_is_one : (otherwise : ℕ) (targets : List Target) → (least otherwise (speeds targets) ≡ otherwise)
-    ⊎ ((t : Target) × IsIn t targets × (least otherwise (speeds targets) ≡ t.speed))
-least_is_one otherwise [] = inl refl
-least_is_one otherwise (t ∷ targets) =
-    let one : (a b : ℕ) → (min a b ≡ a) ⊎ (min a b ≡ b) = λ a b. grind arith in
-    elim (one t.speed (least otherwise (speeds targets))) [
-      | inl here ↦ inr (t, inl refl, here)
-      | inr rest ↦ elim (least_is_one otherwise targets) [
-        | inl all ↦ inl (rest ∙ all)
-        | inr of ↦ inr (of.0, inr of.1, rest ∙ of.2)
-      ]
-    ]
+of_speeds : (targets : List Target) (v : ℕ) → IsIn v (speeds targets) → (t : Target) × IsIn t targets × (v ≡ t.speed)
+of_speeds [] v there = absurd there
+of_speeds (t ∷ targets) v (inl is) = (t, inl refl, is)
+of_speeds (t ∷ targets) v (inr later) = let of = of_speeds targets v later in (of.0, inr of.1, of.2)
 
 in_speeds : (t : Target) (targets : List Target) → IsIn t targets → IsIn t.speed (speeds targets)
 in_speeds t [] there = absurd there
@@ -58,9 +50,9 @@ attained : (targets : List Target) (speed : ℕ) → least_asked targets ≡ Som
 attained [] speed is = absurd (let no : None ≡ Some speed = is in cc)
 attained (t ∷ targets) speed is =
     let least_is = same_Some (least t.speed (speeds targets)) speed is in
-    elim (least_is_one t.speed targets) [
+    elim (least_one_of t.speed (speeds targets)) [
       | inl first ↦ (t, inl refl, sym first ∙ least_is)
-      | inr of ↦ (of.0, inr of.1, sym of.2 ∙ least_is)
+      | inr there ↦ (let of = of_speeds targets (least t.speed (speeds targets)) there in (of.0, inr of.1, sym of.2 ∙ least_is))
     ]
 
 no_lower_one : (targets : List Target) (t : Target) → IsIn t targets → (speed : ℕ) × (least_asked targets ≡ Some speed) × (speed ≤ t.speed)

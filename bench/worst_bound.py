@@ -20,7 +20,7 @@ from worst_search import ANEW, CROWDS, GROWN, STAIRS, anew, backwards, counted, 
 
 CALL = 10_000  # what a call takes that goes along nothing
 PIECE, SUMS = 44, 5  # of a sum for each gradient, and how many sums there are
-TARGET = 750  # for each restriction, mode area and static speed, and for both last targets: it lowers the speed
+TARGET = 800  # for each restriction, mode area and static speed, and for both last targets: it lowers the speed
 TURNS, TURN = 20, 350  # with a reaction time: how often a lowering halves, and what each time takes
 KNOWN = 25  # of a start for each gradient and static speed: whether it is known
 lives.output_of = lambda life: None  # (no output is asked for, and each takes a second)

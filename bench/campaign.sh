@@ -35,9 +35,19 @@ done
 scenarios=${1:-2000} seed=${2:-7} turns=${3:-3}
 [ -w /dev/shm ] && [ -z "$TMPDIR" ] && memory=/dev/shm
 room=$(mktemp -d ${memory:+-p "$memory"}) || exit 1
-started=()
+# A scheduler and workers that are told to end at once may wait for one another: those that are there after 5 seconds are ended as they are.
 finish() {
-    kill "${started[@]}" 2>/dev/null
+    local turn left
+    for ((turn = 0; turn <= 50; turn++)); do
+        mapfile -t left < <(jobs -rp)
+        [ ${#left[@]} -gt 0 ] || break
+        case $turn in
+            0) kill "${left[@]}" ;;
+            50) kill -KILL "${left[@]}" ;;
+            *) sleep 0.1 ;;
+        esac
+    done 2>/dev/null
+    wait 2>/dev/null
     rm -rf "$room"
 }
 trap finish EXIT
@@ -124,11 +134,11 @@ start_dask() {
     local number
     export PYTHONPATH=$top/python DASK_CONFIG=$top/python/gaknifur/dask.yaml
     "$python" -m distributed.cli.dask_scheduler --host 127.0.0.1 --port 0 --no-dashboard --no-show --scheduler-file "told$1" >/dev/null 2>&1 &
-    started+=($!) && echo $! >"dask$1"
+    echo $! >"dask$1"
     for ((number = 0; number < 600; number++)); do [ -s "told$1" ] && break; sleep 0.1; done
     for ((number = 0; number < $1; number++)); do
         "$python" -m distributed.cli.dask_worker --scheduler-file "told$1" --nthreads 1 --no-nanny --no-dashboard --host 127.0.0.1 >/dev/null 2>&1 &
-        started+=($!) && echo $! >>"dask$1"
+        echo $! >>"dask$1"
     done
     unset PYTHONPATH DASK_CONFIG
     sed -n 's/.*"address": "\(tcp[^"]*\)".*/\1/p' "told$1" | head -n 1 >"address$1"

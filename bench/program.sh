@@ -1,7 +1,7 @@
 #!/bin/bash
-# Seconds and peak memory of `etcs run` on a scenario of so many steps (100,000), and of `etcs journal` on an image that is full with as many
-# blocks, beside the peer's (bench/peer), which has to print the same and leave the same image. The program must be there (./etcs --prove); with
-# UNPROVED=yes one is compiled without a proof (bench/unproved).
+# Seconds, of wall time and of a processor, and peak memory of `etcs run` on a scenario of so many steps (100,000), and of `etcs journal` on an image
+# that is full with as many blocks, beside the peer's (bench/peer), which has to print the same and leave the same image. The program must be there
+# (./etcs --prove); with UNPROVED=yes one is compiled without a proof (bench/unproved).
 #
 #     bench/program.sh [STEPS]
 top=$(cd "$(dirname "$(readlink -f -- "$0")")/.." && pwd) || exit 1
@@ -35,17 +35,19 @@ def watch(process, seen):
 
 
 def measured(name, file, *words):
-    """Runs it, what it prints into a file, and tells its wall time and the most memory that it held."""
+    """Runs it, what it prints into a file, and tells its wall time, its processor time, and the most memory that it held."""
     start, seen = time.monotonic(), []
     with open(name, "wb") as out:
         ran = subprocess.Popen([file, *words], stdout=out)
         watcher = threading.Thread(target=watch, args=(ran.pid, seen))
         watcher.start()
-        status = ran.wait()
+        _, ended, used = os.wait4(ran.pid, 0)
+        status = ran.returncode = os.waitstatus_to_exitcode(ended)
     seconds = time.monotonic() - start
     watcher.join()
     lines = sum(1 for _ in open(name))
-    print(f"{name:<5} {' '.join(words)}: status {status}, {lines} lines, {seconds:.1f} s, {max(seen) / 1024:.0f} MB at most", flush=True)
+    print(f"{name:<5} {' '.join(words)}: status {status}, {lines} lines, {seconds:.1f} s, {used.ru_utime + used.ru_stime:.1f} s of a processor, "
+          f"{max(seen) / 1024:.0f} MB at most", flush=True)
 
 
 def both(word, *words, makes=None):

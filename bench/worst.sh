@@ -8,12 +8,13 @@
 #     bench/worst.sh                         counts them again
 #     bench/worst.sh --search [TRIES SEED]   looks for more (10,000 tries, seed 46), keeps what takes more, and counts them
 #     bench/worst.sh --minutes MINUTES SEED  the same, for so many minutes
-#     bench/worst.sh --build                 builds what counts, and no more
+#     bench/worst.sh --hand                  keeps what was made by hand where it takes more, and counts them
+#     bench/worst.sh --build                 builds what counts, and no more; then bench/worst_bound.py has a bound beside it
 #     bench/worst.sh --grown                 a reading where restrictions and gradients double, of the unit and of the peer
 #
-# The search is a hill climb (bench/worst_search.py): it begins with lives at random, then changes the scenario of a kind
-# by a few steps, and keeps it where a call takes at least as much. Its figures are the greatest that were found, and no
-# bound.
+# The search is a hill climb (bench/worst_search.py): it begins with what is kept, with what was made by hand and with
+# lives at random, then changes the scenario of a kind by a few steps, and keeps it where a call takes at least as much.
+# Its figures are the greatest that were found, and no bound.
 set -e
 top=$(cd "$(dirname "$(readlink -f -- "$0")")/.." && pwd)
 out=$top/bench/out
@@ -37,6 +38,7 @@ search() {
 }
 case ${1:-} in
     --search) search "${2:-10000}" "${3:-46}" ;;
+    --hand) search --hand ;;
     --minutes) search --minutes "${2:?}" "${3:?}" ;;
     --build) exit ;;
     --grown) "$top/bench/peer.sh" --build >&2; exec "$top/bench/worst_search.py" --grown ;;

@@ -4,6 +4,7 @@
     bench/worst_search.py TRIES SEED     writes bench/worst.scenarios: for each kind of call the scenario whose last line took most, of
                                          those that it found and those that were kept before
     bench/worst_search.py --minutes MINUTES SEED     the same, with as many tries as these minutes take
+    bench/worst_search.py --hand         keeps what was made by hand where it takes more
     bench/worst_search.py --count        counts these again: KIND, INSTRUCTIONS, MODE, LIMIT, FOUND, a line each, tab between
     bench/worst_search.py --more         what one thing more costs: a restriction, a static speed, a gradient, a slot
     bench/worst_search.py --grown        a reading where restrictions and gradients double: WHAT, INSTRUCTIONS, THOSE OF THE PEER
@@ -25,6 +26,7 @@ from pathlib import Path
 TOP = Path(__file__).resolve().parent.parent
 sys.path.insert(0, str(TOP / "tests" / "plain"))
 sys.dont_write_bytecode = True
+import decoded  # noqa: E402
 import named  # noqa: E402
 import telegrams  # noqa: E402
 from groups import Assembler, Reading  # noqa: E402
@@ -248,7 +250,10 @@ def seeds(r):
     yield summed[:-2]
     for one in LAST:
         yield [*summed[:-1], one]
-    for _ in range(BATCH - 61 - len(LAST)):
+    lives = [read_again(lines) for _, _, lines in kept()] if SCENARIOS.exists() else []
+    lives += [[*crowd[:-1], one] for crowd in (crowded(**CROWDS[2]), anew(690), anew(690, 10_000)) for one in (*LAST, "odometer 1 50000")]
+    yield from lives
+    for _ in range(max(0, 2 * BATCH - 61 - len(LAST) - len(lives))):
         yield [*ENTERED, *(telegram(r) for _ in range(r.randrange(1, 8))), "action 7", *(any_line(r) for _ in range(r.randrange(4, 20)))]
 
 
@@ -494,9 +499,12 @@ class Best:
         return [took.get((at, len(text) + 1), (0,))[0] >= most and list(kinds_of(text))[-1] == kind for at, text in enumerate(texts, 1)]
 
     def add_by_hand(self):
-        for kind, lines in by_hand().items():
+        """Takes what was made by hand where it takes more."""
+        for kind, lines in by_hand():
             texts = [text_of(line) for line in lines]
-            self.of[kind] = (counted([(4, [*texts[:-1], "count", texts[-1]])])[1, len(texts) + 1][0], lines)
+            took, status, *_ = counted([(4, [*texts[:-1], "count", texts[-1]])])[1, len(texts) + 1]
+            if status == 0 and took > self.of.get(kind, (0,))[0]:
+                self.of[kind] = (took, lines)
 
     def add_kept(self):
         """Takes what was kept before where it takes more."""
@@ -515,13 +523,40 @@ class Best:
 
 
 def by_hand():
-    """What takes the most of the heap: the room for all packets that a group may have is made before it closes."""
+    """What takes the most of the heap: the room for all packets that a group may have is made before it closes. And each kind of call behind a crowd
+    of gradients."""
     header = dict(zip(HEADER, (0, 7, 0, 255, 1, 9, 1)))
     heard = [("telegram", header | {"N_PIG": place}, [(SKIPPED, [("Q_DIR", 2)])] * 33) for place in range(8)]
-    return {"telegram that closes a group of 264 packets": [*ENTERED, *heard]}
+    yield "telegram that closes a group of 264 packets", [*ENTERED, *heard]
+    *before, start, last = crowded(**CROWDS[2])
+    *others, gradients, restrictions = before
+    calls = [[*before, start], *([*before, start, *more, one] for more in ((), (last,)) for one in (*LAST, last)), [*before, start, "telegram 00"],
+             [*before, start, restrictions], [*others, restrictions, start, gradients], [*before, start, heard[0]],
+             [*crowded(**CROWDS[2], behind=131)[:-1], heard[0], "odometer 1301 50000"]]
+    for lines in calls:
+        yield list(kinds_of([text_of(line) for line in lines]))[-1], lines
 
 
 # ---- what is kept, counted again
+
+def read_again(lines):
+    """A kept scenario as the climb has it: each telegram that can be read as its header and its packets."""
+    return [telegram_again(line) for line in lines if line != "count"]
+
+
+def telegram_again(line):
+    word, _, text = line.partition(" ")
+    if word != "telegram":
+        return line
+    try:
+        told = decoded.telegram_of(bytes.fromhex(text))
+    except decoded.Fault:
+        return line
+    header = dict(told.header)
+    again = ("telegram", {name: header[name] for name in HEADER},
+             [(one.number, [field for field in one.fields if field[0] != "L_PACKET"]) for one in told.packets])
+    return again if text_of(again) == line else line
+
 
 def kept():
     """The kept scenarios: what was found, the kind, the lines."""
@@ -609,10 +644,50 @@ def stairs(grades, restricted=0, areas=0, speeds=0, rising=True, step=2, reactio
         packets.append([(27, whole + listed([[("D_STATIC", after), ("V_STATIC", speed), ("Q_FRONT", 0), ("N_ITER", 0)]
                                              for after, speed in each_after(told[2])]))])
     heard = [("telegram", dict(zip(HEADER, (0, 0, 0, 255, 1, group, 1))), some) for group, some in enumerate(packets, 400)]
-    ends = grades * step + 1 if near_end else 32_767
-    ended = [(*line[:2], [(number, [(name, ends if name == "L_ENDSECTION" else value) for name, value in fields]) for number, fields in line[2]])
-             for line in heard_in(lines)]
+    ended = [ended_at(line, grades * step + 1 if near_end else 32_767) for line in heard_in(lines)]
     return [*(line for line in lines if isinstance(line, str)), *ended, *heard, action, first, last]
+
+
+def anew(grades, reaction=0, step=2):
+    """The same train and gradients, and after all of them in turn the end of the authority, two restrictions, of which the farther one was told first,
+    and a static speed, after which none is known. Each is slower than the next one, and nearer: so each sum that a call can make begins anew, and
+    goes along all gradients."""
+    *lines, action, first, last = [line.replace("160000", "600000") if isinstance(line, str) else line
+                                   for line in backwards(0, grades, step, reaction)]
+    whole, behind = [("Q_DIR", 2), ("Q_SCALE", 1)], grades * step
+    told = [[restricted_at(whole, behind + 30, 20), restricted_at(whole, behind + 20, 10)],
+            [(27, whole + listed([[("D_STATIC", after), ("V_STATIC", speed), ("Q_FRONT", 0), ("N_ITER", 0)]
+                                  for after, speed in each_after([(0, 120), (behind + 40, 30), (behind + 50, 127)])]))]]
+    heard = [("telegram", dict(zip(HEADER, (0, 0, 0, 255, 1, group, 1))), some) for group, some in enumerate(told, 400)]
+    return [*(line for line in lines if isinstance(line, str)), *(ended_at(line, behind + 1) for line in heard_in(lines)), *heard, action, first, last]
+
+
+def ended_at(line, metres):
+    """A telegram whose authority ends after so many metres."""
+    return (*line[:2], [(number, [(name, metres if name == "L_ENDSECTION" else value) for name, value in fields]) for number, fields in line[2]])
+
+
+def crowded(grades, statics, restricted, end, location, deceleration=300, reaction=10_000, first=131, steep=121, beyond=90, behind=0):
+    """Full Supervision at up to 600 km/h, with so many gradients ahead, one every 10 cm, which lie within the way that the train runs before its
+    brakes act. Then each speed that is looked for goes along all of them again. Static speeds and restrictions are places, in steps of 10 cm
+    after the group, and steps of 5 km/h; the authority ends at a place, and its location another one. All of them may lie farther on."""
+    def heard(group, packets):
+        return ("telegram", dict(zip(HEADER, (0, 0, 0, 255, 1, group, 1))), packets)
+    whole = [("Q_DIR", 2), ("Q_SCALE", 0)]
+    lines = [*ENTERED, f"train 20000 600000 {deceleration} {reaction} 15"]
+    lines.append(heard(2, [(12, [*whole, ("V_MAIN", 120), ("V_LOA", 0), ("T_LOA", 1023), ("N_ITER", 0), ("L_ENDSECTION", behind + end), ("Q_SECTIONTIMER", 0),
+                                 ("Q_ENDTIMER", 0), ("Q_DANGERPOINT", 1), ("D_DP", location - end), ("V_RELEASEDP", 126), ("Q_OVERLAP", 0)])]))
+    lines.append(heard(3, [(27, whole + listed([[("D_STATIC", after), ("V_STATIC", speed), ("Q_FRONT", 0), ("N_ITER", 0)]
+                                               for after, speed in each_after([(0, 120), *((behind + at, to) for at, to in statics)])]))]))
+    first += behind
+    told = [(0, beyond), *((first + at, steep - at % 2) for at in range(grades)), (first + grades, beyond)]
+    for group, at in enumerate(range(0, len(told), 30), 4):
+        lines.append(heard(group, [(21, whole + listed([[("D_GRADIENT", after), ("Q_GDIR", 1), ("G_A", gradient)]
+                                                        for after, gradient in each_after(told[at:at + 30])]))]))
+    for group, at in enumerate(range(0, len(restricted), 10), 400):
+        lines.append(heard(group, [(65, [*whole, ("NID_TSR", 255), ("D_TSR", behind + place), ("L_TSR", 10), ("Q_FRONT", 0), ("V_TSR", speed)])
+                                   for place, speed in restricted[at:at + 10]]))
+    return [*lines, "action 7", "odometer 0 50000"]
 
 
 def heard_in(lines):
@@ -679,11 +754,23 @@ STAIRS = [(grades, reaction, near_end, many) for near_end in (False, True) for r
           for many in KINDS]
 
 
+# Crowds of gradients, and what is told ahead of them, for each of the five sums a place that is nearer than where the brakes act at the speed so far.
+# (The static speed is no stop: before one, no further static speed would be asked for.)
+STOPS = {"statics": [(16_263, 1), (16_264, 127)], "restricted": [(5_381, 0), (2_046, 0)], "end": 875, "location": 875}
+CROWDS = [{"grades": grades, **STOPS, "reaction": reaction} for grades, reaction in ((172, 10_000), (345, 10_000), (690, 10_000), (690, 5_000), (690, 1_000))]
+ANEW = ((345, 0), (690, 0), (690, 1_000), (690, 10_000))
+
+
 def main(words):
     if words == ["--grown"]:
         grown()
     elif words == ["--stairs"]:
         told_stairs()
+    elif words == ["--hand"]:
+        best = Best()
+        best.add_by_hand()
+        best.add_kept()
+        best.write(SCENARIOS)
     elif words == ["--count"]:
         count_again()
     elif words == ["--memory"]:

@@ -1,0 +1,113 @@
+#!/usr/bin/env python3
+"""What docs/PERFORMANCE.md argues that a call takes at most, beside what was counted: of each kept scenario (bench/worst.scenarios), each row of the
+doubling and of the stairs, and each crowd of gradients. WHAT, COUNTED, BOUND, and the numbers that the bound goes by, a line each, tab between. It
+ends with status 1 where more was counted.
+
+    bench/worst_bound.py [kept] [grown] [stairs] [anew] [crowds]     all of them, or some
+
+What lies ahead is told by the plain program of tests/plain, which lives each scenario. `bench/worst.sh --build` builds what counts.
+"""
+import math
+import sys
+from pathlib import Path
+
+TOP = Path(__file__).resolve().parent.parent
+sys.dont_write_bytecode = True
+sys.path[:0] = [str(TOP / "bench"), str(TOP / "tests" / "plain")]
+import life as lives  # noqa: E402
+from mixed import in_plain_words  # noqa: E402
+from worst_search import ANEW, CROWDS, GROWN, STAIRS, anew, backwards, counted, crowded, kept, stairs, text_of  # noqa: E402
+
+CALL = 10_000  # what a call takes that goes along nothing
+PIECE, SUMS = 44, 5  # of a sum for each gradient, and how many sums there are
+TARGET = 800  # for each restriction, mode area and static speed, and for both last targets: it lowers the speed
+TURNS, TURN = 20, 350  # with a reaction time: how often a lowering halves, and what each time takes
+KNOWN = 25  # of a start for each gradient and static speed: whether it is known
+lives.output_of = lambda life: None  # (no output is asked for, and each takes a second)
+
+# The calls for which a bound is argued. A telegram also makes room, and an opening and a preparation go along no gradient.
+WITHOUT = ("telegram", "power-up", "prepare")
+
+
+def starts_of(profile):
+    """Where its pieces begin, in order; no two neighbours have one value."""
+    found, last = [], None
+    for place in sorted(profile.starts()):
+        value = profile.at(place)
+        if value != last:
+            found.append(place)
+        last = value
+    return found
+
+
+def again(starts, front, way, targets):
+    """How many gradients are gone along again at most by the search for speeds between where the brakes act at two of them. All these lie on the way
+    that the train runs before its brakes act: W gradients, and D where they were as close as the closest two. In each sum what a lowering begins and
+    what it halves is at most twice as long as that way. One lowering goes along W, and along as many for each halving, or half as many as before."""
+    there = [place for place in starts if front < place <= front + way]
+    if not there:
+        return 0
+    closest = min((after - place for place, after in zip(there, there[1:])), default=way)
+    most = way // closest + 1
+    return min(2 * SUMS * most, int(targets * len(there) * (3 + math.log2(most / len(there)))))
+
+
+def bound_of(lines, is_start):
+    """The bound of the last of these lines, and the numbers that it goes by: gradients, targets, and gradients that are gone along again."""
+    life = lives.Life()
+    for word, value in in_plain_words([line for line in lines if not line.startswith(("cold", "flush"))]):
+        life.take(word, value)
+    it = life.situation()
+    if life.mode() not in ("FS", "OS") or not it.train:
+        return CALL, (0, 0, 0)
+    front = it.stretch.max_front
+    starts, speeds = starts_of(it.gradients), starts_of(it.speeds)
+    gradients = 1 + sum(place > front for place in starts)
+    statics = 1 + sum(place > it.stretch.min_rear for place in speeds)
+    targets = len(it.restrictions) + len(it.areas) + statics + 2
+    way = -(-it.limit() * it.train.reaction_ms // 36_000)
+    more = again(starts, front, way, targets)
+    most = CALL + PIECE * (SUMS * gradients + more) + targets * (TARGET + (TURNS * TURN if way else 0))
+    return most + (KNOWN * (gradients + statics) if is_start else 0), (gradients, targets, more)
+
+
+def told(words):
+    """WHAT, the lines."""
+    if "kept" in words:
+        for _, kind, lines in kept():
+            yield kind, [line for line in lines if line != "count"]
+    if "grown" in words:
+        for grades, restricted, order in GROWN:
+            yield (f"reading: {grades} gradients, {restricted} restrictions, told {order}",
+                   [text_of(line) for line in backwards(restricted, grades, turns=order == "by turns", near=order == "near to far")])
+    if "stairs" in words:
+        for grades, reaction, near_end, many in STAIRS:
+            for rising in (True, False):
+                what = ", ".join(f"{number} {name}" for name, number in many.items())
+                yield (f"reading: {grades} gradients, {what}, {'rising' if rising else 'falling'}, the end {'before' if near_end else 'behind'} them, "
+                       f"{reaction / 1000:g} s", [text_of(line) for line in stairs(grades, rising=rising, reaction=reaction, near_end=near_end, **many)])
+    if "crowds" in words:
+        for crowd in CROWDS:
+            yield f"reading: a crowd of {crowd['grades']} gradients, {crowd['reaction'] / 1000:g} s", [text_of(line) for line in crowded(**crowd)]
+    if "anew" in words:
+        for grades, reaction in ANEW:
+            yield f"reading: {grades} gradients, each sum anew, {reaction / 1000:g} s", [text_of(line) for line in anew(grades, reaction)]
+
+
+def main(words):
+    cases = list(told(words or ["kept", "grown", "stairs", "anew", "crowds"]))
+    took = counted([(4, [*lines[:-1], "count", lines[-1]]) for _, lines in cases])
+    broken = 0
+    for at, (what, lines) in enumerate(cases, 1):
+        number = took[at, len(lines) + 1][0]
+        if what.startswith(WITHOUT):
+            print(what, number, "-", sep="\t")
+            continue
+        most, by = bound_of(lines, what == "driver: start")
+        broken += number > most
+        print(what, number, most, *by, *(["BROKEN"] if number > most else []), sep="\t", flush=True)
+    return 1 if broken else 0
+
+
+if __name__ == "__main__":
+    sys.exit(main(sys.argv[1:]))

@@ -20,10 +20,8 @@ use Rattle.image_calls.specs.declared.images.Ring.{Ring}
 
 -- no head before a block says that it is within it
 abbrev IsOfHead : Result Kept Unknown → Type 0
-IsOfHead (Ok kept) = Unit {0}
-IsOfHead (Err BeforeOldest) = Unit {0}
-IsOfHead (Err Gap) = Unit {0}
 IsOfHead (Err WithinBlock) = ⊥
+IsOfHead _ = Unit {0}
 
 of_behind : (o : Option Block) → IsOfHead (behind o)
 of_behind None = tt
@@ -39,9 +37,8 @@ of_before slots valids from false = tt
 anew : (known : Result Kept Unknown) (word : Cold) (block : Block) (life : ℕ) (r : BlockRecord) (at : Option Lived) → r.event ≡ PowerUp word → IsOfHead known
     → life_after (Step.Begins block life known r) at ≡ life_after (Step.Begins block life known r) None
 anew (Ok kept) word block life r at is of = rw is refl
-anew (Err BeforeOldest) word block life r at is of = refl
-anew (Err Gap) word block life r at is of = refl
 anew (Err WithinBlock) word block life r at is of = absurd of
+anew (Err other) word block life r at is of = refl
 
 of_known_if : (reason : Unknown) (kept : Kept) (first : Bool) → IsOfHead (Err reason) → IsOfHead (if first then Ok kept else Err reason)
 of_known_if reason kept true of = tt

@@ -45,9 +45,7 @@ behind_block l = record l { next = record { block = one_more l.next.block; index
 -- whether the line is found
 abbrev pub is_ended_by : End → Bool
 is_ended_by an_end.Going = false
-is_ended_by an_end.Over = true
-is_ended_by an_end.Differs = true
-is_ended_by an_end.Lost = true
+is_ended_by _ = true
 
 abbrev pub is_ended : Line → Bool
 is_ended l = is_ended_by l.end
@@ -114,13 +112,10 @@ TellsStep (Step.Head block) l next old new = (found : Option HeadFound) × IsHea
 
 abbrev pub HasFew : Judged → Type 0
 HasFew (Agrees replay) = (at : Story) → StandsBehind at replay → number_at at + 1 < 2 ^ 64
-HasFew (Unknown why) = Unit {0}
-HasFew BehindDifference = Unit {0}
+HasFew _ = Unit {0}
 
 abbrev pub HasFewAt : Step → Line → Type 0
-HasFewAt (Step.Unreadable number) l = Unit {0}
-HasFewAt Step.Missing l = Unit {0}
 HasFewAt (Step.Begins block life (Ok kept) r) l = (kept.events + 1 < 2 ^ 64) × HasFew l.judged
 HasFewAt (Step.Begins block life (Err why) r) l = HasFew l.judged
 HasFewAt (Step.GoesOn block life r) l = HasFew l.judged
-HasFewAt (Step.Head block) l = Unit {0}
+HasFewAt _ l = Unit {0}

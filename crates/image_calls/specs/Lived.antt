@@ -37,9 +37,8 @@ powered_up (Input input) kept at = one_more (Input input) at
 
 -- where nobody knows what was kept it isn't known; but within a block it goes on from the life before, where that is
 abbrev pub begun_unknown : Unknown → Event → Option Lived → Option Lived
-begun_unknown an_unknown.BeforeOldest event at = None
-begun_unknown an_unknown.Gap event at = None
 begun_unknown an_unknown.WithinBlock event at = one_more event at
+begun_unknown _ event at = None
 
 abbrev pub begun : Result Kept Unknown → Event → Option Lived → Option Lived
 begun (Ok kept) event at = powered_up event kept at
@@ -47,11 +46,10 @@ begun (Err unknown) event at = begun_unknown unknown event at
 
 -- behind a step
 abbrev pub life_after : Step → Option Lived → Option Lived
-life_after (Step.Unreadable number) at = None
-life_after Step.Missing at = None
 life_after (Step.Begins block life before r) at = begun before r.event at
 life_after (Step.GoesOn block life r) at = one_more r.event at
 life_after (Step.Head block) at = at
+life_after _ at = None
 
 abbrev pub life_behind : List Step → Option Lived → Option Lived
 life_behind [] at = at
@@ -64,11 +62,9 @@ abbrev pub is_record : ℕ → ℕ → Block → BlockRecord → Bool
 is_record number event block r = if block.number == number then r.number == event else false
 
 abbrev pub is_asked : ℕ → ℕ → Step → Bool
-is_asked number event (Step.Unreadable n) = false
-is_asked number event Step.Missing = false
 is_asked number event (Step.Begins block life before r) = is_record number event block r
 is_asked number event (Step.GoesOn block life r) = is_record number event block r
-is_asked number event (Step.Head block) = false
+is_asked number event _ = false
 
 -- the steps up to the first of which this is so
 abbrev pub up_to : (Step → Bool) → List Step → List Step
@@ -98,7 +94,6 @@ IsLeft word kept story = left_by word kept ≡ left_by word (past_at story).kept
 -- the same is kept as before its power-up, this unit's own events or not
 abbrev pub Stands : Option Lived → Option Known → Type 0
 Stands None None = Unit {0}
-Stands None (Some known) = ⊥
-Stands (Some life) None = ⊥
 Stands (Some life) (Some known) = (story : Story) → IsLeft life.word life.kept story
     → Reasons (story_behind life.events story) known.life × (known.output ≡ output_at (story_behind life.events story))
+Stands _ _ = ⊥

@@ -80,7 +80,8 @@ fn level_told(level: Datum<TrainLevel>) -> u8
     }
 }
 
-fn train_told(train: Option<TrainData>) -> EtcsTrain
+/// Train data, zeros where none are known.
+pub(crate) fn train_told(train: Option<TrainData>) -> EtcsTrain
     ensures { result ≡ train_told train }
 {
     match train {

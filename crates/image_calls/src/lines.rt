@@ -129,8 +129,7 @@ impl Line {
                 self.pass_record();
             }
             Some(found) => {
-                if self.has_events() {
-                    self.end = End::Over;
+                if self.ends_before() {
                     return;
                 }
                 if self.is_on() {

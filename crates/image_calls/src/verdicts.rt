@@ -3,7 +3,7 @@ ghost use Rattle.std.specs.Prelude.{◌≡◌};
 ghost use Rattle.image_calls.specs.Verdicts.{record_field_number, kept_field_number, unknown_number, verdict_of, no_record, no_kept, no_line};
 ghost use Rattle.image_calls.specs.Verdicts.{verdict_told, record_differs, TellsHead};
 
-use crate::kept_items::{EtcsKept, EtcsTrain, kept_told};
+use crate::kept_items::{EtcsKept, kept_told, train_told};
 use crate::national_items::EtcsNational;
 use crate::records::{EtcsRecord, record_told};
 use blocks::{Block, BlockRecord};
@@ -136,13 +136,7 @@ fn no_kept() -> EtcsKept
 {
     EtcsKept {
         distance: 0,
-        train: EtcsTrain {
-            length: 0,
-            maximum: 0,
-            deceleration: 0,
-            reaction: 0,
-            category: 0,
-        },
+        train: train_told(None),
         running_number: 0,
         country: 0,
         group: 0,

@@ -179,6 +179,11 @@ def telegram(r, group=None):
     return ("telegram", values, fitting([packet(r) for _ in range(r.choice((1, 2, 3, 12)))]))
 
 
+def heard(group, packets):
+    """A group of one balise."""
+    return ("telegram", dict(zip(HEADER, (0, 0, 0, 255, 1, group, 1))), packets)
+
+
 def fitting(packets):
     kept, left = [], BITS
     for one in packets[:33]:
@@ -228,7 +233,7 @@ ENTERED = ["cold 0", "identity 41", "action 2", "train 20000 160000 70 0 15", "a
 
 def seeds(r):
     """Lives in Full Supervision over a told track, and lives at random behind the entries."""
-    told = [("telegram", dict(zip(HEADER, (0, 0, 0, 255, 1, number, 1))), fitting([packet(r, kind) for kind in kinds]))
+    told = [heard(number, fitting([packet(r, kind) for kind in kinds]))
             for number, kinds in ((2, (12,)), (3, (21,)), (4, (27,)), (5, (65,) * 10), (6, (5,)), (7, (80,)), (8, (3, 41)))]
     full = [*ENTERED, *told, "action 7", *(["odometer 100 100000"] * 4), "clock 1000", "odometer 1400 100000"]
     yield full
@@ -328,9 +333,9 @@ def changed(r, lines, others):
     for _ in range(r.choice((1, 1, 1, 2, 2, 3, 5))):
         way = r.randrange(14)
         at = r.randrange(1, len(lines))
-        heard = [place for place, line in enumerate(lines) if not isinstance(line, str)]
-        if way < 6 and heard:
-            at = r.choice(heard)
+        told = [place for place, line in enumerate(lines) if not isinstance(line, str)]
+        if way < 6 and told:
+            at = r.choice(told)
             lines[at] = changed_telegram(r, lines[at])
         elif way < 8:
             lines.insert(at, any_line(r))
@@ -340,8 +345,8 @@ def changed(r, lines, others):
             lines[at] = nudged_text(r, lines[at])
         elif way == 10:
             lines.insert(at, lines[r.randrange(1, len(lines))])
-        elif way == 11 and heard:
-            at = r.choice(heard)
+        elif way == 11 and told:
+            at = r.choice(told)
             lines[at:at + 1] = whole_group(r, lines[at])
         elif way == 12:
             other = r.choice(others)
@@ -526,13 +531,13 @@ def by_hand():
     """What takes the most of the heap: the room for all packets that a group may have is made before it closes. And each kind of call behind a crowd
     of gradients."""
     header = dict(zip(HEADER, (0, 7, 0, 255, 1, 9, 1)))
-    heard = [("telegram", header | {"N_PIG": place}, [(SKIPPED, [("Q_DIR", 2)])] * 33) for place in range(8)]
-    yield "telegram that closes a group of 264 packets", [*ENTERED, *heard]
+    parts = [("telegram", header | {"N_PIG": place}, [(SKIPPED, [("Q_DIR", 2)])] * 33) for place in range(8)]
+    yield "telegram that closes a group of 264 packets", [*ENTERED, *parts]
     *before, start, last = crowded(**CROWDS[2])
     *others, gradients, restrictions = before
     calls = [[*before, start], *([*before, start, *more, one] for more in ((), (last,)) for one in (*LAST, last)), [*before, start, "telegram 00"],
-             [*before, start, restrictions], [*others, restrictions, start, gradients], [*before, start, heard[0]],
-             [*crowded(**CROWDS[2], behind=131)[:-1], heard[0], "odometer 1301 50000"]]
+             [*before, start, restrictions], [*others, restrictions, start, gradients], [*before, start, parts[0]],
+             [*crowded(**CROWDS[2], behind=131)[:-1], parts[0], "odometer 1301 50000"]]
     for lines in calls:
         yield list(kinds_of([text_of(line) for line in lines]))[-1], lines
 
@@ -588,8 +593,6 @@ def memory():
 def track(restricted=0, speeds=1, grades=1, reaction=0):
     """Full Supervision 300 km before the end, with so many restrictions, static speeds and gradients ahead, one every 20 m, from which the
     train could not stop before the next."""
-    def heard(group, packets):
-        return ("telegram", dict(zip(HEADER, (0, 0, 0, 255, 1, group, 1))), packets)
     whole = [("Q_DIR", 2), ("Q_SCALE", 1)]
     lines = [*ENTERED, f"train 20000 160000 70 {reaction} 15"]
     lines.append(heard(2, [(12, [*whole, ("V_MAIN", 32), ("V_LOA", 0), ("T_LOA", 1023), ("N_ITER", 0), ("L_ENDSECTION", 30_000),
@@ -607,8 +610,6 @@ def track(restricted=0, speeds=1, grades=1, reaction=0):
 def backwards(restricted, grades, step=2, reaction=0, turns=False, near=False):
     """Full Supervision with brakes that hardly act, so many gradients ahead, one every so many metres, and so many restrictions: stops behind
     them, one every metre, told from the farthest to the nearest, or from the nearest on; or by turns one such and one before all gradients, each 5 km/h slower."""
-    def heard(group, packets):
-        return ("telegram", dict(zip(HEADER, (0, 0, 0, 255, 1, group, 1))), packets)
     whole = [("Q_DIR", 2), ("Q_SCALE", 1)]
     lines = [*ENTERED, f"train 20000 160000 1 {reaction} 15"]
     lines.append(heard(2, [(12, [*whole, ("V_MAIN", 120), ("V_LOA", 0), ("T_LOA", 1023), ("N_ITER", 0), ("L_ENDSECTION", 32_767),
@@ -643,9 +644,9 @@ def stairs(grades, restricted=0, areas=0, speeds=0, rising=True, step=2, reactio
     if speeds:
         packets.append([(27, whole + listed([[("D_STATIC", after), ("V_STATIC", speed), ("Q_FRONT", 0), ("N_ITER", 0)]
                                              for after, speed in each_after(told[2])]))])
-    heard = [("telegram", dict(zip(HEADER, (0, 0, 0, 255, 1, group, 1))), some) for group, some in enumerate(packets, 400)]
+    after = [heard(group, some) for group, some in enumerate(packets, 400)]
     ended = [ended_at(line, grades * step + 1 if near_end else 32_767) for line in heard_in(lines)]
-    return [*(line for line in lines if isinstance(line, str)), *ended, *heard, action, first, last]
+    return [*(line for line in lines if isinstance(line, str)), *ended, *after, action, first, last]
 
 
 def anew(grades, reaction=0, step=2):
@@ -658,8 +659,8 @@ def anew(grades, reaction=0, step=2):
     told = [[restricted_at(whole, behind + 30, 20), restricted_at(whole, behind + 20, 10)],
             [(27, whole + listed([[("D_STATIC", after), ("V_STATIC", speed), ("Q_FRONT", 0), ("N_ITER", 0)]
                                   for after, speed in each_after([(0, 120), (behind + 40, 30), (behind + 50, 127)])]))]]
-    heard = [("telegram", dict(zip(HEADER, (0, 0, 0, 255, 1, group, 1))), some) for group, some in enumerate(told, 400)]
-    return [*(line for line in lines if isinstance(line, str)), *(ended_at(line, behind + 1) for line in heard_in(lines)), *heard, action, first, last]
+    after = [heard(group, some) for group, some in enumerate(told, 400)]
+    return [*(line for line in lines if isinstance(line, str)), *(ended_at(line, behind + 1) for line in heard_in(lines)), *after, action, first, last]
 
 
 def ended_at(line, metres):
@@ -671,8 +672,6 @@ def crowded(grades, statics, restricted, end, location, deceleration=300, reacti
     """Full Supervision at up to 600 km/h, with so many gradients ahead, one every 10 cm, which lie within the way that the train runs before its
     brakes act. Then each speed that is looked for goes along all of them again. Static speeds and restrictions are places, in steps of 10 cm
     after the group, and steps of 5 km/h; the authority ends at a place, and its location another one. All of them may lie farther on."""
-    def heard(group, packets):
-        return ("telegram", dict(zip(HEADER, (0, 0, 0, 255, 1, group, 1))), packets)
     whole = [("Q_DIR", 2), ("Q_SCALE", 0)]
     lines = [*ENTERED, f"train 20000 600000 {deceleration} {reaction} 15"]
     lines.append(heard(2, [(12, [*whole, ("V_MAIN", 120), ("V_LOA", 0), ("T_LOA", 1023), ("N_ITER", 0), ("L_ENDSECTION", behind + end), ("Q_SECTIONTIMER", 0),

@@ -23,20 +23,20 @@ pub ups : (before : Opening) (told : Result Going OpenError)
     → IfOk told (λ g. OnOpen g (λ u. IsSome u.moored))
     → IfOk told (λ g. OnOpen g (λ u. IfSome u.moored (λ it. it.reading.disk.sectors ≡ before.disk.sectors)))
     → ((medium : List ℕ) (whole_from : ℕ) (durable accepted : List Event) → IsGoing medium before →
-        IsReady whole_from durable accepted (medium_state medium before.disk.sectors) →
-        IfOk told (λ g. OnOpen g (λ u. IfSome u.moored (λ it. (found : List Event) × (power_up_word : Cold)
-        × Opens whole_from durable accepted found before.cold power_up_word (medium_state medium before.disk.sectors) (request_state it.reading.disk)
-        × IsOpen it.unit.journal (account_of whole_from (PowerUp power_up_word ∷ found)) (request_state it.reading.disk)
-        × IsAhead (PowerUp power_up_word ∷ found) (PowerUp power_up_word ∷ found) it.unit.life))))
+    IsReady whole_from durable accepted (medium_state medium before.disk.sectors) →
+    IfOk told (λ g. OnOpen g (λ u. IfSome u.moored (λ it. (found : List Event) × (power_up_word : Cold)
+    × Opens whole_from durable accepted found before.cold power_up_word (medium_state medium before.disk.sectors) (request_state it.reading.disk)
+    × IsOpen it.unit.journal (account_of whole_from (PowerUp power_up_word ∷ found)) (request_state it.reading.disk)
+    × IsAhead (PowerUp power_up_word ∷ found) (PowerUp power_up_word ∷ found) it.unit.life))))
     → (medium : List ℕ) → IsGoing medium before → IfOk told (λ g. OnOpen g (IsUp (before_any medium before.disk.sectors) before.cold))
 ups before (Err e) fresh there sectors up medium going = tt
 ups before (Ok (a_going.Wants it)) fresh there sectors up medium going = tt
 ups before (Ok (a_going.Open u)) fresh there sectors up medium going = record {
-      fresh = fresh;
-      there = there;
-      sectors = sectors;
-      up = λ whole_from durable accepted ready. up medium whole_from durable accepted going ready;
-    }
+  fresh = fresh;
+  there = there;
+  sectors = sectors;
+  up = λ whole_from durable accepted ready. up medium whole_from durable accepted going ready;
+}
 
 -- where no unit was open, and this power-up was under way
 module _ (it : Opening) (told : Result Going OpenError) (after : Option Opening) (unit : Option Opened) (status : Status) where

@@ -11,5 +11,5 @@ takes sector bytes before after whole below provided =
     let below_with : ((length bytes == 512) && nat_lt sector before.disk.sectors) ≡ true =
     ap (λ (n : ℕ). (n == 512) && nat_lt sector before.disk.sectors) whole ∙ below in
     let W : Bool → Type 0 = λ b. Where b ((a_status.Done ≡ a_status.Done) × IsProvided sector bytes before after)
-        ((a_status.Done ≡ a_status.OutOfRange) × (after ≡ before)) in
+    ((a_status.Done ≡ a_status.OutOfRange) × (after ≡ before)) in
     subst W (sym below_with) (refl, provided)

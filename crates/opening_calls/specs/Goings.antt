@@ -34,6 +34,8 @@ pub record IsGoneOn (before : Opening) (told : Result Going OpenError) : Type 0 
   -- where it led to a unit there was no cause but a fault of the device
   pub no_cause : (medium : List ℕ) → IsGoing medium before → IfOk told (λ g. OnOpen g (λ u.
       HasNoCause before.disk.sectors (contents_of (medium_state medium before.disk.sectors))))
+  -- a medium of no sector isn't formatted
+  pub none : before.disk.sectors ≡ 0 → told ≡ Err an_open.NotFormatted
   -- where a refusal has a cause, and there is a sector, no unit comes of it, and no other refusal but NoMemory and a fault
   -- of the device
   pub exact : (medium : List ℕ) → IsGoing medium before → 0 < before.disk.sectors → (e : OpenError) →

@@ -17,6 +17,7 @@ returns c =
       up = ups c.in-Some.it c.go_on-told.result e.fresh e.there e.sectors e.up;
       refused = e.refused;
       no_cause = e.no_cause;
+      none = e.none;
       exact = e.exact;
     })
     c.leave.ensures

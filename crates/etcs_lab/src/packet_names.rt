@@ -2,6 +2,7 @@
 
 use crate::status::{Status, no_memory, told};
 use crate::telegrams::bytes_of;
+use packet_lines::{name_pieces, number_pieces, place_pieces, why_piece};
 use packet_uses::{Fate, ToldPacket, never_used_packets};
 use packets::PacketFault;
 use pieces::{Form, Piece, write_parts, write_pieces};
@@ -9,7 +10,7 @@ use std::alloc::Global;
 use std::io;
 use std::io::Write;
 use track_packets::{
-    Field, FieldFault, Fields, FieldsError, ListingEnd, PacketPlace, Variable, fields_of, kind_of,
+    Field, FieldFault, Fields, FieldsError, ListingEnd, PacketPlace, Variable, fields_of,
     packets_in_order,
 };
 
@@ -33,74 +34,24 @@ enum Body {
 #[derive(Drop)]
 struct PacketTold {
     place: PacketPlace,
-    why: Option<Fate>,
+    why: Fate,
     body: Body,
 }
 
 // Why no mode uses the packet that begins here, in any direction.
-fn why_never(never: &[ToldPacket], start: u32) -> Option<Fate> {
-    for one in never {
-        if one.start == u64::from(start) {
-            return Some(one.fate);
-        }
+fn why_never(never: &[ToldPacket], start: u32) -> Fate {
+    let found = never.iter().find(|one| one.start == u64::from(start));
+    found.map_or(Fate::Used, |one| one.fate)
+}
+
+fn why_told(form: Form, why: Fate) -> Piece {
+    match (form, why) {
+        (Form::Json, _) => why_piece(why),
+        (_, Fate::NotKnown) => Piece::Same(", not used: the kernel doesn't know it"),
+        (_, Fate::Infill) => Piece::Same(", not used: it is a packet 136, or stands behind one"),
+        (_, Fate::Refused) => Piece::Same(", not used: the telegram is refused"),
+        _ => Piece::Nothing,
     }
-    None
-}
-
-fn why_piece(why: Option<Fate>) -> Piece {
-    match why {
-        Some(Fate::NotKnown) => Piece::Text(
-            " bits, not used: the kernel doesn't know it",
-            ",\"why\":\"not_known\"",
-        ),
-        Some(Fate::Infill) => Piece::Text(
-            " bits, not used: it is a packet 136, or stands behind one",
-            ",\"why\":\"infill\"",
-        ),
-        Some(Fate::Refused) => Piece::Text(
-            " bits, not used: the telegram is refused",
-            ",\"why\":\"refused\"",
-        ),
-        _ => Piece::Text(" bits", ",\"why\":null"),
-    }
-}
-
-fn name_pieces(number: u8) -> [Piece; 3] {
-    match kind_of(number) {
-        Some(kind) => [
-            Piece::Text("", "\""),
-            Piece::Same(kind.name.text()),
-            Piece::Text("", "\""),
-        ],
-        None => [
-            Piece::Text("without a name", "null"),
-            Piece::Nothing,
-            Piece::Nothing,
-        ],
-    }
-}
-
-fn front_pieces(later: bool, number: u8) -> [Piece; 3] {
-    let json = if later {
-        ",{\"packet\":"
-    } else {
-        "{\"packet\":"
-    };
-    [
-        Piece::Text("packet ", json),
-        Piece::Number(u64::from(number)),
-        Piece::Text(" ", ",\"name\":"),
-    ]
-}
-
-fn place_pieces(place: PacketPlace, why: Option<Fate>) -> [Piece; 5] {
-    [
-        Piece::Text(" at ", ",\"bit\":"),
-        Piece::Number(u64::from(place.start)),
-        Piece::Text(", ", ",\"bits\":"),
-        Piece::Number(u64::from(place.length)),
-        why_piece(why),
-    ]
 }
 
 fn field_pieces(later: bool, field: &Field) -> [Piece; 5] {
@@ -250,62 +201,46 @@ fn told_of(alloc: Global, bytes: &[u8], places: &[PacketPlace]) -> Option<Vec<Pa
 fn write_packet<W: Write>(
     form: Form,
     packet: &PacketTold,
-    front: &[Piece; 3],
+    later: bool,
     out: &mut W,
 ) -> io::Result<()> {
+    let number = number_pieces("packet ", later, packet.place.number);
     let name = name_pieces(packet.place.number);
-    let behind = place_pieces(packet.place, packet.why);
-    write_parts(form, &[front, &name, &behind], out)?;
-    write_pieces(form, &[Piece::Text("\n", "")], out)?;
+    let place = place_pieces(
+        u64::from(packet.place.start),
+        u64::from(packet.place.length),
+    );
+    let why = [why_told(form, packet.why), Piece::Text("\n", "")];
+    write_parts(form, &[&number, &name, &place, &why], out)?;
     match &packet.body {
         Body::Fields(fields) => write_fields(form, fields, out),
         Body::Fault(fault) => write_pieces(form, &fault_pieces(*fault), out),
     }
 }
 
-fn end_pieces(end: ListingEnd) -> [Piece; 3] {
-    let (what, at) = match end {
-        ListingEnd::EndMark(at) => (
-            Piece::Text("end mark at ", "],\"end\":\"end_mark\",\"end_bit\":"),
-            at,
-        ),
-        ListingEnd::NoEnd(at) => (
-            Piece::Text("no end mark at ", "],\"end\":\"no_end\",\"end_bit\":"),
-            at,
-        ),
-        ListingEnd::CutOff(at) => (
-            Piece::Text(
-                "beyond the last bit goes what is at ",
-                "],\"end\":\"cut_off\",\"end_bit\":",
-            ),
-            at,
-        ),
-        ListingEnd::WrongLength(at) => (
-            Piece::Text(
-                "an L_PACKET below 23 has what is at ",
-                "],\"end\":\"wrong_length\",\"end_bit\":",
-            ),
-            at,
-        ),
-        ListingEnd::TooMany(at) => (
-            Piece::Text(
-                "no further packet is told from ",
-                "],\"end\":\"too_many\",\"end_bit\":",
-            ),
-            at,
-        ),
+fn end_pieces(end: ListingEnd) -> [Piece; 5] {
+    let (says, word, at) = match end {
+        ListingEnd::EndMark(at) => ("end mark at ", "end_mark", at),
+        ListingEnd::NoEnd(at) => ("no end mark at ", "no_end", at),
+        ListingEnd::CutOff(at) => ("beyond the last bit goes what is at ", "cut_off", at),
+        ListingEnd::WrongLength(at) => ("an L_PACKET below 23 has what is at ", "wrong_length", at),
+        ListingEnd::TooMany(at) => ("no further packet is told from ", "too_many", at),
     };
-    [what, Piece::Number(u64::from(at)), Piece::Text("\n", "}\n")]
+    [
+        Piece::Text("", "],\"end\":\""),
+        Piece::Text(says, word),
+        Piece::Text("", "\",\"end_bit\":"),
+        Piece::Number(u64::from(at)),
+        Piece::Text("\n", "}\n"),
+    ]
 }
 
 // Whether an end mark ends a list whose fields are all told.
 fn is_whole(packets: &[PacketTold], end: ListingEnd) -> bool {
-    for one in packets {
-        if let Body::Fault(_) = one.body {
-            return false;
-        }
-    }
-    matches!(end, ListingEnd::EndMark(_))
+    let are_told = packets
+        .iter()
+        .all(|one| matches!(one.body, Body::Fields(_)));
+    are_told && matches!(end, ListingEnd::EndMark(_))
 }
 
 // Writes the packets of a telegram, and what ends them.
@@ -318,7 +253,7 @@ fn write_all<W: Write>(
     write_pieces(form, &[Piece::Text("", "{\"packets\":[")], out)?;
     let mut later = false;
     for packet in packets {
-        write_packet(form, packet, &front_pieces(later, packet.place.number), out)?;
+        write_packet(form, packet, later, out)?;
         later = true;
     }
     write_pieces(form, &end_pieces(end), out)

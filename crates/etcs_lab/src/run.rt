@@ -1,7 +1,7 @@
 //! The command `run`.
 
 use crate::status::{Status, no_memory, unread_for, unwritten};
-use lab_why::{FlushError, LiveError, OpenError, PlayError, PlayedLife, play};
+use lab_why::{FlushError, LateError, LiveError, OpenError, PlayedLife, play};
 use onboard::AcceptError;
 use simulator::{Scenario, ScenarioFault, ends_of, events_of};
 use std::alloc::Global;
@@ -59,7 +59,7 @@ pub(crate) fn played<R: Files<File = File> + AllocGlobal + Eprint, W: Write>(
     match play(rt.alloc(), &life, out) {
         Ok(Some(error)) if is_memory(&error) => Err(no_memory(rt, path)),
         Ok(stopped) => Ok(status_of(stopped)),
-        Err(PlayError::Write) => Err(unwritten(rt, path)),
-        Err(PlayError::NoMemory) => Err(no_memory(rt, path)),
+        Err(LateError::Write) => Err(unwritten(rt, path)),
+        Err(LateError::NoMemory) => Err(no_memory(rt, path)),
     }
 }

@@ -5,7 +5,6 @@
 
 mod course;
 mod ends;
-mod errors;
 mod lines;
 mod played;
 mod playing;
@@ -13,9 +12,8 @@ mod telling;
 mod visiting;
 mod walk;
 
-pub use errors::PlayError;
 pub use lines::{Answer, Told, told_of, write_line};
-pub use lives::WalkError;
+pub use lives::{LateError, WalkError};
 pub use onboard::{FlushError, LiveError, OpenError};
 pub use pieces::Form;
 pub use played::{Played, write_played_line};

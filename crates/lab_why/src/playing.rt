@@ -7,7 +7,6 @@ ghost use Rattle.lab_why.specs.Images.{IsEmpty};
 ghost use Rattle.lab_why.specs.Playing.{released_in, IsPlayed, PlayEnds};
 
 use crate::ends::{first_pieces, last_pieces};
-use crate::errors::PlayError;
 use crate::telling::tell_released;
 use disk::Memory;
 use events::Step;
@@ -102,7 +101,7 @@ pub fn play<W: Write>(
     alloc: Global,
     life: &PlayedLife,
     out: &mut W,
-) -> Result<Option<LiveError>, PlayError>
+) -> Result<Option<LiveError>, LateError>
     // Where it could be written, exactly these lines were.
     ensures lines { IfOk result (λ stopped. (text : List ℕ) × IsPlayed life.now stopped text
         × Appends (W.contents out.old) (W.contents out.new) text) }
@@ -111,11 +110,8 @@ pub fn play<W: Write>(
     ensures ends { IfOk result (λ stopped. PlayEnds life.now.steps.items stopped) }
 {
     let Ok(lived) = run_life(alloc, life) else {
-        return Err(PlayError::NoMemory);
+        return Err(LateError::NoMemory);
     };
-    match tell(alloc, life, &lived, out) {
-        Ok(()) => Ok(lived.stopped),
-        Err(LateError::Write) => Err(PlayError::Write),
-        Err(LateError::NoMemory) => Err(PlayError::NoMemory),
-    }
+    tell(alloc, life, &lived, out)?;
+    Ok(lived.stopped)
 }

@@ -126,12 +126,13 @@ same_names seen k d found known h name = again_seen seen k d found name (bytes_e
 
 -- ---- the members go in one after another
 
-pub one_in : (k : List ℕ) (j : json.Json) (ms : json.Members) (old final : Members) → of_members (json.member k j ms) old ≡ Some final → (d : Data) × (of_members ms (put k d old) ≡ Some final)
-one_in k j ms old final e = by_value (of_json j) e
+pub one_in : (k : List ℕ) (j : json.Json) (ms : json.Members) (old final : Members) → of_members (json.member k j ms) old ≡ Some final
+    → (d : Data) × (of_members ms (put k d old) ≡ Some final) × (of_json j ≡ Some d)
+one_in k j ms old final e = by_value (of_json j) refl e
   where
-    by_value : (o : Option Data) → option_and_then (λ d. of_members ms (put k d old)) o ≡ Some final → (d : Data) × (of_members ms (put k d old) ≡ Some final)
-    by_value None h = not_found final h
-    by_value (Some d) h = (d, h)
+    by_value : (o : Option Data) → of_json j ≡ o → option_and_then (λ d. of_members ms (put k d old)) o ≡ Some final → (d : Data) × (of_members ms (put k d old) ≡ Some final) × (of_json j ≡ Some d)
+    by_value None is h = not_found final h
+    by_value (Some d) is h = (d, h, is)
 
 put_at : (o : Ordering) (k l : List ℕ) (d e : Data) (ms : Members) → members_len ms ≤ members_len (put k d ms)
     → suc (members_len ms) ≤ members_len (match_ordering o (member k d (member l e ms)) (member l d ms) (member l e (put k d ms)))

@@ -1,5 +1,5 @@
 -- A text of plain tokens is read by `serde_json` as `json` reads it.
-use Rattle.std.proofs.Common.{◌≡◌, ℕ, ◌+◌, ◌-◌, ◌<◌, ◌≤◌, nat_lt, ltb-true, List, [], ◌++◌, Bool, true, false, ◌&&◌, Option, Some, None, option_map, option_and_then, is_some, IsSome, refl, sym, ap, ◌∙◌, arith, append_assoc, append-nil}
+use Rattle.std.proofs.Common.{◌≡◌, ℕ, ◌+◌, ◌-◌, ◌<◌, ◌≤◌, nat_lt, ltb-true, List, [], ◌++◌, Bool, true, ◌&&◌, Option, Some, None, option_map, option_and_then, is_some, IsSome, refl, sym, ap, ◌∙◌, arith, append_assoc, append-nil}
 use Rattle.std.proofs.lemmas.Bool.{false≢true, and_parts}
 use Rattle.json.specs.Token.{Token}
 use Rattle.json.specs.Lex.{tokens}

@@ -1,3 +1,4 @@
+pub mod Alone
 pub mod Counted
 pub mod Judged
 pub mod Looked

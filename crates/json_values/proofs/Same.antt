@@ -3,7 +3,7 @@ use Rattle.std.proofs.Common.{◌≡◌, ℕ, List, [], ◌∷◌, map, Option, 
 use Rattle.json.specs.Json as json
 use Rattle.json.specs.Find as find
 use Rattle.json.proofs.Found.{not_found, Some_inj}
-use Rattle.serde_json.specs.Data.{Num, Data, null, boolean, number, string, array, object, Items, Members, no_members}
+use Rattle.serde_json.specs.Data.{Num, Data, number, array, object, Items, Members, no_members}
 use Rattle.serde_json.specs.Read.{number_of, of_json, of_items, of_members}
 use Rattle.serde_json.specs.declared.value.Value.{Value}
 use Rattle.serde_json.specs.View.{view, items_view}

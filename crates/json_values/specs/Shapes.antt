@@ -1,6 +1,6 @@
 -- Shapes of a JSON value: an object of so many names, and a list (this project's profile).
 use Rattle.std.specs.Prelude.{ℕ, ◌==◌, List, [], ◌∷◌, Bool, false, Option, Some, None, option_map}
-use Rattle.serde_json.specs.Data.{Data, Items, no_items, item, Members}
+use Rattle.serde_json.specs.Data.{Data, Items, no_items, item, Members, no_members, member, object}
 use Rattle.serde_json.specs.Events.{members_len}
 use Rattle.serde_json.specs.Find.{as_array, as_object}
 
@@ -11,6 +11,10 @@ has_count n (Some members) = members_len members == n
 
 abbrev pub has_members : ℕ → Data → Bool
 has_members n d = has_count n (as_object d)
+
+-- the object of this one member
+abbrev pub object_of_one : List ℕ → Data → Data
+object_of_one name d = object (member name d no_members)
 
 -- the items of a list
 abbrev pub list_of : Items → List Data

@@ -3,6 +3,7 @@
 
 mod names;
 mod numbers;
+mod only;
 mod placed;
 mod placed_items;
 mod plain;

@@ -1,11 +1,12 @@
 //! A place of a tape at which a value begins.
-ghost use Rattle.std.specs.Prelude.{◌≡◌, ◌≤◌, is_some, option_map, option_and_then, true};
+ghost use Rattle.std.specs.Prelude.{◌≡◌, ◌≤◌, is_some, option_map, option_and_then, true, false, MatchOption};
 ghost use Rattle.serde_json.specs.Find.{as_str, as_bool, as_number, as_i64, as_array, get};
 ghost use Rattle.json_values.specs.Places.{read_at, data_at, items_from};
-ghost use Rattle.json_values.specs.Shapes.{list_of, has_members};
+ghost use Rattle.json_values.specs.Shapes.{list_of, has_members, object_of_one};
 
 use crate::names::are_so_many;
 use crate::numbers::whole;
+use crate::only::only_of;
 use crate::placed_items::PlacedItems;
 use json::Element;
 
@@ -54,6 +55,19 @@ impl<'t, 'a> Placed<'t, 'a> {
         match self.element.members() {
             Some(members) => are_so_many(members, count),
             None => false,
+        }
+    }
+
+    pub(crate) fn only_member(&self) -> Option<(&'a str, Placed<'t, 'a>)>
+        ensures { MatchOption result (has_members 1 (data_at self.now.element) ≡ false)
+            (λ r. data_at self.now.element ≡ object_of_one r.0.now (data_at r.1.element)) }
+    {
+        let Some(members) = self.element.members() else {
+            return None;
+        };
+        match only_of(members) {
+            Some((name, element)) => Some((name, Placed { element })),
+            None => None,
         }
     }
 

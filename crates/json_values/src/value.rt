@@ -1,9 +1,10 @@
 //! One JSON value, and the items of a list.
-ghost use Rattle.std.specs.Prelude.{◌≡◌, ◌==◌, ◌≤◌, ◌∷◌, [], nat_le, is_some, option_map, option_and_then, true, MatchOption, slice_get, length};
+ghost use Rattle.std.specs.Prelude.{◌≡◌, ◌==◌, ◌≤◌, ◌∷◌, [], nat_le, is_some, option_map, option_and_then, true, false, MatchOption, slice_get, length};
 ghost use Rattle.serde_json.specs.Find.{as_str, as_bool, as_number, as_i64, get};
 ghost use Rattle.json_values.specs.Looking.{told, told_items, listed};
-ghost use Rattle.json_values.specs.Shapes.{has_members, list_in};
+ghost use Rattle.json_values.specs.Shapes.{has_members, object_of_one, list_in};
 
+use crate::only::only_entry;
 use crate::placed::Placed;
 use crate::placed_items::PlacedItems;
 use serde_json::Value;
@@ -81,6 +82,23 @@ impl<'t, 'a> JsonValue<'t, 'a> {
             JsonValue::Tree(value) => match value.as_object() {
                 Some(map) => map.len() == count,
                 None => false,
+            },
+        }
+    }
+
+    /// The name of an object of one name, with its value; the last one, where the name comes twice.
+    pub fn only_member(&self) -> Option<(&str, JsonValue<'t, 'a>)>
+        ensures { MatchOption result (has_members 1 (told self.now) ≡ false)
+            (λ r. told self.now ≡ object_of_one r.0.now (told r.1)) }
+    {
+        match self {
+            JsonValue::Tape(placed) => match placed.only_member() {
+                Some((name, placed)) => Some((name, JsonValue::Tape(placed))),
+                None => None,
+            },
+            JsonValue::Tree(value) => match only_entry(value) {
+                Some((name, value)) => Some((name, JsonValue::Tree(value))),
+                None => None,
             },
         }
     }

@@ -1,4 +1,5 @@
 pub mod Identity
+pub mod Keys
 pub mod Passing
 pub mod Readings
 pub mod Sifting

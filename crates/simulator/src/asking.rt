@@ -1,6 +1,7 @@
 //! What a step of a scenario asks for.
 ghost use Rattle.std.specs.Prelude.{◌≡◌, ◌⊎◌, IfOk, IfErr};
 ghost use Rattle.json_values.specs.Looking.{told};
+ghost use Rattle.json_values.specs.Shapes.{object_of_one};
 ghost use Rattle.simulator.specs.Steps.{drive, telegram, clock, driver, flush, by_key, asked};
 
 use crate::ScenarioFault;
@@ -72,27 +73,26 @@ fn flush_of(value: &JsonValue) -> Result<Asked, ScenarioFault>
     }
 }
 
+/// What the one member of an object asks for.
 #[tactic(auto, unfolding(crate::specs::Steps::by_key))]
-fn by_key(alloc: Global, value: &JsonValue) -> Result<Asked, ScenarioFault>
-    ensures ok { IfOk result (λ step. by_key (told value.now) ≡ Ok step) }
-    ensures err { IfErr result (λ fault. (fault ≡ ScenarioFault.NoMemory) ⊎ (by_key (told value.now) ≡ Err fault)) }
+fn by_key(alloc: Global, name: &str, value: JsonValue) -> Result<Asked, ScenarioFault>
+    ensures ok { IfOk result (λ step. by_key (object_of_one name.now (told value.entry)) ≡ Ok step) }
+    ensures err { IfErr result
+        (λ fault. (fault ≡ ScenarioFault.NoMemory) ⊎ (by_key (object_of_one name.now (told value.entry)) ≡ Err fault)) }
 {
-    if let Some(drive) = value.get("drive") {
-        return drive_of(drive);
+    if name == "drive" {
+        drive_of(value)
+    } else if name == "telegram" {
+        telegram_of(alloc, &value)
+    } else if name == "clock" {
+        clock_of(&value)
+    } else if name == "driver" {
+        driver_of(value)
+    } else if name == "flush" {
+        flush_of(&value)
+    } else {
+        Err(ScenarioFault::Shape)
     }
-    if let Some(telegram) = value.get("telegram") {
-        return telegram_of(alloc, &telegram);
-    }
-    if let Some(clock) = value.get("clock") {
-        return clock_of(&clock);
-    }
-    if let Some(driver) = value.get("driver") {
-        return driver_of(driver);
-    }
-    if let Some(flush) = value.get("flush") {
-        return flush_of(&flush);
-    }
-    Err(ScenarioFault::Shape)
 }
 
 /// What an item of the steps asks for.
@@ -101,9 +101,8 @@ pub(crate) fn asked_of(alloc: Global, value: &JsonValue) -> Result<Asked, Scenar
     ensures ok { IfOk result (λ step. asked (told value.now) ≡ Ok step) }
     ensures err { IfErr result (λ fault. (fault ≡ ScenarioFault.NoMemory) ⊎ (asked (told value.now) ≡ Err fault)) }
 {
-    if value.has_members(1) {
-        by_key(alloc, value)
-    } else {
-        Err(ScenarioFault::Shape)
+    match value.only_member() {
+        Some((name, member)) => by_key(alloc, name, member),
+        None => Err(ScenarioFault::Shape),
     }
 }

@@ -1,0 +1,24 @@
+-- An object of one member asks for nothing where its name is no key.
+use Rattle.std.proofs.Common.{◌≡◌, ℕ, List, codes, false, Result, Err, sym, ap, ◌∙◌}
+use Rattle.std.specs.Str.{bytes_eq}
+use Rattle.serde_json.specs.Data.{Data}
+use Rattle.serde_json.specs.Find.{get}
+use Rattle.json_values.specs.Shapes.{object_of_one}
+use Rattle.json_values.proofs.Alone.{at_name}
+use Rattle.simulator.specs.Steps.{drive, telegram, clock, driver, flush, or_else, by_key}
+use Rattle.simulator.specs.declared.asked.Asked.{Asked}
+use Rattle.simulator.specs.declared.fault.ScenarioFault.{ScenarioFault}
+use Rattle.simulator.specs.declared.fault.ScenarioFault.TheVariants.{Shape}
+
+abbrev IsNot : List ℕ → List ℕ → Type 0
+IsNot name key = bytes_eq name key ≡ false
+
+other_than : (name key : List ℕ) (v : Data) (this : Data → Result Asked ScenarioFault) (other : Result Asked ScenarioFault) → IsNot name key → or_else (get key (object_of_one name v)) this other ≡ other
+other_than name key v this other differs = ap (λ o. or_else o this other) (at_name key name v false (sym differs))
+
+pub by_none : (name : List ℕ) (v : Data) → IsNot name (codes "drive") → IsNot name (codes "telegram") → IsNot name (codes "clock") → IsNot name (codes "driver") → IsNot name (codes "flush")
+    → by_key (object_of_one name v) ≡ Err Shape
+unfolding by_key
+by_none name v a b c d e =
+    other_than name (codes "drive") v drive _ a ∙ other_than name (codes "telegram") v telegram _ b ∙ other_than name (codes "clock") v clock _ c
+    ∙ other_than name (codes "driver") v driver _ d ∙ other_than name (codes "flush") v flush _ e

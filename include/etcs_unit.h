@@ -130,7 +130,7 @@ enum etcs_unit_status {
     ETCS_UNIT_OK = 0, /**< the call did what it was asked */
 
     /* opening */
-    ETCS_UNIT_OPEN_DEVICE_FAULT = 1,  /**< never answered: there is room for all requests */
+    ETCS_UNIT_OPEN_DEVICE_FAULT = 1,  /**< never met: there is room for all requests; proved over a copy alone */
     ETCS_UNIT_OPEN_NOT_FORMATTED = 2, /**< the first sector isn't that of a journal, or there is none */
     ETCS_UNIT_OPEN_DAMAGED = 3,       /**< the size isn't that of the slots, or the newest block isn't readable */
     ETCS_UNIT_OPEN_NO_MEMORY = 4,     /**< there is no memory for the unit and what it holds of the medium */

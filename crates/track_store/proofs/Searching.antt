@@ -1,10 +1,10 @@
 -- What a search over segments that rise finds.
-use Rattle.std.proofs.Common.{◌≡◌, ℕ, zero, suc, ◌<◌, ◌≤◌, ℤ, ◌≤ℤ◌, ◌<ℤ◌, List, [], ◌∷◌, length, take, get_or, true, false, refl, ap, arith}
+use Rattle.std.proofs.Common.{◌≡◌, ℕ, zero, suc, ◌+◌, ◌<◌, ◌≤◌, ℤ, ◌≤ℤ◌, ◌<ℤ◌, List, [], ◌∷◌, length, take, get_or, true, false, refl, ap, arith}
 use Rattle.std.specs.Prelude.{Option, None, Some, int_lt, not, filter}
 use Rattle.std.specs.List.Sorted.{IsPartitionedBy}
 use Rattle.std.proofs.lemmas.Int.{ints}
 use Rattle.track_store.specs.declared.segments.Segment.{Segment}
-use Rattle.track_store.specs.Segments.{value_among, IsRisingFrom, IsRising, next_among}
+use Rattle.track_store.specs.Segments.{value_among, value_of_segments, IsRisingFrom, IsRising, IsStartedBelow, next_among}
 use Rattle.track_store.proofs.Segmenting.{below, not_below}
 
 module _ {A : Type 0} where
@@ -101,3 +101,19 @@ module _ {A : Type 0} where
   none_among place (s ∷ segments) d h =
       let first : int_lt place s.start ≡ false = not_below place s.start (h 0 (omega arith)) in
       rw first (none_among place segments d (λ k a. h (suc k) (omega arith)))
+
+  -- from the start of the last segment below a place on, its value holds up to there
+  pub last_below : (place there : ℤ) (segments : List (Segment A)) (i : ℕ) (d : Segment A) → IsRising segments → i < length segments →
+      IsStartedBelow place segments (i + 1) → (get_or segments i d).start ≤ℤ there → there <ℤ place →
+      value_of_segments segments there ≡ (get_or segments i d).value
+  last_below place there segments i d r within started from to =
+      last_among None there segments i d within
+      (λ k a. omega (arith, ints, from, in_order segments k i d d r a within))
+      (λ k a h. omega (arith, ints, to, started.1.1 k d (omega (arith, a)) h))
+
+  -- and where none starts below it, there is none up to there
+  pub none_before : (place there : ℤ) (segments : List (Segment A)) → IsStartedBelow place segments 0 → there <ℤ place →
+      value_of_segments segments there ≡ None
+  none_before place there segments started to =
+      let d : Segment A = record { start = place; value = None } in
+      all_ahead None there segments d (λ k h. omega (arith, ints, to, started.1.1 k d (omega arith) h))

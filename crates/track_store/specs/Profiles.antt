@@ -18,6 +18,10 @@ Lasts value place None = (later : ℤ) → place ≤ℤ later → value later �
 Lasts value place (Some next) =
     (place <ℤ next) × ((later : ℤ) → place ≤ℤ later → later <ℤ next → value later ≡ value place)
 
+-- one value holds at each centimetre from a place up to another one, that one not included
+abbrev pub HoldsOver : {A : Type 0} → (ℤ → Option A) → Option A → ℤ → ℤ → Type 0
+HoldsOver value held from to = (place : ℤ) → from ≤ℤ place → place <ℤ to → value place ≡ held
+
 -- a value as a list of none or one
 abbrev pub listed : {A : Type 0} → Option A → List A
 listed None = []

@@ -56,6 +56,12 @@ IsStarted place segments count =
     (count ≤ length segments)
     × IsPartitionPoint (λ segment. segment.start ≤ℤ place) (λ segment. place <ℤ segment.start) segments count
 
+-- just so many segments start below a place, the first ones
+abbrev pub IsStartedBelow : {A : Type 0} → ℤ → List (Segment A) → ℕ → Type 0
+IsStartedBelow place segments count =
+    (count ≤ length segments)
+    × IsPartitionPoint (λ segment. segment.start <ℤ place) (λ segment. place ≤ℤ segment.start) segments count
+
 -- each segment has another value than what comes before it
 abbrev pub AreApart : {A : Type 0} → Option A → List (Segment A) → Type 0
 AreApart before [] = Unit {0}

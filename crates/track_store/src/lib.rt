@@ -15,7 +15,7 @@ mod stretches;
 
 pub use fact_store::FactStore;
 pub use knowing::{is_known, is_known_over, is_known_throughout};
-pub use profile::{MOST_STEPS, Piece, Profile, ProfileStore, Step};
+pub use profile::{MOST_STEPS, Piece, PieceBefore, Profile, ProfileStore, Step};
 pub use restriction::Restriction;
 pub use restrictions::Restrictions;
 pub use same::Same;

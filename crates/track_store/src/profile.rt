@@ -1,7 +1,7 @@
 //! The traits of a profile: what is asked of it at a place, and how it is replaced, dropped and given room.
-ghost use Rattle.std.specs.Prelude.{◌≡◌, ◌≤◌, ◌+◌, ℕ, ℤ, max, length, Option, None, IsOk, OnOk, OnErr, IfOk};
+ghost use Rattle.std.specs.Prelude.{◌≡◌, ◌≤◌, ◌+◌, ℕ, ℤ, ◌≤ℤ◌, ◌<ℤ◌, max, length, Option, None, IsOk, OnOk, OnErr, IfOk};
 ghost use Rattle.track_store.specs.Profiles as profiles;
-ghost use Rattle.track_store.specs.Profiles.{Lasts, profile_with};
+ghost use Rattle.track_store.specs.Profiles.{Lasts, HoldsOver, profile_with};
 ghost use Rattle.track_store.specs.Facts.{from_mark, replaced};
 
 use std::alloc::Global;
@@ -40,6 +40,17 @@ pub struct Piece<T> {
     pub near: usize,
 }
 
+/// A piece of a profile that ends at a place, that centimetre not included: its value, and from where that holds.
+#[derive(Clone, Copy)]
+pub struct PieceBefore<T> {
+    /// The value; None where there is none.
+    pub value: Option<T>,
+    /// Where it begins, in centimetres.
+    pub from: Cm,
+    /// What finds the piece before it sooner.
+    pub near: usize,
+}
+
 /// A value at each centimetre of the track, which changes now and then: a speed, a gradient (SUBSET-026, 3.11). Who
 /// reads it goes from change to change, and so need not visit each centimetre.
 pub trait Profile<T> {
@@ -63,6 +74,23 @@ pub trait Profile<T> {
         Piece {
             value: self.at(place),
             next: self.next(place),
+            near,
+        }
+    }
+
+    /// The value of the centimetre before a place, and from where on it holds up to there; nothing is asked of what lies
+    /// before the least place. Who goes back from piece to piece hands in what the one behind gave as near, and first 0;
+    /// that bears on nothing but the cost. The caller owes a least place before the other one.
+    fn piece_before(&self, place: Cm, least: Cm, near: usize) -> PieceBefore<T>
+        requires { least <ℤ place }
+        ensures within { least ≤ℤ result.from }
+        ensures before { result.from <ℤ place }
+        ensures value { HoldsOver (value self.now) result.value result.from place }
+    {
+        let last = Cm::new(place.get() - 1).unwrap_or(least);
+        PieceBefore {
+            value: self.at(last),
+            from: last,
             near,
         }
     }

@@ -2,8 +2,10 @@
 ghost use Rattle.std.specs.Prelude.{◌≡◌, ℤ, Option};
 ghost use Rattle.track_store.specs.Segments.{IsKept, count_of};
 
-use crate::segments::{Segment, drop_below, hold_steps, next_start, piece_at, value_at};
-use crate::{MOST_STEPS, Piece, Profile, ProfileStore, Same, Step};
+use crate::segments::{
+    Segment, drop_below, hold_steps, next_start, piece_at, piece_up_to, value_at,
+};
+use crate::{MOST_STEPS, Piece, PieceBefore, Profile, ProfileStore, Same, Step};
 use std::alloc::Global;
 use std::marker::Model;
 use units::{Cm, NoMemory};
@@ -61,6 +63,10 @@ impl<T: Copy> Profile<T> for SegmentStore<T> {
 
     fn piece(&self, place: Cm, near: usize) -> Piece<T> {
         piece_at(&self.segments, place, near)
+    }
+
+    fn piece_before(&self, place: Cm, least: Cm, near: usize) -> PieceBefore<T> {
+        piece_up_to(&self.segments, place, least, near)
     }
 }
 

@@ -1,10 +1,11 @@
 //! Segments in a list: values are looked up, steps are taken in, and what lies before a mark is dropped.
-ghost use Rattle.std.specs.Prelude.{◌≡◌, ℕ, IsTrue, IfSome, ◌+◌, ◌<◌, ◌≤◌, ℤ, false, if◌then◌else◌, int_lt, is_none, Some, ◌||◌, ◌↔◌, None, length, filter, take, vec_len, vec_capacity};
-ghost use Rattle.std.specs.List.{list_any};
+ghost use Rattle.std.specs.Prelude.{◌≡◌, ℕ, IsTrue, IfSome, ◌+◌, ◌<◌, ◌≤◌, ℤ, ◌≤ℤ◌, ◌<ℤ◌, false, if◌then◌else◌, int_lt, is_none, Some, ◌||◌, ◌↔◌, None, length, filter, take, vec_len, vec_capacity};
+ghost use Rattle.std.specs.List.{AllWithin, list_any};
 ghost use Rattle.track_store.specs.Facts.{from_mark, passed, replaced};
-ghost use Rattle.track_store.specs.Segments.{value_of_segments, value_behind, next_among, IsRising, IsStarted, IsKept, IsKeptBehind, is_first_passed, first_cut, is_reached};
+ghost use Rattle.track_store.specs.Profiles.{HoldsOver};
+ghost use Rattle.track_store.specs.Segments.{value_of_segments, value_behind, next_among, IsRising, IsStarted, IsStartedBelow, IsKept, IsKeptBehind, is_first_passed, first_cut, is_reached};
 
-use crate::{Piece, Same, Step};
+use crate::{Piece, PieceBefore, Same, Step};
 use units::Cm;
 
 /// A piece of a profile with one value: from its start up to the next one's start, the last one without end
@@ -120,9 +121,86 @@ fn is_same<T: Same>(one: &Option<T>, other: &Option<T>) -> bool
 // How many segments start below a place: those that do are the first ones.
 fn started_below<T: Copy>(segments: &[Segment<T>], place: Cm) -> usize
     requires { IsRising segments.now }
-    ensures { filter (λ segment. int_lt segment.start place) segments.now ≡ take result segments.now }
+    ensures started { IsStartedBelow place segments.now result }
+    ensures front { filter (λ segment. int_lt segment.start place) segments.now ≡ take result segments.now }
 {
     segments.partition_point(|segment| segment.start < place)
+}
+
+// Whether there are so many segments, and those start below a place.
+fn all_below_up_to<T: Copy>(segments: &[Segment<T>], place: Cm, count: usize) -> bool
+    requires { IsRising segments.now }
+    ensures { IsTrue result → (count ≤ length segments.now)
+        × AllWithin (λ segment. segment.start <ℤ place) segments.now 0 count }
+{
+    let Some(last) = count.checked_sub(1) else {
+        return true;
+    };
+    match segments.get(last) {
+        Some(last) => last.start < place,
+        None => false,
+    }
+}
+
+// Whether no segment from an index on starts below a place.
+fn none_below_from<T: Copy>(segments: &[Segment<T>], place: Cm, index: usize) -> bool
+    requires { IsRising segments.now }
+    ensures { IsTrue result → AllWithin (λ segment. place ≤ℤ segment.start) segments.now index (length segments.now) }
+{
+    match segments.get(index) {
+        Some(first) => place <= first.start,
+        None => true,
+    }
+}
+
+// How many segments start below a place. A guess that is right saves the search.
+fn counted_below<T: Copy>(segments: &[Segment<T>], place: Cm, guess: usize) -> usize
+    requires { IsRising segments.now }
+    ensures { IsStartedBelow place segments.now result }
+{
+    if all_below_up_to(segments, place, guess) && none_below_from(segments, place, guess) {
+        return guess;
+    }
+    started_below(segments, place)
+}
+
+// The piece of the last of so many segments, cut off at a least place.
+fn last_piece<T: Copy>(segments: &[Segment<T>], least: Cm, count: usize) -> PieceBefore<T>
+    requires { IsRising segments.now }
+    ensures within { least ≤ℤ result.from }
+    ensures before { (place : ℤ) → IsStartedBelow place segments.now count → least <ℤ place → result.from <ℤ place }
+    ensures value { (place : ℤ) → IsStartedBelow place segments.now count
+        → HoldsOver (value_of_segments segments.now) result.value result.from place }
+{
+    match segments.get(..count) {
+        Some([front @ .., last]) => PieceBefore {
+            value: last.value,
+            from: last.start.max(least),
+            near: front.len(),
+        },
+        _ => PieceBefore {
+            value: None,
+            from: least,
+            near: 0,
+        },
+    }
+}
+
+/// The piece that ends at a place, from a least place on. The number is a guess how many segments start below the
+/// place: one that is right saves a search. The caller owes a least place before the other one.
+pub(crate) fn piece_up_to<T: Copy>(
+    segments: &[Segment<T>],
+    place: Cm,
+    least: Cm,
+    near: usize,
+) -> PieceBefore<T>
+    requires rising { IsRising segments.now }
+    requires ahead { least <ℤ place }
+    ensures within { least ≤ℤ result.from }
+    ensures before { result.from <ℤ place }
+    ensures value { HoldsOver (value_of_segments segments.now) result.value result.from place }
+{
+    last_piece(segments, least, counted_below(segments, place, near))
 }
 
 // Drops the segments that start at a place or behind it. Those that stay aren't gone through.

@@ -1,12 +1,15 @@
 -- What a stretch takes off the square of the speed.
-use Rattle.std.proofs.Common.{◌≡◌, ℕ, zero, suc, ◌+◌, ◌*◌, ◌^◌, ◌≤◌, ℤ, pos, ◌+ℤ◌, ◌-ℤ◌, ◌≤ℤ◌, ◌<ℤ◌, ◌⊎◌, inl, inr, refl, ap, ◌∙◌, arith}
+use Rattle.std.proofs.Common.{◌≡◌, ℕ, zero, suc, ◌+◌, ◌*◌, ◌^◌, ◌≤◌, ℤ, pos, ◌+ℤ◌, ◌-ℤ◌, ◌≤ℤ◌, ◌<ℤ◌, ◌-◌, ◌<◌, ◌⊎◌, inl, inr, refl, ap, sym, ◌∙◌, arith}
 use Rattle.std.specs.Prelude.{Option}
-use Rattle.std.proofs.lemmas.Int.{ints}
+use Rattle.std.proofs.lemmas.Int.{ints, by_lt_z}
+use Rattle.std.proofs.Math.Nat.{mul-le-mul_right}
+use Rattle.track_store.specs.Profiles.{HoldsOver}
 use Rattle.track_store.proofs.Jumps.{natural_is}
 use Rattle.units.specs.Stretches.{natural}
 use Rattle.brakes.specs.Brakes.{slowing_on}
 use Rattle.braking.specs.declared.summed.Summed.{Summed}
 use Rattle.braking.specs.Braking.{braked, IsSummed}
+use Rattle.braking.specs.Sums.{IsBegunEvenly}
 use Rattle.braking.proofs.Naturals.{parts}
 
 module _ (gradient : ℤ → Option ℤ) (deceleration : ℕ) where
@@ -72,13 +75,27 @@ module _ (gradient : ℤ → Option ℤ) (deceleration : ℕ) where
       )
 
   -- .. and on one gradient
-  pub braked_even : (place end : ℤ) → place ≤ℤ end → ((later : ℤ) → place ≤ℤ later → later <ℤ end → gradient later ≡ gradient place) →
-      braked gradient deceleration place (natural (end -ℤ place)) ≡ 2592 * slowing_on deceleration (gradient place) * natural (end -ℤ place)
-  braked_even place end a same =
+  pub braked_held : (known : Option ℤ) (place end : ℤ) → place ≤ℤ end → HoldsOver gradient known place end →
+      braked gradient deceleration place (natural (end -ℤ place)) ≡ 2592 * slowing_on deceleration known * natural (end -ℤ place)
+  braked_held known place end a same =
       let n : ℕ = natural (end -ℤ place) in
       let count : pos n ≡ end -ℤ place = natural_is (end -ℤ place) (omega (arith, ints)) in
       let there : place +ℤ pos n ≡ end = rw count (omega (arith, ints)) in
-      braked_same (gradient place) place n (λ later c d. same later c (rw there at d))
+      braked_same known place n (λ later c d. same later c (rw there at d))
+
+  pub braked_even : (place end : ℤ) → place ≤ℤ end → ((later : ℤ) → place ≤ℤ later → later <ℤ end → gradient later ≡ gradient place) →
+      braked gradient deceleration place (natural (end -ℤ place)) ≡ 2592 * slowing_on deceleration (gradient place) * natural (end -ℤ place)
+  braked_even place end a same = braked_held (gradient place) place end a same
+
+  -- .. that lies before one of which it is known what it takes off
+  pub even_is : (known : Option ℤ) (place middle end : ℤ) → place ≤ℤ middle → middle ≤ℤ end → HoldsOver gradient known place middle →
+      (slowing : ℕ) → slowing ≡ slowing_on deceleration known → (taken_off : ℕ) → taken_off ≡ braked gradient deceleration middle (natural (end -ℤ middle)) →
+      2592 * slowing * natural (middle -ℤ place) + taken_off ≡ braked gradient deceleration place (natural (end -ℤ place))
+  even_is known place middle end a b same slowing is taken_off rest =
+      let first = braked_held known place middle a same in
+      let even : 2592 * slowing * natural (middle -ℤ place) ≡ 2592 * slowing_on deceleration known * natural (middle -ℤ place) =
+      ap (λ (n : ℕ). 2592 * n * natural (middle -ℤ place)) is in
+      omega (arith, braked_over place middle end a b, first, even, rest)
 
   -- where no centimetre takes off more than 2592 * 549, a stretch takes off no more than so much for each
   braked_small : (place : ℤ) (n : ℕ) → ((later : ℤ) → place ≤ℤ later → later <ℤ (place +ℤ pos n) → slowing_on deceleration (gradient later) ≤ 549) →
@@ -115,3 +132,25 @@ module _ (gradient : ℤ → Option ℤ) (deceleration : ℕ) where
   pub taken_off_is : (from end : ℤ) (sum : Summed) → sum.from ≡ from → sum.to ≡ end → IsSummed gradient deceleration sum →
       sum.taken_off ≡ braked gradient deceleration from (natural (end -ℤ from))
   taken_off_is from end sum begins ends summed = summed.1 ∙ (λ i. braked gradient deceleration (begins i) (natural (ends i -ℤ begins i)))
+
+  -- a stretch that is begun on one gradient
+  pub begun_summed : (known : Option ℤ) (from : ℤ) (slowing : ℕ) (sum begun : Summed) → IsSummed gradient deceleration sum →
+      HoldsOver gradient known from sum.from → slowing ≡ slowing_on deceleration known → slowing ≤ 549 → from ≤ℤ begun.from →
+      IsBegunEvenly slowing sum begun → IsSummed gradient deceleration begun
+  begun_summed known from slowing sum begun summed same is small within is_begun =
+      let even = even_is known begun.from sum.from sum.to is_begun.ordered summed.0 (λ z a b. same z (omega (arith, ints, within, a)) b) slowing is sum.taken_off summed.1 in
+      let slow : slowing_on deceleration known ≤ 549 = rw (← is) small in (
+        omega (arith, ints, is_begun.ordered, is_begun.to, summed.0),
+        is_begun.taken_off ∙ even ∙ ap (λ (z : ℤ). braked gradient deceleration begun.from (natural (z -ℤ begun.from))) (sym is_begun.to),
+        λ (place : ℤ) a b. by_lt_z place sum.from
+            (λ (sooner : place <ℤ sum.from). rw (same place (omega (arith, ints, within, a)) sooner) slow)
+            (λ (later : sum.from ≤ℤ place). summed.2 place later (omega (arith, ints, b, is_begun.to))),
+      )
+
+  -- .. takes off little enough
+  pub begun_little : (from : ℤ) (slowing : ℕ) (sum : Summed) → IsSummed gradient deceleration sum → from ≤ℤ sum.from → slowing ≤ 549 →
+      natural (sum.to -ℤ from) ≤ 2 ^ 43 → 2592 * slowing * natural (sum.from -ℤ from) + sum.taken_off < 2 ^ 64 - 2 ^ 62
+  begun_little from slowing sum summed ordered small near =
+      let factor : 2592 * slowing ≤ 1_423_008 = omega arith in
+      let product : 2592 * slowing * natural (sum.from -ℤ from) ≤ 1_423_008 * natural (sum.from -ℤ from) = mul-le-mul_right (natural (sum.from -ℤ from)) factor in
+      omega (arith, product, parts from sum.from sum.to ordered summed.0, summed_little sum summed, near)

@@ -1,13 +1,15 @@
 //! The search for the greatest speed that fits a target.
-ghost use Rattle.std.specs.Prelude.{◌≡◌, ◌+◌, ◌-◌, ◌^◌, ◌<◌, ◌≤◌, ◌-ℤ◌, true, false, MatchOption};
+ghost use Rattle.std.specs.Prelude.{◌≡◌, ◌+◌, ◌-◌, ◌^◌, ◌<◌, ◌≤◌, ◌⊎◌, ◌↔◌, pos, ◌+ℤ◌, ◌-ℤ◌, ◌≤ℤ◌, ◌<ℤ◌, false, IsTrue, IsSome, IfSome, MatchOption};
+ghost use Rattle.std.specs.Int.{int_max};
 ghost use Rattle.units.specs.Stretches.{natural};
+ghost use Rattle.brakes.specs.Brakes.{reaction_way};
 ghost use Rattle.braking.specs.Braking.{fits, greatest, IsSummed};
-ghost use Rattle.braking.specs.Sums.{ActsFrom, IsSummedWhole, IsRoot};
+ghost use Rattle.braking.specs.Sums.{IsSummedWhole, IsRoot, IsEvenBefore, IsBegunEvenly, IsEnough};
 
 use crate::Target;
 use crate::speeds::{brakes_act, lacking, summed_before};
 use crate::summed::Summed;
-use brakes::{Brakes, reaction_way};
+use brakes::{Brakes, reaction_way, slowing};
 use track_store::Profile;
 use units::{Cm, Mph, Permille};
 
@@ -37,9 +39,9 @@ pub fn permitted_before<P: Profile<Permille>>(
 }
 
 // The greatest speed below one that doesn't fit a target, where it is known what the stretch from where the brakes act
-// at that one takes off, and what was summed last. The speed whose brakes acted there and took off just so much fits,
-// and so would a greater one only as far as they act sooner: at most what they take off from where they act at the lower
-// one.
+// at that one takes off, and what was summed on the way. It goes back from there, one gradient after another. The speed
+// from which so much is taken off fits; a greater one fits only where its brakes act before that. So the greatest is
+// found where its brakes act on the gradient at hand.
 fn sought<P: Profile<Permille>>(
     front: Cm,
     limit: Mph,
@@ -51,86 +53,120 @@ fn sought<P: Profile<Permille>>(
     requires faster { target.now.speed < limit }
     requires fails { fits front (P.value gradient.now) brakes.now target.now limit ≡ false }
     requires whole { IsSummedWhole front (P.value gradient.now) brakes.now target.now limit sum.now }
+    requires near { natural (target.now.place -ℤ front) ≤ 2 ^ 43 }
     ensures speed { result.0 ≡ greatest (fits front (P.value gradient.now) brakes.now target.now) limit }
     ensures summed { IsSummed (P.value gradient.now) brakes.now.deceleration result.1 }
 {
-    let low = root(target.speed, sum.taken_off, limit);
-    let Some(start) = brakes_act(front, reaction_way(brakes.reaction, low), target.place) else {
-        return (low, *sum);
-    };
-    let most = sum.begun(gradient, brakes.deceleration, start);
-    let high = above(root(target.speed, most.taken_off, limit), limit);
-    halved(front, low, high, limit, target, gradient, brakes, &most)
+    let mut later = *sum;
+    let mut low = root(target.speed, later.taken_off, limit);
+    let mut near = 0;
+    while let Some(start) = brakes_act(front, reaction_way(brakes.reaction, low), later.from) {
+        let here = gradient.piece_before(later.from, start, near);
+        let slowing = slowing(brakes.deceleration, here.value);
+        let begun = later.begun_evenly(slowing, here.from);
+        let high = root(target.speed, begun.taken_off, limit);
+        if acts_behind(front, high, brakes, begun.from) {
+            let end = above(high, limit);
+            return halved(front, low, end, target, brakes, slowing, begun.from, &later);
+        }
+        low = high;
+        later = begun;
+        near = here.near;
+    }
+    (low, later)
 }
 
-// The greatest speed that fits a target, between one that fits and one that doesn't, where it is known what the stretch
-// takes off from where the brakes act at the former. For a greater speed only the gradients from there up to where the
-// brakes act at that one are gone through, and what is known is carried on to each greater speed that fits.
-fn halved<P: Profile<Permille>>(
+// The greatest speed from one on for which enough is taken off, below another one, where a stretch with one deceleration
+// lies before what is summed; and the sum from where the brakes act at that speed, or from where the stretch begins.
+fn halved(
     front: Cm,
     low: Mph,
     high: Mph,
-    limit: Mph,
     target: &Target,
-    gradient: &P,
     brakes: &Brakes,
+    slowing: u16,
+    from: Cm,
     sum: &Summed,
 ) -> (Mph, Summed)
-    requires within { high ≤ limit }
-    requires fits { fits front (P.value gradient.now) brakes.now target.now low ≡ true }
-    requires fails { fits front (P.value gradient.now) brakes.now target.now high ≡ false }
-    requires summed { IsSummed (P.value gradient.now) brakes.now.deceleration sum.now }
-    requires to { sum.now.to ≡ target.now.place }
-    requires near { natural (sum.now.to -ℤ sum.now.from) ≤ 2 ^ 43 }
-    requires acts { ActsFrom front brakes.now.reaction sum.now.from low }
-    ensures speed { result.0 ≡ greatest (fits front (P.value gradient.now) brakes.now target.now) limit }
-    ensures summed { IsSummed (P.value gradient.now) brakes.now.deceleration result.1 }
+    requires faster { target.now.speed ≤ low }
+    requires ordered { low ≤ high }
+    requires even { IsEvenBefore slowing from sum.now }
+    ensures least { low ≤ result.0 }
+    ensures most { result.0 ≤ high }
+    ensures enough { (result.0 ≡ low) ⊎ IsEnough front brakes.now target.now slowing from sum.now result.0 }
+    ensures next { result.0 + 1 < high → ¬ (IsEnough front brakes.now target.now slowing from sum.now (result.0 + 1)) }
+    ensures from { from ≤ℤ result.1.from }
+    ensures begun { IsBegunEvenly slowing sum.now result.1 }
 {
-    let mut low = low;
-    let mut high = high;
-    let mut sum = *sum;
-    while let Some(middle) = halfway(low, high) {
-        let (fits, later) = fits_from(front, middle, target, gradient, brakes, &sum);
-        if fits {
-            low = middle;
-            sum = later;
+    let mut least = low;
+    let mut end = high;
+    while let Some(middle) = halfway(least, end) {
+        if is_enough(front, middle, target, brakes, slowing, from, sum) {
+            least = middle;
         } else {
-            high = middle;
+            end = middle;
         }
     }
-    (low, sum)
+    match begun_at(front, least, brakes, slowing, from, sum) {
+        Some(begun) => (least, begun),
+        None => (least, *sum),
+    }
 }
 
-// Whether a speed fits a target, where it is known what the stretch takes off that begins where the brakes act, or
-// before; and what the stretch takes off that begins where they act, if that is before the target.
-fn fits_from<P: Profile<Permille>>(
+// Whether the brakes act at a speed before what is summed, and from there, or from where a stretch with one deceleration
+// before it begins, take off enough for a target.
+fn is_enough(
     front: Cm,
     speed: Mph,
     target: &Target,
-    gradient: &P,
     brakes: &Brakes,
+    slowing: u16,
+    from: Cm,
     sum: &Summed,
-) -> (bool, Summed)
-    requires summed { IsSummed (P.value gradient.now) brakes.now.deceleration sum.now }
-    requires to { sum.now.to ≡ target.now.place }
-    requires near { natural (sum.now.to -ℤ sum.now.from) ≤ 2 ^ 43 }
-    requires acts { ActsFrom front brakes.now.reaction sum.now.from speed }
-    ensures fits { result.0 ≡ fits front (P.value gradient.now) brakes.now target.now speed }
-    ensures summed { IsSummed (P.value gradient.now) brakes.now.deceleration result.1 }
-    ensures to { result.1.to ≡ target.now.place }
-    ensures near { natural (result.1.to -ℤ result.1.from) ≤ 2 ^ 43 }
-    ensures acts { ActsFrom front brakes.now.reaction result.1.from speed }
+) -> bool
+    requires faster { target.now.speed ≤ speed }
+    requires even { IsEvenBefore slowing from sum.now }
+    ensures { IsTrue result ↔ IsEnough front brakes.now target.now slowing from sum.now speed }
 {
-    if speed <= target.speed {
-        return (true, *sum);
+    match begun_at(front, speed, brakes, slowing, from, sum) {
+        None => false,
+        Some(begun) => lacking(speed, target.speed) <= begun.taken_off,
     }
-    match brakes_act(front, reaction_way(brakes.reaction, speed), target.place) {
-        None => (false, *sum),
-        Some(start) => {
-            let later = sum.later(gradient, brakes.deceleration, start);
-            (lacking(speed, target.speed) <= later.taken_off, later)
-        }
+}
+
+// What is summed, begun where the brakes act at a speed, on a stretch with one deceleration before it, or where that
+// stretch begins; None where they don't act before what is summed.
+fn begun_at(
+    front: Cm,
+    speed: Mph,
+    brakes: &Brakes,
+    slowing: u16,
+    from: Cm,
+    sum: &Summed,
+) -> Option<Summed>
+    requires { IsEvenBefore slowing from sum.now }
+    ensures found { IsSome result ↔ (front +ℤ pos (reaction_way brakes.now.reaction speed)) <ℤ sum.now.from }
+    ensures from { IfSome result (λ begun. begun.from ≡ int_max (front +ℤ pos (reaction_way brakes.now.reaction speed)) from) }
+    ensures begun { IfSome result (IsBegunEvenly slowing sum.now) }
+{
+    match brakes_act(front, reaction_way(brakes.reaction, speed), sum.from) {
+        None => None,
+        Some(start) => Some(sum.begun_evenly(slowing, later_of(start, from))),
     }
+}
+
+// Whether the brakes act at a speed at a place or behind it.
+fn acts_behind(front: Cm, speed: Mph, brakes: &Brakes, place: Cm) -> bool
+    ensures { IsTrue result ↔ place ≤ℤ (front +ℤ pos (reaction_way brakes.now.reaction speed)) }
+{
+    place.get() <= front.get() + i64::from(reaction_way(brakes.reaction, speed))
+}
+
+// The one of two places that lies farther ahead.
+fn later_of(one: Cm, other: Cm) -> Cm
+    ensures { result ≡ int_max one other }
+{
+    if one < other { other } else { one }
 }
 
 // A speed between two; None where there is none.

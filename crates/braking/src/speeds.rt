@@ -69,6 +69,7 @@ pub fn summed_before<P: Profile<Permille>>(
     requires summed { IsSummed (P.value gradient.now) brakes.now.deceleration summed.now }
     ensures late { IsSome result ↔ (front +ℤ pos (reaction_way brakes.now.reaction speed)) <ℤ target.now.place }
     ensures sum { IfSome result (IsSummedBefore front (P.value gradient.now) brakes.now target.now speed) }
+    ensures near { natural (target.now.place -ℤ front) ≤ 2 ^ 43 }
 {
     let place = target.place;
     let start = brakes_act(front, reaction_way(brakes.reaction, speed), place)?;
@@ -110,6 +111,7 @@ pub fn brakes_act(front: Cm, way: u32, place: Cm) -> Option<Cm>
     ensures found { IsSome result ↔ (front +ℤ pos way) <ℤ place }
     ensures value { IfSome result (λ start. start ≡ front +ℤ pos way) }
     ensures near { IfSome result (λ start. natural (place -ℤ start) ≤ 2 ^ 43) }
+    ensures reach { natural (place -ℤ front) ≤ 2 ^ 43 }
 {
     let start = front.get() + i64::from(way);
     if start < place.get() {

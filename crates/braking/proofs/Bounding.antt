@@ -5,15 +5,14 @@ use Rattle.std.specs.Int.{int_max}
 use Rattle.std.proofs.lemmas.Bool.Decides.{nat_tests}
 use Rattle.std.proofs.lemmas.Int.{ints, clamps, by_lt_z}
 use Rattle.units.specs.Stretches.{natural}
-use Rattle.track_store.specs.Profiles.{HoldsOver}
 use Rattle.brakes.specs.declared.brakes.Brakes.{Brakes}
 use Rattle.braking.specs.declared.target.Target.{Target}
 use Rattle.braking.specs.declared.summed.Summed.{Summed}
-use Rattle.brakes.specs.Brakes.{slowing_on, reaction_way}
+use Rattle.brakes.specs.Brakes.{reaction_way}
 use Rattle.braking.specs.Braking.{braked, fits, greatest, IsSummed}
 use Rattle.braking.specs.Sums.{IsSummedWhole, IsRoot, IsEnough}
 use Rattle.braking.proofs.Naturals.{none_between}
-use Rattle.braking.proofs.Braked.{braked_over, summed_little, even_is}
+use Rattle.braking.proofs.Braked.{braked_over, summed_little, even_is, IsEven}
 use Rattle.braking.proofs.Roots.{root_less, square_less, square_greater}
 use Rattle.braking.proofs.Greatest.{greatest_is}
 use Rattle.braking.proofs.Slower.{way_less, slow_fits, braking_fits, late_fails, faster_fails, summed_whole}
@@ -114,17 +113,23 @@ module _ (front : ℤ) (gradient : ℤ → Option ℤ) (brakes : Brakes) (t : Ta
         sym (greatest_is (fits front gradient brakes t) low limit known.root.within (inr (known_fits acts))
         (λ k above below. later_fails k above below (omega (arith, ints, late, way_less brakes.reaction k low (omega (arith, above))))))
 
-  -- where one gradient lies before what is summed, and the brakes act on it, or behind, at the speed that is taken off from its beginning on
-  module _ (sum begun : Summed) (low high : ℕ) (known : IsKnown sum low) (more : IsKnown begun high) (held : Option ℤ) (slowing : ℕ)
-      (holds : HoldsOver gradient held begun.from sum.from) (slows : slowing ≡ slowing_on brakes.deceleration held)
-      (ordered : begun.from ≤ℤ sum.from) (late : begun.from ≤ℤ start high) where
+  -- where one gradient lies before what is summed, and each speed is taken off at which the brakes act before both
+  module _ (sum begun : Summed) (low high slowing : ℕ) (known : IsKnown sum low) (more : IsKnown begun high)
+      (even : IsEven gradient brakes.deceleration slowing begun.from sum.from) (ordered : begun.from ≤ℤ sum.from)
+      (enough : (v : ℕ) → v ≤ limit → start v <ℤ begun.from → v * v ≤ t.speed * t.speed + begun.taken_off) where
     abbrev evenly : ℤ → ℕ
     evenly place = 2592 * slowing * natural (sum.from -ℤ place) + sum.taken_off
 
     evenly_is : (place : ℤ) → begun.from ≤ℤ place → place ≤ℤ sum.from → evenly place ≡ off place
     evenly_is place a b =
-        even_is gradient brakes.deceleration held place sum.from t.place b (within sum low known) (λ z c d. holds z (omega (arith, ints, a, c)) d)
-        slowing slows sum.taken_off (off_is sum low known)
+        even_is gradient brakes.deceleration slowing place sum.from t.place b (within sum low known) (λ z c d. even z (omega (arith, ints, a, c)) d)
+        sum.taken_off (off_is sum low known)
+
+    late : high < limit → begun.from ≤ℤ start (high + 1)
+    late less =
+        by_lt_z (start (high + 1)) begun.from
+        (λ (early : start (high + 1) <ℤ begun.from). absurd (omega (arith, enough (high + 1) (omega (arith, less)) early, more.root.next less)))
+        (λ (behind : begun.from ≤ℤ start (high + 1)). behind)
 
     enough_fits : (v : ℕ) → IsEnough front brakes t slowing begun.from sum v → fits front gradient brakes t v ≡ true
     enough_fits v is =
@@ -144,7 +149,7 @@ module _ (front : ℤ) (gradient : ℤ → Option ℤ) (brakes : Brakes) (t : Ta
         let first : begun.from ≤ℤ place = omega (arith, ints, clamps) in
         let last : place ≤ℤ sum.from = omega (arith, ints, clamps, ordered, acts) in
         elim (order (v * v) (t.speed * t.speed + evenly place)) [
-          | inl enough ↦ absurd (not (record { acts = acts; enough = enough }))
+          | inl much ↦ absurd (not (record { acts = acts; enough = much }))
           | inr less ↦ by_lt_z (start v) begun.from
               (λ (sooner : start v <ℤ begun.from).
               let there : place ≡ begun.from = omega (arith, ints, clamps, sooner) in
@@ -164,7 +169,7 @@ module _ (front : ℤ) (gradient : ℤ → Option ℤ) (brakes : Brakes) (t : Ta
       end_fails = elim (order limit high) [
         | inl greatest ↦ ap (fits front gradient brakes t) (last greatest) ∙ fails
         | inr less ↦ ap (fits front gradient brakes t) (next less)
-            ∙ later_fails begun high more (high + 1) (omega arith) (omega (arith, less)) (omega (arith, ints, late, way_less brakes.reaction (high + 1) high (omega arith)))
+            ∙ later_fails begun high more (high + 1) (omega arith) (omega (arith, less)) (late less)
       ]
 
       end_near : (end ≤ limit) × (end ≤ high + 1)
@@ -177,9 +182,9 @@ module _ (front : ℤ) (gradient : ℤ → Option ℤ) (brakes : Brakes) (t : Ta
       pub found_greatest : (low ≤ t.speed) ⊎ (start low ≤ℤ sum.from) → (found : ℕ) → low ≤ found → found ≤ end →
           (found ≡ low) ⊎ IsEnough front brakes t slowing begun.from sum found →
           (found + 1 < end → ¬ (IsEnough front brakes t slowing begun.from sum (found + 1))) → found ≡ greatest (fits front gradient brakes t) limit
-      found_greatest acts found least most enough none =
+      found_greatest acts found least most either none =
           let test : ℕ → Bool = fits front gradient brakes t in
-          let fit : test found ≡ true = elim enough [
+          let fit : test found ≡ true = elim either [
             | inl is ↦ ap test is ∙ known_fits sum low known acts
             | inr much ↦ enough_fits found much
           ] in

@@ -6,7 +6,8 @@ use Rattle.units.specs.Stretches.{natural}
 use Rattle.brakes.specs.declared.brakes.Brakes.{Brakes}
 use Rattle.braking.specs.declared.target.Target.{Target}
 use Rattle.braking.specs.declared.summed.Summed.{Summed}
-use Rattle.brakes.specs.Brakes.{reaction_way}
+use Rattle.braking.specs.declared.stretch.Stretch.{Stretch}
+use Rattle.brakes.specs.Brakes.{slowing_on, reaction_way}
 use Rattle.braking.specs.Braking.{IsSummed}
 
 -- a stretch begins where the brakes act at a speed, and ends at a target, or before it where it takes off enough
@@ -39,13 +40,22 @@ pub record IsStopping (front : ℤ) (reaction speed : ℕ) (sum : Summed) : Type
 pub record IsEvenBefore (slowing : ℕ) (from : ℤ) (sum : Summed) : Type 0 where
   pub small : slowing ≤ 549
   pub ordered : from ≤ℤ sum.from
-  pub little : 2592 * slowing * natural (sum.from -ℤ from) + sum.taken_off < 2 ^ 64
+  pub little : 2592 * slowing * natural (sum.from -ℤ from) + sum.taken_off < 2 ^ 64 - 2 ^ 62
 
 -- a sum is begun on such a stretch
 pub record IsBegunEvenly (slowing : ℕ) (sum begun : Summed) : Type 0 where
   pub ordered : begun.from ≤ℤ sum.from
   pub to : begun.to ≡ sum.to
   pub taken_off : begun.taken_off ≡ 2592 * slowing * natural (sum.from -ℤ begun.from) + sum.taken_off
+
+-- a stretch with one gradient lies before what is summed, and what both take off is summed too
+pub record IsStretch (gradient : ℤ → Option ℤ) (deceleration : ℕ) (stretch : Stretch) : Type 0 where
+  pub behind : IsSummed gradient deceleration stretch.sum
+  pub even : (place : ℤ) → stretch.begun.from ≤ℤ place → place <ℤ stretch.sum.from → slowing_on deceleration (gradient place) ≡ stretch.slowing
+  pub before : stretch.begun.from <ℤ stretch.sum.from
+  pub may_begin : IsEvenBefore stretch.slowing stretch.begun.from stretch.sum
+  pub begun : IsBegunEvenly stretch.slowing stretch.sum stretch.begun
+  pub summed : IsSummed gradient deceleration stretch.begun
 
 -- the brakes act at a speed before a sum begins, and enough is taken off for a target from there, but no more than such
 -- a stretch and the sum take off

@@ -1,5 +1,5 @@
 //! The search for the greatest speed that fits a target.
-ghost use Rattle.std.specs.Prelude.{◌≡◌, ◌+◌, ◌-◌, ◌^◌, ◌<◌, ◌≤◌, ◌⊎◌, ◌↔◌, pos, ◌+ℤ◌, ◌-ℤ◌, ◌≤ℤ◌, ◌<ℤ◌, false, IsTrue, IsSome, IfSome, MatchOption};
+ghost use Rattle.std.specs.Prelude.{◌≡◌, ℕ, ◌+◌, ◌-◌, ◌*◌, ◌^◌, ◌<◌, ◌≤◌, ◌⊎◌, ◌↔◌, pos, ◌+ℤ◌, ◌-ℤ◌, ◌≤ℤ◌, ◌<ℤ◌, false, IsTrue, IsSome, IfSome, MatchOption};
 ghost use Rattle.std.specs.Int.{int_max};
 ghost use Rattle.units.specs.Stretches.{natural};
 ghost use Rattle.brakes.specs.Brakes.{reaction_way};
@@ -7,9 +7,10 @@ ghost use Rattle.braking.specs.Braking.{fits, greatest, IsSummed};
 ghost use Rattle.braking.specs.Sums.{IsSummedWhole, IsRoot, IsEvenBefore, IsBegunEvenly, IsEnough};
 
 use crate::Target;
-use crate::speeds::{brakes_act, lacking, summed_before};
+use crate::speeds::{brakes_act, fastest_before, lacking, summed_before};
+use crate::stretch::Stretch;
 use crate::summed::Summed;
-use brakes::{Brakes, reaction_way, slowing};
+use brakes::{Brakes, reaction_way};
 use track_store::Profile;
 use units::{Cm, Mph, Permille};
 
@@ -39,9 +40,9 @@ pub fn permitted_before<P: Profile<Permille>>(
 }
 
 // The greatest speed below one that doesn't fit a target, where it is known what the stretch from where the brakes act
-// at that one takes off, and what was summed on the way. It goes back from there, one gradient after another. The speed
-// from which so much is taken off fits; a greater one fits only where its brakes act before that. So the greatest is
-// found where its brakes act on the gradient at hand.
+// at that one takes off, and what was summed on the way. The speed from which so much is taken off fits, and a greater
+// one fits only where its brakes act before that. So it goes back from there, one gradient after another, up to the one
+// on which the brakes act at the greatest.
 fn sought<P: Profile<Permille>>(
     front: Cm,
     limit: Mph,
@@ -57,23 +58,35 @@ fn sought<P: Profile<Permille>>(
     ensures speed { result.0 ≡ greatest (fits front (P.value gradient.now) brakes.now target.now) limit }
     ensures summed { IsSummed (P.value gradient.now) brakes.now.deceleration result.1 }
 {
-    let mut later = *sum;
-    let mut low = root(target.speed, later.taken_off, limit);
-    let mut near = 0;
-    while let Some(start) = brakes_act(front, reaction_way(brakes.reaction, low), later.from) {
-        let here = gradient.piece_before(later.from, start, near);
-        let slowing = slowing(brakes.deceleration, here.value);
-        let begun = later.begun_evenly(slowing, here.from);
-        let high = root(target.speed, begun.taken_off, limit);
-        if acts_behind(front, high, brakes, begun.from) {
-            let end = above(high, limit);
-            return halved(front, low, end, target, brakes, slowing, begun.from, &later);
-        }
-        low = high;
-        later = begun;
-        near = here.near;
+    let least = root(target.speed, sum.taken_off, limit);
+    let Some(start) = brakes_act(front, reaction_way(brakes.reaction, least), sum.from) else {
+        return (least, *sum);
+    };
+    let mut last = Stretch::before(sum, gradient, brakes.deceleration, start, 0);
+    while is_too_fast(front, limit, target, brakes, &last.begun) {
+        last = Stretch::before(&last.begun, gradient, brakes.deceleration, start, last.near);
     }
-    (low, later)
+    let low = root(target.speed, last.sum.taken_off, limit);
+    let high = root(target.speed, last.begun.taken_off, limit);
+    let from = last.begun.from;
+    halved(front, low, above(high, limit), target, brakes, last.slowing, from, &last.sum)
+}
+
+// Whether too little is taken off for the greatest speed up to a limit at which the brakes act before what is summed.
+fn is_too_fast(front: Cm, limit: Mph, target: &Target, brakes: &Brakes, sum: &Summed) -> bool
+    requires { sum.now.taken_off < 2 ^ 64 - 2 ^ 62 }
+    ensures sooner { IsTrue result → (v : ℕ) → v ≤ limit → v * v ≤ target.now.speed * target.now.speed + sum.now.taken_off
+        → (front +ℤ pos (reaction_way brakes.now.reaction v)) <ℤ sum.now.from }
+    ensures enough { result ≡ false → (v : ℕ) → v ≤ limit → (front +ℤ pos (reaction_way brakes.now.reaction v)) <ℤ sum.now.from
+        → v * v ≤ target.now.speed * target.now.speed + sum.now.taken_off }
+{
+    match fastest_before(front, limit, brakes.reaction, sum.from) {
+        None => false,
+        Some(fastest) => {
+            let (from, to) = (u64::from(fastest.get()), u64::from(target.speed.get()));
+            to * to + sum.taken_off < from * from
+        }
+    }
 }
 
 // The greatest speed from one on for which enough is taken off, below another one, where a stretch with one deceleration
@@ -153,13 +166,6 @@ fn begun_at(
         None => None,
         Some(start) => Some(sum.begun_evenly(slowing, later_of(start, from))),
     }
-}
-
-// Whether the brakes act at a speed at a place or behind it.
-fn acts_behind(front: Cm, speed: Mph, brakes: &Brakes, place: Cm) -> bool
-    ensures { IsTrue result ↔ place ≤ℤ (front +ℤ pos (reaction_way brakes.now.reaction speed)) }
-{
-    place.get() <= front.get() + i64::from(reaction_way(brakes.reaction, speed))
 }
 
 // The one of two places that lies farther ahead.

@@ -8,9 +8,10 @@ use Rattle.units.specs.Stretches.{natural}
 use Rattle.brakes.specs.declared.brakes.Brakes.{Brakes}
 use Rattle.braking.specs.declared.target.Target.{Target}
 use Rattle.braking.specs.declared.summed.Summed.{Summed}
+use Rattle.braking.specs.declared.stretch.Stretch.{Stretch}
 use Rattle.brakes.specs.Brakes.{reaction_way}
 use Rattle.braking.specs.Braking.{braked, fits, greatest, IsSummed}
-use Rattle.braking.specs.Sums.{IsSummedWhole, IsRoot, IsEnough}
+use Rattle.braking.specs.Sums.{IsSummedWhole, IsRoot, IsStretch, IsEnough}
 use Rattle.braking.proofs.Naturals.{none_between}
 use Rattle.braking.proofs.Braked.{braked_over, summed_little, even_is, IsEven}
 use Rattle.braking.proofs.Roots.{root_less, square_less, square_greater}
@@ -114,62 +115,62 @@ module _ (front : ℤ) (gradient : ℤ → Option ℤ) (brakes : Brakes) (t : Ta
         (λ k above below. later_fails k above below (omega (arith, ints, late, way_less brakes.reaction k low (omega (arith, above))))))
 
   -- where one gradient lies before what is summed, and each speed is taken off at which the brakes act before both
-  module _ (sum begun : Summed) (low high slowing : ℕ) (known : IsKnown sum low) (more : IsKnown begun high)
-      (even : IsEven gradient brakes.deceleration slowing begun.from sum.from) (ordered : begun.from ≤ℤ sum.from)
-      (enough : (v : ℕ) → v ≤ limit → start v <ℤ begun.from → v * v ≤ t.speed * t.speed + begun.taken_off) where
+  module _ (stretch : Stretch) (low high : ℕ) (is : IsStretch gradient brakes.deceleration stretch) (known : IsKnown stretch.sum low)
+      (more : IsKnown stretch.begun high)
+      (enough : (v : ℕ) → v ≤ limit → start v <ℤ stretch.begun.from → v * v ≤ t.speed * t.speed + stretch.begun.taken_off) where
     abbrev evenly : ℤ → ℕ
-    evenly place = 2592 * slowing * natural (sum.from -ℤ place) + sum.taken_off
+    evenly place = 2592 * stretch.slowing * natural (stretch.sum.from -ℤ place) + stretch.sum.taken_off
 
-    evenly_is : (place : ℤ) → begun.from ≤ℤ place → place ≤ℤ sum.from → evenly place ≡ off place
+    evenly_is : (place : ℤ) → stretch.begun.from ≤ℤ place → place ≤ℤ stretch.sum.from → evenly place ≡ off place
     evenly_is place a b =
-        even_is gradient brakes.deceleration slowing place sum.from t.place b (within sum low known) (λ z c d. even z (omega (arith, ints, a, c)) d)
-        sum.taken_off (off_is sum low known)
+        even_is gradient brakes.deceleration stretch.slowing place stretch.sum.from t.place b (within stretch.sum low known) (λ z c d. is.even z (omega (arith, ints, a, c)) d)
+        stretch.sum.taken_off (off_is stretch.sum low known)
 
-    late : high < limit → begun.from ≤ℤ start (high + 1)
+    late : high < limit → stretch.begun.from ≤ℤ start (high + 1)
     late less =
-        by_lt_z (start (high + 1)) begun.from
-        (λ (early : start (high + 1) <ℤ begun.from). absurd (omega (arith, enough (high + 1) (omega (arith, less)) early, more.root.next less)))
-        (λ (behind : begun.from ≤ℤ start (high + 1)). behind)
+        by_lt_z (start (high + 1)) stretch.begun.from
+        (λ (early : start (high + 1) <ℤ stretch.begun.from). absurd (omega (arith, enough (high + 1) (omega (arith, less)) early, more.root.next less)))
+        (λ (behind : stretch.begun.from ≤ℤ start (high + 1)). behind)
 
-    enough_fits : (v : ℕ) → IsEnough front brakes t slowing begun.from sum v → fits front gradient brakes t v ≡ true
-    enough_fits v is =
-        let place : ℤ = int_max (start v) begun.from in
-        let first : begun.from ≤ℤ place = omega (arith, ints, clamps) in
-        let last : place ≤ℤ sum.from = omega (arith, ints, clamps, ordered, is.acts) in
-        let target : sum.from ≤ℤ t.place = within sum low known in
-        fits_from v place (omega (arith, ints, clamps)) (omega (arith, ints, last, target)) (omega (arith, ints, is.acts, target))
-        (omega (arith, is.enough, evenly_is place first last))
+    enough_fits : (v : ℕ) → IsEnough front brakes t stretch v → fits front gradient brakes t v ≡ true
+    enough_fits v much =
+        let place : ℤ = int_max (start v) stretch.begun.from in
+        let first : stretch.begun.from ≤ℤ place = omega (arith, ints, clamps) in
+        let last : place ≤ℤ stretch.sum.from = omega (arith, ints, clamps, is.begun.ordered, much.acts) in
+        let target : stretch.sum.from ≤ℤ t.place = within stretch.sum low known in
+        fits_from v place (omega (arith, ints, clamps)) (omega (arith, ints, last, target)) (omega (arith, ints, much.acts, target))
+        (omega (arith, much.enough, evenly_is place first last))
 
-    not_enough_fails : (v : ℕ) → low < v → v ≤ limit → v ≤ high → ¬ (IsEnough front brakes t slowing begun.from sum v) →
+    not_enough_fails : (v : ℕ) → low < v → v ≤ limit → v ≤ high → ¬ (IsEnough front brakes t stretch v) →
         fits front gradient brakes t v ≡ false
     not_enough_fails v above below most not =
-        by_lt_z (start v) sum.from
-        (λ (acts : start v <ℤ sum.from).
-        let place : ℤ = int_max (start v) begun.from in
-        let first : begun.from ≤ℤ place = omega (arith, ints, clamps) in
-        let last : place ≤ℤ sum.from = omega (arith, ints, clamps, ordered, acts) in
+        by_lt_z (start v) stretch.sum.from
+        (λ (acts : start v <ℤ stretch.sum.from).
+        let place : ℤ = int_max (start v) stretch.begun.from in
+        let first : stretch.begun.from ≤ℤ place = omega (arith, ints, clamps) in
+        let last : place ≤ℤ stretch.sum.from = omega (arith, ints, clamps, is.begun.ordered, acts) in
         elim (order (v * v) (t.speed * t.speed + evenly place)) [
           | inl much ↦ absurd (not (record { acts = acts; enough = much }))
-          | inr less ↦ by_lt_z (start v) begun.from
-              (λ (sooner : start v <ℤ begun.from).
-              let there : place ≡ begun.from = omega (arith, ints, clamps, sooner) in
+          | inr less ↦ by_lt_z (start v) stretch.begun.from
+              (λ (sooner : start v <ℤ stretch.begun.from).
+              let there : place ≡ stretch.begun.from = omega (arith, ints, clamps, sooner) in
               let all = evenly_is place first last in
-              absurd (omega (arith, less, all, ap (λ (z : ℤ). off z) there, off_is begun high more, more.root.below, square_less high v most)))
-              (λ (later : begun.from ≤ℤ start v).
+              absurd (omega (arith, less, all, ap (λ (z : ℤ). off z) there, off_is stretch.begun high more, more.root.below, square_less high v most)))
+              (λ (later : stretch.begun.from ≤ℤ start v).
               let there : place ≡ start v = omega (arith, ints, clamps, later) in
               let all = evenly_is place first last in
-              let target : sum.from ≤ℤ t.place = within sum low known in
+              let target : stretch.sum.from ≤ℤ t.place = within stretch.sum low known in
               is_false (v * v) (t.speed * t.speed + off (start v)) _ (omega (arith, less, all, ap (λ (z : ℤ). off z) there))
               (braking_fits front gradient brakes t v (start v) (root_less v t.speed (omega (arith, less))) refl (omega (arith, ints, acts, target))))
         ])
-        (λ (behind : sum.from ≤ℤ start v). later_fails sum low known v above below behind)
+        (λ (behind : stretch.sum.from ≤ℤ start v). later_fails stretch.sum low known v above below behind)
 
     module _ (end : ℕ) (next : high < limit → end ≡ high + 1) (last : limit ≤ high → end ≡ limit) (fails : fits front gradient brakes t limit ≡ false) where
       end_fails : fits front gradient brakes t end ≡ false
       end_fails = elim (order limit high) [
         | inl greatest ↦ ap (fits front gradient brakes t) (last greatest) ∙ fails
         | inr less ↦ ap (fits front gradient brakes t) (next less)
-            ∙ later_fails begun high more (high + 1) (omega arith) (omega (arith, less)) (late less)
+            ∙ later_fails stretch.begun high more (high + 1) (omega arith) (omega (arith, less)) (late less)
       ]
 
       end_near : (end ≤ limit) × (end ≤ high + 1)
@@ -179,13 +180,13 @@ module _ (front : ℤ) (gradient : ℤ → Option ℤ) (brakes : Brakes) (t : Ta
       ]
 
       -- the greatest speed below that for which enough is taken off
-      pub found_greatest : (low ≤ t.speed) ⊎ (start low ≤ℤ sum.from) → (found : ℕ) → low ≤ found → found ≤ end →
-          (found ≡ low) ⊎ IsEnough front brakes t slowing begun.from sum found →
-          (found + 1 < end → ¬ (IsEnough front brakes t slowing begun.from sum (found + 1))) → found ≡ greatest (fits front gradient brakes t) limit
+      pub found_greatest : (low ≤ t.speed) ⊎ (start low ≤ℤ stretch.sum.from) → (found : ℕ) → low ≤ found → found ≤ end →
+          (found ≡ low) ⊎ IsEnough front brakes t stretch found →
+          (found + 1 < end → ¬ (IsEnough front brakes t stretch (found + 1))) → found ≡ greatest (fits front gradient brakes t) limit
       found_greatest acts found least most either none =
           let test : ℕ → Bool = fits front gradient brakes t in
           let fit : test found ≡ true = elim either [
-            | inl is ↦ ap test is ∙ known_fits sum low known acts
+            | inl same ↦ ap test same ∙ known_fits stretch.sum low known acts
             | inr much ↦ enough_fits found much
           ] in
           let after : found + 1 ≤ limit → test (found + 1) ≡ false = λ below. elim (order end (found + 1)) [

@@ -57,11 +57,12 @@ pub record IsStretch (gradient : ℤ → Option ℤ) (deceleration : ℕ) (stret
   pub begun : IsBegunEvenly stretch.slowing stretch.sum stretch.begun
   pub summed : IsSummed gradient deceleration stretch.begun
 
--- the brakes act at a speed before a sum begins, and enough is taken off for a target from there, but no more than such
--- a stretch and the sum take off
-pub record IsEnough (front : ℤ) (brakes : Brakes) (target : Target) (slowing : ℕ) (from : ℤ) (sum : Summed) (speed : ℕ) : Type 0 where
-  pub acts : (front +ℤ pos (reaction_way brakes.reaction speed)) <ℤ sum.from
+-- the brakes act at a speed before what is summed behind a stretch, and from there, or from where the stretch begins, enough
+-- is taken off for a target
+pub record IsEnough (front : ℤ) (brakes : Brakes) (target : Target) (stretch : Stretch) (speed : ℕ) : Type 0 where
+  pub acts : (front +ℤ pos (reaction_way brakes.reaction speed)) <ℤ stretch.sum.from
   pub enough :
     speed * speed
     ≤ target.speed * target.speed
-    + (2592 * slowing * natural (sum.from -ℤ int_max (front +ℤ pos (reaction_way brakes.reaction speed)) from) + sum.taken_off)
+    + (2592 * stretch.slowing * natural (stretch.sum.from -ℤ int_max (front +ℤ pos (reaction_way brakes.reaction speed)) stretch.begun.from)
+    + stretch.sum.taken_off)

@@ -68,8 +68,7 @@ fn sought<P: Profile<Permille>>(
     }
     let low = root(target.speed, last.sum.taken_off, limit);
     let high = root(target.speed, last.begun.taken_off, limit);
-    let from = last.begun.from;
-    halved(front, low, above(high, limit), target, brakes, last.slowing, from, &last.sum)
+    halved(front, low, above(high, limit), target, brakes, &last)
 }
 
 // Whether too little is taken off for the greatest speed up to a limit at which the brakes act before what is summed.
@@ -89,82 +88,71 @@ fn is_too_fast(front: Cm, limit: Mph, target: &Target, brakes: &Brakes, sum: &Su
     }
 }
 
-// The greatest speed from one on for which enough is taken off, below another one, where a stretch with one deceleration
-// lies before what is summed; and the sum from where the brakes act at that speed, or from where the stretch begins.
+// The greatest speed from one on, below another one, whose brakes act before what is summed behind a stretch and for which
+// enough is taken off; and what is summed from where they act at that, or from where the stretch begins. Each speed that
+// is tried costs a product.
 fn halved(
     front: Cm,
     low: Mph,
     high: Mph,
     target: &Target,
     brakes: &Brakes,
-    slowing: u16,
-    from: Cm,
-    sum: &Summed,
+    stretch: &Stretch,
 ) -> (Mph, Summed)
     requires faster { target.now.speed ≤ low }
     requires ordered { low ≤ high }
-    requires even { IsEvenBefore slowing from sum.now }
+    requires even { IsEvenBefore stretch.now.slowing stretch.now.begun.from stretch.now.sum }
     ensures least { low ≤ result.0 }
     ensures most { result.0 ≤ high }
-    ensures enough { (result.0 ≡ low) ⊎ IsEnough front brakes.now target.now slowing from sum.now result.0 }
-    ensures next { result.0 + 1 < high → ¬ (IsEnough front brakes.now target.now slowing from sum.now (result.0 + 1)) }
-    ensures from { from ≤ℤ result.1.from }
-    ensures begun { IsBegunEvenly slowing sum.now result.1 }
+    ensures enough { (result.0 ≡ low) ⊎ IsEnough front brakes.now target.now stretch.now result.0 }
+    ensures next { result.0 + 1 < high → ¬ (IsEnough front brakes.now target.now stretch.now (result.0 + 1)) }
+    ensures from { stretch.now.begun.from ≤ℤ result.1.from }
+    ensures begun { IsBegunEvenly stretch.now.slowing stretch.now.sum result.1 }
 {
     let mut least = low;
     let mut end = high;
     while let Some(middle) = halfway(least, end) {
-        if is_enough(front, middle, target, brakes, slowing, from, sum) {
+        if is_enough(front, middle, target, brakes, stretch) {
             least = middle;
         } else {
             end = middle;
         }
     }
-    match begun_at(front, least, brakes, slowing, from, sum) {
+    match begun_at(front, least, brakes, stretch) {
         Some(begun) => (least, begun),
-        None => (least, *sum),
+        None => (least, stretch.sum),
     }
 }
 
-// Whether the brakes act at a speed before what is summed, and from there, or from where a stretch with one deceleration
-// before it begins, take off enough for a target.
-fn is_enough(
-    front: Cm,
-    speed: Mph,
-    target: &Target,
-    brakes: &Brakes,
-    slowing: u16,
-    from: Cm,
-    sum: &Summed,
-) -> bool
+// Whether the brakes act at a speed before what is summed behind a stretch, and from there, or from where the stretch
+// begins, take off enough for a target. The caller owes a speed no less than the target's.
+fn is_enough(front: Cm, speed: Mph, target: &Target, brakes: &Brakes, stretch: &Stretch) -> bool
     requires faster { target.now.speed ≤ speed }
-    requires even { IsEvenBefore slowing from sum.now }
-    ensures { IsTrue result ↔ IsEnough front brakes.now target.now slowing from sum.now speed }
+    requires even { IsEvenBefore stretch.now.slowing stretch.now.begun.from stretch.now.sum }
+    ensures { IsTrue result ↔ IsEnough front brakes.now target.now stretch.now speed }
 {
-    match begun_at(front, speed, brakes, slowing, from, sum) {
+    match begun_at(front, speed, brakes, stretch) {
         None => false,
         Some(begun) => lacking(speed, target.speed) <= begun.taken_off,
     }
 }
 
-// What is summed, begun where the brakes act at a speed, on a stretch with one deceleration before it, or where that
-// stretch begins; None where they don't act before what is summed.
-fn begun_at(
-    front: Cm,
-    speed: Mph,
-    brakes: &Brakes,
-    slowing: u16,
-    from: Cm,
-    sum: &Summed,
-) -> Option<Summed>
-    requires { IsEvenBefore slowing from sum.now }
-    ensures found { IsSome result ↔ (front +ℤ pos (reaction_way brakes.now.reaction speed)) <ℤ sum.now.from }
-    ensures from { IfSome result (λ begun. begun.from ≡ int_max (front +ℤ pos (reaction_way brakes.now.reaction speed)) from) }
-    ensures begun { IfSome result (IsBegunEvenly slowing sum.now) }
+// What is summed behind a stretch, begun where the brakes act at a speed, or where the stretch begins if they act before;
+// None where they don't act before what is summed.
+fn begun_at(front: Cm, speed: Mph, brakes: &Brakes, stretch: &Stretch) -> Option<Summed>
+    requires { IsEvenBefore stretch.now.slowing stretch.now.begun.from stretch.now.sum }
+    ensures found { IsSome result ↔ (front +ℤ pos (reaction_way brakes.now.reaction speed)) <ℤ stretch.now.sum.from }
+    ensures from { IfSome result
+        (λ begun. begun.from ≡ int_max (front +ℤ pos (reaction_way brakes.now.reaction speed)) stretch.now.begun.from) }
+    ensures begun { IfSome result (IsBegunEvenly stretch.now.slowing stretch.now.sum) }
 {
-    match brakes_act(front, reaction_way(brakes.reaction, speed), sum.from) {
+    let way = reaction_way(brakes.reaction, speed);
+    match brakes_act(front, way, stretch.sum.from) {
         None => None,
-        Some(start) => Some(sum.begun_evenly(slowing, later_of(start, from))),
+        Some(start) => {
+            let from = later_of(start, stretch.begun.from);
+            Some(stretch.sum.begun_evenly(stretch.slowing, from))
+        }
     }
 }
 

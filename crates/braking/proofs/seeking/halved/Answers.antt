@@ -12,11 +12,11 @@ next_fails P least end high close next below holds =
 pub returns-in-Some-begun_at-clause-next : goal.returns-in-Some-begun_at-clause-next
 returns-in-Some-begun_at-clause-next c =
     let none : c.loop-middle.end ≤ c.loop-middle.least + 1 = rw c.in_default.is at c.halfway.ensures in
-    next_fails (λ v. IsEnough c.args.front c.args.brakes.now c.args.target.now c.args.slowing c.args.from c.args.sum.now v)
+    next_fails (λ v. IsEnough c.args.front c.args.brakes.now c.args.target.now c.args.stretch.now v)
     c.loop-middle.least c.loop-middle.end c.args.high none c.loop-middle.invariant.next
 
 pub returns-in-None-clause-next : goal.returns-in-None-clause-next
 returns-in-None-clause-next c =
     let none : c.loop-middle.end ≤ c.loop-middle.least + 1 = rw c.in_default.is at c.halfway.ensures in
-    next_fails (λ v. IsEnough c.args.front c.args.brakes.now c.args.target.now c.args.slowing c.args.from c.args.sum.now v)
+    next_fails (λ v. IsEnough c.args.front c.args.brakes.now c.args.target.now c.args.stretch.now v)
     c.loop-middle.least c.loop-middle.end c.args.high none c.loop-middle.invariant.next

@@ -8,8 +8,8 @@ invariant-loop-middle l = record {
   ordered : l.least ≤ l.end;
   above : l.fn.low ≤ l.least;
   below : l.end ≤ l.fn.high;
-  enough : (l.least ≡ l.fn.low) ⊎ IsEnough l.front l.brakes l.target l.slowing l.from l.sum l.least;
-  next : l.end < l.fn.high → (l.least < l.end) × ¬ (IsEnough l.front l.brakes l.target l.slowing l.from l.sum l.end);
+  enough : (l.least ≡ l.fn.low) ⊎ IsEnough l.front l.brakes l.target l.stretch l.least;
+  next : l.end < l.fn.high → (l.least < l.end) × ¬ (IsEnough l.front l.brakes l.target l.stretch l.end);
 }
 
 abbrev pub decreases-loop-middle : goal.decreases-loop-middle

@@ -102,8 +102,8 @@ returns-clause-speed g c =
     record { summed = kept.stretch.behind; to = kept.to; root = c.root-low.ensures } in
     let more : IsKnownBefore gradient c.args.brakes.now.deceleration c.args.target.now c.args.limit last.begun c.root-high.result =
     record { summed = kept.stretch.summed; to = kept.stretch.begun.to ∙ kept.to; root = c.root-high.ensures } in
-    found_greatest c.args.front gradient c.args.brakes.now c.args.target.now c.args.limit last.sum last.begun c.root-low.result c.root-high.result
-    last.slowing known more kept.stretch.even kept.stretch.begun.ordered (c.is_too_fast.ensures.enough c.loop-start-test.false)
+    found_greatest c.args.front gradient c.args.brakes.now c.args.target.now c.args.limit last c.root-low.result c.root-high.result
+    kept.stretch known more (c.is_too_fast.ensures.enough c.loop-start-test.false)
     c.above.result c.above.ensures.next c.above.ensures.last c.requires.fails
     (kept.acts c.root-low.result c.root-low.ensures.within c.root-low.ensures.below)
     c.halved.result.0 c.halved.ensures.least c.halved.ensures.most c.halved.ensures.enough c.halved.ensures.next

@@ -1,5 +1,5 @@
 -- Between which speeds the greatest one lies that fits a target.
-use Rattle.std.proofs.Common.{◌≡◌, ℕ, ℤ, pos, ◌+ℤ◌, ◌-ℤ◌, ◌+◌, ◌*◌, ◌^◌, ◌<◌, ◌≤◌, ◌<ℤ◌, ◌≤ℤ◌, ◌⊎◌, inl, inr, Bool, true, false, refl, ap, sym, subst, ◌∙◌, arith}
+use Rattle.std.proofs.Common.{◌≡◌, ℕ, ℤ, pos, ◌+ℤ◌, ◌-ℤ◌, ◌+◌, ◌*◌, ◌<◌, ◌≤◌, ◌<ℤ◌, ◌≤ℤ◌, ◌⊎◌, inl, inr, Bool, true, false, refl, ap, sym, ◌∙◌, arith}
 use Rattle.std.specs.Prelude.{nat_le, Option}
 use Rattle.std.specs.Int.{int_max}
 use Rattle.std.proofs.lemmas.Bool.Decides.{nat_tests}
@@ -13,7 +13,7 @@ use Rattle.brakes.specs.Brakes.{reaction_way}
 use Rattle.braking.specs.Braking.{braked, fits, greatest, IsSummed}
 use Rattle.braking.specs.Sums.{IsSummedWhole, IsRoot, IsStretch, IsEnough}
 use Rattle.braking.proofs.Naturals.{none_between}
-use Rattle.braking.proofs.Braked.{braked_over, summed_little, even_is, IsEven}
+use Rattle.braking.proofs.Braked.{braked_over, summed_little, even_is}
 use Rattle.braking.proofs.Roots.{root_less, square_less, square_greater}
 use Rattle.braking.proofs.Greatest.{greatest_is}
 use Rattle.braking.proofs.Slower.{way_less, slow_fits, braking_fits, late_fails, faster_fails, summed_whole}
@@ -59,8 +59,13 @@ module _ (front : ℤ) (gradient : ℤ → Option ℤ) (brakes : Brakes) (t : Ta
         (λ (early : start limit <ℤ t.place). omega (arith, ints, clamps, way_less brakes.reaction limit low root.within, whole.from, early))
         (λ (late : t.place ≤ℤ start limit).
         let there : sum.to ≤ℤ sum.from = omega (arith, ints, clamps, whole.from, whole.to, late) in
-        absurd (omega (arith, none_between sum.from sum.to there, summed_little gradient brakes.deceleration sum whole.summed,
-        square_greater t.speed low fast, root.below))))
+        absurd (omega (
+          arith,
+          none_between sum.from sum.to there,
+          summed_little gradient brakes.deceleration sum whole.summed,
+          square_greater t.speed low fast,
+          root.below,
+        ))))
   ]
 
   -- a speed whose brakes act before a place from which on enough is taken off

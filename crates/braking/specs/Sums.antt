@@ -62,7 +62,7 @@ pub record IsStretch (gradient : ℤ → Option ℤ) (deceleration : ℕ) (stret
 pub record IsEnough (front : ℤ) (brakes : Brakes) (target : Target) (stretch : Stretch) (speed : ℕ) : Type 0 where
   pub acts : (front +ℤ pos (reaction_way brakes.reaction speed)) <ℤ stretch.sum.from
   pub enough :
-    speed * speed
-    ≤ target.speed * target.speed
-    + (2592 * stretch.slowing * natural (stretch.sum.from -ℤ int_max (front +ℤ pos (reaction_way brakes.reaction speed)) stretch.begun.from)
-    + stretch.sum.taken_off)
+      speed * speed
+      ≤ target.speed * target.speed
+      + (2592 * stretch.slowing * natural (stretch.sum.from -ℤ int_max (front +ℤ pos (reaction_way brakes.reaction speed)) stretch.begun.from)
+      + stretch.sum.taken_off)

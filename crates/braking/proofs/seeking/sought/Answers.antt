@@ -1,4 +1,4 @@
-use Rattle.std.proofs.Common.{◌≡◌, ℕ, ◌+◌, ◌*◌, ◌≤◌, ◌^◌, ℤ, pos, ◌+ℤ◌, ◌-ℤ◌, ◌≤ℤ◌, ◌<ℤ◌, inl, inr, true, false, refl, ap, ◌∙◌, arith}
+use Rattle.std.proofs.Common.{◌≡◌, ◌≤◌, ◌^◌, ℤ, pos, ◌+ℤ◌, ◌-ℤ◌, ◌≤ℤ◌, ◌<ℤ◌, inl, inr, true, false, refl, ap, ◌∙◌, arith}
 use Rattle.std.proofs.lemmas.Int.{ints, by_lt_z}
 use Rattle.units.specs.Stretches.{natural}
 use Rattle.track_store.proofs.Jumps.{natural_is}
@@ -20,10 +20,10 @@ returns-in_default-clause-speed g c =
     let start : ℤ = c.args.front +ℤ pos (reaction_way c.args.brakes.now.reaction c.root-least.result) in
     let from : ℤ = c.args.sum.now.from in
     let late : from ≤ℤ start = by_lt_z start from
-        (λ (early : start <ℤ from).
-        let some = c.brakes_act.ensures.found.1 (omega (arith, ints, early, c.reaction_way.ensures.value)) in
-        absurd (let never : false ≡ true = rw c.in_default.is at some in cc))
-        (λ (late : from ≤ℤ start). late) in
+    (λ (early : start <ℤ from).
+    let some = c.brakes_act.ensures.found.1 (omega (arith, ints, early, c.reaction_way.ensures.value)) in
+    absurd (let never : false ≡ true = rw c.in_default.is at some in cc))
+    (λ (late : from ≤ℤ start). late) in
     known_greatest c.args.front gradient c.args.brakes.now c.args.target.now c.args.limit c.args.sum.now c.root-least.result known acts late
 
 pub loop-start-init : goal.loop-start-init
@@ -59,8 +59,13 @@ loop-start-smaller g c =
     let from : ℤ = later.result.begun.from in
     let ahead : c.args.front ≤ℤ from = omega (arith, ints, c.in-Some.ensures.value, later.ensures.within) in
     let less : from <ℤ c.loop-start.last.begun.from = omega (arith, ints, later.ensures.stretch.before, ap (λ (s : Summed). s.from) later.ensures.behind) in
-    omega (arith, ints, natural_is (from -ℤ c.args.front) (omega (arith, ints, ahead)),
-    natural_is (c.loop-start.last.begun.from -ℤ c.args.front) (omega (arith, ints, ahead, less)), less)
+    omega (
+      arith,
+      ints,
+      natural_is (from -ℤ c.args.front) (omega (arith, ints, ahead)),
+      natural_is (c.loop-start.last.begun.from -ℤ c.args.front) (omega (arith, ints, ahead, less)),
+      less,
+    )
 
 pub loop-start-preserved : goal.loop-start-preserved
 loop-start-preserved g c =

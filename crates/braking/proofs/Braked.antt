@@ -1,15 +1,21 @@
 -- What a stretch takes off the square of the speed.
-use Rattle.std.proofs.Common.{◌≡◌, ℕ, zero, suc, ◌+◌, ◌*◌, ◌^◌, ◌≤◌, ℤ, pos, ◌+ℤ◌, ◌-ℤ◌, ◌≤ℤ◌, ◌<ℤ◌, ◌⊎◌, inl, inr, refl, ap, ◌∙◌, arith}
+use Rattle.std.proofs.Common.{◌≡◌, ℕ, zero, suc, ◌+◌, ◌*◌, ◌^◌, ◌≤◌, ℤ, pos, ◌+ℤ◌, ◌-ℤ◌, ◌≤ℤ◌, ◌<ℤ◌, ◌-◌, ◌<◌, ◌⊎◌, inl, inr, refl, ap, sym, ◌∙◌, arith}
 use Rattle.std.specs.Prelude.{Option}
-use Rattle.std.proofs.lemmas.Int.{ints}
+use Rattle.std.proofs.lemmas.Int.{ints, by_lt_z}
+use Rattle.std.proofs.Math.Nat.{mul-le-mul_right}
 use Rattle.track_store.proofs.Jumps.{natural_is}
 use Rattle.units.specs.Stretches.{natural}
 use Rattle.brakes.specs.Brakes.{slowing_on}
 use Rattle.braking.specs.declared.summed.Summed.{Summed}
 use Rattle.braking.specs.Braking.{braked, IsSummed}
+use Rattle.braking.specs.Sums.{IsBegunEvenly}
 use Rattle.braking.proofs.Naturals.{parts}
 
 module _ (gradient : ℤ → Option ℤ) (deceleration : ℕ) where
+  -- each centimetre of a stretch slows alike
+  abbrev pub IsEven : ℕ → ℤ → ℤ → Type 0
+  IsEven slowing from end = (place : ℤ) → from ≤ℤ place → place <ℤ end → slowing_on deceleration (gradient place) ≡ slowing
+
   pub braked_none : (place : ℤ) → braked gradient deceleration place 0 ≡ 0
   unfolding braked
   braked_none place = refl
@@ -40,15 +46,14 @@ module _ (gradient : ℤ → Option ℤ) (deceleration : ℕ) where
         braked_next place m,
       )
 
-  -- on one gradient each centimetre takes off the same
-  pub braked_same : (known : Option ℤ) (place : ℤ) (n : ℕ) →
-      ((later : ℤ) → place ≤ℤ later → later <ℤ (place +ℤ pos n) → gradient later ≡ known) →
-      braked gradient deceleration place n ≡ 2592 * slowing_on deceleration known * n
-  braked_same known place zero same = omega (arith, braked_none place)
-  braked_same known place (suc n) same =
-      let here : slowing_on deceleration (gradient place) ≡ slowing_on deceleration known =
-      ap (slowing_on deceleration) (same place (omega (arith, ints)) (omega (arith, ints))) in
-      let rest = braked_same known (place +ℤ pos 1) n (λ later a b. same later (omega (arith, ints)) (omega (arith, ints))) in
+  -- where each centimetre takes off the same
+  pub braked_same : (slowing : ℕ) (place : ℤ) (n : ℕ) →
+      ((later : ℤ) → place ≤ℤ later → later <ℤ (place +ℤ pos n) → slowing_on deceleration (gradient later) ≡ slowing) →
+      braked gradient deceleration place n ≡ 2592 * slowing * n
+  braked_same slowing place zero same = omega (arith, braked_none place)
+  braked_same slowing place (suc n) same =
+      let here = same place (omega (arith, ints)) (omega (arith, ints)) in
+      let rest = braked_same slowing (place +ℤ pos 1) n (λ later a b. same later (omega (arith, ints)) (omega (arith, ints))) in
       omega (arith, braked_next place n, here, rest)
 
   -- to brake later takes off no more
@@ -71,14 +76,26 @@ module _ (gradient : ℤ → Option ℤ) (deceleration : ℕ) where
         ap (λ (z : ℤ). braked gradient deceleration z (natural (to -ℤ middle))) there,
       )
 
-  -- .. and on one gradient
-  pub braked_even : (place end : ℤ) → place ≤ℤ end → ((later : ℤ) → place ≤ℤ later → later <ℤ end → gradient later ≡ gradient place) →
-      braked gradient deceleration place (natural (end -ℤ place)) ≡ 2592 * slowing_on deceleration (gradient place) * natural (end -ℤ place)
-  braked_even place end a same =
+  -- .. and where each centimetre takes off the same
+  pub braked_evenly : (slowing : ℕ) (place end : ℤ) → place ≤ℤ end → IsEven slowing place end →
+      braked gradient deceleration place (natural (end -ℤ place)) ≡ 2592 * slowing * natural (end -ℤ place)
+  braked_evenly slowing place end a same =
       let n : ℕ = natural (end -ℤ place) in
       let count : pos n ≡ end -ℤ place = natural_is (end -ℤ place) (omega (arith, ints)) in
       let there : place +ℤ pos n ≡ end = rw count (omega (arith, ints)) in
-      braked_same (gradient place) place n (λ later c d. same later c (rw there at d))
+      braked_same slowing place n (λ later c d. same later c (rw there at d))
+
+  pub braked_even : (place end : ℤ) → place ≤ℤ end → ((later : ℤ) → place ≤ℤ later → later <ℤ end → gradient later ≡ gradient place) →
+      braked gradient deceleration place (natural (end -ℤ place)) ≡ 2592 * slowing_on deceleration (gradient place) * natural (end -ℤ place)
+  braked_even place end a same =
+      braked_evenly (slowing_on deceleration (gradient place)) place end a (λ later b d. ap (slowing_on deceleration) (same later b d))
+
+  -- .. before what is known
+  pub even_is : (slowing : ℕ) (place middle end : ℤ) → place ≤ℤ middle → middle ≤ℤ end → IsEven slowing place middle →
+      (taken_off : ℕ) → taken_off ≡ braked gradient deceleration middle (natural (end -ℤ middle)) →
+      2592 * slowing * natural (middle -ℤ place) + taken_off ≡ braked gradient deceleration place (natural (end -ℤ place))
+  even_is slowing place middle end a b same taken_off rest =
+      omega (arith, braked_over place middle end a b, braked_evenly slowing place middle a same, rest)
 
   -- where no centimetre takes off more than 2592 * 549, a stretch takes off no more than so much for each
   braked_small : (place : ℤ) (n : ℕ) → ((later : ℤ) → place ≤ℤ later → later <ℤ (place +ℤ pos n) → slowing_on deceleration (gradient later) ≤ 549) →
@@ -115,3 +132,23 @@ module _ (gradient : ℤ → Option ℤ) (deceleration : ℕ) where
   pub taken_off_is : (from end : ℤ) (sum : Summed) → sum.from ≡ from → sum.to ≡ end → IsSummed gradient deceleration sum →
       sum.taken_off ≡ braked gradient deceleration from (natural (end -ℤ from))
   taken_off_is from end sum begins ends summed = summed.1 ∙ (λ i. braked gradient deceleration (begins i) (natural (ends i -ℤ begins i)))
+
+  -- a stretch that is begun where each centimetre takes off the same
+  pub begun_summed : (from : ℤ) (slowing : ℕ) (sum begun : Summed) → IsSummed gradient deceleration sum →
+      IsEven slowing from sum.from → slowing ≤ 549 → from ≤ℤ begun.from → IsBegunEvenly slowing sum begun → IsSummed gradient deceleration begun
+  begun_summed from slowing sum begun summed same small within is_begun =
+      let even = even_is slowing begun.from sum.from sum.to is_begun.ordered summed.0 (λ z a b. same z (omega (arith, ints, within, a)) b) sum.taken_off summed.1 in (
+        omega (arith, ints, is_begun.ordered, is_begun.to, summed.0),
+        is_begun.taken_off ∙ even ∙ ap (λ (z : ℤ). braked gradient deceleration begun.from (natural (z -ℤ begun.from))) (sym is_begun.to),
+        λ (place : ℤ) a b. by_lt_z place sum.from
+            (λ (sooner : place <ℤ sum.from). rw (same place (omega (arith, ints, within, a)) sooner) small)
+            (λ (later : sum.from ≤ℤ place). summed.2 place later (omega (arith, ints, b, is_begun.to))),
+      )
+
+  -- .. takes off little enough
+  pub begun_little : (from : ℤ) (slowing : ℕ) (sum : Summed) → IsSummed gradient deceleration sum → from ≤ℤ sum.from → slowing ≤ 549 →
+      natural (sum.to -ℤ from) ≤ 2 ^ 43 → 2592 * slowing * natural (sum.from -ℤ from) + sum.taken_off < 2 ^ 64 - 2 ^ 62
+  begun_little from slowing sum summed ordered small near =
+      let factor : 2592 * slowing ≤ 1_423_008 = omega arith in
+      let product : 2592 * slowing * natural (sum.from -ℤ from) ≤ 1_423_008 * natural (sum.from -ℤ from) = mul-le-mul_right (natural (sum.from -ℤ from)) factor in
+      omega (arith, product, parts from sum.from sum.to ordered summed.0, summed_little sum summed, near)

@@ -1,16 +1,14 @@
 -- What is known of what the brakes take off before a target (this project's profile). Places are centimetres, speeds
 -- metres per hour.
-use Rattle.std.specs.Prelude.{◌≡◌, ℕ, ◌+◌, ◌-◌, ◌*◌, ◌<◌, ◌≤◌, ◌^◌, ℤ, pos, ◌+ℤ◌, ◌≤ℤ◌, ◌<ℤ◌, ◌⊎◌, Option}
-use Rattle.std.specs.Int.{int_min}
+use Rattle.std.specs.Prelude.{◌≡◌, ℕ, ◌+◌, ◌-◌, ◌*◌, ◌<◌, ◌≤◌, ◌^◌, ℤ, pos, ◌+ℤ◌, ◌-ℤ◌, ◌≤ℤ◌, ◌<ℤ◌, ◌⊎◌, Option}
+use Rattle.std.specs.Int.{int_min, int_max}
+use Rattle.units.specs.Stretches.{natural}
 use Rattle.brakes.specs.declared.brakes.Brakes.{Brakes}
 use Rattle.braking.specs.declared.target.Target.{Target}
 use Rattle.braking.specs.declared.summed.Summed.{Summed}
-use Rattle.brakes.specs.Brakes.{reaction_way}
+use Rattle.braking.specs.declared.stretch.Stretch.{Stretch}
+use Rattle.brakes.specs.Brakes.{slowing_on, reaction_way}
 use Rattle.braking.specs.Braking.{IsSummed}
-
--- where the brakes act at each speed from one on is at or behind a place
-abbrev pub ActsFrom : ℤ → ℕ → ℤ → ℕ → Type 0
-ActsFrom front reaction place speed = (v : ℕ) → speed ≤ v → place ≤ℤ (front +ℤ pos (reaction_way reaction v))
 
 -- a stretch begins where the brakes act at a speed, and ends at a target, or before it where it takes off enough
 pub record IsSummedBefore (front : ℤ) (gradient : ℤ → Option ℤ) (brakes : Brakes) (target : Target) (speed : ℕ) (sum : Summed) : Type 0 where
@@ -37,3 +35,34 @@ pub record IsRoot (speed taken_off limit root : ℕ) : Type 0 where
 pub record IsStopping (front : ℤ) (reaction speed : ℕ) (sum : Summed) : Type 0 where
   pub acts : (front +ℤ pos (reaction_way reaction speed)) ≤ℤ sum.from
   pub enough : speed * speed ≤ sum.taken_off
+
+-- a stretch with one deceleration, up to where a sum begins, takes off little enough to be added to it
+pub record IsEvenBefore (slowing : ℕ) (from : ℤ) (sum : Summed) : Type 0 where
+  pub small : slowing ≤ 549
+  pub ordered : from ≤ℤ sum.from
+  pub little : 2592 * slowing * natural (sum.from -ℤ from) + sum.taken_off < 2 ^ 64 - 2 ^ 62
+
+-- a sum is begun on such a stretch
+pub record IsBegunEvenly (slowing : ℕ) (sum begun : Summed) : Type 0 where
+  pub ordered : begun.from ≤ℤ sum.from
+  pub to : begun.to ≡ sum.to
+  pub taken_off : begun.taken_off ≡ 2592 * slowing * natural (sum.from -ℤ begun.from) + sum.taken_off
+
+-- a stretch with one gradient lies before what is summed, and what both take off is summed too
+pub record IsStretch (gradient : ℤ → Option ℤ) (deceleration : ℕ) (stretch : Stretch) : Type 0 where
+  pub behind : IsSummed gradient deceleration stretch.sum
+  pub even : (place : ℤ) → stretch.begun.from ≤ℤ place → place <ℤ stretch.sum.from → slowing_on deceleration (gradient place) ≡ stretch.slowing
+  pub before : stretch.begun.from <ℤ stretch.sum.from
+  pub may_begin : IsEvenBefore stretch.slowing stretch.begun.from stretch.sum
+  pub begun : IsBegunEvenly stretch.slowing stretch.sum stretch.begun
+  pub summed : IsSummed gradient deceleration stretch.begun
+
+-- the brakes act at a speed before what is summed behind a stretch, and from there, or from where the stretch begins, enough
+-- is taken off for a target
+pub record IsEnough (front : ℤ) (brakes : Brakes) (target : Target) (stretch : Stretch) (speed : ℕ) : Type 0 where
+  pub acts : (front +ℤ pos (reaction_way brakes.reaction speed)) <ℤ stretch.sum.from
+  pub enough :
+      speed * speed
+      ≤ target.speed * target.speed
+      + (2592 * stretch.slowing * natural (stretch.sum.from -ℤ int_max (front +ℤ pos (reaction_way brakes.reaction speed)) stretch.begun.from)
+      + stretch.sum.taken_off)

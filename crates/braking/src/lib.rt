@@ -5,6 +5,7 @@ mod approach;
 mod seeking;
 mod slowing;
 mod speeds;
+mod stretch;
 mod summed;
 mod target;
 

@@ -1,11 +1,14 @@
 //! The search for the greatest speed that fits a target.
-ghost use Rattle.std.specs.Prelude.{◌≡◌, ◌+◌, ◌-◌, ◌^◌, ◌<◌, ◌≤◌, ◌-ℤ◌, true, false, MatchOption};
+ghost use Rattle.std.specs.Prelude.{◌≡◌, ℕ, ◌+◌, ◌-◌, ◌*◌, ◌^◌, ◌<◌, ◌≤◌, ◌⊎◌, ◌↔◌, pos, ◌+ℤ◌, ◌-ℤ◌, ◌≤ℤ◌, ◌<ℤ◌, false, IsTrue, IsSome, IfSome, MatchOption};
+ghost use Rattle.std.specs.Int.{int_max};
 ghost use Rattle.units.specs.Stretches.{natural};
+ghost use Rattle.brakes.specs.Brakes.{reaction_way};
 ghost use Rattle.braking.specs.Braking.{fits, greatest, IsSummed};
-ghost use Rattle.braking.specs.Sums.{ActsFrom, IsSummedWhole, IsRoot};
+ghost use Rattle.braking.specs.Sums.{IsSummedWhole, IsRoot, IsEvenBefore, IsBegunEvenly, IsEnough};
 
 use crate::Target;
-use crate::speeds::{brakes_act, lacking, summed_before};
+use crate::speeds::{brakes_act, fastest_before, lacking, summed_before};
+use crate::stretch::Stretch;
 use crate::summed::Summed;
 use brakes::{Brakes, reaction_way};
 use track_store::Profile;
@@ -37,9 +40,9 @@ pub fn permitted_before<P: Profile<Permille>>(
 }
 
 // The greatest speed below one that doesn't fit a target, where it is known what the stretch from where the brakes act
-// at that one takes off, and what was summed last. The speed whose brakes acted there and took off just so much fits,
-// and so would a greater one only as far as they act sooner: at most what they take off from where they act at the lower
-// one.
+// at that one takes off, and what was summed on the way. The speed from which so much is taken off fits, and a greater
+// one fits only where its brakes act before that. So it goes back from there, one gradient after another, up to the one
+// on which the brakes act at the greatest.
 fn sought<P: Profile<Permille>>(
     front: Cm,
     limit: Mph,
@@ -51,86 +54,113 @@ fn sought<P: Profile<Permille>>(
     requires faster { target.now.speed < limit }
     requires fails { fits front (P.value gradient.now) brakes.now target.now limit ≡ false }
     requires whole { IsSummedWhole front (P.value gradient.now) brakes.now target.now limit sum.now }
+    requires near { natural (target.now.place -ℤ front) ≤ 2 ^ 43 }
     ensures speed { result.0 ≡ greatest (fits front (P.value gradient.now) brakes.now target.now) limit }
     ensures summed { IsSummed (P.value gradient.now) brakes.now.deceleration result.1 }
 {
-    let low = root(target.speed, sum.taken_off, limit);
-    let Some(start) = brakes_act(front, reaction_way(brakes.reaction, low), target.place) else {
-        return (low, *sum);
+    let least = root(target.speed, sum.taken_off, limit);
+    let Some(start) = brakes_act(front, reaction_way(brakes.reaction, least), sum.from) else {
+        return (least, *sum);
     };
-    let most = sum.begun(gradient, brakes.deceleration, start);
-    let high = above(root(target.speed, most.taken_off, limit), limit);
-    halved(front, low, high, limit, target, gradient, brakes, &most)
+    let mut last = Stretch::before(sum, gradient, brakes.deceleration, start, 0);
+    while is_too_fast(front, limit, target, brakes, &last.begun) {
+        last = Stretch::before(&last.begun, gradient, brakes.deceleration, start, last.near);
+    }
+    let low = root(target.speed, last.sum.taken_off, limit);
+    let high = root(target.speed, last.begun.taken_off, limit);
+    halved(front, low, above(high, limit), target, brakes, &last)
 }
 
-// The greatest speed that fits a target, between one that fits and one that doesn't, where it is known what the stretch
-// takes off from where the brakes act at the former. For a greater speed only the gradients from there up to where the
-// brakes act at that one are gone through, and what is known is carried on to each greater speed that fits.
-fn halved<P: Profile<Permille>>(
+// Whether too little is taken off for the greatest speed up to a limit at which the brakes act before what is summed.
+fn is_too_fast(front: Cm, limit: Mph, target: &Target, brakes: &Brakes, sum: &Summed) -> bool
+    requires { sum.now.taken_off < 2 ^ 64 - 2 ^ 62 }
+    ensures sooner { IsTrue result → (v : ℕ) → v ≤ limit → v * v ≤ target.now.speed * target.now.speed + sum.now.taken_off
+        → (front +ℤ pos (reaction_way brakes.now.reaction v)) <ℤ sum.now.from }
+    ensures enough { result ≡ false → (v : ℕ) → v ≤ limit → (front +ℤ pos (reaction_way brakes.now.reaction v)) <ℤ sum.now.from
+        → v * v ≤ target.now.speed * target.now.speed + sum.now.taken_off }
+{
+    match fastest_before(front, limit, brakes.reaction, sum.from) {
+        None => false,
+        Some(fastest) => {
+            let (from, to) = (u64::from(fastest.get()), u64::from(target.speed.get()));
+            to * to + sum.taken_off < from * from
+        }
+    }
+}
+
+// The greatest speed from one on, below another one, whose brakes act before what is summed behind a stretch and for which
+// enough is taken off; and what is summed from where they act at that, or from where the stretch begins. Each speed that
+// is tried costs a product.
+fn halved(
     front: Cm,
     low: Mph,
     high: Mph,
-    limit: Mph,
     target: &Target,
-    gradient: &P,
     brakes: &Brakes,
-    sum: &Summed,
+    stretch: &Stretch,
 ) -> (Mph, Summed)
-    requires within { high ≤ limit }
-    requires fits { fits front (P.value gradient.now) brakes.now target.now low ≡ true }
-    requires fails { fits front (P.value gradient.now) brakes.now target.now high ≡ false }
-    requires summed { IsSummed (P.value gradient.now) brakes.now.deceleration sum.now }
-    requires to { sum.now.to ≡ target.now.place }
-    requires near { natural (sum.now.to -ℤ sum.now.from) ≤ 2 ^ 43 }
-    requires acts { ActsFrom front brakes.now.reaction sum.now.from low }
-    ensures speed { result.0 ≡ greatest (fits front (P.value gradient.now) brakes.now target.now) limit }
-    ensures summed { IsSummed (P.value gradient.now) brakes.now.deceleration result.1 }
+    requires faster { target.now.speed ≤ low }
+    requires ordered { low ≤ high }
+    requires even { IsEvenBefore stretch.now.slowing stretch.now.begun.from stretch.now.sum }
+    ensures least { low ≤ result.0 }
+    ensures most { result.0 ≤ high }
+    ensures enough { (result.0 ≡ low) ⊎ IsEnough front brakes.now target.now stretch.now result.0 }
+    ensures next { result.0 + 1 < high → ¬ (IsEnough front brakes.now target.now stretch.now (result.0 + 1)) }
+    ensures from { stretch.now.begun.from ≤ℤ result.1.from }
+    ensures begun { IsBegunEvenly stretch.now.slowing stretch.now.sum result.1 }
 {
-    let mut low = low;
-    let mut high = high;
-    let mut sum = *sum;
-    while let Some(middle) = halfway(low, high) {
-        let (fits, later) = fits_from(front, middle, target, gradient, brakes, &sum);
-        if fits {
-            low = middle;
-            sum = later;
+    let mut least = low;
+    let mut end = high;
+    while let Some(middle) = halfway(least, end) {
+        if is_enough(front, middle, target, brakes, stretch) {
+            least = middle;
         } else {
-            high = middle;
+            end = middle;
         }
     }
-    (low, sum)
+    match begun_at(front, least, brakes, stretch) {
+        Some(begun) => (least, begun),
+        None => (least, stretch.sum),
+    }
 }
 
-// Whether a speed fits a target, where it is known what the stretch takes off that begins where the brakes act, or
-// before; and what the stretch takes off that begins where they act, if that is before the target.
-fn fits_from<P: Profile<Permille>>(
-    front: Cm,
-    speed: Mph,
-    target: &Target,
-    gradient: &P,
-    brakes: &Brakes,
-    sum: &Summed,
-) -> (bool, Summed)
-    requires summed { IsSummed (P.value gradient.now) brakes.now.deceleration sum.now }
-    requires to { sum.now.to ≡ target.now.place }
-    requires near { natural (sum.now.to -ℤ sum.now.from) ≤ 2 ^ 43 }
-    requires acts { ActsFrom front brakes.now.reaction sum.now.from speed }
-    ensures fits { result.0 ≡ fits front (P.value gradient.now) brakes.now target.now speed }
-    ensures summed { IsSummed (P.value gradient.now) brakes.now.deceleration result.1 }
-    ensures to { result.1.to ≡ target.now.place }
-    ensures near { natural (result.1.to -ℤ result.1.from) ≤ 2 ^ 43 }
-    ensures acts { ActsFrom front brakes.now.reaction result.1.from speed }
+// Whether the brakes act at a speed before what is summed behind a stretch, and from there, or from where the stretch
+// begins, take off enough for a target. The caller owes a speed no less than the target's.
+fn is_enough(front: Cm, speed: Mph, target: &Target, brakes: &Brakes, stretch: &Stretch) -> bool
+    requires faster { target.now.speed ≤ speed }
+    requires even { IsEvenBefore stretch.now.slowing stretch.now.begun.from stretch.now.sum }
+    ensures { IsTrue result ↔ IsEnough front brakes.now target.now stretch.now speed }
 {
-    if speed <= target.speed {
-        return (true, *sum);
+    match begun_at(front, speed, brakes, stretch) {
+        None => false,
+        Some(begun) => lacking(speed, target.speed) <= begun.taken_off,
     }
-    match brakes_act(front, reaction_way(brakes.reaction, speed), target.place) {
-        None => (false, *sum),
+}
+
+// What is summed behind a stretch, begun where the brakes act at a speed, or where the stretch begins if they act before;
+// None where they don't act before what is summed.
+fn begun_at(front: Cm, speed: Mph, brakes: &Brakes, stretch: &Stretch) -> Option<Summed>
+    requires { IsEvenBefore stretch.now.slowing stretch.now.begun.from stretch.now.sum }
+    ensures found { IsSome result ↔ (front +ℤ pos (reaction_way brakes.now.reaction speed)) <ℤ stretch.now.sum.from }
+    ensures from { IfSome result
+        (λ begun. begun.from ≡ int_max (front +ℤ pos (reaction_way brakes.now.reaction speed)) stretch.now.begun.from) }
+    ensures begun { IfSome result (IsBegunEvenly stretch.now.slowing stretch.now.sum) }
+{
+    let way = reaction_way(brakes.reaction, speed);
+    match brakes_act(front, way, stretch.sum.from) {
+        None => None,
         Some(start) => {
-            let later = sum.later(gradient, brakes.deceleration, start);
-            (lacking(speed, target.speed) <= later.taken_off, later)
+            let from = later_of(start, stretch.begun.from);
+            Some(stretch.sum.begun_evenly(stretch.slowing, from))
         }
     }
+}
+
+// The one of two places that lies farther ahead.
+fn later_of(one: Cm, other: Cm) -> Cm
+    ensures { result ≡ int_max one other }
+{
+    if one < other { other } else { one }
 }
 
 // A speed between two; None where there is none.

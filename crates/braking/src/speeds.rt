@@ -1,5 +1,5 @@
 //! Whether the brakes bring a speed down to that of a target before its place.
-ghost use Rattle.std.specs.Prelude.{◌≡◌, ℕ, ◌*◌, ◌-◌, ◌^◌, ◌<◌, ◌≤◌, ℤ, pos, ◌+ℤ◌, ◌-ℤ◌, ◌≤ℤ◌, ◌<ℤ◌, ◌↔◌, IsTrue, IsSome, IfSome, MatchOption};
+ghost use Rattle.std.specs.Prelude.{◌≡◌, ℕ, ◌*◌, ◌-◌, ◌^◌, ◌<◌, ◌≤◌, ℤ, pos, ◌+ℤ◌, ◌-ℤ◌, ◌≤ℤ◌, ◌<ℤ◌, ◌↔◌, IsTrue, IsSome, IfSome, MatchOption, None};
 ghost use Rattle.units.specs.Stretches.{natural};
 ghost use Rattle.brakes.specs.Brakes.{reaction_way};
 ghost use Rattle.braking.specs.Braking.{fits, IsSummed};
@@ -7,7 +7,7 @@ ghost use Rattle.braking.specs.Sums.{IsSummedBefore, IsStopping};
 
 use crate::Target;
 use crate::summed::Summed;
-use brakes::{Brakes, reaction_way};
+use brakes::{Brakes, Reaction, reaction_way};
 use track_store::Profile;
 use units::{Cm, Mph, Permille};
 
@@ -69,6 +69,7 @@ pub fn summed_before<P: Profile<Permille>>(
     requires summed { IsSummed (P.value gradient.now) brakes.now.deceleration summed.now }
     ensures late { IsSome result ↔ (front +ℤ pos (reaction_way brakes.now.reaction speed)) <ℤ target.now.place }
     ensures sum { IfSome result (IsSummedBefore front (P.value gradient.now) brakes.now target.now speed) }
+    ensures near { natural (target.now.place -ℤ front) ≤ 2 ^ 43 }
 {
     let place = target.place;
     let start = brakes_act(front, reaction_way(brakes.reaction, speed), place)?;
@@ -110,11 +111,41 @@ pub fn brakes_act(front: Cm, way: u32, place: Cm) -> Option<Cm>
     ensures found { IsSome result ↔ (front +ℤ pos way) <ℤ place }
     ensures value { IfSome result (λ start. start ≡ front +ℤ pos way) }
     ensures near { IfSome result (λ start. natural (place -ℤ start) ≤ 2 ^ 43) }
+    ensures reach { natural (place -ℤ front) ≤ 2 ^ 43 }
 {
     let start = front.get() + i64::from(way);
     if start < place.get() {
         Cm::new(start)
     } else {
         None
+    }
+}
+
+/// The greatest speed up to a limit at which the brakes act before a place, in metres per hour; None where they act
+/// before it at none. Places are centimetres.
+pub fn fastest_before(front: Cm, limit: Mph, reaction: Reaction, place: Cm) -> Option<Mph>
+    ensures late { result ≡ None → (v : ℕ) → place ≤ℤ (front +ℤ pos (reaction_way reaction v)) }
+    ensures acts { IfSome result (λ fastest. (front +ℤ pos (reaction_way reaction fastest)) <ℤ place) }
+    ensures greatest { IfSome result (λ fastest. (v : ℕ) → v ≤ limit → (front +ℤ pos (reaction_way reaction v)) <ℤ place → v ≤ fastest) }
+{
+    if place <= front {
+        return None;
+    }
+    let way = (place.get() - front.get() - 1) as u64;
+    Some(fastest_within(limit, reaction, way))
+}
+
+// The greatest speed up to a limit at which the brakes act within a way, in centimetres. The caller owes a way between
+// two places.
+fn fastest_within(limit: Mph, reaction: Reaction, way: u64) -> Mph
+    requires { way ≤ 2 ^ 43 }
+    ensures acts { reaction_way reaction result ≤ way }
+    ensures greatest { (v : ℕ) → v ≤ limit → reaction_way reaction v ≤ way → v ≤ result }
+{
+    let ms = u64::from(reaction.get());
+    if 36_000 * way < u64::from(limit.get()) * ms {
+        Mph::new((36_000 * way / ms) as u32).unwrap()
+    } else {
+        limit
     }
 }

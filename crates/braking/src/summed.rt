@@ -2,6 +2,7 @@
 ghost use Rattle.std.specs.Prelude.{◌≡◌, ℕ, ◌^◌, ◌≤◌, Option, ℤ, ◌-ℤ◌, ◌≤ℤ◌, ◌⊎◌};
 ghost use Rattle.units.specs.Stretches.{natural};
 ghost use Rattle.braking.specs.Braking.{IsSummed};
+ghost use Rattle.braking.specs.Sums.{IsEvenBefore, IsBegunEvenly};
 
 use crate::slowing::{end_of_stretch, taken_off_evenly};
 use brakes::{Deceleration, slowing};
@@ -100,26 +101,17 @@ impl Summed {
         }
     }
 
-    /// The same, begun later: from a place within on, in centimetres. What lies before is gone through.
-    pub fn later<P: Profile<Permille>>(
-        self,
-        gradient: &P,
-        deceleration: Deceleration,
-        from: Cm,
-    ) -> Summed
-        requires ordered { self.from ≤ℤ from }
-        requires within { from ≤ℤ self.to }
-        requires near { natural (self.to -ℤ self.from) ≤ 2 ^ 43 }
-        requires summed { IsSummed (P.value gradient.now) deceleration self }
+    /// The same, begun before, at a place in centimetres from which on each centimetre slows alike, in cm/s^2. The
+    /// caller owes a place at or before its beginning, and little enough to add up.
+    pub fn begun_evenly(self, slowing: u16, from: Cm) -> Summed
+        requires { IsEvenBefore slowing from self }
         ensures from { result.from ≡ from }
-        ensures to { result.to ≡ self.to }
-        ensures summed { IsSummed (P.value gradient.now) deceleration result }
+        ensures begun { IsBegunEvenly slowing self result }
     {
-        let before = Summed::none(self.from).gone_on(gradient, deceleration, from, u64::MAX);
         Summed {
             from,
             to: self.to,
-            taken_off: self.taken_off - before.taken_off,
+            taken_off: taken_off_evenly(slowing, from, self.from) + self.taken_off,
             near: self.near,
         }
     }

@@ -1,32 +1,22 @@
-use Rattle.std.proofs.Common.{◌≤◌, ◌+◌, inr, sym, arith}
-use Rattle.braking.specs.Braking.{fits}
-use Rattle.braking.proofs.Slower.{faster_fails, slower_than}
-use Rattle.braking.proofs.Greatest.{greatest_is}
+use Rattle.std.proofs.Common.{◌≡◌, ℕ, ◌+◌, ◌<◌, ◌≤◌, subst, arith}
+use Rattle.braking.specs.Sums.{IsEnough}
 use Rattle.braking.proofs.seeking.halved.Goals as goal
 
-pub loop-middle-init : goal.loop-middle-init
-loop-middle-init g c = record {
-  ordered = slower_than c.args.front (g.P.Profile.value c.args.gradient.now) c.args.brakes.now c.args.target.now c.args.low c.args.high
-      c.requires.fits c.requires.fails;
-  within = c.requires.within;
-  low_fits = c.requires.fits;
-  high_fails = c.requires.fails;
-  summed = c.requires.summed;
-  to = c.requires.to;
-  near = c.requires.near;
-  acts = c.requires.acts;
-}
+-- what fails at the end fails after the speed below it
+next_fails : (P : ℕ → Type 0) (least end high : ℕ) → end ≤ least + 1 → (end < high → (least < end) × ¬ (P end)) → least + 1 < high → P (least + 1) → ⊥
+next_fails P least end high close next below holds =
+    let there : (least < end) × ¬ (P end) = next (omega arith) in
+    let is : least + 1 ≡ end = omega (arith, there.0) in
+    there.1 (subst P is holds)
 
-pub fits_from-fits-requires-clause-acts : goal.fits_from-fits-requires-clause-acts
-fits_from-fits-requires-clause-acts g c = λ v above. c.loop-middle.invariant.acts v (omega (arith, above, c.in-Some.ensures))
+pub returns-in-Some-begun_at-clause-next : goal.returns-in-Some-begun_at-clause-next
+returns-in-Some-begun_at-clause-next c =
+    let none : c.loop-middle.end ≤ c.loop-middle.least + 1 = rw c.in_default.is at c.halfway.ensures in
+    next_fails (λ v. IsEnough c.args.front c.args.brakes.now c.args.target.now c.args.stretch.now v)
+    c.loop-middle.least c.loop-middle.end c.args.high none c.loop-middle.invariant.next
 
-pub returns-clause-speed : goal.returns-clause-speed
-returns-clause-speed g c =
-    let kept = c.loop-middle.invariant in
-    let none : c.loop-middle.high ≤ c.loop-middle.low + 1 = rw c.in_default.is at c.halfway.ensures in
-    sym (greatest_is (fits c.args.front (g.P.Profile.value c.args.gradient.now) c.args.brakes.now c.args.target.now) c.loop-middle.low c.args.limit
-    (omega (arith, kept.ordered, kept.within)) (inr kept.low_fits)
-    (λ k above below. faster_fails c.args.front (g.P.Profile.value c.args.gradient.now) c.args.brakes.now c.args.target.now k c.loop-middle.high (omega arith) kept.high_fails))
-
-pub returns-clause-summed : goal.returns-clause-summed
-returns-clause-summed g c = c.loop-middle.invariant.summed
+pub returns-in-None-clause-next : goal.returns-in-None-clause-next
+returns-in-None-clause-next c =
+    let none : c.loop-middle.end ≤ c.loop-middle.least + 1 = rw c.in_default.is at c.halfway.ensures in
+    next_fails (λ v. IsEnough c.args.front c.args.brakes.now c.args.target.now c.args.stretch.now v)
+    c.loop-middle.least c.loop-middle.end c.args.high none c.loop-middle.invariant.next

@@ -4,7 +4,6 @@ use Rattle.std.proofs.lemmas.Int.{ints}
 use Rattle.units.specs.Stretches.{natural}
 use Rattle.braking.specs.declared.summed.Summed.{Summed}
 use Rattle.braking.specs.Braking.{IsSummed}
-use Rattle.braking.specs.Sums.{IsSummedBefore}
 use Rattle.braking.proofs.Naturals.{parts}
 use Rattle.braking.proofs.Braked.{summed_little}
 use Rattle.braking.proofs.speeds.summed_before.Goals.{then-le+then-le-2, else-le}

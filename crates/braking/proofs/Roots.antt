@@ -18,7 +18,7 @@ halves r p s h =
     ]
 
 -- the half of a number and of its quotient, rounded down, is no less than the whole root
-half_above : (n r q m : ℕ) → n < r * (q + 1) → r + q < 2 * m + 2 → n < (m + 1) * (m + 1)
+pub half_above : (n r q m : ℕ) → n < r * (q + 1) → r + q < 2 * m + 2 → n < (m + 1) * (m + 1)
 half_above n r q m below half = omega (arith, halves r (q + 1) (m + 1) (omega arith))
 
 positive : (n r : ℕ) → n < r * r → 0 < r

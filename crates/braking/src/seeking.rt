@@ -58,7 +58,7 @@ fn sought<P: Profile<Permille>>(
     ensures speed { result.0 ≡ greatest (fits front (P.value gradient.now) brakes.now target.now) limit }
     ensures summed { IsSummed (P.value gradient.now) brakes.now.deceleration result.1 }
 {
-    let least = root(target.speed, sum.taken_off, limit);
+    let least = root(target.speed, sum.taken_off, limit, limit);
     let Some(start) = brakes_act(front, reaction_way(brakes.reaction, least), sum.from) else {
         return (least, *sum);
     };
@@ -66,8 +66,8 @@ fn sought<P: Profile<Permille>>(
     while is_too_fast(front, limit, target, brakes, &last.begun) {
         last = Stretch::before(&last.begun, gradient, brakes.deceleration, start, last.near);
     }
-    let low = root(target.speed, last.sum.taken_off, limit);
-    let high = root(target.speed, last.begun.taken_off, limit);
+    let low = root(target.speed, last.sum.taken_off, limit, least);
+    let high = root(target.speed, last.begun.taken_off, limit, low);
     halved(front, low, above(high, limit), target, brakes, &last)
 }
 
@@ -191,13 +191,15 @@ fn above(speed: Mph, limit: Mph) -> Mph
 }
 
 // The greatest speed up to a limit from which a train comes down to another one where so much is taken off: a whole
-// square root, by Newton's way from above.
-fn root(speed: Mph, taken_off: u64, limit: Mph) -> Mph
+// square root, by Newton's way from above. It begins with a step from a speed that may be near; that bears on nothing
+// but the cost.
+fn root(speed: Mph, taken_off: u64, limit: Mph, near: Mph) -> Mph
     requires { taken_off < 2 ^ 64 - 2 ^ 62 }
     ensures { IsRoot speed taken_off limit result }
 {
     let square = u64::from(speed.get()) * u64::from(speed.get()) + taken_off;
-    let mut root = u64::from(limit.get());
+    let near = u64::from(near.get()).max(1);
+    let mut root = u64::from(limit.get()).min((near + square / near) / 2);
     while square < root * root {
         root = (root + square / root) / 2;
     }

@@ -57,8 +57,8 @@ pub record IsStretch (gradient : ℤ → Option ℤ) (deceleration : ℕ) (stret
   pub begun : IsBegunEvenly stretch.slowing stretch.sum stretch.begun
   pub summed : IsSummed gradient deceleration stretch.begun
 
--- the brakes act at a speed before what is summed behind a stretch, and from there, or from where the stretch begins, enough
--- is taken off for a target
+-- the brakes act at a speed before what is summed behind a stretch, and from there, or from where the stretch begins,
+-- enough is taken off for a target
 pub record IsEnough (front : ℤ) (brakes : Brakes) (target : Target) (stretch : Stretch) (speed : ℕ) : Type 0 where
   pub acts : (front +ℤ pos (reaction_way brakes.reaction speed)) <ℤ stretch.sum.from
   pub enough :

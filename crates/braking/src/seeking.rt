@@ -42,7 +42,7 @@ pub fn permitted_before<P: Profile<Permille>>(
 // The greatest speed below one that doesn't fit a target, where it is known what the stretch from where the brakes act
 // at that one takes off, and what was summed on the way. The speed from which so much is taken off fits, and a greater
 // one fits only where its brakes act before that. So it goes back from there, one gradient after another, up to the one
-// on which the brakes act at the greatest.
+// on which the brakes act at the greatest. The caller owes a place that is near the front.
 fn sought<P: Profile<Permille>>(
     front: Cm,
     limit: Mph,
@@ -88,9 +88,9 @@ fn is_too_fast(front: Cm, limit: Mph, target: &Target, brakes: &Brakes, sum: &Su
     }
 }
 
-// The greatest speed from one on, below another one, whose brakes act before what is summed behind a stretch and for which
-// enough is taken off; and what is summed from where they act at that, or from where the stretch begins. Each speed that
-// is tried costs a product.
+// The greatest speed from one on, below another one, at which the brakes act before what is summed behind a stretch and
+// take off enough; and what is summed from where they act at that, or from where the stretch begins. Each speed that is
+// tried costs a product.
 fn halved(
     front: Cm,
     low: Mph,
@@ -137,8 +137,8 @@ fn is_enough(front: Cm, speed: Mph, target: &Target, brakes: &Brakes, stretch: &
     }
 }
 
-// What is summed behind a stretch, begun where the brakes act at a speed, or where the stretch begins if they act before;
-// None where they don't act before what is summed.
+// What is summed behind a stretch, begun where the brakes act at a speed, or where the stretch begins if they act before
+// that; None where they don't act before what is summed.
 fn begun_at(front: Cm, speed: Mph, brakes: &Brakes, stretch: &Stretch) -> Option<Summed>
     requires { IsEvenBefore stretch.now.slowing stretch.now.begun.from stretch.now.sum }
     ensures found { IsSome result ↔ (front +ℤ pos (reaction_way brakes.now.reaction speed)) <ℤ stretch.now.sum.from }

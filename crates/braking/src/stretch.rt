@@ -23,8 +23,8 @@ pub struct Stretch {
 }
 
 impl Stretch {
-    /// The one that ends where a sum begins, or what of it lies from a place on, in centimetres. The caller owes a place
-    /// before that.
+    /// The one that ends where a sum begins, or what of it lies from a least place on, in centimetres. The caller owes a
+    /// least place before that, and what was summed of the same gradient.
     pub fn before<P: Profile<Permille>>(
         sum: &Summed,
         gradient: &P,

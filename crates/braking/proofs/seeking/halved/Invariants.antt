@@ -2,7 +2,7 @@ use Rattle.std.proofs.Common.{◌≡◌, ◌-◌, ◌<◌, ◌≤◌, ◌⊎◌}
 use Rattle.braking.specs.Sums.{IsEnough}
 use Rattle.braking.proofs.seeking.halved.Given as goal
 
--- a speed for which enough is taken off, unless it is the first one, and one for which it isn't, unless it is the last one
+-- a speed for which enough is taken off, or the first one; and one for which it isn't, or the last one
 abbrev pub invariant-loop-middle : goal.invariant-loop-middle
 invariant-loop-middle l = record {
   ordered : l.least ≤ l.end;

@@ -31,7 +31,7 @@ for name in "${modules[@]}"; do
 done
 ./tried "$made/cases" "$made/answers" || exit 1
 rows test_decode 291
-rows test_parts 2732
+rows test_parts 2758
 rows test_modes 2613
 rows test_disk 532
 rows test_blocks 741

@@ -31,6 +31,9 @@ centimetres, speeds km/h, but m/h where they are permitted.
     profile keep, profile turn      as of restrictions
     profile at 999                  the speed there
     profile lasts 0                 up to where the value of a place lasts
+    profile since 2000 0            from where on the value of the centimetre before a place holds up to there; nothing
+                                    is asked of what lies before the second place
+    profile before 2000 0           that value
     profile least 0 1000 160        the least of a speed and of those from one place to another
     profile throughout 0 3000       whether there is a speed at each centimetre from one place up to another
     profile count                   the number of segments
@@ -59,7 +62,7 @@ PLACE = {
 RESTRICTION = {"new": (1, 0), "revoke": (3, 1), "forget": (4, 1), "keep": (5, 0), "turn": (6, 0)}
 PROFILE = {
     "new": (1, 0), "forget": (3, 1), "clear": (4, 0), "keep": (5, 0), "turn": (6, 0), "at": (7, 1), "lasts": (8, 1),
-    "throughout": (10, 2), "count": (11, 0),
+    "throughout": (10, 2), "count": (11, 0), "since": (12, 2), "before": (13, 2),
 }
 
 
@@ -158,9 +161,9 @@ def profile_told(words, told):
 def of_profile(name, kind, number):
     if kind == 0:
         return REFUSED
-    if name in ("at", "least"):
+    if name in ("at", "least", "before"):
         return in_kmh(number) if kind == 1 else "none"
-    if name == "lasts":
+    if name in ("lasts", "since"):
         return str(signed(number)) if kind == 1 else "for ever"
     return YES[number] if name == "throughout" else "done"
 

@@ -193,9 +193,9 @@ PLANTS = (
     (
         "a number that its runner doesn't have",
         "docs/TESTS.md",
-        "2,732 rows",
-        "2,733 rows",
-        '"parts: 2,733 rows" isn\'t what tests/rows.sh has: it has 2,732',
+        "2,758 rows",
+        "2,759 rows",
+        '"parts: 2,759 rows" isn\'t what tests/rows.sh has: it has 2,758',
     ),
     (
         "a number that nothing holds",

@@ -52,6 +52,15 @@ nearer_same place (Some near) change later ahead h =
     ] in
     cases (int_lt place change) (int_lt change near) refl refl h
 
+-- two places of one value: the same of a fact's places lie ahead of them, and what was told before gives them the same
+pub same_value : {A : Type 0} (facts : List (Remembered A)) (fact : Remembered A) (here there : ℤ) →
+    int_lt there fact.start ≡ int_lt here fact.start → int_lt there fact.mark ≡ int_lt here fact.mark →
+    passed there fact.steps ≡ passed here fact.steps → value_remembered facts there ≡ value_remembered facts here →
+    value_remembered (fact ∷ facts) there ≡ value_remembered (fact ∷ facts) here
+same_value facts fact here there start mark steps rest =
+    λ i. cond (start i) (rest i)
+    (cond (mark i) None (cond (list_any (λ step. is_none step.value) (steps i)) None (last_value None (steps i))))
+
 module _ {A : Type 0} (place : ℤ) where
   step_ahead : (near : Option ℤ) (steps : List (Step A)) → IsAhead place near → IsAhead place (nearest_step place near steps)
   step_ahead near [] h = h
@@ -102,8 +111,7 @@ module _ {A : Type 0} (place : ℤ) where
       let mark = nearer_same place began fact.mark later ahead to_mark in
       let steps = step_same marked fact.steps later ahead k in
       let rest = fact_same (nearest_in place near fact) facts later ahead h in
-      λ i. cond (start i) (rest i)
-      (cond (mark i) None (cond (list_any (λ step. is_none step.value) (steps i)) None (last_value None (steps i))))
+      same_value facts fact place later start mark steps rest
 
   lasts_up_to : (value : ℤ → Option A) (near : Option ℤ) → IsAhead place near →
       ((later : ℤ) → place ≤ℤ later → IsBefore later near → value later ≡ value place) → Lasts value place near

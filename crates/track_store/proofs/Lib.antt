@@ -2,6 +2,7 @@ pub mod Standing
 pub mod Limiting
 pub mod Reading
 pub mod Lasting
+pub mod Holding
 pub mod Jumps
 pub mod Telling
 pub mod Segmenting

@@ -1,7 +1,7 @@
 //! The steps of one profile message with their first place, looked up, forgotten and copied.
 ghost use Rattle.std.specs.Prelude.{◌≡◌, ℤ, List, IfOk};
 ghost use Rattle.track_store.specs.Facts.{given_by, from_mark};
-ghost use Rattle.track_store.specs.Changes.{nearer, nearest_in};
+ghost use Rattle.track_store.specs.Changes.{nearer, nearest_in, later, last_in};
 ghost use Rattle.track_store.specs.Remembered.{forgotten};
 
 use crate::Step;
@@ -88,6 +88,18 @@ impl<T: Copy> Fact<T> {
         nearest
     }
 
+    /// The last of its changes before a place, and of the last of others.
+    pub(crate) fn last_change(&self, place: Cm, last: Cm) -> Cm
+        ensures { result ≡ last_in place last self.now }
+    {
+        let mut last = later_of(place, last, self.start);
+        last = later_of(place, last, self.mark);
+        for step in &self.steps {
+            last = later_of(place, last, step.place);
+        }
+        last
+    }
+
     /// An equal fact; NoMemory where memory is refused.
     pub fn copy(&self, alloc: Global) -> Result<Self, NoMemory>
         ensures { IfOk result (λ copy. copy ≡ self.now) }
@@ -108,5 +120,16 @@ fn nearer_of(place: Cm, nearest: Option<Cm>, change: Cm) -> Option<Cm>
         _ if change <= place => nearest,
         Some(near) if near <= change => nearest,
         _ => Some(change),
+    }
+}
+
+// The later of a change, if it lies before a place, and of the last so far.
+fn later_of(place: Cm, last: Cm, change: Cm) -> Cm
+    ensures { result ≡ later place last change }
+{
+    if last < change && change < place {
+        change
+    } else {
+        last
     }
 }

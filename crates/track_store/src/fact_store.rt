@@ -3,7 +3,7 @@ ghost use Rattle.std.specs.Prelude.{◌≤◌, ℤ, Option, IsOk, OnOk, vec_len}
 
 use crate::blank::Blank;
 use crate::fact::Fact;
-use crate::{Profile, ProfileStore, Step};
+use crate::{PieceBefore, Profile, ProfileStore, Step};
 use std::alloc::Global;
 use std::marker::Model;
 use units::{Cm, NoMemory};
@@ -49,6 +49,18 @@ impl<T: Copy> Profile<T> for FactStore<T> {
             nearest = fact.nearest_change(place, nearest);
         }
         nearest
+    }
+
+    fn piece_before(&self, place: Cm, least: Cm, near: usize) -> PieceBefore<T> {
+        let mut from = least;
+        for fact in &self.facts {
+            from = fact.last_change(place, from);
+        }
+        PieceBefore {
+            value: self.at(from),
+            from,
+            near,
+        }
     }
 }
 

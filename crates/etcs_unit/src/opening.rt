@@ -63,10 +63,6 @@ pub extern "C" fn etcs_unit_wanted_(unit: &mut EtcsUnit, sector: &mut u64) -> u3
 
 /// Hands in what the medium holds of a sector to a unit.
 #[unsafe(no_mangle)]
-pub extern "C" fn etcs_unit_provide_(
-    unit: &mut EtcsUnit,
-    sector: u64,
-    bytes: &[u8],
-) -> u32 {
+pub extern "C" fn etcs_unit_provide_(unit: &mut EtcsUnit, sector: u64, bytes: &[u8]) -> u32 {
     provide_call(unit, sector, bytes).number()
 }

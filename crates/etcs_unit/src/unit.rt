@@ -104,10 +104,7 @@ pub extern "C" fn etcs_unit_release_(
 
 /// Tells how far the unit is.
 #[unsafe(no_mangle)]
-pub extern "C" fn etcs_unit_state_(
-    unit: &mut EtcsUnit,
-    state: &mut EtcsState,
-) -> u32 {
+pub extern "C" fn etcs_unit_state_(unit: &mut EtcsUnit, state: &mut EtcsState) -> u32 {
     state_call(unit, state).number()
 }
 

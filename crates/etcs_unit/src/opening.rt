@@ -57,17 +57,12 @@ pub extern "C" fn etcs_opening_close_(alloc: Global, opening: &mut EtcsOpening) 
 
 /// Tells the sector that a unit wants.
 #[unsafe(no_mangle)]
-pub extern "C" fn etcs_unit_wanted_(alloc: Global, unit: &mut EtcsUnit, sector: &mut u64) -> u32 {
-    wanted_call(alloc, unit, sector).number()
+pub extern "C" fn etcs_unit_wanted_(unit: &mut EtcsUnit, sector: &mut u64) -> u32 {
+    wanted_call(unit, sector).number()
 }
 
 /// Hands in what the medium holds of a sector to a unit.
 #[unsafe(no_mangle)]
-pub extern "C" fn etcs_unit_provide_(
-    alloc: Global,
-    unit: &mut EtcsUnit,
-    sector: u64,
-    bytes: &[u8],
-) -> u32 {
-    provide_call(alloc, unit, sector, bytes).number()
+pub extern "C" fn etcs_unit_provide_(unit: &mut EtcsUnit, sector: u64, bytes: &[u8]) -> u32 {
+    provide_call(unit, sector, bytes).number()
 }

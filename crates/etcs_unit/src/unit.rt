@@ -65,59 +65,53 @@ pub extern "C" fn etcs_unit_train_data_(
 
 /// Puts what is pending onto the copy.
 #[unsafe(no_mangle)]
-pub extern "C" fn etcs_unit_prepare_(alloc: Global, unit: &mut EtcsUnit) -> u32 {
-    prepare_call(alloc, unit).number()
+pub extern "C" fn etcs_unit_prepare_(unit: &mut EtcsUnit) -> u32 {
+    prepare_call(unit).number()
 }
 
 /// Tells a request of the list, from 0 on, and the bytes that it writes.
 #[unsafe(no_mangle)]
 pub extern "C" fn etcs_unit_request_(
-    alloc: Global,
     unit: &mut EtcsUnit,
     index: u32,
     request: &mut EtcsRequest,
     bytes: &mut [u8],
 ) -> u32 {
-    request_call(alloc, unit, index, request, bytes).number()
+    request_call(unit, index, request, bytes).number()
 }
 
 /// Says that so many requests, from the first on, are done.
 #[unsafe(no_mangle)]
-pub extern "C" fn etcs_unit_done_(alloc: Global, unit: &mut EtcsUnit, count: u32) -> u32 {
-    done_call(alloc, unit, count).number()
+pub extern "C" fn etcs_unit_done_(unit: &mut EtcsUnit, count: u32) -> u32 {
+    done_call(unit, count).number()
 }
 
 /// Says that the medium failed.
 #[unsafe(no_mangle)]
-pub extern "C" fn etcs_unit_fail_(alloc: Global, unit: &mut EtcsUnit) -> u32 {
-    fail_call(alloc, unit).number()
+pub extern "C" fn etcs_unit_fail_(unit: &mut EtcsUnit) -> u32 {
+    fail_call(unit).number()
 }
 
 /// Releases what was held back, all of it, into room for eight.
 #[unsafe(no_mangle)]
 pub extern "C" fn etcs_unit_release_(
-    alloc: Global,
     unit: &mut EtcsUnit,
     outputs: &mut [EtcsOutput],
     count: &mut u32,
 ) -> u32 {
-    release_call(alloc, unit, outputs, count).number()
+    release_call(unit, outputs, count).number()
 }
 
 /// Tells how far the unit is.
 #[unsafe(no_mangle)]
-pub extern "C" fn etcs_unit_state_(
-    alloc: Global,
-    unit: &mut EtcsUnit,
-    state: &mut EtcsState,
-) -> u32 {
-    state_call(alloc, unit, state).number()
+pub extern "C" fn etcs_unit_state_(unit: &mut EtcsUnit, state: &mut EtcsState) -> u32 {
+    state_call(unit, state).number()
 }
 
 /// Tells why the newest released output is what it is.
 #[unsafe(no_mangle)]
-pub extern "C" fn etcs_unit_why_(alloc: Global, unit: &mut EtcsUnit, why: &mut EtcsUnitWhy) -> u32 {
-    unit_why_call(alloc, unit, why).number()
+pub extern "C" fn etcs_unit_why_(unit: &mut EtcsUnit, why: &mut EtcsUnitWhy) -> u32 {
+    unit_why_call(unit, why).number()
 }
 
 /// The number of this interface.

@@ -11,7 +11,7 @@ use Rattle.events.specs.declared.input.Event.TheVariants.{PowerUp}
 use Rattle.events.specs.declared.input.Input.{Input}
 use Rattle.image_calls.specs.Answers.{this_abi}
 use Rattle.journal.specs.Journals.{IsOpen}
-use Rattle.request_disk.specs.Requesting.{copy_of, request_state}
+use Rattle.request_disk.specs.Requesting.{request_state}
 use Rattle.mode_table.specs.declared.statuses.Cold.{Cold}
 use Rattle.onboard.specs.Events.{account_of, IsAhead}
 use Rattle.onboard.specs.Lives.{Tells, TellsEither, IsReady, Opens, IsOfOpening}

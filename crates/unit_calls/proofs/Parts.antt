@@ -1,5 +1,5 @@
 -- Parts of lists, and the outputs of longer lists of events.
-use Rattle.std.proofs.Common.{◌≡◌, ◌⊎◌, inl, inr, List, [], ◌∷◌, ◌++◌, map, append_assoc, refl, sym, ◌∙◌, ap, subst}
+use Rattle.std.proofs.Common.{◌≡◌, inl, inr, List, [], ◌∷◌, ◌++◌, append_assoc, refl, sym, ◌∙◌, ap, subst}
 use Rattle.std.proofs.lemmas.List.{append-nil, map-append}
 use Rattle.events.specs.declared.input.Event.{Event}
 use Rattle.onboard.specs.Events.{pair_of, pairs_of}

@@ -6,7 +6,7 @@
 -- head of `include/etcs_unit.h` says that the caller owes. He hands in what he read from his medium, a sector as it is
 -- there when he hands it in, carries out the requests in their order, as they are told, says of none that it is done
 -- before it is, and nothing else writes there.
-use Rattle.std.specs.Prelude.{◌≡◌, ◌⊎◌, ℕ, ◌+◌, ◌≤◌, List, [], ◌∷◌, ◌++◌, map, take, Option, Some, None, MatchOption, Result, Ok}
+use Rattle.std.specs.Prelude.{◌≡◌, ◌⊎◌, ℕ, ◌+◌, ◌≤◌, List, [], ◌∷◌, ◌++◌, map, take, Option, Some, None, MatchOption, Ok}
 use Rattle.disk.specs.State.{Platter, IsImage}
 use Rattle.events.specs.declared.input.Event.{Event}
 use Rattle.events.specs.declared.input.Input.{Input}

@@ -2,6 +2,7 @@ pub mod Formatting
 pub mod Handles
 pub mod Histories
 pub mod Inputs
+pub mod Lent
 pub mod Mediums
 pub mod Outputs
 pub mod PowerUps

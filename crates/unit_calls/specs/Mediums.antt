@@ -1,6 +1,6 @@
 -- What a caller does with his medium (this project's profile). Sectors have 512 bytes and are numbered from 0.
 use Rattle.std.specs.Prelude.{◌≡◌, ℕ, ◌-◌, ◌*◌, ◌/◌, ◌==◌, ◌&&◌, nat_le, nat_lt, Bool, true, false, if◌then◌else◌, List, length}
-use Rattle.disk.specs.State.{Platter, IsImage, contents_of, sector_of}
+use Rattle.disk.specs.State.{Platter, contents_of, sector_of}
 use Rattle.request_disk.specs.Requesting.{copy_of, request_state}
 use Rattle.unit_calls.specs.declared.words.EtcsRequest.{EtcsRequest}
 

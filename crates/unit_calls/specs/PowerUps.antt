@@ -1,5 +1,5 @@
 -- A unit that was powered up, in whatever way (this project's profile).
-use Rattle.std.specs.Prelude.{◌≡◌, ℕ, List, [], ◌∷◌, false, Option, IsSome, IfSome}
+use Rattle.std.specs.Prelude.{◌≡◌, ℕ, List, [], ◌∷◌, false, IsSome, IfSome}
 use Rattle.disk.specs.State.{State}
 use Rattle.disk.specs.Record.{state_of}
 use Rattle.events.specs.declared.input.Event.{Event}

@@ -14,7 +14,6 @@ use Rattle.kernel.specs.Lives.{life_of}
 use Rattle.kernel.specs.Output.{output_of}
 use Rattle.kernel.specs.Showing.{acknowledgements_of, service_speed, emergency_speed}
 use Rattle.kernel.specs.declared.causes.BrakeCause.{BrakeCause}
-use Rattle.kernel.specs.declared.showing.Acknowledgements.{Acknowledgements}
 use Rattle.kernel.specs.declared.showing.Waiting.{Waiting}
 use Rattle.kernel.specs.declared.showing.Waiting.TheVariants as waits
 use Rattle.limit_causes.specs.Causes.{IsLimitCause}
@@ -28,7 +27,6 @@ use Rattle.mode_control.specs.Life.{Life}
 use Rattle.mode_control.specs.Sentences.{values_of, span_of}
 use Rattle.onboard.specs.Events.{IsAhead}
 use Rattle.reasons.specs.LimitWords.{limit_told}
-use Rattle.reasons.specs.declared.limit_words.LimitTold.{LimitTold}
 use Rattle.relayed_unit.specs.Relayed.{is_unreleased}
 use Rattle.relayed_unit.specs.declared.moored.Moored.{Moored}
 use Rattle.speed_supervision.specs.Limit.{limit}
@@ -36,7 +34,6 @@ use Rattle.track_picture.specs.History.{speed_of}
 use Rattle.unit_calls.specs.Outputs.{told_of}
 use Rattle.unit_calls.specs.Requests.{Where}
 use Rattle.unit_calls.specs.declared.handle.Opened.{Opened}
-use Rattle.unit_calls.specs.declared.outputs.EtcsOutput.{EtcsOutput}
 use Rattle.unit_calls.specs.declared.status.Status.{Status}
 use Rattle.unit_calls.specs.declared.status.Status.TheVariants as a_status
 use Rattle.unit_calls.specs.declared.why.EtcsUnitWhy.{EtcsUnitWhy}

@@ -9,7 +9,7 @@ ghost use Rattle.units.specs.Limits.{IsMovement, IsMph, IsMs};
 ghost use Rattle.unit_calls.specs.Handles.{OnHandle, Takes};
 ghost use Rattle.unit_calls.specs.Inputs.{Tells, ActsAs, AreTrainData, train_of, action_by};
 
-use crate::handle::{EtcsUnit, Opened, handle_of, taken};
+use crate::handle::{EtcsUnit, Opened};
 use crate::inputs::{self, EtcsTrainData};
 use crate::status::{Status, of_accept};
 use events::Input;
@@ -26,12 +26,10 @@ fn accept(opened: &mut Opened, alloc: Global, input: Input) -> Status
 fn hand_in(alloc: Global, handle: &mut EtcsUnit, input: Input) -> Status
     ensures { OnHandle handle.old.raw.value handle.new.raw.value result (Takes (Some input)) }
 {
-    let Some(mut opened) = taken(alloc, handle) else {
+    if !handle.has_unit() {
         return Status::NotOpen;
-    };
-    let status = accept(&mut opened, alloc, input);
-    *handle = handle_of(opened);
-    status
+    }
+    accept(handle.raw.as_mut(), alloc, input)
 }
 
 // Refuses what is no input.
@@ -45,7 +43,8 @@ fn refuse(handle: &mut EtcsUnit) -> Status
     }
 }
 
-// Hands an input in; None is one outside its limits, which is refused before the unit is taken out of its handle.
+// Hands an input in; None is one outside its limits. What both do stands in functions of their own, so that an accept
+// is compiled without what a refusal tests.
 fn take(alloc: Global, handle: &mut EtcsUnit, input: Option<Input>) -> Status
     ensures { OnHandle handle.old.raw.value handle.new.raw.value result (Takes input) }
 {

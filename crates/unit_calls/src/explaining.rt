@@ -3,10 +3,9 @@ ghost use Rattle.std.specs.Prelude.{◌≡◌};
 ghost use Rattle.unit_calls.specs.Handles.{OnHandleInto};
 ghost use Rattle.unit_calls.specs.Whys.{AsksUnitWhy};
 
-use crate::handle::{EtcsUnit, Opened, handle_of, taken};
+use crate::handle::{EtcsUnit, Opened};
 use crate::status::Status;
 use crate::why::{EtcsUnitWhy, why_told};
-use std::alloc::Global;
 
 // Tells why the newest output of this unit is what it is, where it is released.
 fn explain(opened: &Opened, why: &mut EtcsUnitWhy) -> Status
@@ -24,14 +23,12 @@ fn explain(opened: &Opened, why: &mut EtcsUnitWhy) -> Status
 
 /// Why the newest released output is what it is, and what a display shows of it: NotReleased while an event is pending
 /// or requests aren't released, and then nothing is written. Nothing changes.
-pub fn unit_why_call(alloc: Global, unit: &mut EtcsUnit, why: &mut EtcsUnitWhy) -> Status
+pub fn unit_why_call(unit: &mut EtcsUnit, why: &mut EtcsUnitWhy) -> Status
     ensures { OnHandleInto (why.new ≡ why.old) unit.old.raw.value unit.new.raw.value result
         (λ before after told. (after ≡ before) × AsksUnitWhy before why.old why.new told) }
 {
-    let Some(opened) = taken(alloc, unit) else {
+    if !unit.has_unit() {
         return Status::NotOpen;
-    };
-    let status = explain(&opened, why);
-    *unit = handle_of(opened);
-    status
+    }
+    explain(unit.raw.as_mut(), why)
 }

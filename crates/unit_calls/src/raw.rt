@@ -1,5 +1,6 @@
 // A pointer that C may hold: of no type that C can't know.
-ghost use Rattle.std.specs.Prelude.{◌≡◌, Option};
+ghost use Rattle.std.specs.Borrow.{sem};
+ghost use Rattle.std.specs.Prelude.{◌≡◌, Option, Some, IsSome};
 ghost use Rattle.unit_calls.specs.declared.handle.Opened.{Opened as OpenedValue};
 
 use crate::handle::Opened;
@@ -22,6 +23,8 @@ impl Model for Raw {
 }
 
 impl Raw {
+    ghost use Rattle.unit_calls.specs.Lent.{LendsHeld};
+
     /// What is held, for C.
     pub fn of(held: Held<Opened, Global>) -> Raw
         ensures { result.value ≡ held.value }
@@ -39,5 +42,14 @@ impl Raw {
             at: at as *mut Opened,
             alloc,
         }
+    }
+
+    /// What is held, where it lies. The caller owes that there is something.
+    pub fn as_mut(&mut self) -> &mut Opened
+        requires { IsSome self.old.value }
+        ensures* writes_back { sem 𝓛 (LendsHeld self.entry result) }
+        ensures value { self.old.value ≡ Some result.now }
+    {
+        unsafe { &mut *(self.at as *mut Opened) }
     }
 }

@@ -5,14 +5,13 @@ ghost use Rattle.unit_calls.specs.Outputs.{last_of};
 ghost use Rattle.unit_calls.specs.declared.status.Status.TheVariants.{Done};
 ghost use Rattle.unit_calls.specs.Requests.{TellsRequest};
 
-use crate::handle::{EtcsUnit, Opened, handle_of, taken};
+use crate::handle::{EtcsUnit, Opened};
 use crate::outputs::{EtcsOutput, EtcsState, hand_out, told_of};
 use crate::status::{Status, of_prepare, of_release};
 use crate::words::{EtcsRequest, sync, tell_write};
 use disk::Call;
 use events::MOST_PENDING;
 use onboard::Released;
-use std::alloc::Global;
 
 // Puts what is pending onto the disk that hands out its requests.
 fn prepare(opened: &mut Opened) -> Status
@@ -22,15 +21,13 @@ fn prepare(opened: &mut Opened) -> Status
 }
 
 /// Puts what is pending onto the disk that hands out its requests.
-pub fn prepare_call(alloc: Global, unit: &mut EtcsUnit) -> Status
+pub fn prepare_call(unit: &mut EtcsUnit) -> Status
     ensures { OnHandle unit.old.raw.value unit.new.raw.value result Prepares }
 {
-    let Some(mut opened) = taken(alloc, unit) else {
+    if !unit.has_unit() {
         return Status::NotOpen;
-    };
-    let status = prepare(&mut opened);
-    *unit = handle_of(opened);
-    status
+    }
+    prepare(unit.raw.as_mut())
 }
 
 // Tells a request of a unit.
@@ -58,7 +55,6 @@ fn tell(opened: &Opened, index: u32, request: &mut EtcsRequest, bytes: &mut [u8]
 
 /// Tells a request of the list, from 0 on, and the bytes that it writes.
 pub fn request_call(
-    alloc: Global,
     unit: &mut EtcsUnit,
     index: u32,
     request: &mut EtcsRequest,
@@ -68,12 +64,10 @@ pub fn request_call(
         unit.old.raw.value unit.new.raw.value result (λ before after told. (after ≡ before) × TellsRequest index before
         (record { request = request.old; told = request.new; room = bytes.old; bytes = bytes.new; status = told })) }
 {
-    let Some(opened) = taken(alloc, unit) else {
+    if !unit.has_unit() {
         return Status::NotOpen;
-    };
-    let status = tell(&opened, index, request, bytes);
-    *unit = handle_of(opened);
-    status
+    }
+    tell(unit.raw.as_mut(), index, request, bytes)
 }
 
 // Says that so many requests, from the first on, are done.
@@ -88,15 +82,13 @@ fn say(opened: &mut Opened, count: u32) -> Status
 }
 
 /// Says that so many requests, from the first on, are done.
-pub fn done_call(alloc: Global, unit: &mut EtcsUnit, count: u32) -> Status
+pub fn done_call(unit: &mut EtcsUnit, count: u32) -> Status
     ensures { OnHandle unit.old.raw.value unit.new.raw.value result (Says count) }
 {
-    let Some(mut opened) = taken(alloc, unit) else {
+    if !unit.has_unit() {
         return Status::NotOpen;
-    };
-    let status = say(&mut opened, count);
-    *unit = handle_of(opened);
-    status
+    }
+    say(unit.raw.as_mut(), count)
 }
 
 // Says that the medium failed.
@@ -108,15 +100,13 @@ fn fail(opened: &mut Opened) -> Status
 }
 
 /// Says that the medium failed.
-pub fn fail_call(alloc: Global, unit: &mut EtcsUnit) -> Status
+pub fn fail_call(unit: &mut EtcsUnit) -> Status
     ensures { OnHandle unit.old.raw.value unit.new.raw.value result Fails }
 {
-    let Some(mut opened) = taken(alloc, unit) else {
+    if !unit.has_unit() {
         return Status::NotOpen;
-    };
-    let status = fail(&mut opened);
-    *unit = handle_of(opened);
-    status
+    }
+    fail(unit.raw.as_mut())
 }
 
 // The last output, or the one before.
@@ -149,22 +139,15 @@ fn release(opened: &mut Opened, outputs: &mut [EtcsOutput], count: &mut u32) -> 
 }
 
 /// Releases what was held back, all of it, into room for eight; a refusal writes nothing.
-pub fn release_call(
-    alloc: Global,
-    unit: &mut EtcsUnit,
-    outputs: &mut [EtcsOutput],
-    count: &mut u32,
-) -> Status
+pub fn release_call(unit: &mut EtcsUnit, outputs: &mut [EtcsOutput], count: &mut u32) -> Status
     ensures { OnHandleInto ((outputs.new ≡ outputs.old) × (count.new ≡ count.old))
         unit.old.raw.value unit.new.raw.value result (λ before after told. Releases before after
         (record { places = outputs.old; handed = outputs.new; counted = count.old; count = count.new; status = told })) }
 {
-    let Some(mut opened) = taken(alloc, unit) else {
+    if !unit.has_unit() {
         return Status::NotOpen;
-    };
-    let status = release(&mut opened, outputs, count);
-    *unit = handle_of(opened);
-    status
+    }
+    release(unit.raw.as_mut(), outputs, count)
 }
 
 // How far this unit is.
@@ -194,14 +177,12 @@ fn tell_state(opened: &Opened, state: &mut EtcsState) -> Status
 }
 
 /// Tells how far the unit is.
-pub fn state_call(alloc: Global, unit: &mut EtcsUnit, state: &mut EtcsState) -> Status
+pub fn state_call(unit: &mut EtcsUnit, state: &mut EtcsState) -> Status
     ensures { OnHandleInto (state.new ≡ state.old) unit.old.raw.value unit.new.raw.value result
         (λ before after told. (after ≡ before) × (told ≡ Done) × TellsState before state.new) }
 {
-    let Some(opened) = taken(alloc, unit) else {
+    if !unit.has_unit() {
         return Status::NotOpen;
-    };
-    let status = tell_state(&opened, state);
-    *unit = handle_of(opened);
-    status
+    }
+    tell_state(unit.raw.as_mut(), state)
 }

@@ -3,10 +3,9 @@ ghost use Rattle.std.specs.Prelude.{◌≡◌};
 ghost use Rattle.unit_calls.specs.Handles.{OnHandle, OnHandleInto};
 ghost use Rattle.unit_calls.specs.Sectors.{TellsWanted, Provides};
 
-use crate::handle::{EtcsUnit, Opened, handle_of, taken};
+use crate::handle::{EtcsUnit, Opened};
 use crate::status::Status;
 use disk::SECTOR_BYTES;
-use std::alloc::Global;
 
 // Tells the sector that this unit wants.
 fn tell_wanted(opened: &Opened, sector: &mut u64) -> Status
@@ -22,16 +21,14 @@ fn tell_wanted(opened: &Opened, sector: &mut u64) -> Status
 }
 
 /// Tells the sector that is wanted, until it is handed in; NoneWanted where none is, and then nothing is written.
-pub fn wanted_call(alloc: Global, unit: &mut EtcsUnit, sector: &mut u64) -> Status
+pub fn wanted_call(unit: &mut EtcsUnit, sector: &mut u64) -> Status
     ensures { OnHandleInto (sector.new ≡ sector.old) unit.old.raw.value unit.new.raw.value result
         (λ before after told. (after ≡ before) × TellsWanted before sector.old sector.new told) }
 {
-    let Some(opened) = taken(alloc, unit) else {
+    if !unit.has_unit() {
         return Status::NotOpen;
-    };
-    let status = tell_wanted(&opened, sector);
-    *unit = handle_of(opened);
-    status
+    }
+    tell_wanted(unit.raw.as_mut(), sector)
 }
 
 // Hands in what the medium holds of a sector.
@@ -50,13 +47,11 @@ fn provide(opened: &mut Opened, sector: u64, bytes: &[u8]) -> Status
 
 /// Hands in what the medium holds of a sector; OutOfRange where the medium has no such sector, or these bytes aren't as
 /// many as a sector has, and then nothing changes.
-pub fn provide_call(alloc: Global, unit: &mut EtcsUnit, sector: u64, bytes: &[u8]) -> Status
+pub fn provide_call(unit: &mut EtcsUnit, sector: u64, bytes: &[u8]) -> Status
     ensures { OnHandle unit.old.raw.value unit.new.raw.value result (Provides sector bytes.now) }
 {
-    let Some(mut opened) = taken(alloc, unit) else {
+    if !unit.has_unit() {
         return Status::NotOpen;
-    };
-    let status = provide(&mut opened, sector, bytes);
-    *unit = handle_of(opened);
-    status
+    }
+    provide(unit.raw.as_mut(), sector, bytes)
 }

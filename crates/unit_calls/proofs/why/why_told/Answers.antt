@@ -1,4 +1,4 @@
-use Rattle.std.proofs.Common.{◌≡◌, List, ◌∙◌, ap}
+use Rattle.std.proofs.Common.{List, ◌∙◌, ap}
 use Rattle.events.specs.declared.output.Output.{Output}
 use Rattle.kernel.specs.declared.causes.BrakeCause.{BrakeCause}
 use Rattle.reasons.specs.LimitWords.{limit_told}

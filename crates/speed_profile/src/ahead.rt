@@ -8,7 +8,7 @@ ghost use Rattle.speed_profile.specs.Ahead.{targets_ahead, permitted_ahead, sett
 ghost use Rattle.speed_profile.specs.Targets.{AskTheSame, Tells};
 ghost use Rattle.speed_profile.specs.Track.{speeds_along};
 
-use crate::nearest::{lower_by_rest, lower_by_speeds};
+use crate::nearest::lower_by_all;
 use crate::{Bounds, CategorySpeeds, Targets, Track};
 use braking::{Approach, Brakes, Target};
 use track_store::Profile;
@@ -51,6 +51,7 @@ impl<'a, S: Profile<CategorySpeeds>, G: Profile<Permille>> Ahead<'a, S, G> {
             (speeds_along S.value self.now.track.now) (G.value self.now.gradient.now) self.now.brakes.now }
     {
         let mut to_one = self.approach(limit, None);
+        to_one.fits(if one.place <= other.place { &one } else { &other });
         let mut to_other = to_one.copy();
         to_one.lower(&one);
         to_other.lower(&other);
@@ -76,9 +77,8 @@ impl<'a, S: Profile<CategorySpeeds>, G: Profile<Permille>> Ahead<'a, S, G> {
             (setting_out self.now.front limit self.now.gradient.now self.now.brakes.now) }
     {
         let mut approach = Approach::new(self.front, limit, self.gradient, self.brakes);
-        let mut targets = self.targets(last);
-        lower_by_speeds(&mut approach, &mut targets);
-        lower_by_rest(&mut approach, &mut targets);
+        let (mut speeds, mut others) = self.targets(last).into_kinds();
+        lower_by_all(&mut approach, &mut speeds, &mut others);
         approach
     }
 }

@@ -5,8 +5,9 @@ ghost use Rattle.braking.specs.declared.target.Target.{Target as TargetAsked};
 ghost use Rattle.braking.specs.Approaches.{lowered_by};
 ghost use Rattle.speed_profile.specs.Targets.{AskNothing, AskTheSame, AskTheSameOf, held};
 
-use crate::starts::stop_at;
-use crate::{CategorySpeeds, Targets};
+use crate::CategorySpeeds;
+use crate::speeds_ahead::{lower_by_piece, lower_by_speeds, lower_up_to};
+use crate::targets::{OtherTargets, SpeedTargets};
 use braking::{Approach, Target};
 use track_store::Profile;
 use units::Permille;
@@ -22,52 +23,38 @@ const USUAL_SPEED: u32 = 200_000;
 
 const USUAL_STEPS: usize = 40;
 
-/// Lowers the speed of an approach for the static speeds, which come the nearest first. Where the train can come to a
-/// stop before those that are left, it fits these.
-pub fn lower_by_speeds<'a, S: Profile<CategorySpeeds>, G: Profile<Permille>>(
+/// Lowers the speed of an approach for all targets ahead: the static speeds, which come the nearest first, and the
+/// others, in whatever order these come. They are gone to in the order of their places.
+pub fn lower_by_all<'a, S: Profile<CategorySpeeds>, G: Profile<Permille>>(
     approach: &mut Approach<'a, G>,
-    targets: &mut Targets<'a, S>,
+    speeds: &mut SpeedTargets<'a, S>,
+    others: &mut OtherTargets<'a>,
 )
-    ensures { lowered_by (G.value approach.new.gradient) targets.new.targets approach.new
-        ≡ lowered_by (G.value approach.old.gradient) targets.old.targets approach.old }
+    ensures { approach.new ≡ lowered_by (G.value approach.old.gradient) (speeds.old.targets ++ others.old.targets) approach.old }
 {
-    while let Some(target) = targets.next() {
-        approach.lower(&target);
-        let Some(place) = targets.speeds_from() else {
-            return;
-        };
-        if approach.fits(&stop_at(place)) {
-            targets.skip_speeds();
-            return;
-        }
-    }
-}
-
-/// Lowers the speed of an approach for all targets that are left, in whatever order they come.
-pub fn lower_by_rest<'a, S: Profile<CategorySpeeds>, G: Profile<Permille>>(
-    approach: &mut Approach<'a, G>,
-    targets: &mut Targets<'a, S>,
-)
-    ensures { approach.new ≡ lowered_by (G.value approach.old.gradient) targets.old.targets approach.old }
-{
-    let Some(first) = next_to_brake_for(approach, targets) else {
+    lower_by_piece(approach, speeds);
+    let Some(first) = next_to_brake_for(approach, others) else {
+        lower_by_speeds(approach, speeds);
         return;
     };
-    match next_to_brake_for(approach, targets) {
-        None => approach.lower(&first),
-        Some(second) => lower_by_nearest(approach, targets, &first, &second),
+    match next_to_brake_for(approach, others) {
+        None => {
+            lower_up_to(approach, speeds, &first);
+            lower_by_speeds(approach, speeds);
+        }
+        Some(second) => lower_by_nearest(approach, speeds, others, &first, &second),
     }
 }
 
 // The next target that the speed so far isn't known to fit.
-fn next_to_brake_for<'a, S: Profile<CategorySpeeds>, G: Profile<Permille>>(
+fn next_to_brake_for<'a, G: Profile<Permille>>(
     approach: &Approach<'a, G>,
-    targets: &mut Targets<'a, S>,
+    others: &mut OtherTargets<'a>,
 ) -> Option<Target>
-    ensures asked { AskTheSameOf (G.value approach.now.gradient) approach.now targets.old.targets (listed result ++ targets.new.targets) }
-    ensures none { result ≡ None → AskNothing targets.new.targets }
+    ensures asked { AskTheSameOf (G.value approach.now.gradient) approach.now others.old.targets (listed result ++ others.new.targets) }
+    ensures none { result ≡ None → AskNothing others.new.targets }
 {
-    while let Some(target) = targets.next() {
+    while let Some(target) = others.next() {
         if !approach.surely_fits(&target) {
             return Some(target);
         }
@@ -75,47 +62,68 @@ fn next_to_brake_for<'a, S: Profile<CategorySpeeds>, G: Profile<Permille>>(
     None
 }
 
-// Lowers the speed for two targets and for those that are left. A place for each step up to the speed so far does, since
-// no faster target asks for anything.
+// Lowers the speed for the static speeds, for two other targets and for those that are left. A place for each step up to
+// the speed so far does, since no faster target asks for anything.
 fn lower_by_nearest<'a, S: Profile<CategorySpeeds>, G: Profile<Permille>>(
     approach: &mut Approach<'a, G>,
-    targets: &mut Targets<'a, S>,
+    speeds: &mut SpeedTargets<'a, S>,
+    others: &mut OtherTargets<'a>,
     first: &Target,
     second: &Target,
 )
-    ensures { approach.new ≡ lowered_by (G.value approach.old.gradient) (first.now ∷ second.now ∷ targets.old.targets) approach.old }
+    ensures { approach.new ≡ lowered_by (G.value approach.old.gradient)
+        (speeds.old.targets ++ (first.now ∷ second.now ∷ others.old.targets)) approach.old }
 {
     if approach.speed().get() <= USUAL_SPEED {
         let mut nearest = [None; USUAL_STEPS + 1];
-        lower_by_held(approach, targets, first, second, &mut nearest);
+        lower_by_held(approach, speeds, others, first, second, &mut nearest);
     } else {
         let mut nearest = [None; STEPS + 1];
-        lower_by_held(approach, targets, first, second, &mut nearest);
+        lower_by_held(approach, speeds, others, first, second, &mut nearest);
     }
 }
 
-// Lowers the speed for two targets and for those that are left, in places that hold none. Of those of one speed only the
-// nearest is gone to, and of those of several only the ones that are nearer than each slower one, the fastest first. So
-// they lie farther and farther ahead, and what lies between is summed once.
+// The same, in places that hold none. Of those of one speed only the nearest is gone to, and of those of several only
+// the ones that are nearer than each slower one, the fastest first. So they lie farther and farther ahead, the static
+// speeds between them, and what lies between is summed once.
 #[inline(never)]
 fn lower_by_held<'a, S: Profile<CategorySpeeds>, G: Profile<Permille>>(
     approach: &mut Approach<'a, G>,
-    targets: &mut Targets<'a, S>,
+    speeds: &mut SpeedTargets<'a, S>,
+    others: &mut OtherTargets<'a>,
     first: &Target,
     second: &Target,
     nearest: &mut [Option<Target>],
 )
     requires places { 1 ≤ length nearest.old }
     requires none { held nearest.old ≡ [] }
-    ensures { approach.new ≡ lowered_by (G.value approach.old.gradient) (first.now ∷ second.now ∷ targets.old.targets) approach.old }
+    ensures { approach.new ≡ lowered_by (G.value approach.old.gradient)
+        (speeds.old.targets ++ (first.now ∷ second.now ∷ others.old.targets)) approach.old }
+{
+    hold_all(approach, others, first, second, nearest);
+    let first = gather_deciding(nearest);
+    lower_each(approach, speeds, nearest, first);
+    lower_by_speeds(approach, speeds);
+}
+
+// Holds two targets and those that are left.
+fn hold_all<'a, G: Profile<Permille>>(
+    approach: &mut Approach<'a, G>,
+    others: &mut OtherTargets<'a>,
+    first: &Target,
+    second: &Target,
+    nearest: &mut [Option<Target>],
+)
+    requires places { 1 ≤ length nearest.old }
+    requires none { held nearest.old ≡ [] }
+    ensures { lowered_by (G.value approach.new.gradient) (held nearest.new) approach.new
+        ≡ lowered_by (G.value approach.old.gradient) (first.now ∷ second.now ∷ others.old.targets) approach.old }
 {
     take(approach, nearest, first);
     take(approach, nearest, second);
-    while let Some(target) = targets.next() {
+    while let Some(target) = others.next() {
         take(approach, nearest, &target);
     }
-    let first = gather_deciding(nearest);
-    lower_each(approach, nearest, first);
 }
 
 // Holds a target, or lowers the speed for it at once.
@@ -222,24 +230,31 @@ fn is_decided(near: &Option<Target>, target: &Target) -> bool
     }
 }
 
-// Lowers the speed for each that is held from a place on.
-fn lower_each<'a, G: Profile<Permille>>(
+// Lowers the speed for each that is held from a place on, and for the static speeds before it.
+fn lower_each<'a, S: Profile<CategorySpeeds>, G: Profile<Permille>>(
     approach: &mut Approach<'a, G>,
+    speeds: &mut SpeedTargets<'a, S>,
     nearest: &[Option<Target>],
     first: usize,
 )
-    ensures { approach.new ≡ lowered_by (G.value approach.old.gradient) (held (drop first nearest.now)) approach.old }
+    ensures { lowered_by (G.value approach.new.gradient) speeds.new.targets approach.new
+        ≡ lowered_by (G.value approach.old.gradient) (speeds.old.targets ++ held (drop first nearest.now)) approach.old }
 {
     for step in first..nearest.len() {
-        lower_if_held(approach, &nearest[step]);
+        lower_if_held(approach, speeds, &nearest[step]);
     }
 }
 
-// Lowers the speed for one, if there is one.
-fn lower_if_held<'a, G: Profile<Permille>>(approach: &mut Approach<'a, G>, place: &Option<Target>)
-    ensures { approach.new ≡ lowered_by (G.value approach.old.gradient) (listed place.now) approach.old }
+// The same for one, if there is one.
+fn lower_if_held<'a, S: Profile<CategorySpeeds>, G: Profile<Permille>>(
+    approach: &mut Approach<'a, G>,
+    speeds: &mut SpeedTargets<'a, S>,
+    place: &Option<Target>,
+)
+    ensures { (others : List TargetAsked) → lowered_by (G.value approach.new.gradient) (speeds.new.targets ++ others) approach.new
+        ≡ lowered_by (G.value approach.old.gradient) (speeds.old.targets ++ (listed place.now ++ others)) approach.old }
 {
     if let Some(target) = place {
-        approach.lower(target);
+        lower_up_to(approach, speeds, target);
     }
 }

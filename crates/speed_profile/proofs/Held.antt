@@ -5,10 +5,11 @@ use Rattle.std.proofs.lemmas.List.{append_assoc, append-nil, take_more, drop_mor
 use Rattle.track_store.specs.Profiles.{listed}
 use Rattle.braking.specs.declared.target.Target.{Target}
 use Rattle.braking.specs.Braking.{fits, fits_all}
-use Rattle.braking.specs.Approaches.{Course, lowered_by}
+use Rattle.braking.specs.Approaches.{Course, lowered, lowered_by}
 use Rattle.braking.proofs.Slower.{slower_fits}
+use Rattle.speed_profile.specs.Ahead.{permitted_by}
 use Rattle.speed_profile.specs.Targets.{AskTheSame, AskTheSameOf, AskNothing, held}
-use Rattle.speed_profile.proofs.Asking.{same, equal, back, through, joined, moved, nothing_more, fit_both, lowered_same, lowered_of, lowered_before}
+use Rattle.speed_profile.proofs.Asking.{same, equal, back, through, joined, moved, nothing_more, fit_both, lowered_same, lowered_of, lowered_then}
 use Rattle.speed_profile.proofs.Farther.{IsNoNearer, farther_fits}
 
 -- one in the place of another that asks for less, with one more
@@ -179,11 +180,22 @@ module _ {G : Type 0} (value : G → ℤ → Option ℤ) where
       of_through all (t ∷ behind) (t ∷ []) course h
       (of_more t behind [] course (of_through behind left [] course k (of_all left [] course none)))
 
-  -- others behind what is left, some of which do for all of them
-  pub lowered_ahead : (left before all others : List Target) (old new : Course G) →
-      lowered_by (value new.gradient) left new ≡ lowered_by (value old.gradient) before old →
-      AskTheSameOf (value new.gradient) new all others →
-      lowered_by (value new.gradient) (left ++ others) new ≡ lowered_by (value old.gradient) (before ++ all) old
-  lowered_ahead left before all others old new is h =
-      sym (lowered_of value (left ++ all) (left ++ others) new (of_behind left all others new h))
-      ∙ lowered_before value left before all old new is
+  -- some of those that come behind do for all of them
+  pub lowered_ahead : (before all others : List Target) (course : Course G) → AskTheSameOf (value course.gradient) course all others →
+      lowered_by (value course.gradient) (before ++ others) course ≡ lowered_by (value course.gradient) (before ++ all) course
+  lowered_ahead before all others course h =
+      sym (lowered_of value (before ++ all) (before ++ others) course (of_behind before all others course h))
+
+  -- a last one that asks for all that the one before it does
+  pub lowered_near : (ahead : List Target) (near far : Target) (start middle end : Course G) → IsNoNearer near far →
+      middle ≡ lowered_by (value start.gradient) (ahead ++ (far ∷ [])) start → end ≡ lowered (value middle.gradient) near middle →
+      end.speed ≡ permitted_by start.front (value start.gradient) start.brakes (ahead ++ (near ∷ [])) start.speed
+  lowered_near ahead near far start middle end h first second =
+      let all : end ≡ lowered_by (value start.gradient) (ahead ++ (near ∷ [])) start =
+      second ∙ ap (λ (c : Course G). lowered (value c.gradient) near c) first
+      ∙ lowered_then value (ahead ++ (far ∷ [])) near start
+      ∙ lowered_same value (ahead ++ (far ∷ []) ++ (near ∷ [])) (ahead ++ (near ∷ [])) start
+      (through (ahead ++ (far ∷ []) ++ (near ∷ [])) (ahead ++ (far ∷ near ∷ [])) (ahead ++ (near ∷ []))
+      (equal (ahead ++ (far ∷ []) ++ (near ∷ [])) (ahead ++ (far ∷ near ∷ [])) (append_assoc ahead (far ∷ []) (near ∷ [])))
+      (joined ahead (far ∷ near ∷ []) ahead (near ∷ []) (same ahead) (back (near ∷ []) (far ∷ near ∷ []) (nearer_asks near far h)))) in
+      ap (λ (c : Course G). c.speed) all

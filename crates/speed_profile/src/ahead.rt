@@ -1,5 +1,5 @@
 //! The speed that holds for what lies ahead (this project's profile).
-ghost use Rattle.std.specs.Prelude.{◌≡◌, ◌++◌, None, Some, List};
+ghost use Rattle.std.specs.Prelude.{◌≡◌, ◌≤◌, ◌≤ℤ◌, ◌++◌, None, Some, List};
 ghost use Rattle.std.specs.Iterator.{Drains};
 ghost use Rattle.track_store.specs.Profiles.{listed};
 ghost use Rattle.braking.specs.declared.target.Target.{Target as TargetAsked};
@@ -50,8 +50,41 @@ impl<'a, S: Profile<CategorySpeeds>, G: Profile<Permille>> Ahead<'a, S, G> {
         ensures other { result.1 ≡ permitted_ahead self.now.front limit (Some other) self.now.bounds.now
             (speeds_along S.value self.now.track.now) (G.value self.now.gradient.now) self.now.brakes.now }
     {
+        if one.place != other.place {
+            return self.permitted_for_each(limit, one, other);
+        }
+        if one.speed <= other.speed {
+            let (to_other, to_one) = self.permitted_for_both(limit, other, one);
+            (to_one, to_other)
+        } else {
+            self.permitted_for_both(limit, one, other)
+        }
+    }
+
+    // The same for a last target, and for one that asks for all that it asks for: the first one is gone to among those
+    // that lie ahead.
+    fn permitted_for_both(&self, limit: Mph, far: Target, near: Target) -> (Mph, Mph)
+        requires place { near.place ≤ℤ far.place }
+        requires speed { near.speed ≤ far.speed }
+        ensures far { result.0 ≡ permitted_ahead self.now.front limit (Some far) self.now.bounds.now
+            (speeds_along S.value self.now.track.now) (G.value self.now.gradient.now) self.now.brakes.now }
+        ensures near { result.1 ≡ permitted_ahead self.now.front limit (Some near) self.now.bounds.now
+            (speeds_along S.value self.now.track.now) (G.value self.now.gradient.now) self.now.brakes.now }
+    {
+        let mut approach = self.approach(limit, Some(far));
+        let to_far = approach.speed();
+        approach.lower(&near);
+        (to_far, approach.speed())
+    }
+
+    // The same for any two.
+    fn permitted_for_each(&self, limit: Mph, one: Target, other: Target) -> (Mph, Mph)
+        ensures one { result.0 ≡ permitted_ahead self.now.front limit (Some one) self.now.bounds.now
+            (speeds_along S.value self.now.track.now) (G.value self.now.gradient.now) self.now.brakes.now }
+        ensures other { result.1 ≡ permitted_ahead self.now.front limit (Some other) self.now.bounds.now
+            (speeds_along S.value self.now.track.now) (G.value self.now.gradient.now) self.now.brakes.now }
+    {
         let mut to_one = self.approach(limit, None);
-        to_one.fits(if one.place <= other.place { &one } else { &other });
         let mut to_other = to_one.copy();
         to_one.lower(&one);
         to_other.lower(&other);

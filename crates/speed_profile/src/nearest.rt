@@ -33,16 +33,61 @@ pub fn lower_by_all<'a, S: Profile<CategorySpeeds>, G: Profile<Permille>>(
     ensures { approach.new ≡ lowered_by (G.value approach.old.gradient) (speeds.old.targets ++ others.old.targets) approach.old }
 {
     lower_by_piece(approach, speeds);
+    lower_by_others(approach, speeds, others);
+    lower_by_speeds(approach, speeds);
+}
+
+// Lowers the speed for all others, and for the static speeds before them.
+fn lower_by_others<'a, S: Profile<CategorySpeeds>, G: Profile<Permille>>(
+    approach: &mut Approach<'a, G>,
+    speeds: &mut SpeedTargets<'a, S>,
+    others: &mut OtherTargets<'a>,
+)
+    ensures { lowered_by (G.value approach.new.gradient) speeds.new.targets approach.new
+        ≡ lowered_by (G.value approach.old.gradient) (speeds.old.targets ++ others.old.targets) approach.old }
+{
     let Some(first) = next_to_brake_for(approach, others) else {
-        lower_by_speeds(approach, speeds);
         return;
     };
     match next_to_brake_for(approach, others) {
-        None => {
-            lower_up_to(approach, speeds, &first);
-            lower_by_speeds(approach, speeds);
-        }
-        Some(second) => lower_by_nearest(approach, speeds, others, &first, &second),
+        None => lower_up_to(approach, speeds, &first),
+        Some(second) => lower_by_more(approach, speeds, others, &first, &second),
+    }
+}
+
+// Lowers the speed for two targets, for those that are left, and for the static speeds before them.
+fn lower_by_more<'a, S: Profile<CategorySpeeds>, G: Profile<Permille>>(
+    approach: &mut Approach<'a, G>,
+    speeds: &mut SpeedTargets<'a, S>,
+    others: &mut OtherTargets<'a>,
+    first: &Target,
+    second: &Target,
+)
+    ensures { lowered_by (G.value approach.new.gradient) speeds.new.targets approach.new
+        ≡ lowered_by (G.value approach.old.gradient) (speeds.old.targets ++ (first.now ∷ second.now ∷ others.old.targets)) approach.old }
+{
+    match next_to_brake_for(approach, others) {
+        None => lower_by_two(approach, speeds, first, second),
+        Some(third) => lower_by_nearest(approach, speeds, others, first, second, &third),
+    }
+}
+
+// Lowers the speed for two targets, the nearer one first, and for the static speeds before them.
+fn lower_by_two<'a, S: Profile<CategorySpeeds>, G: Profile<Permille>>(
+    approach: &mut Approach<'a, G>,
+    speeds: &mut SpeedTargets<'a, S>,
+    one: &Target,
+    other: &Target,
+)
+    ensures { lowered_by (G.value approach.new.gradient) speeds.new.targets approach.new
+        ≡ lowered_by (G.value approach.old.gradient) (speeds.old.targets ++ (one.now ∷ other.now ∷ [])) approach.old }
+{
+    if one.place <= other.place {
+        lower_up_to(approach, speeds, one);
+        lower_up_to(approach, speeds, other);
+    } else {
+        lower_up_to(approach, speeds, other);
+        lower_up_to(approach, speeds, one);
     }
 }
 
@@ -62,30 +107,31 @@ fn next_to_brake_for<'a, G: Profile<Permille>>(
     None
 }
 
-// Lowers the speed for the static speeds, for two other targets and for those that are left. A place for each step up to
-// the speed so far does, since no faster target asks for anything.
+// Lowers the speed for three targets, for those that are left, and for the static speeds before them. A place for each
+// step up to the speed so far does, since no faster target asks for anything.
 fn lower_by_nearest<'a, S: Profile<CategorySpeeds>, G: Profile<Permille>>(
     approach: &mut Approach<'a, G>,
     speeds: &mut SpeedTargets<'a, S>,
     others: &mut OtherTargets<'a>,
     first: &Target,
     second: &Target,
+    third: &Target,
 )
-    ensures { approach.new ≡ lowered_by (G.value approach.old.gradient)
-        (speeds.old.targets ++ (first.now ∷ second.now ∷ others.old.targets)) approach.old }
+    ensures { lowered_by (G.value approach.new.gradient) speeds.new.targets approach.new ≡ lowered_by (G.value approach.old.gradient)
+        (speeds.old.targets ++ (first.now ∷ second.now ∷ third.now ∷ others.old.targets)) approach.old }
 {
     if approach.speed().get() <= USUAL_SPEED {
         let mut nearest = [None; USUAL_STEPS + 1];
-        lower_by_held(approach, speeds, others, first, second, &mut nearest);
+        lower_by_held(approach, speeds, others, first, second, third, &mut nearest);
     } else {
         let mut nearest = [None; STEPS + 1];
-        lower_by_held(approach, speeds, others, first, second, &mut nearest);
+        lower_by_held(approach, speeds, others, first, second, third, &mut nearest);
     }
 }
 
 // The same, in places that hold none. Of those of one speed only the nearest is gone to, and of those of several only
-// the ones that are nearer than each slower one, the fastest first. So they lie farther and farther ahead, the static
-// speeds between them, and what lies between is summed once.
+// the ones that are nearer than each slower one, the fastest first. So they lie farther and farther ahead, and what lies
+// between is summed once.
 #[inline(never)]
 fn lower_by_held<'a, S: Profile<CategorySpeeds>, G: Profile<Permille>>(
     approach: &mut Approach<'a, G>,
@@ -93,34 +139,32 @@ fn lower_by_held<'a, S: Profile<CategorySpeeds>, G: Profile<Permille>>(
     others: &mut OtherTargets<'a>,
     first: &Target,
     second: &Target,
+    third: &Target,
     nearest: &mut [Option<Target>],
 )
     requires places { 1 ≤ length nearest.old }
     requires none { held nearest.old ≡ [] }
-    ensures { approach.new ≡ lowered_by (G.value approach.old.gradient)
-        (speeds.old.targets ++ (first.now ∷ second.now ∷ others.old.targets)) approach.old }
-{
-    hold_all(approach, others, first, second, nearest);
-    let first = gather_deciding(nearest);
-    lower_each(approach, speeds, nearest, first);
-    lower_by_speeds(approach, speeds);
-}
-
-// Holds two targets and those that are left.
-fn hold_all<'a, G: Profile<Permille>>(
-    approach: &mut Approach<'a, G>,
-    others: &mut OtherTargets<'a>,
-    first: &Target,
-    second: &Target,
-    nearest: &mut [Option<Target>],
-)
-    requires places { 1 ≤ length nearest.old }
-    requires none { held nearest.old ≡ [] }
-    ensures { lowered_by (G.value approach.new.gradient) (held nearest.new) approach.new
-        ≡ lowered_by (G.value approach.old.gradient) (first.now ∷ second.now ∷ others.old.targets) approach.old }
+    ensures { lowered_by (G.value approach.new.gradient) speeds.new.targets approach.new ≡ lowered_by (G.value approach.old.gradient)
+        (speeds.old.targets ++ (first.now ∷ second.now ∷ third.now ∷ others.old.targets)) approach.old }
 {
     take(approach, nearest, first);
     take(approach, nearest, second);
+    take(approach, nearest, third);
+    hold_left(approach, others, nearest);
+    let first = gather_deciding(nearest);
+    lower_each(approach, speeds, nearest, first);
+}
+
+// Holds those that are left.
+fn hold_left<'a, G: Profile<Permille>>(
+    approach: &mut Approach<'a, G>,
+    others: &mut OtherTargets<'a>,
+    nearest: &mut [Option<Target>],
+)
+    requires { 1 ≤ length nearest.old }
+    ensures { lowered_by (G.value approach.new.gradient) (held nearest.new) approach.new
+        ≡ lowered_by (G.value approach.old.gradient) (held nearest.old ++ others.old.targets) approach.old }
+{
     while let Some(target) = others.next() {
         take(approach, nearest, &target);
     }
@@ -177,8 +221,9 @@ fn more_asking(known: &Option<Target>, target: &Target) -> Option<Target>
     None
 }
 
-// Whether a target is no nearer than another one, and asks for no lower speed.
-fn is_no_nearer(near: &Target, far: &Target) -> bool
+/// Whether a target is no nearer than another one, and asks for no lower speed: it then asks for nothing that the other
+/// one doesn't ask for.
+pub fn is_no_nearer(near: &Target, far: &Target) -> bool
     ensures place { IsTrue result → near.now.place ≤ℤ far.now.place }
     ensures speed { IsTrue result → near.now.speed ≤ far.now.speed }
 {

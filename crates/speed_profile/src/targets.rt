@@ -13,12 +13,11 @@ mod speeds;
 
 use crate::{Bounds, CategorySpeeds, Track};
 use braking::Target;
+pub use others::OtherTargets;
+pub use speeds::SpeedTargets;
 use std::marker::Model;
 use track_store::Profile;
 use units::Cm;
-
-pub use others::OtherTargets;
-pub use speeds::SpeedTargets;
 
 /// What a train must brake for ahead, one target after another: the start of each piece of the static speeds, the
 /// nearest first, where one without a speed is a stop if it begins before the end of the authority; each restriction

@@ -1,4 +1,4 @@
-use Rattle.std.proofs.Common.{List, ◌∷◌, ◌++◌, drop, ap, ◌∙◌, arith}
+use Rattle.std.proofs.Common.{List, ◌∷◌, ◌++◌, drop, ap, ◌∙◌}
 use Rattle.braking.specs.declared.target.Target.{Target}
 use Rattle.braking.specs.Approaches.{lowered_by}
 use Rattle.speed_profile.specs.Targets.{held}

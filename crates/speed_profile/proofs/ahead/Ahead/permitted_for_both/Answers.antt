@@ -1,5 +1,4 @@
-use Rattle.std.proofs.Common.{ap, ◌∙◌}
-use Rattle.braking.specs.Approaches.{Course}
+use Rattle.std.proofs.Common.{◌∙◌}
 use Rattle.speed_profile.specs.Ahead.{targets_ahead, setting_out}
 use Rattle.speed_profile.specs.Track.{speeds_along}
 use Rattle.speed_profile.proofs.Held.{lowered_near}

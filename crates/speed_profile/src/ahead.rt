@@ -77,7 +77,8 @@ impl<'a, S: Profile<CategorySpeeds>, G: Profile<Permille>> Ahead<'a, S, G> {
         (to_far, approach.speed())
     }
 
-    // The same for any two.
+    // The same for any two. Each goes on from what was summed for all that lies ahead, or takes a sum of its own where
+    // it lies before the end of that one.
     fn permitted_for_each(&self, limit: Mph, one: Target, other: Target) -> (Mph, Mph)
         ensures one { result.0 ≡ permitted_ahead self.now.front limit (Some one) self.now.bounds.now
             (speeds_along S.value self.now.track.now) (G.value self.now.gradient.now) self.now.brakes.now }

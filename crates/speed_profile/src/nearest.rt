@@ -1,4 +1,5 @@
-//! An approach to all targets ahead, which goes through each gradient a few times at most, in whatever order they come.
+//! An approach to all targets ahead, in whatever order they come, in the order of their places: so the gradients are
+//! summed once.
 ghost use Rattle.std.specs.Prelude.{◌≡◌, ℕ, ◌+◌, ◌<◌, ◌≤◌, ◌≤ℤ◌, List, ◌∷◌, [], ◌++◌, None, false, length, take, drop, IsTrue, IfSome};
 ghost use Rattle.track_store.specs.Profiles.{listed};
 ghost use Rattle.braking.specs.declared.target.Target.{Target as TargetAsked};

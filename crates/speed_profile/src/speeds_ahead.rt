@@ -41,8 +41,8 @@ pub fn lower_up_to<'a, S: Profile<CategorySpeeds>, G: Profile<Permille>>(
     approach.lower(target);
 }
 
-// Lowers the speed for the next static speed, or leaves out all that are left, where the train can come to a stop before
-// them. The caller owes the place where it begins.
+// Lowers the speed for the next static speed, or leaves out all that are left where the train can come to a stop before
+// them. The caller owes the place where the next one begins.
 fn lower_by_next<'a, S: Profile<CategorySpeeds>, G: Profile<Permille>>(
     approach: &mut Approach<'a, G>,
     speeds: &mut SpeedTargets<'a, S>,

@@ -2,7 +2,7 @@ use Rattle.std.proofs.Common.{◌∙◌}
 use Rattle.speed_profile.specs.Ahead.{targets_ahead, setting_out}
 use Rattle.speed_profile.specs.Track.{speeds_along}
 use Rattle.speed_profile.proofs.Held.{lowered_near}
-use Rattle.speed_profile.proofs.ahead.Ahead.permitted_for_both.Goals as goal
+use Rattle.speed_profile.proofs.ahead.Ahead.permitted_at_one_place.Goals as goal
 
 pub returns-clause-near : goal.returns-clause-near
 returns-clause-near g c =

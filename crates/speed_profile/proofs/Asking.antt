@@ -105,6 +105,14 @@ moved t (x ∷ some) others front gradient brakes v =
     one_more x (some ++ (t ∷ others)) (t ∷ (some ++ others)) (moved t some others) front gradient brakes v
     ∙ swapped (fits front gradient brakes x v) (fits front gradient brakes t v) (fits_all front gradient brakes (some ++ others) v)
 
+-- some may as well come before others
+pub turned : (some others : List Target) → AskTheSame (some ++ others) (others ++ some)
+turned some others front gradient brakes v =
+    let cases : (a b : Bool) → (a && b) ≡ (b && a) = elim [ true ↦ elim [ true ↦ refl | false ↦ refl ] | false ↦ elim [ true ↦ refl | false ↦ refl ] ] in
+    fit_both front gradient brakes some others v
+    ∙ cases (fits_all front gradient brakes some v) (fits_all front gradient brakes others v)
+    ∙ sym (fit_both front gradient brakes others some v)
+
 pub nothing_more : (targets : List Target) → AskTheSame (targets ++ []) targets
 nothing_more targets front gradient brakes v =
     let cases : (b : Bool) → (b && true) ≡ b = elim [ true ↦ refl | false ↦ refl ] in
@@ -189,17 +197,44 @@ module _ {G : Type 0} (value : G → ℤ → Option ℤ) where
       (λ v below. h course.front (value course.gradient) course.brakes v
       (slower_fits course.front (value course.gradient) course.brakes there course.speed v below stop)))
 
+  -- one whose speed stays is the same
+  pub lowered_unchanged : (t : Target) (old new : Course G) → new ≡ lowered (value old.gradient) t old → new.speed ≡ old.speed → new ≡ old
+  lowered_unchanged t old new is stays = is ∙ ap (at_speed old) (sym (ap (λ (c : Course G). c.speed) is) ∙ stays)
+
+  -- some, and others behind them
+  pub lowered_both : (some others : List Target) (old : Course G) →
+      lowered_by (value old.gradient) others (lowered_by (value old.gradient) some old) ≡ lowered_by (value old.gradient) (some ++ others) old
+  lowered_both [] others old = ap (λ (c : Course G). lowered_by (value old.gradient) others c) (lowered_by_none value old)
+  lowered_both (x ∷ some) others old =
+      let new : Course G = lowered (value old.gradient) x old in
+      sym (ap (λ (c : Course G). lowered_by (value old.gradient) others c) (lowered_by_more value x some old new refl))
+      ∙ lowered_both some others new
+      ∙ lowered_by_more value x (some ++ others) old new refl
+
+  -- what is left makes of the speed so far what all makes of the first one: so it does with others behind
+  pub lowered_before : (left all others : List Target) (old new : Course G) →
+      lowered_by (value new.gradient) left new ≡ lowered_by (value old.gradient) all old →
+      lowered_by (value new.gradient) (left ++ others) new ≡ lowered_by (value old.gradient) (all ++ others) old
+  lowered_before left all others old new is =
+      sym (lowered_both left others new)
+      ∙ ap (λ (c : Course G). lowered_by (value c.gradient) others c) is
+      ∙ lowered_both all others old
+
+  -- .. and with one more, which comes before what is left
+  pub lowered_between : (left all others : List Target) (t : Target) (old middle new : Course G) →
+      lowered_by (value middle.gradient) left middle ≡ lowered_by (value old.gradient) all old → new ≡ lowered (value middle.gradient) t middle →
+      lowered_by (value new.gradient) (left ++ others) new ≡ lowered_by (value old.gradient) (all ++ (t ∷ others)) old
+  lowered_between left all others t old middle new so_far is =
+      lowered_by_more value t (left ++ others) middle new is
+      ∙ sym (lowered_same (left ++ (t ∷ others)) (t ∷ (left ++ others)) middle (moved t left others))
+      ∙ lowered_before left all (t ∷ others) old middle so_far
+
   -- some, and one more behind them
   pub lowered_then : (targets : List Target) (t : Target) (old : Course G) →
       lowered (value old.gradient) t (lowered_by (value old.gradient) targets old) ≡ lowered_by (value old.gradient) (targets ++ (t ∷ [])) old
-  lowered_then [] t old =
-      ap (λ (x : Course G). lowered (value old.gradient) t x) (lowered_by_none value old)
-      ∙ lowered_by_one value t old (lowered (value old.gradient) t old) refl
-  lowered_then (x ∷ targets) t old =
-      let new : Course G = lowered (value old.gradient) x old in
-      sym (ap (λ (c : Course G). lowered (value old.gradient) t c) (lowered_by_more value x targets old new refl))
-      ∙ lowered_then targets t new
-      ∙ lowered_by_more value x (targets ++ (t ∷ [])) old new refl
+  lowered_then targets t old =
+      let middle : Course G = lowered_by (value old.gradient) targets old in
+      lowered_by_one value t middle (lowered (value old.gradient) t middle) refl ∙ lowered_both targets (t ∷ []) old
 
   -- a last one
   pub lowered_last : (ahead : List Target) (t : Target) (start middle end : Course G) →

@@ -6,10 +6,10 @@ use Rattle.track_store.specs.Profiles.{listed}
 use Rattle.braking.specs.declared.target.Target.{Target}
 use Rattle.braking.specs.Braking.{fits, fits_all}
 use Rattle.braking.specs.Approaches.{Course, lowered, lowered_by}
-use Rattle.braking.proofs.Approaching.{lowered_from, lowered_by_none, lowered_by_one, lowered_by_more}
 use Rattle.braking.proofs.Slower.{slower_fits}
+use Rattle.speed_profile.specs.Ahead.{permitted_by}
 use Rattle.speed_profile.specs.Targets.{AskTheSame, AskTheSameOf, AskNothing, held}
-use Rattle.speed_profile.proofs.Asking.{same, equal, back, through, joined, moved, nothing_more, lowered_same, lowered_of}
+use Rattle.speed_profile.proofs.Asking.{same, equal, back, through, joined, moved, nothing_more, fit_both, lowered_same, lowered_of, lowered_then}
 use Rattle.speed_profile.proofs.Farther.{IsNoNearer, farther_fits}
 
 -- one in the place of another that asks for less, with one more
@@ -113,6 +113,12 @@ pub near_asks : (known : Option Target) (k t : Target) → known ≡ Some k → 
 near_asks known k t is h =
     through (listed known) (k ∷ []) (listed known ++ (t ∷ [])) (equal (listed known) (k ∷ []) (ap listed is)) (known_asks known k t is h)
 
+-- from a place on
+pub held_from : (places : List (Option Target)) (i : ℕ) (place : Option Target) → i < length places → place ≡ slice_index_or places i place →
+    listed place ++ held (drop (i + 1) places) ≡ held (drop i places)
+held_from places i place within at =
+    ap (λ (first : Option Target). listed first ++ held (drop (i + 1) places)) at ∙ ap held (sym (drop_more places i place within))
+
 module _ {G : Type 0} (value : G → ℤ → Option ℤ) where
   -- what is held with one more, and others behind it
   pub lowered_held : (now old others : List Target) (t : Target) (course : Course G) → AskTheSame now (t ∷ old) →
@@ -158,31 +164,38 @@ module _ {G : Type 0} (value : G → ℤ → Option ℤ) where
       let here = slower_fits course.front (value course.gradient) course.brakes t course.speed v below fit in
       h course.front (value course.gradient) course.brakes v ∙ ap (λ (b : Bool). b && all) here
 
+  of_behind : (some others others' : List Target) (course : Course G) → AskTheSameOf (value course.gradient) course others others' →
+      AskTheSameOf (value course.gradient) course (some ++ others) (some ++ others')
+  of_behind some others others' course h v below =
+      let fit = fits_all course.front (value course.gradient) course.brakes in
+      fit_both course.front (value course.gradient) course.brakes some others v
+      ∙ ap (λ (b : Bool). fit some v && b) (h v below)
+      ∙ sym (fit_both course.front (value course.gradient) course.brakes some others' v)
+
   -- where only one asks something
-  pub lowered_alone : (t : Target) (all behind left : List Target) (old new : Course G) →
-      AskTheSameOf (value old.gradient) old all (t ∷ behind) → AskTheSameOf (value old.gradient) old behind left → AskNothing left →
-      new ≡ lowered (value old.gradient) t old → new ≡ lowered_by (value old.gradient) all old
-  lowered_alone t all behind left old new h k none is =
-      let alone : AskTheSameOf (value old.gradient) old all (t ∷ []) =
-      of_through all (t ∷ behind) (t ∷ []) old h
-      (of_more t behind [] old (of_through behind left [] old k (of_all left [] old none))) in
-      lowered_by_one value t old new is ∙ sym (lowered_of value all (t ∷ []) old alone)
+  pub of_alone : (t : Target) (all behind left : List Target) (course : Course G) →
+      AskTheSameOf (value course.gradient) course all (t ∷ behind) → AskTheSameOf (value course.gradient) course behind left → AskNothing left →
+      AskTheSameOf (value course.gradient) course all (t ∷ [])
+  of_alone t all behind left course h k none =
+      of_through all (t ∷ behind) (t ∷ []) course h
+      (of_more t behind [] course (of_through behind left [] course k (of_all left [] course none)))
 
-  -- ---- of what is held
+  -- some of those that come behind do for all of them
+  pub lowered_ahead : (before all others : List Target) (course : Course G) → AskTheSameOf (value course.gradient) course all others →
+      lowered_by (value course.gradient) (before ++ others) course ≡ lowered_by (value course.gradient) (before ++ all) course
+  lowered_ahead before all others course h =
+      sym (lowered_of value (before ++ all) (before ++ others) course (of_behind before all others course h))
 
-  pub lowered_place : (place : Option Target) (others : List Target) (old new : Course G) →
-      new ≡ lowered_by (value old.gradient) (listed place) old →
-      lowered_by (value new.gradient) others new ≡ lowered_by (value old.gradient) (listed place ++ others) old
-  lowered_place None others old new is = lowered_from value others new old (is ∙ lowered_by_none value old)
-  lowered_place (Some t) others old new is =
-      lowered_by_more value t others old new (is ∙ sym (lowered_by_one value t old (lowered (value old.gradient) t old) refl))
-
-  -- .. from a place on
-  pub lowered_at : (places : List (Option Target)) (i : ℕ) (place : Option Target) (old new : Course G) → i < length places →
-      place ≡ slice_index_or places i place → new ≡ lowered_by (value old.gradient) (listed place) old →
-      lowered_by (value new.gradient) (held (drop (i + 1) places)) new ≡ lowered_by (value old.gradient) (held (drop i places)) old
-  lowered_at places i place old new within at is =
-      let rest = drop (i + 1) places in
-      lowered_place place (held rest) old new is
-      ∙ ap (λ (some : List (Option Target)). lowered_by (value old.gradient) (held some) old)
-      (ap (λ (first : Option Target). first ∷ rest) at ∙ sym (drop_more places i place within))
+  -- a last one that asks for all that the one before it does
+  pub lowered_near : (ahead : List Target) (near far : Target) (start middle end : Course G) → IsNoNearer near far →
+      middle ≡ lowered_by (value start.gradient) (ahead ++ (far ∷ [])) start → end ≡ lowered (value middle.gradient) near middle →
+      end.speed ≡ permitted_by start.front (value start.gradient) start.brakes (ahead ++ (near ∷ [])) start.speed
+  lowered_near ahead near far start middle end h first second =
+      let all : end ≡ lowered_by (value start.gradient) (ahead ++ (near ∷ [])) start =
+      second ∙ ap (λ (c : Course G). lowered (value c.gradient) near c) first
+      ∙ lowered_then value (ahead ++ (far ∷ [])) near start
+      ∙ lowered_same value (ahead ++ (far ∷ []) ++ (near ∷ [])) (ahead ++ (near ∷ [])) start
+      (through (ahead ++ (far ∷ []) ++ (near ∷ [])) (ahead ++ (far ∷ near ∷ [])) (ahead ++ (near ∷ []))
+      (equal (ahead ++ (far ∷ []) ++ (near ∷ [])) (ahead ++ (far ∷ near ∷ [])) (append_assoc ahead (far ∷ []) (near ∷ [])))
+      (joined ahead (far ∷ near ∷ []) ahead (near ∷ []) (same ahead) (back (near ∷ []) (far ∷ near ∷ []) (nearer_asks near far h)))) in
+      ap (λ (c : Course G). c.speed) all

@@ -1,6 +1,6 @@
 -- The static speeds, by the centimetres where their pieces begin.
-use Rattle.std.proofs.Common.{◌≡◌, ℕ, ℤ, pos, ◌+ℤ◌, ◌-ℤ◌, ◌≤ℤ◌, ◌<ℤ◌, ◌<◌, List, [], ◌++◌, inl, inr, Bool, true, false, cond, refl, ap, sym, subst, arith}
-use Rattle.std.specs.Prelude.{Option, None, Some, int_lt, MatchOption}
+use Rattle.std.proofs.Common.{◌≡◌, ℕ, ◌+◌, ℤ, pos, ◌+ℤ◌, ◌-ℤ◌, ◌≤ℤ◌, ◌<ℤ◌, ◌<◌, List, [], ◌++◌, inl, inr, Bool, true, false, cond, refl, ap, sym, ◌∙◌, subst, arith}
+use Rattle.std.specs.Prelude.{Option, None, Some, int_lt, is_some, MatchOption, IfSome}
 use Rattle.std.proofs.lemmas.Int.{ints, by_lt_z}
 use Rattle.units.specs.Stretches.{over, natural}
 use Rattle.units.proofs.Gathering.{IsIn, over_at, in_over}
@@ -71,6 +71,25 @@ less_left place (Some next) within ahead = fewer_left place next greatest_place 
 pub lasts_ahead : (value : ℤ → Option CategorySpeeds) (place : ℤ) (next : Option ℤ) → Lasts value place next → IsAhead place next
 lasts_ahead value place None lasts = tt
 lasts_ahead value place (Some next) lasts = lasts.0
+
+-- how often the nearest piece can be left behind
+abbrev pub turns_left : Option ℤ → ℕ → ℕ
+turns_left None most = 0
+turns_left (Some place) most = most + 1
+
+pub fewer_turns : (start next : Option ℤ) (place : ℤ) (before after : ℕ) → start ≡ Some place → IfSome next (λ left. after < before) →
+    turns_left next after < turns_left start before
+fewer_turns start None place before after is fewer = rw is (omega arith)
+fewer_turns start (Some left) place before after is fewer = rw is (omega (arith, fewer))
+
+pub none_left : (start : Option ℤ) → is_some start ≡ false → start ≡ None
+none_left None none = refl
+none_left (Some place) none = absurd (let no : true ≡ false = none in cc)
+
+pub some_left : (start from : Option ℤ) (after before : ℕ) → is_some start ≡ true → start ≡ from → IfSome from (λ place. after < before) →
+    after < before
+some_left start None after before some is fewer = absurd (let no : false ≡ true = sym (ap is_some is) ∙ some in cc)
+some_left start (Some place) after before some is fewer = fewer
 
 -- the first place ahead, if there is one, is where all begins
 pub first_rest : (f : ℤ → List Target) (first : ℤ) (start : Option ℤ) →

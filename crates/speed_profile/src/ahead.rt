@@ -1,5 +1,5 @@
 //! The speed that holds for what lies ahead (this project's profile).
-ghost use Rattle.std.specs.Prelude.{◌≡◌, ◌++◌, None, Some, List};
+ghost use Rattle.std.specs.Prelude.{◌≡◌, ◌≤◌, ◌≤ℤ◌, ◌++◌, None, Some, List};
 ghost use Rattle.std.specs.Iterator.{Drains};
 ghost use Rattle.track_store.specs.Profiles.{listed};
 ghost use Rattle.braking.specs.declared.target.Target.{Target as TargetAsked};
@@ -8,7 +8,7 @@ ghost use Rattle.speed_profile.specs.Ahead.{targets_ahead, permitted_ahead, sett
 ghost use Rattle.speed_profile.specs.Targets.{AskTheSame, Tells};
 ghost use Rattle.speed_profile.specs.Track.{speeds_along};
 
-use crate::nearest::{lower_by_rest, lower_by_speeds};
+use crate::nearest::lower_by_all;
 use crate::{Bounds, CategorySpeeds, Targets, Track};
 use braking::{Approach, Brakes, Target};
 use track_store::Profile;
@@ -50,11 +50,64 @@ impl<'a, S: Profile<CategorySpeeds>, G: Profile<Permille>> Ahead<'a, S, G> {
         ensures other { result.1 ≡ permitted_ahead self.now.front limit (Some other) self.now.bounds.now
             (speeds_along S.value self.now.track.now) (G.value self.now.gradient.now) self.now.brakes.now }
     {
-        let mut to_one = self.approach(limit, None);
-        let mut to_other = to_one.copy();
-        to_one.lower(&one);
-        to_other.lower(&other);
-        (to_one.speed(), to_other.speed())
+        let is_first = one.place < other.place
+            || (one.place == other.place && one.speed <= other.speed);
+        if is_first {
+            self.permitted_in_order(limit, one, other)
+        } else {
+            let (to_other, to_one) = self.permitted_in_order(limit, other, one);
+            (to_one, to_other)
+        }
+    }
+
+    // The same, as is cheapest for one that lies no farther than the other one.
+    fn permitted_in_order(&self, limit: Mph, near: Target, far: Target) -> (Mph, Mph)
+        ensures near { result.0 ≡ permitted_ahead self.now.front limit (Some near) self.now.bounds.now
+            (speeds_along S.value self.now.track.now) (G.value self.now.gradient.now) self.now.brakes.now }
+        ensures far { result.1 ≡ permitted_ahead self.now.front limit (Some far) self.now.bounds.now
+            (speeds_along S.value self.now.track.now) (G.value self.now.gradient.now) self.now.brakes.now }
+    {
+        if near.place == far.place && near.speed <= far.speed {
+            self.permitted_at_one_place(limit, near, far)
+        } else {
+            self.permitted_apart(limit, near, far)
+        }
+    }
+
+    // The same where one asks for all that the other one asks for: that one is gone to among those that lie ahead, and
+    // the one that asks for more behind all of them.
+    fn permitted_at_one_place(&self, limit: Mph, near: Target, far: Target) -> (Mph, Mph)
+        requires place { near.place ≤ℤ far.place }
+        requires speed { near.speed ≤ far.speed }
+        ensures near { result.0 ≡ permitted_ahead self.now.front limit (Some near) self.now.bounds.now
+            (speeds_along S.value self.now.track.now) (G.value self.now.gradient.now) self.now.brakes.now }
+        ensures far { result.1 ≡ permitted_ahead self.now.front limit (Some far) self.now.bounds.now
+            (speeds_along S.value self.now.track.now) (G.value self.now.gradient.now) self.now.brakes.now }
+    {
+        let mut approach = self.approach(limit, Some(far));
+        let to_far = approach.speed();
+        approach.lower(&near);
+        (approach.speed(), to_far)
+    }
+
+    // The same for any two. Each goes on from what was summed for all that lies ahead, or takes a sum of its own where
+    // it lies before the end of that one. If the speed so far fits the first, the other one goes on from there.
+    fn permitted_apart(&self, limit: Mph, near: Target, far: Target) -> (Mph, Mph)
+        ensures near { result.0 ≡ permitted_ahead self.now.front limit (Some near) self.now.bounds.now
+            (speeds_along S.value self.now.track.now) (G.value self.now.gradient.now) self.now.brakes.now }
+        ensures far { result.1 ≡ permitted_ahead self.now.front limit (Some far) self.now.bounds.now
+            (speeds_along S.value self.now.track.now) (G.value self.now.gradient.now) self.now.brakes.now }
+    {
+        let ahead = self.approach(limit, None);
+        let mut to_near = ahead.copy();
+        to_near.lower(&near);
+        let mut to_far = if to_near.speed() == ahead.speed() {
+            to_near.copy()
+        } else {
+            ahead
+        };
+        to_far.lower(&far);
+        (to_near.speed(), to_far.speed())
     }
 
     /// All that is a target ahead, and a last target where it is given, one after another. A speed fits those that come
@@ -76,9 +129,8 @@ impl<'a, S: Profile<CategorySpeeds>, G: Profile<Permille>> Ahead<'a, S, G> {
             (setting_out self.now.front limit self.now.gradient.now self.now.brakes.now) }
     {
         let mut approach = Approach::new(self.front, limit, self.gradient, self.brakes);
-        let mut targets = self.targets(last);
-        lower_by_speeds(&mut approach, &mut targets);
-        lower_by_rest(&mut approach, &mut targets);
+        let (mut speeds, mut others) = self.targets(last).into_kinds();
+        lower_by_all(&mut approach, &mut speeds, &mut others);
         approach
     }
 }

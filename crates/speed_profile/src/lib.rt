@@ -7,6 +7,7 @@ mod limit;
 mod limiting;
 mod nearest;
 mod short_speed;
+mod speeds_ahead;
 mod starts;
 mod targets;
 mod told;

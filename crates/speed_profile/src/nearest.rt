@@ -1,12 +1,14 @@
-//! An approach to all targets ahead, which goes through each gradient a few times at most, in whatever order they come.
+//! An approach to all targets ahead, in whatever order they come, in the order of their places: so the gradients are
+//! summed once.
 ghost use Rattle.std.specs.Prelude.{◌≡◌, ℕ, ◌+◌, ◌<◌, ◌≤◌, ◌≤ℤ◌, List, ◌∷◌, [], ◌++◌, None, false, length, take, drop, IsTrue, IfSome};
 ghost use Rattle.track_store.specs.Profiles.{listed};
 ghost use Rattle.braking.specs.declared.target.Target.{Target as TargetAsked};
 ghost use Rattle.braking.specs.Approaches.{lowered_by};
 ghost use Rattle.speed_profile.specs.Targets.{AskNothing, AskTheSame, AskTheSameOf, held};
 
-use crate::starts::stop_at;
-use crate::{CategorySpeeds, Targets};
+use crate::CategorySpeeds;
+use crate::speeds_ahead::{lower_by_piece, lower_by_speeds, lower_up_to};
+use crate::targets::{OtherTargets, SpeedTargets};
 use braking::{Approach, Target};
 use track_store::Profile;
 use units::Permille;
@@ -22,52 +24,83 @@ const USUAL_SPEED: u32 = 200_000;
 
 const USUAL_STEPS: usize = 40;
 
-/// Lowers the speed of an approach for the static speeds, which come the nearest first. Where the train can come to a
-/// stop before those that are left, it fits these.
-pub fn lower_by_speeds<'a, S: Profile<CategorySpeeds>, G: Profile<Permille>>(
+/// Lowers the speed of an approach for all targets ahead: the static speeds, which come the nearest first, and the
+/// others, in whatever order these come. They are gone to in the order of their places.
+pub fn lower_by_all<'a, S: Profile<CategorySpeeds>, G: Profile<Permille>>(
     approach: &mut Approach<'a, G>,
-    targets: &mut Targets<'a, S>,
+    speeds: &mut SpeedTargets<'a, S>,
+    others: &mut OtherTargets<'a>,
 )
-    ensures { lowered_by (G.value approach.new.gradient) targets.new.targets approach.new
-        ≡ lowered_by (G.value approach.old.gradient) targets.old.targets approach.old }
+    ensures { approach.new ≡ lowered_by (G.value approach.old.gradient) (speeds.old.targets ++ others.old.targets) approach.old }
 {
-    while let Some(target) = targets.next() {
-        approach.lower(&target);
-        let Some(place) = targets.speeds_from() else {
-            return;
-        };
-        if approach.fits(&stop_at(place)) {
-            targets.skip_speeds();
-            return;
-        }
+    lower_by_piece(approach, speeds);
+    lower_by_others(approach, speeds, others);
+    lower_by_speeds(approach, speeds);
+}
+
+// Lowers the speed for all others, and for the static speeds before them.
+fn lower_by_others<'a, S: Profile<CategorySpeeds>, G: Profile<Permille>>(
+    approach: &mut Approach<'a, G>,
+    speeds: &mut SpeedTargets<'a, S>,
+    others: &mut OtherTargets<'a>,
+)
+    ensures { lowered_by (G.value approach.new.gradient) speeds.new.targets approach.new
+        ≡ lowered_by (G.value approach.old.gradient) (speeds.old.targets ++ others.old.targets) approach.old }
+{
+    let Some(first) = next_to_brake_for(approach, others) else {
+        return;
+    };
+    match next_to_brake_for(approach, others) {
+        None => lower_up_to(approach, speeds, &first),
+        Some(second) => lower_by_more(approach, speeds, others, &first, &second),
     }
 }
 
-/// Lowers the speed of an approach for all targets that are left, in whatever order they come.
-pub fn lower_by_rest<'a, S: Profile<CategorySpeeds>, G: Profile<Permille>>(
+// Lowers the speed for two targets, for those that are left, and for the static speeds before them.
+fn lower_by_more<'a, S: Profile<CategorySpeeds>, G: Profile<Permille>>(
     approach: &mut Approach<'a, G>,
-    targets: &mut Targets<'a, S>,
+    speeds: &mut SpeedTargets<'a, S>,
+    others: &mut OtherTargets<'a>,
+    first: &Target,
+    second: &Target,
 )
-    ensures { approach.new ≡ lowered_by (G.value approach.old.gradient) targets.old.targets approach.old }
+    ensures { lowered_by (G.value approach.new.gradient) speeds.new.targets approach.new
+        ≡ lowered_by (G.value approach.old.gradient) (speeds.old.targets ++ (first.now ∷ second.now ∷ others.old.targets)) approach.old }
 {
-    let Some(first) = next_to_brake_for(approach, targets) else {
-        return;
-    };
-    match next_to_brake_for(approach, targets) {
-        None => approach.lower(&first),
-        Some(second) => lower_by_nearest(approach, targets, &first, &second),
+    match next_to_brake_for(approach, others) {
+        None => lower_by_two(approach, speeds, first, second),
+        Some(third) => lower_by_nearest(approach, speeds, others, first, second, &third),
+    }
+}
+
+// Lowers the speed for two targets, the nearer one first, and for the static speeds before them.
+fn lower_by_two<'a, S: Profile<CategorySpeeds>, G: Profile<Permille>>(
+    approach: &mut Approach<'a, G>,
+    speeds: &mut SpeedTargets<'a, S>,
+    one: &Target,
+    other: &Target,
+)
+    ensures { lowered_by (G.value approach.new.gradient) speeds.new.targets approach.new
+        ≡ lowered_by (G.value approach.old.gradient) (speeds.old.targets ++ (one.now ∷ other.now ∷ [])) approach.old }
+{
+    if one.place <= other.place {
+        lower_up_to(approach, speeds, one);
+        lower_up_to(approach, speeds, other);
+    } else {
+        lower_up_to(approach, speeds, other);
+        lower_up_to(approach, speeds, one);
     }
 }
 
 // The next target that the speed so far isn't known to fit.
-fn next_to_brake_for<'a, S: Profile<CategorySpeeds>, G: Profile<Permille>>(
+fn next_to_brake_for<'a, G: Profile<Permille>>(
     approach: &Approach<'a, G>,
-    targets: &mut Targets<'a, S>,
+    others: &mut OtherTargets<'a>,
 ) -> Option<Target>
-    ensures asked { AskTheSameOf (G.value approach.now.gradient) approach.now targets.old.targets (listed result ++ targets.new.targets) }
-    ensures none { result ≡ None → AskNothing targets.new.targets }
+    ensures asked { AskTheSameOf (G.value approach.now.gradient) approach.now others.old.targets (listed result ++ others.new.targets) }
+    ensures none { result ≡ None → AskNothing others.new.targets }
 {
-    while let Some(target) = targets.next() {
+    while let Some(target) = others.next() {
         if !approach.surely_fits(&target) {
             return Some(target);
         }
@@ -75,47 +108,67 @@ fn next_to_brake_for<'a, S: Profile<CategorySpeeds>, G: Profile<Permille>>(
     None
 }
 
-// Lowers the speed for two targets and for those that are left. A place for each step up to the speed so far does, since
-// no faster target asks for anything.
+// Lowers the speed for three targets, for those that are left, and for the static speeds before them. A place for each
+// step up to the speed so far does, since no faster target asks for anything.
 fn lower_by_nearest<'a, S: Profile<CategorySpeeds>, G: Profile<Permille>>(
     approach: &mut Approach<'a, G>,
-    targets: &mut Targets<'a, S>,
+    speeds: &mut SpeedTargets<'a, S>,
+    others: &mut OtherTargets<'a>,
     first: &Target,
     second: &Target,
+    third: &Target,
 )
-    ensures { approach.new ≡ lowered_by (G.value approach.old.gradient) (first.now ∷ second.now ∷ targets.old.targets) approach.old }
+    ensures { lowered_by (G.value approach.new.gradient) speeds.new.targets approach.new ≡ lowered_by (G.value approach.old.gradient)
+        (speeds.old.targets ++ (first.now ∷ second.now ∷ third.now ∷ others.old.targets)) approach.old }
 {
     if approach.speed().get() <= USUAL_SPEED {
         let mut nearest = [None; USUAL_STEPS + 1];
-        lower_by_held(approach, targets, first, second, &mut nearest);
+        lower_by_held(approach, speeds, others, first, second, third, &mut nearest);
     } else {
         let mut nearest = [None; STEPS + 1];
-        lower_by_held(approach, targets, first, second, &mut nearest);
+        lower_by_held(approach, speeds, others, first, second, third, &mut nearest);
     }
 }
 
-// Lowers the speed for two targets and for those that are left, in places that hold none. Of those of one speed only the
-// nearest is gone to, and of those of several only the ones that are nearer than each slower one, the fastest first. So
-// they lie farther and farther ahead, and what lies between is summed once.
+// The same, in places that hold none. Of those of one speed only the nearest is gone to, and of those of several only
+// the ones that are nearer than each slower one, the fastest first. So they lie farther and farther ahead, and what lies
+// between is summed once.
 #[inline(never)]
 fn lower_by_held<'a, S: Profile<CategorySpeeds>, G: Profile<Permille>>(
     approach: &mut Approach<'a, G>,
-    targets: &mut Targets<'a, S>,
+    speeds: &mut SpeedTargets<'a, S>,
+    others: &mut OtherTargets<'a>,
     first: &Target,
     second: &Target,
+    third: &Target,
     nearest: &mut [Option<Target>],
 )
     requires places { 1 ≤ length nearest.old }
     requires none { held nearest.old ≡ [] }
-    ensures { approach.new ≡ lowered_by (G.value approach.old.gradient) (first.now ∷ second.now ∷ targets.old.targets) approach.old }
+    ensures { lowered_by (G.value approach.new.gradient) speeds.new.targets approach.new ≡ lowered_by (G.value approach.old.gradient)
+        (speeds.old.targets ++ (first.now ∷ second.now ∷ third.now ∷ others.old.targets)) approach.old }
 {
     take(approach, nearest, first);
     take(approach, nearest, second);
-    while let Some(target) = targets.next() {
+    take(approach, nearest, third);
+    hold_left(approach, others, nearest);
+    let first = gather_deciding(nearest);
+    lower_each(approach, speeds, nearest, first);
+}
+
+// Holds those that are left.
+fn hold_left<'a, G: Profile<Permille>>(
+    approach: &mut Approach<'a, G>,
+    others: &mut OtherTargets<'a>,
+    nearest: &mut [Option<Target>],
+)
+    requires { 1 ≤ length nearest.old }
+    ensures { lowered_by (G.value approach.new.gradient) (held nearest.new) approach.new
+        ≡ lowered_by (G.value approach.old.gradient) (held nearest.old ++ others.old.targets) approach.old }
+{
+    while let Some(target) = others.next() {
         take(approach, nearest, &target);
     }
-    let first = gather_deciding(nearest);
-    lower_each(approach, nearest, first);
 }
 
 // Holds a target, or lowers the speed for it at once.
@@ -169,8 +222,9 @@ fn more_asking(known: &Option<Target>, target: &Target) -> Option<Target>
     None
 }
 
-// Whether a target is no nearer than another one, and asks for no lower speed.
-fn is_no_nearer(near: &Target, far: &Target) -> bool
+/// Whether a target is no nearer than another one, and asks for no lower speed: it then asks for nothing that the other
+/// one doesn't ask for.
+pub fn is_no_nearer(near: &Target, far: &Target) -> bool
     ensures place { IsTrue result → near.now.place ≤ℤ far.now.place }
     ensures speed { IsTrue result → near.now.speed ≤ far.now.speed }
 {
@@ -222,24 +276,31 @@ fn is_decided(near: &Option<Target>, target: &Target) -> bool
     }
 }
 
-// Lowers the speed for each that is held from a place on.
-fn lower_each<'a, G: Profile<Permille>>(
+// Lowers the speed for each that is held from a place on, and for the static speeds before it.
+fn lower_each<'a, S: Profile<CategorySpeeds>, G: Profile<Permille>>(
     approach: &mut Approach<'a, G>,
+    speeds: &mut SpeedTargets<'a, S>,
     nearest: &[Option<Target>],
     first: usize,
 )
-    ensures { approach.new ≡ lowered_by (G.value approach.old.gradient) (held (drop first nearest.now)) approach.old }
+    ensures { lowered_by (G.value approach.new.gradient) speeds.new.targets approach.new
+        ≡ lowered_by (G.value approach.old.gradient) (speeds.old.targets ++ held (drop first nearest.now)) approach.old }
 {
     for step in first..nearest.len() {
-        lower_if_held(approach, &nearest[step]);
+        lower_if_held(approach, speeds, &nearest[step]);
     }
 }
 
-// Lowers the speed for one, if there is one.
-fn lower_if_held<'a, G: Profile<Permille>>(approach: &mut Approach<'a, G>, place: &Option<Target>)
-    ensures { approach.new ≡ lowered_by (G.value approach.old.gradient) (listed place.now) approach.old }
+// The same for one, if there is one.
+fn lower_if_held<'a, S: Profile<CategorySpeeds>, G: Profile<Permille>>(
+    approach: &mut Approach<'a, G>,
+    speeds: &mut SpeedTargets<'a, S>,
+    place: &Option<Target>,
+)
+    ensures { (others : List TargetAsked) → lowered_by (G.value approach.new.gradient) (speeds.new.targets ++ others) approach.new
+        ≡ lowered_by (G.value approach.old.gradient) (speeds.old.targets ++ (listed place.now ++ others)) approach.old }
 {
     if let Some(target) = place {
-        approach.lower(target);
+        lower_up_to(approach, speeds, target);
     }
 }

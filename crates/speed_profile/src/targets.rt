@@ -1,20 +1,20 @@
 //! All that is a target ahead of a train.
-ghost use Rattle.std.specs.Prelude.{◌≡◌, ◌≤◌, ◌++◌, None};
+ghost use Rattle.std.specs.Prelude.{◌≡◌, ◌++◌};
 ghost use Rattle.std.specs.Iterator.{at_most};
 ghost use Rattle.track_store.specs.Profiles.{listed};
 ghost use Rattle.speed_profile.specs.Ahead.{over_ahead, static_targets, restriction_targets, area_targets};
 ghost use Rattle.speed_profile.specs.Track.{speeds_along};
-ghost use Rattle.speed_profile.specs.Targets.{Tells, AskTheSameBeyond};
+ghost use Rattle.speed_profile.specs.Targets.{Tells};
 
 mod inside;
+mod others;
 mod restricted;
 mod speeds;
 
 use crate::{Bounds, CategorySpeeds, Track};
 use braking::Target;
-use inside::AreaTargets;
-use restricted::RestrictionTargets;
-use speeds::SpeedTargets;
+pub use others::OtherTargets;
+pub use speeds::SpeedTargets;
 use std::marker::Model;
 use track_store::Profile;
 use units::Cm;
@@ -26,21 +26,18 @@ use units::Cm;
 #[derive(Drop)]
 pub struct Targets<'a, S: Profile<CategorySpeeds>> {
     speeds: SpeedTargets<'a, S>,
-    restricted: RestrictionTargets<'a>,
-    inside: AreaTargets<'a>,
-    last: Option<Target>,
+    others: OtherTargets<'a>,
 }
 
 impl<'a, S: Profile<CategorySpeeds>> Model for Targets<'a, S> {
-    ghost use Rattle.std.specs.Prelude.{◌++◌, ◌+◌, length};
-    ghost use Rattle.track_store.specs.Profiles.{listed};
+    ghost use Rattle.std.specs.Prelude.{◌++◌, ◌+◌};
     ghost use Rattle.speed_profile.specs.Targets.{Left};
 
     ghost Value = { Left };
 
     ghost view = { λ t. record {
-      targets = t.speeds.targets ++ (t.restricted.targets ++ (t.inside.targets ++ listed t.last));
-      most = t.speeds.most + t.restricted.most + t.inside.most + length (listed t.last);
+      targets = t.speeds.targets ++ t.others.targets;
+      most = t.speeds.most + t.others.most;
       speeds_from = t.speeds.speeds_from;
     } };
 }
@@ -60,27 +57,15 @@ impl<'a, S: Profile<CategorySpeeds>> Targets<'a, S> {
     {
         Targets {
             speeds: SpeedTargets::new(front, bounds, track.speeds),
-            restricted: RestrictionTargets::new(front, track.restrictions),
-            inside: AreaTargets::new(front, track.national, track.areas),
-            last,
+            others: OtherTargets::new(front, track, last),
         }
     }
 
-    /// Where the static speeds begin that are left; None where none is.
-    pub fn speeds_from(&self) -> Option<Cm>
-        ensures { result ≡ self.now.speeds_from }
+    /// The static speeds, the nearest first, and the others in any order.
+    pub(crate) fn into_kinds(self) -> (SpeedTargets<'a, S>, OtherTargets<'a>)
+        ensures { result.0.targets ++ result.1.targets ≡ self.entry.targets }
     {
-        self.speeds.start()
-    }
-
-    /// Leaves out the static speeds that are left. A train that can come to a stop where they begin can brake for all
-    /// of them.
-    pub fn skip_speeds(&mut self)
-        ensures none { self.new.speeds_from ≡ None }
-        ensures asks { AskTheSameBeyond self.old.speeds_from self.old.targets self.new.targets }
-        ensures fewer { self.new.most ≤ self.old.most }
-    {
-        self.speeds.skip_all();
+        (self.speeds, self.others)
     }
 }
 
@@ -95,12 +80,6 @@ impl<'a, S: Profile<CategorySpeeds>> Iterator for Targets<'a, S> {
         if let Some(target) = self.speeds.next() {
             return Some(target);
         }
-        if let Some(target) = self.restricted.next() {
-            return Some(target);
-        }
-        if let Some(target) = self.inside.next() {
-            return Some(target);
-        }
-        self.last.take()
+        self.others.next()
     }
 }

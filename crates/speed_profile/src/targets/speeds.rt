@@ -1,8 +1,9 @@
 //! The static speeds ahead as targets.
-ghost use Rattle.std.specs.Prelude.{◌≡◌, [], None};
+ghost use Rattle.std.specs.Prelude.{◌≡◌, ◌<◌, [], ◌++◌, None, IfSome};
 ghost use Rattle.std.specs.Iterator.{at_most};
+ghost use Rattle.track_store.specs.Profiles.{listed};
 ghost use Rattle.speed_profile.specs.Ahead.{over_ahead, static_targets};
-ghost use Rattle.speed_profile.specs.Targets.{Tells, AskTheSameBeyond};
+ghost use Rattle.speed_profile.specs.Targets.{Tells, AskTheSame, AskTheSameBeyond};
 
 use crate::starts::{next_after, static_target};
 use crate::{Bounds, CategorySpeeds};
@@ -45,11 +46,25 @@ impl<'a, S: Profile<CategorySpeeds>> SpeedTargets<'a, S> {
         }
     }
 
-    /// Where those begin that are left.
+    /// Where those begin that are left; None where none is.
     pub fn start(&self) -> Option<Cm>
-        ensures { result ≡ self.now.speeds_from }
+        ensures place { result ≡ self.now.speeds_from }
+        ensures none { result ≡ None → self.now ≡ record { targets = []; most = 0; speeds_from = None } }
     {
         self.start
+    }
+
+    /// What the nearest piece asks for, if it asks for anything; then it is left no longer.
+    pub fn next_piece(&mut self) -> Option<Target>
+        ensures asked { AskTheSame self.old.targets (listed result ++ self.new.targets) }
+        ensures fewer { IfSome self.old.speeds_from (λ place. self.new.most < self.old.most) }
+        ensures none { self.old.speeds_from ≡ None → result ≡ None }
+    {
+        let place = self.start?;
+        let here = self.speeds.piece(place, self.near);
+        self.start = here.next;
+        self.near = here.near;
+        static_target(self.bounds, place, here.value)
     }
 
     /// Leaves out those that are left: all lie where they begin or farther ahead.
@@ -69,11 +84,8 @@ impl<'a, S: Profile<CategorySpeeds>> Iterator for SpeedTargets<'a, S> {
     ghost remaining = { λ left. at_most left.most };
 
     fn next(&mut self) -> Option<Target> {
-        while let Some(place) = self.start {
-            let here = self.speeds.piece(place, self.near);
-            self.start = here.next;
-            self.near = here.near;
-            let target = static_target(self.bounds, place, here.value);
+        while self.start().is_some() {
+            let target = self.next_piece();
             if target.is_some() {
                 return target;
             }

@@ -1,42 +1,31 @@
-use Rattle.std.proofs.Common.{List, ◌∷◌, ◌++◌, drop, ap, ◌∙◌, arith}
+use Rattle.std.proofs.Common.{List, ◌∷◌, ◌++◌, drop, ap, ◌∙◌}
 use Rattle.braking.specs.declared.target.Target.{Target}
 use Rattle.braking.specs.Approaches.{lowered_by}
 use Rattle.speed_profile.specs.Targets.{held}
-use Rattle.speed_profile.proofs.Asking.{same, lowered_same}
-use Rattle.speed_profile.proofs.Held.{lowered_behind, lowered_at_end}
+use Rattle.speed_profile.proofs.Asking.{same, through, joined, turned, lowered_same, lowered_before}
+use Rattle.speed_profile.proofs.Held.{lowered_behind}
 use Rattle.speed_profile.proofs.nearest.lower_by_held.Goals as goal
-
-pub loop-target-init : goal.loop-target-init
-loop-target-init g c =
-    let value = g.G.Profile.value in
-    let old = c.args.approach.now in
-    let left = c.args.targets.now.targets in
-    let behind = c.args.second.now ∷ left in
-    record {
-      length = omega (arith, c.take-2.ensures.length, c.take.ensures.length, c.requires.places);
-      asked = c.take-2.ensures.asked left
-          ∙ lowered_behind value (held c.take.new.nearest) behind left c.args.second.now c.take.new.approach (same behind)
-          ∙ c.take.ensures.asked behind
-          ∙ ap (λ (places : List Target). lowered_by (value old.gradient) (c.args.first.now ∷ (places ++ behind)) old) c.requires.none;
-    }
-
-pub loop-target-preserved : goal.loop-target-preserved
-loop-target-preserved g c =
-    let value = g.G.Profile.value in
-    let old = c.loop-target.approach in
-    let before = c.loop-target.targets.targets in
-    let after = c.next.new.self.targets in
-    record {
-      length = omega (arith, c.take-in-Some.ensures.length, c.loop-target.invariant.length);
-      asked = c.take-in-Some.ensures.asked after
-          ∙ lowered_behind value (held c.loop-target.nearest) before after c.in-Some.target old c.in-Some.ensures.steps
-          ∙ c.loop-target.invariant.asked;
-    }
 
 pub returns : goal.returns
 returns g c =
+    let value = g.G.Profile.value in
+    let old = c.args.approach.now in
+    let speeds = c.args.speeds.now.targets in
+    let left = c.args.others.now.targets in
+    let two = c.args.third.now ∷ left in
+    let three = c.args.second.now ∷ two in
+    let all = c.args.first.now ∷ three in
+    let some = held c.hold_left.new.nearest in
+    let deciding = held (drop c.gather_deciding-first.result c.gather_deciding-first.new.nearest) in
+    let taken = c.take-3.ensures.asked left
+    ∙ lowered_behind value (held c.take-2.new.nearest) two left c.args.third.now c.take-2.new.approach (same two)
+    ∙ c.take-2.ensures.asked two
+    ∙ lowered_behind value (held c.take.new.nearest) three two c.args.second.now c.take.new.approach (same three)
+    ∙ c.take.ensures.asked three
+    ∙ ap (λ (places : List Target). lowered_by (value old.gradient) (c.args.first.now ∷ (places ++ three)) old) c.requires.none in
     c.lower_each.ensures
-    ∙ lowered_same g.G.Profile.value (held (drop c.gather_deciding-first.result c.gather_deciding-first.new.nearest)) (held c.loop-target.nearest)
-    c.loop-target.approach c.gather_deciding-first.ensures.asked
-    ∙ lowered_at_end g.G.Profile.value (held c.loop-target.nearest) c.loop-target.targets.targets c.loop-target.approach c.in_default.ensures.steps.0
-    ∙ c.loop-target.invariant.asked
+    ∙ lowered_same value (speeds ++ deciding) (some ++ speeds) c.hold_left.new.approach
+    (through (speeds ++ deciding) (deciding ++ speeds) (some ++ speeds) (turned speeds deciding)
+    (joined deciding speeds some speeds c.gather_deciding-first.ensures.asked (same speeds)))
+    ∙ lowered_before value some all speeds old c.hold_left.new.approach (c.hold_left.ensures ∙ taken)
+    ∙ lowered_same value (all ++ speeds) (speeds ++ all) old (turned all speeds)

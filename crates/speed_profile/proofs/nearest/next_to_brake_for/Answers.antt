@@ -7,24 +7,24 @@ pub returns-then-not-surely_fits-clause-asked : goal.returns-then-not-surely_fit
 returns-then-not-surely_fits-clause-asked g c =
     let value = g.G.Profile.value in
     let course = c.args.approach.now in
-    let before = c.loop-target.targets.targets in
+    let before = c.loop-target.others.targets in
     let told = c.in-Some.target ∷ c.next.new.self.targets in
-    of_through value c.args.targets.now.targets before told course c.loop-target.invariant (of_all value before told course c.in-Some.ensures.steps)
+    of_through value c.args.others.now.targets before told course c.loop-target.invariant (of_all value before told course c.in-Some.ensures.steps)
 
 pub loop-target-preserved : goal.loop-target-preserved
 loop-target-preserved g c =
     let value = g.G.Profile.value in
     let course = c.args.approach.now in
-    let before = c.loop-target.targets.targets in
+    let before = c.loop-target.others.targets in
     let after = c.next.new.self.targets in
-    of_through value c.args.targets.now.targets before after course c.loop-target.invariant
+    of_through value c.args.others.now.targets before after course c.loop-target.invariant
     (of_passed value c.in-Some.target before after course c.in-Some.ensures.steps (c.surely_fits.ensures.fits c.if-not-surely_fits.false))
 
 pub returns-clause-asked : goal.returns-clause-asked
 returns-clause-asked g c =
     let value = g.G.Profile.value in
     let course = c.args.approach.now in
-    let before = c.loop-target.targets.targets in
+    let before = c.loop-target.others.targets in
     let after = c.next.new.self.targets in
-    of_through value c.args.targets.now.targets before after course c.loop-target.invariant
+    of_through value c.args.others.now.targets before after course c.loop-target.invariant
     (of_all value before after course (through before [] after c.in_default.ensures.steps.0 (back after [] c.in_default.ensures.steps.1)))

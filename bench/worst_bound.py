@@ -7,7 +7,6 @@ ends with status 1 where more was counted.
 
 What lies ahead is told by the plain program of tests/plain, which lives each scenario. `bench/worst.sh --build` builds what counts.
 """
-import math
 import sys
 from pathlib import Path
 
@@ -19,9 +18,10 @@ from mixed import in_plain_words  # noqa: E402
 from worst_search import ANEW, CROWDS, GROWN, STAIRS, anew, backwards, counted, crowded, kept, stairs, text_of  # noqa: E402
 
 CALL = 10_000  # what a call takes that goes along nothing
-PIECE, SUMS = 44, 5  # of a sum for each gradient, and how many sums there are
+PIECE, SUMS = 44, 3  # of a sum for each gradient, and how many sums there are
+BACK, WALKS = 80, 2  # of a way back for each gradient before the brakes act, and how often each is passed, beside once for each target
 TARGET = 800  # for each restriction, mode area and static speed, and for both last targets: it lowers the speed
-TURNS, TURN = 20, 350  # with a reaction time: how often a lowering halves, and what each time takes
+TURNS, TURN = 20, 40  # with a reaction time: how often a lowering halves, and what each time takes
 KNOWN = 25  # of a start for each gradient and static speed: whether it is known
 lives.output_of = lambda life: None  # (no output is asked for, and each takes a second)
 
@@ -40,20 +40,15 @@ def starts_of(profile):
     return found
 
 
-def again(starts, front, way, targets):
-    """How many gradients are gone along again at most by the search for speeds between where the brakes act at two of them. All these lie on the way
-    that the train runs before its brakes act: W gradients, and D where they were as close as the closest two. In each sum what a lowering begins and
-    what it halves is at most twice as long as that way. One lowering goes along W, and along as many for each halving, or half as many as before."""
-    there = [place for place in starts if front < place <= front + way]
-    if not there:
-        return 0
-    closest = min((after - place for place, after in zip(there, there[1:])), default=way)
-    most = way // closest + 1
-    return min(2 * SUMS * most, int(targets * len(there) * (3 + math.log2(most / len(there)))))
+def passed(starts, front, way, targets):
+    """How many gradients are passed at most on the way back to where the brakes act at the speeds that are looked for. These lie on the way that the
+    train runs before its brakes act at the speed that holds where it is. Each lowering goes on where the one before it ended, in the gradient there."""
+    there = sum(front < place <= front + way for place in starts) + 1
+    return WALKS * there + targets
 
 
 def bound_of(lines, is_start):
-    """The bound of the last of these lines, and the numbers that it goes by: gradients, targets, and gradients that are gone along again."""
+    """The bound of the last of these lines, and the numbers that it goes by: gradients, targets, and gradients that are passed on the way back."""
     life = lives.Life()
     for word, value in in_plain_words([line for line in lines if not line.startswith(("cold", "flush"))]):
         life.take(word, value)
@@ -66,9 +61,9 @@ def bound_of(lines, is_start):
     statics = 1 + sum(place > it.stretch.min_rear for place in speeds)
     targets = len(it.restrictions) + len(it.areas) + statics + 2
     way = -(-it.limit() * it.train.reaction_ms // 36_000)
-    more = again(starts, front, way, targets)
-    most = CALL + PIECE * (SUMS * gradients + more) + targets * (TARGET + (TURNS * TURN if way else 0))
-    return most + (KNOWN * (gradients + statics) if is_start else 0), (gradients, targets, more)
+    back = passed(starts, front, way, targets) if way else 0
+    most = CALL + PIECE * SUMS * gradients + BACK * back + targets * (TARGET + (TURNS * TURN if way else 0))
+    return most + (KNOWN * (gradients + statics) if is_start else 0), (gradients, targets, back)
 
 
 def told(words):

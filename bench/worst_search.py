@@ -650,9 +650,9 @@ def stairs(grades, restricted=0, areas=0, speeds=0, rising=True, step=2, reactio
 
 
 def anew(grades, reaction=0, step=2):
-    """The same train and gradients, and after all of them in turn the end of the authority, two restrictions, of which the farther one was told first,
-    and a static speed, after which none is known. Each is slower than the next one, and nearer: so each sum that a call can make begins anew, and
-    goes along all gradients."""
+    """The same train and gradients, and after all of them in turn the end of the authority, its danger point, two restrictions, of which the farther
+    one was told first, and a static speed, after which none is known. Each is slower than the next one, and nearer: so the sums for all but the two
+    last targets, for the end and for the danger point each begin anew, and go along all gradients."""
     *lines, action, first, last = [line.replace("160000", "600000") if isinstance(line, str) else line
                                    for line in backwards(0, grades, step, reaction)]
     whole, behind = [("Q_DIR", 2), ("Q_SCALE", 1)], grades * step
@@ -660,12 +660,14 @@ def anew(grades, reaction=0, step=2):
             [(27, whole + listed([[("D_STATIC", after), ("V_STATIC", speed), ("Q_FRONT", 0), ("N_ITER", 0)]
                                   for after, speed in each_after([(0, 120), (behind + 40, 30), (behind + 50, 127)])]))]]
     after = [heard(group, some) for group, some in enumerate(told, 400)]
-    return [*(line for line in lines if isinstance(line, str)), *(ended_at(line, behind + 1) for line in heard_in(lines)), *after, action, first, last]
+    return [*(line for line in lines if isinstance(line, str)), *(ended_at(line, behind + 1, 9) for line in heard_in(lines)), *after, action, first, last]
 
 
-def ended_at(line, metres):
-    """A telegram whose authority ends after so many metres."""
-    return (*line[:2], [(number, [(name, metres if name == "L_ENDSECTION" else value) for name, value in fields]) for number, fields in line[2]])
+def ended_at(line, metres, beyond=0):
+    """A telegram whose authority ends after so many metres, with a danger point so many beyond."""
+    danger = [("Q_DANGERPOINT", 1), ("D_DP", beyond), ("V_RELEASEDP", 126)] if beyond else [("Q_DANGERPOINT", 0)]
+    ends = {"L_ENDSECTION": [("L_ENDSECTION", metres)], "Q_DANGERPOINT": danger}
+    return (*line[:2], [(number, [it for name, value in fields for it in ends.get(name, [(name, value)])]) for number, fields in line[2]])
 
 
 def crowded(grades, statics, restricted, end, location, deceleration=300, reaction=10_000, first=131, steep=121, beyond=90, behind=0):

@@ -197,10 +197,6 @@ module _ {G : Type 0} (value : G → ℤ → Option ℤ) where
       (λ v below. h course.front (value course.gradient) course.brakes v
       (slower_fits course.front (value course.gradient) course.brakes there course.speed v below stop)))
 
-  -- one whose speed stays is the same
-  pub lowered_unchanged : (t : Target) (old new : Course G) → new ≡ lowered (value old.gradient) t old → new.speed ≡ old.speed → new ≡ old
-  lowered_unchanged t old new is stays = is ∙ ap (at_speed old) (sym (ap (λ (c : Course G). c.speed) is) ∙ stays)
-
   -- some, and others behind them
   pub lowered_both : (some others : List Target) (old : Course G) →
       lowered_by (value old.gradient) others (lowered_by (value old.gradient) some old) ≡ lowered_by (value old.gradient) (some ++ others) old

@@ -90,24 +90,15 @@ impl<'a, S: Profile<CategorySpeeds>, G: Profile<Permille>> Ahead<'a, S, G> {
         (approach.speed(), to_far)
     }
 
-    // The same for any two. Each goes on from what was summed for all that lies ahead, or takes a sum of its own where
-    // it lies before the end of that one. If the speed so far fits the first, the other one goes on from there.
+    // The same for any two: both go on from what was summed for all that lies ahead.
     fn permitted_apart(&self, limit: Mph, near: Target, far: Target) -> (Mph, Mph)
         ensures near { result.0 ≡ permitted_ahead self.now.front limit (Some near) self.now.bounds.now
             (speeds_along S.value self.now.track.now) (G.value self.now.gradient.now) self.now.brakes.now }
         ensures far { result.1 ≡ permitted_ahead self.now.front limit (Some far) self.now.bounds.now
             (speeds_along S.value self.now.track.now) (G.value self.now.gradient.now) self.now.brakes.now }
     {
-        let ahead = self.approach(limit, None);
-        let mut to_near = ahead.copy();
-        to_near.lower(&near);
-        let mut to_far = if to_near.speed() == ahead.speed() {
-            to_near.copy()
-        } else {
-            ahead
-        };
-        to_far.lower(&far);
-        (to_near.speed(), to_far.speed())
+        let mut approach = self.approach(limit, None);
+        approach.lower_for_either(&near, &far)
     }
 
     /// All that is a target ahead, and a last target where it is given, one after another. A speed fits those that come

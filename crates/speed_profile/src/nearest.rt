@@ -222,9 +222,8 @@ fn more_asking(known: &Option<Target>, target: &Target) -> Option<Target>
     None
 }
 
-/// Whether a target is no nearer than another one, and asks for no lower speed: it then asks for nothing that the other
-/// one doesn't ask for.
-pub fn is_no_nearer(near: &Target, far: &Target) -> bool
+// Whether a target is no nearer than another one, and asks for no lower speed.
+fn is_no_nearer(near: &Target, far: &Target) -> bool
     ensures place { IsTrue result → near.now.place ≤ℤ far.now.place }
     ensures speed { IsTrue result → near.now.speed ≤ far.now.speed }
 {

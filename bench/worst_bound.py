@@ -18,7 +18,7 @@ from mixed import in_plain_words  # noqa: E402
 from worst_search import ANEW, CROWDS, GROWN, STAIRS, anew, backwards, counted, crowded, kept, stairs, text_of  # noqa: E402
 
 CALL = 10_000  # what a call takes that goes along nothing
-PIECE, SUMS = 44, 3  # of a sum for each gradient, and how many sums there are
+PIECE, SUMS = 44, 2  # of a sum for each gradient, and how many sums there are
 BACK, WALKS = 80, 2  # of a way back for each gradient before the brakes act, and how often each is passed, beside once for each target
 TARGET = 800  # for each restriction, mode area and static speed, and for both last targets: it lowers the speed
 TURNS, TURN = 20, 40  # with a reaction time: how often a lowering halves, and what each time takes

@@ -15,7 +15,7 @@ sys.dont_write_bytecode = True
 sys.path[:0] = [str(TOP / "bench"), str(TOP / "tests" / "plain")]
 import life as lives  # noqa: E402
 from mixed import in_plain_words  # noqa: E402
-from worst_search import ANEW, CROWDS, GROWN, STAIRS, anew, backwards, counted, crowded, kept, stairs, text_of  # noqa: E402
+from worst_search import ANEW, CROWDS, GROWN, STAIRS, TWICE, anew, backwards, counted, crowded, kept, stairs, text_of  # noqa: E402
 
 CALL = 10_000  # what a call takes that goes along nothing
 PIECE, SUMS = 44, 2  # of a sum for each gradient, and how many sums there are
@@ -84,6 +84,7 @@ def told(words):
     if "crowds" in words:
         for crowd in CROWDS:
             yield f"reading: a crowd of {crowd['grades']} gradients, {crowd['reaction'] / 1000:g} s", [text_of(line) for line in crowded(**crowd)]
+        yield f"reading: {TWICE['grades']} gradients, two sums and two ways back, {TWICE['reaction'] / 1000:g} s", [text_of(line) for line in crowded(**TWICE)]
     if "anew" in words:
         for grades, reaction in ANEW:
             yield f"reading: {grades} gradients, each sum anew, {reaction / 1000:g} s", [text_of(line) for line in anew(grades, reaction)]

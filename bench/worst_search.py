@@ -256,7 +256,7 @@ def seeds(r):
     for one in LAST:
         yield [*summed[:-1], one]
     lives = [read_again(lines) for _, _, lines in kept()] if SCENARIOS.exists() else []
-    lives += [[*crowd[:-1], one] for crowd in (crowded(**CROWDS[2]), anew(690), anew(690, 10_000)) for one in (*LAST, "odometer 1 50000")]
+    lives += [[*crowd[:-1], one] for crowd in (crowded(**TWICE), crowded(**CROWDS[2]), anew(690), anew(690, 10_000)) for one in (*LAST, "odometer 1 50000")]
     yield from lives
     for _ in range(max(0, 2 * BATCH - 61 - len(LAST) - len(lives))):
         yield [*ENTERED, *(telegram(r) for _ in range(r.randrange(1, 8))), "action 7", *(any_line(r) for _ in range(r.randrange(4, 20)))]
@@ -533,11 +533,11 @@ def by_hand():
     header = dict(zip(HEADER, (0, 7, 0, 255, 1, 9, 1)))
     parts = [("telegram", header | {"N_PIG": place}, [(SKIPPED, [("Q_DIR", 2)])] * 33) for place in range(8)]
     yield "telegram that closes a group of 264 packets", [*ENTERED, *parts]
-    *before, start, last = crowded(**CROWDS[2])
+    *before, start, last = crowded(**TWICE)
     *others, gradients, restrictions = before
     calls = [[*before, start], *([*before, start, *more, one] for more in ((), (last,)) for one in (*LAST, last)), [*before, start, "telegram 00"],
              [*before, start, restrictions], [*others, restrictions, start, gradients], [*before, start, parts[0]],
-             [*crowded(**CROWDS[2], behind=131)[:-1], parts[0], "odometer 1301 50000"]]
+             [*crowded(**TWICE, behind=131)[:-1], parts[0], "odometer 1301 50000"]]
     for lines in calls:
         yield list(kinds_of([text_of(line) for line in lines]))[-1], lines
 
@@ -672,7 +672,7 @@ def ended_at(line, metres, beyond=0):
 
 def crowded(grades, statics, restricted, end, location, deceleration=300, reaction=10_000, first=131, steep=121, beyond=90, behind=0):
     """Full Supervision at up to 600 km/h, with so many gradients ahead, one every 10 cm, which lie within the way that the train runs before its
-    brakes act. Then each speed that is looked for goes along all of them again. Static speeds and restrictions are places, in steps of 10 cm
+    brakes act. So the way back to where they act at a lower speed passes them. Static speeds and restrictions are places, in steps of 10 cm
     after the group, and steps of 5 km/h; the authority ends at a place, and its location another one. All of them may lie farther on."""
     whole = [("Q_DIR", 2), ("Q_SCALE", 0)]
     lines = [*ENTERED, f"train 20000 600000 {deceleration} {reaction} 15"]
@@ -760,6 +760,9 @@ STAIRS = [(grades, reaction, near_end, many) for near_end in (False, True) for r
 STOPS = {"statics": [(16_263, 1), (16_264, 127)], "restricted": [(5_381, 0), (2_046, 0)], "end": 875, "location": 875}
 CROWDS = [{"grades": grades, **STOPS, "reaction": reaction} for grades, reaction in ((172, 10_000), (345, 10_000), (690, 10_000), (690, 5_000), (690, 1_000))]
 ANEW = ((345, 0), (690, 0), (690, 1_000), (690, 10_000))
+# 690 gradients that two sums go along, and both ways back from the speed that holds: what took most of 7,000 at random and by small steps.
+TWICE = {"grades": 690, "statics": [(4_374, 23), (4_375, 127)], "restricted": [(4_983, 0), (4_331, 40)], "end": 1_885, "location": 1_886,
+         "deceleration": 50, "reaction": 6_226, "first": 1_133, "steep": 22, "beyond": 92}
 
 
 def main(words):

@@ -23,14 +23,12 @@ import stack_bound  # noqa: E402
 import worst_search  # noqa: E402
 
 # The worst driver's start that was found, and a little more. A reading before 32 restrictions behind 690 gradients, told from the farthest to the
-# nearest, or before 40 of which each slower one is nearer: one sum over the gradients. A reading before stairs of restrictions, mode areas and static
-# speeds whose authority ends before them: four sums. A reading each of whose five sums begins anew. A reading before a crowd of gradients, with a
-# reaction time: the search for each of five speeds goes along all of them again.
-MOST_START = 450_000
+# nearest, or before 40 of which each slower one is nearer, or before stairs of restrictions, mode areas and static speeds whose authority ends before
+# them: one sum over the gradients. A reading each of whose two sums begins anew. A reading that goes along all gradients in two sums and two ways back.
+MOST_START = 160_000
 MOST_READING = 45_000
-MOST_SUMS = 140_000
-MOST_ANEW = 160_000
-MOST_CROWDED = 430_000
+MOST_ANEW = 72_000
+MOST_TWICE = 140_000
 # A reading with twice the restrictions, or twice the gradients, takes at most twice as much, and a little for the call itself.
 MOST_DOUBLED = 2.05
 # Bytes of stack: of the calls that power up, and of any other one.
@@ -80,7 +78,7 @@ def main(program, *words):
     grown = {(690, 32): "far to near", (690, 64): "far to near", (1380, 32): "far to near"}
     took = counted([*(lines for _, lines in told), *starts, *(reading(*size, order) for size, order in grown.items()), reading(690, 32, "by turns"),
                     stairs(restricted=40), stairs(restricted=10, areas=10, speeds=10, near_end=True), told_by(worst_search.anew(690)),
-                    told_by(worst_search.crowded(**worst_search.CROWDS[2]))])
+                    told_by(worst_search.crowded(**worst_search.TWICE))])
     numbers = dict(zip((what for what, _ in told), took))
     if words == ("--keep",):
         KEPT.write_text("".join(f"{number} {what}\n" for what, number in numbers.items()))
@@ -88,13 +86,13 @@ def main(program, *words):
     kept = {what: int(number) for number, what in (line.split(" ", 1) for line in KEPT.read_text().splitlines())}
     faults = [f"{what}: {numbers.get(what)} instructions, and {kept.get(what)} are kept" for what in {**numbers, **kept}
               if what not in numbers or what not in kept or abs(numbers[what] - kept[what]) > 0.03 * kept[what]]
-    start, few, restricted, graded, turns, stepped, summed, anew, crowded = took[len(told):]
+    start, few, restricted, graded, turns, stepped, summed, anew, twice = took[len(told):]
     bounds = [("the worst start of a mission that was found", start, MOST_START), ("a reading before 690 gradients and 32 restrictions", few, MOST_READING),
               ("the same, told by turns", turns, MOST_READING), ("the same, twice the restrictions", restricted, MOST_DOUBLED * few),
               ("the same, twice the gradients", graded, MOST_DOUBLED * few),
               ("a reading before 40 restrictions, each slower one nearer", stepped, MOST_READING),
-              ("a reading before stairs of each kind, the authority's end before them", summed, MOST_SUMS),
-              ("a reading each of whose sums begins anew", anew, MOST_ANEW), ("a reading before a crowd of gradients", crowded, MOST_CROWDED)]
+              ("a reading before stairs of each kind, the authority's end before them", summed, MOST_READING),
+              ("a reading each of whose sums begins anew", anew, MOST_ANEW), ("a reading with two sums and two ways back", twice, MOST_TWICE)]
     faults += [f"{what}: {number} instructions, and {most:.0f} are its bound" for what, number, most in bounds if number > most]
     taken = stacks(program)
     most = {name: MOST_STACK_OF_OPEN if name in POWER_UPS else MOST_STACK for name in taken}

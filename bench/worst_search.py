@@ -755,7 +755,7 @@ STAIRS = [(grades, reaction, near_end, many) for near_end in (False, True) for r
           for many in KINDS]
 
 
-# Crowds of gradients, and what is told ahead of them, for each of the five sums a place that is nearer than where the brakes act at the speed so far.
+# Crowds of gradients, and what is told ahead of them: each place is nearer than where the brakes act at the speed so far.
 # (The static speed is no stop: before one, no further static speed would be asked for.)
 STOPS = {"statics": [(16_263, 1), (16_264, 127)], "restricted": [(5_381, 0), (2_046, 0)], "end": 875, "location": 875}
 CROWDS = [{"grades": grades, **STOPS, "reaction": reaction} for grades, reaction in ((172, 10_000), (345, 10_000), (690, 10_000), (690, 5_000), (690, 1_000))]

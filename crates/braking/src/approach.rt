@@ -109,17 +109,18 @@ impl<'a, P: Profile<Permille>> Approach<'a, P> {
     /// The speeds after one more target, and after another one in its place, in metres per hour. Where the first one lies
     /// before the end of what was summed last, what lies before it is summed once for both. It costs least where the
     /// first one is the nearer.
-    pub fn lower_for_either(&mut self, near: &Target, far: &Target) -> (Mph, Mph)
-        ensures near { result.0 ≡ (lowered (P.value self.old.gradient) near.now self.old).speed }
-        ensures far { result.1 ≡ (lowered (P.value self.old.gradient) far.now self.old).speed }
+    pub fn lowered_for_either(self, near: &Target, far: &Target) -> (Mph, Mph)
+        ensures near { result.0 ≡ (lowered (P.value self.entry.gradient) near.now self.entry).speed }
+        ensures far { result.1 ≡ (lowered (P.value self.entry.gradient) far.now self.entry).speed }
     {
-        if near.place < self.summed.to {
-            self.fits(near);
+        let mut to_far = self;
+        if near.place < to_far.summed.to {
+            to_far.fits(near);
         }
-        let mut to_near = self.copy();
+        let mut to_near = to_far.copy();
         to_near.lower(near);
-        self.lower(far);
-        (to_near.speed(), self.speed())
+        to_far.lower(far);
+        (to_near.speed(), to_far.speed())
     }
 
     // The same where its speed is above the target's. It is a function of its own, so that what costs nothing is done

@@ -150,17 +150,10 @@ fn begun_at(front: Cm, speed: Mph, brakes: &Brakes, stretch: &Stretch) -> Option
     match brakes_act(front, way, stretch.sum.from) {
         None => None,
         Some(start) => {
-            let from = later_of(start, stretch.begun.from);
+            let from = start.max(stretch.begun.from);
             Some(stretch.sum.begun_evenly(stretch.slowing, from))
         }
     }
-}
-
-// The one of two places that lies farther ahead.
-fn later_of(one: Cm, other: Cm) -> Cm
-    ensures { result ≡ int_max one other }
-{
-    if one < other { other } else { one }
 }
 
 // A speed between two; None where there is none.

@@ -97,8 +97,8 @@ impl<'a, S: Profile<CategorySpeeds>, G: Profile<Permille>> Ahead<'a, S, G> {
         ensures far { result.1 ≡ permitted_ahead self.now.front limit (Some far) self.now.bounds.now
             (speeds_along S.value self.now.track.now) (G.value self.now.gradient.now) self.now.brakes.now }
     {
-        let mut approach = self.approach(limit, None);
-        approach.lower_for_either(&near, &far)
+        let approach = self.approach(limit, None);
+        approach.lowered_for_either(&near, &far)
     }
 
     /// All that is a target ahead, and a last target where it is given, one after another. A speed fits those that come

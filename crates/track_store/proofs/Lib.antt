@@ -10,3 +10,4 @@ pub mod Searching
 pub mod Forgetting
 pub mod Apart
 pub mod Throughout
+pub mod Known

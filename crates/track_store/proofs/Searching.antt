@@ -117,3 +117,13 @@ module _ {A : Type 0} where
   none_before place there segments started to =
       let d : Segment A = record { start = place; value = None } in
       all_ahead None there segments d (λ k h. omega (arith, ints, to, started.1.1 k d (omega arith) h))
+
+  -- and a later one starts behind an earlier one
+  pub apart : (segments : List (Segment A)) (i j : ℕ) (d e : Segment A) → IsRising segments → i < j → j < length segments →
+      (get_or segments i d).start <ℤ (get_or segments j e).start
+  apart [] i j d e r a h = absurd (omega arith)
+  apart (s ∷ segments) zero zero d e r a h = absurd (omega arith)
+  apart (s ∷ segments) zero (suc j) d e r a h = behind_low s.start segments j e r (omega arith)
+  apart (s ∷ segments) (suc i) zero d e r a h = absurd (omega arith)
+  apart (s ∷ segments) (suc i) (suc j) d e r a h =
+      apart segments i j d e (rising_from s.start segments r) (omega arith) (omega arith)

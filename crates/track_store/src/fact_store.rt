@@ -3,6 +3,7 @@ ghost use Rattle.std.specs.Prelude.{◌≤◌, ℤ, Option, IsOk, OnOk, vec_len}
 
 use crate::blank::Blank;
 use crate::fact::Fact;
+use crate::knowing::is_known_by_pieces;
 use crate::{PieceBefore, Profile, ProfileStore, Step};
 use std::alloc::Global;
 use std::marker::Model;
@@ -125,6 +126,10 @@ impl<T: Copy> ProfileStore<T> for FactStore<T> {
         if let Some(blank) = self.blanks.pop() {
             self.facts.insert(0, blank.fill(start, steps)).unwrap();
         }
+    }
+
+    fn is_known_throughout(&self, from: Cm, end: Cm) -> bool {
+        is_known_by_pieces(self, from, end)
     }
 
     fn drop_behind(&mut self, place: Cm) {

@@ -26,9 +26,9 @@ pub fn is_known_over<T: Copy, P: Profile<T>>(profile: &P, from: Cm, to: Cm) -> b
     false
 }
 
-/// Whether a profile has a value at each centimetre from one up to another, that one not included. It goes from change
-/// to change, and takes no memory.
-pub fn is_known_throughout<T: Copy, P: Profile<T>>(profile: &P, from: Cm, end: Cm) -> bool
+/// What `ProfileStore::is_known_throughout` answers, of a profile that has no shorter way than from change to change. It
+/// takes no memory.
+pub(crate) fn is_known_by_pieces<T: Copy, P: Profile<T>>(profile: &P, from: Cm, end: Cm) -> bool
     ensures { IsTrue result ↔ IsKnownThroughout (P.value profile.now) from end }
 {
     let mut place = from;

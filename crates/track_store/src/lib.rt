@@ -14,7 +14,7 @@ mod segments;
 mod stretches;
 
 pub use fact_store::FactStore;
-pub use knowing::{is_known, is_known_over, is_known_throughout};
+pub use knowing::{is_known, is_known_over};
 pub use profile::{MOST_STEPS, Piece, PieceBefore, Profile, ProfileStore, Step};
 pub use restriction::Restriction;
 pub use restrictions::Restrictions;

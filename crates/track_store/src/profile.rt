@@ -1,7 +1,7 @@
 //! The traits of a profile: what is asked of it at a place, and how it is replaced, dropped and given room.
-ghost use Rattle.std.specs.Prelude.{◌≡◌, ◌≤◌, ◌+◌, ℕ, ℤ, ◌≤ℤ◌, ◌<ℤ◌, max, length, Option, None, IsOk, OnOk, OnErr, IfOk};
+ghost use Rattle.std.specs.Prelude.{◌≡◌, ◌≤◌, ◌+◌, ◌↔◌, ℕ, ℤ, ◌≤ℤ◌, ◌<ℤ◌, max, length, Option, None, IsTrue, IsOk, OnOk, OnErr, IfOk};
 ghost use Rattle.track_store.specs.Profiles as profiles;
-ghost use Rattle.track_store.specs.Profiles.{Lasts, HoldsOver, profile_with};
+ghost use Rattle.track_store.specs.Profiles.{Lasts, HoldsOver, IsKnownThroughout, profile_with};
 ghost use Rattle.track_store.specs.Facts.{from_mark, replaced};
 
 use std::alloc::Global;
@@ -141,6 +141,10 @@ pub trait ProfileStore<T>: Profile<T> {
         requires room { 1 ≤ room self.old }
         ensures value { (place : ℤ) → Self.value self.new place ≡ replaced (Self.value self.old) start steps.now place }
         ensures room { room self.old ≤ room self.new + 1 };
+
+    /// Whether each centimetre from one up to another, that one not included, has a value. It takes no memory.
+    fn is_known_throughout(&self, from: Cm, end: Cm) -> bool
+        ensures { IsTrue result ↔ IsKnownThroughout (Self.value self.now) from end };
 
     /// Drops the values below a place, in centimetres, and no other ones. What comes there later counts.
     fn drop_behind(&mut self, place: Cm)

@@ -3,7 +3,7 @@ ghost use Rattle.std.specs.Prelude.{◌≡◌, ℤ, Option};
 ghost use Rattle.track_store.specs.Segments.{IsKept, count_of};
 
 use crate::segments::{
-    Segment, drop_below, hold_steps, next_start, piece_at, piece_up_to, value_at,
+    Segment, all_known, drop_below, hold_steps, next_start, piece_at, piece_up_to, value_at,
 };
 use crate::{MOST_STEPS, Piece, PieceBefore, Profile, ProfileStore, Same, Step};
 use std::alloc::Global;
@@ -130,6 +130,10 @@ impl<T: Copy + Same> ProfileStore<T> for SegmentStore<T> {
     fn replace_reserved(&mut self, start: Cm, steps: &[Step<T>]) {
         self.room -= 1;
         hold_steps(&mut self.segments, start, steps);
+    }
+
+    fn is_known_throughout(&self, from: Cm, end: Cm) -> bool {
+        all_known(&self.segments, from, end)
     }
 
     fn drop_behind(&mut self, place: Cm) {

@@ -1,8 +1,8 @@
 //! Segments in a list: values are looked up, steps are taken in, and what lies before a mark is dropped.
-ghost use Rattle.std.specs.Prelude.{◌≡◌, ℕ, IsTrue, IfSome, ◌+◌, ◌<◌, ◌≤◌, ℤ, ◌≤ℤ◌, ◌<ℤ◌, false, if◌then◌else◌, int_lt, is_none, Some, ◌||◌, ◌↔◌, None, length, filter, take, vec_len, vec_capacity};
+ghost use Rattle.std.specs.Prelude.{◌≡◌, ℕ, IsTrue, IsSome, IfSome, ◌+◌, ◌<◌, ◌≤◌, ℤ, ◌≤ℤ◌, ◌<ℤ◌, false, if◌then◌else◌, int_lt, is_none, Some, ◌||◌, ◌↔◌, None, length, filter, take, vec_len, vec_capacity};
 ghost use Rattle.std.specs.List.{AllWithin, list_any};
 ghost use Rattle.track_store.specs.Facts.{from_mark, passed, replaced};
-ghost use Rattle.track_store.specs.Profiles.{HoldsOver};
+ghost use Rattle.track_store.specs.Profiles.{HoldsOver, IsKnownThroughout};
 ghost use Rattle.track_store.specs.Segments.{value_of_segments, value_behind, next_among, IsRising, IsStarted, IsStartedBelow, IsKept, IsKeptBehind, is_first_passed, first_cut, is_reached};
 
 use crate::{Piece, PieceBefore, Same, Step};
@@ -201,6 +201,34 @@ pub(crate) fn piece_up_to<T: Copy>(
     ensures value { HoldsOver (value_of_segments segments.now) result.value result.from place }
 {
     last_piece(segments, least, counted_below(segments, place, near))
+}
+
+// Whether each segment from an index up to another one has a value.
+fn all_have_values<T: Copy>(segments: &[Segment<T>], first: usize, end: usize) -> bool
+    requires { (first ≤ end) × (end ≤ length segments.now) }
+    ensures { IsTrue result ↔ AllWithin (λ segment. IsSome segment.value) segments.now first end }
+{
+    for segment in &segments[first..end] {
+        if segment.value.is_none() {
+            return false;
+        }
+    }
+    true
+}
+
+/// Whether each centimetre from one up to another, that one not included, has a value. It costs a look at each segment
+/// between.
+pub(crate) fn all_known<T: Copy>(segments: &[Segment<T>], from: Cm, end: Cm) -> bool
+    requires { IsRising segments.now }
+    ensures { IsTrue result ↔ IsKnownThroughout (value_of_segments segments.now) from end }
+{
+    if end <= from {
+        return true;
+    }
+    match started(segments, from).checked_sub(1) {
+        Some(first) => all_have_values(segments, first, started_below(segments, end)),
+        None => false,
+    }
 }
 
 // Drops the segments that start at a place or behind it. Those that stay aren't gone through.

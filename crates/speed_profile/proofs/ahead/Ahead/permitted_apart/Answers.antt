@@ -10,7 +10,7 @@ returns-clause-near g c =
     let self = c.args.self.now in
     let ahead = targets_ahead self.front self.bounds.now (speeds_along g.S.Profile.value self.track.now) in
     let approach = c.approach-approach.result in
-    c.lower_for_either.ensures.near
+    c.lowered_for_either.ensures.near
     ∙ lowered_last g.G.Profile.value ahead c.args.near (setting_out self.front c.args.limit self.gradient.now self.brakes.now)
     approach (lowered (g.G.Profile.value approach.gradient) c.args.near approach) c.approach-approach.ensures refl
 
@@ -19,6 +19,6 @@ returns-clause-far g c =
     let self = c.args.self.now in
     let ahead = targets_ahead self.front self.bounds.now (speeds_along g.S.Profile.value self.track.now) in
     let approach = c.approach-approach.result in
-    c.lower_for_either.ensures.far
+    c.lowered_for_either.ensures.far
     ∙ lowered_last g.G.Profile.value ahead c.args.far (setting_out self.front c.args.limit self.gradient.now self.brakes.now)
     approach (lowered (g.G.Profile.value approach.gradient) c.args.far approach) c.approach-approach.ensures refl

@@ -1,7 +1,7 @@
 use Rattle.std.proofs.Common.{◌≤ℤ◌}
 use Rattle.units.specs.Stretches.{count_between}
 use Rattle.track_store.specs.Profiles.{IsKnownThroughout}
-use Rattle.track_store.proofs.knowing.is_known_throughout.Given as goal
+use Rattle.track_store.proofs.knowing.is_known_by_pieces.Given as goal
 
 -- what was passed has a value everywhere
 abbrev pub invariant-loop-end : goal.invariant-loop-end

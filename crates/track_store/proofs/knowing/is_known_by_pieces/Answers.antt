@@ -4,7 +4,7 @@ use Rattle.std.proofs.lemmas.Int.{ints}
 use Rattle.track_store.specs.Profiles.{Lasts}
 use Rattle.track_store.proofs.Jumps.{fewer_left}
 use Rattle.track_store.proofs.Throughout.{not_none, none_known, known_further, known_for_ever, known_before}
-use Rattle.track_store.proofs.knowing.is_known_throughout.Goals as goal
+use Rattle.track_store.proofs.knowing.is_known_by_pieces.Goals as goal
 
 pub loop-end-init : goal.loop-end-init
 loop-end-init g c = (omega (arith, ints), λ there a b. absurd (omega (arith, ints, a, b)))

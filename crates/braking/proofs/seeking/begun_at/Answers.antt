@@ -1,0 +1,26 @@
+use Rattle.std.proofs.Common.{◌≡◌, ℤ, ◌-ℤ◌, ◌≤◌, ◌≤ℤ◌, ◌*◌, ◌∙◌, arith}
+use Rattle.std.specs.Int.{int_max}
+use Rattle.std.specs.Ordering.{ord_max}
+use Rattle.std.proofs.lemmas.Int.{ints}
+use Rattle.std.proofs.Math.Nat.{mul-le-mul_left}
+use Rattle.units.specs.Stretches.{natural}
+use Rattle.units.specs.contracts.cm.CmOrd.TheImpl.{cmp-value}
+use Rattle.braking.proofs.Naturals.{parts}
+use Rattle.braking.proofs.seeking.begun_at.Goals as goal
+
+max_is : (a b : ℤ) → ord_max cmp-value.it a b ≡ int_max a b
+max_is a b = grind (arith, ints)
+
+pub begun_evenly-requires : goal.begun_evenly-requires
+begun_evenly-requires c =
+    let stretch = c.args.stretch.now in
+    let start = c.in-Some.start in
+    let from = c.max-from.result in
+    let is : from ≡ int_max start stretch.begun.from = c.max-from.ensures ∙ max_is start stretch.begun.from in
+    let sooner : stretch.begun.from ≤ℤ from = grind (arith, ints) in
+    let before : from ≤ℤ stretch.sum.from = grind (arith, ints) in
+    let whole = parts stretch.begun.from from stretch.sum.from sooner before in
+    let less : natural (stretch.sum.from -ℤ from) ≤ natural (stretch.sum.from -ℤ stretch.begun.from) = omega (arith, whole) in
+    let product : 2592 * stretch.slowing * natural (stretch.sum.from -ℤ from) ≤ 2592 * stretch.slowing * natural (stretch.sum.from -ℤ stretch.begun.from) =
+    mul-le-mul_left (2592 * stretch.slowing) less in
+    record { small = c.requires.small; ordered = before; little = omega (arith, product, c.requires.little) }

@@ -22,7 +22,7 @@ PIECE, SUMS = 44, 2  # of a sum for each gradient, and how many sums there are
 BACK, WALKS = 80, 2  # of a way back for each gradient before the brakes act, and how often each is passed, beside once for each target
 TARGET = 800  # for each restriction, mode area and static speed, and for both last targets: it lowers the speed
 TURNS, TURN = 20, 40  # with a reaction time: how often a lowering halves, and what each time takes
-KNOWN = 25  # of a start for each gradient and static speed: whether it is known
+KNOWN = 5  # of a start for each gradient and static speed: whether it is known
 lives.output_of = lambda life: None  # (no output is asked for, and each takes a second)
 
 # The calls for which a bound is argued. A telegram also makes room, and an opening and a preparation go along no gradient.

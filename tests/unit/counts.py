@@ -25,7 +25,7 @@ import worst_search  # noqa: E402
 # The worst driver's start that was found, and a little more. A reading before 32 restrictions behind 690 gradients, told from the farthest to the
 # nearest, or before 40 of which each slower one is nearer, or before stairs of restrictions, mode areas and static speeds whose authority ends before
 # them: one sum over the gradients. A reading each of whose two sums begins anew. A reading that goes along all gradients in two sums and two ways back.
-MOST_START = 160_000
+MOST_START = 145_000
 MOST_READING = 45_000
 MOST_ANEW = 72_000
 MOST_TWICE = 140_000

@@ -1,2 +1,3 @@
+pub mod Going
 pub mod Parts
 pub mod SystemLemmas

@@ -1,2 +1,4 @@
 pub mod Files
+pub mod Honest
+pub mod Moments
 pub mod SystemFile

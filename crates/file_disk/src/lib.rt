@@ -2,6 +2,8 @@
 #![tactic(auto)]
 
 mod filedisk;
+mod honest;
+mod moment;
 mod raw;
 mod readonly;
 mod syncing;
@@ -9,6 +11,7 @@ mod system;
 mod whole;
 
 pub use filedisk::FileDisk;
+pub use honest::HonestFile;
 pub use raw::RawFile;
 pub use readonly::{ReadError, ReadOnlyFile};
 pub use whole::read_all;

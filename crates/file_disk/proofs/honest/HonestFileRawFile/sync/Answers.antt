@@ -1,10 +1,10 @@
 use Rattle.std.proofs.Common.{◌≡◌, ◌<◌, List, length, sym, subst, rules}
 use Rattle.disk.specs.State.{Touches, IsSynced}
 use Rattle.file_disk.specs.Files.{bytes_of, whole_disk}
-use Rattle.honest_file.specs.declared.moment.Moment.{Moment}
-use Rattle.honest_file.specs.Honest.{state_of}
-use Rattle.honest_file.proofs.Going.{sync_bytes, sync_settles, sync_only}
-use Rattle.honest_file.proofs.honest.HonestFileRawFile.sync.Goals as goal
+use Rattle.file_disk.specs.declared.moment.Moment.{Moment}
+use Rattle.file_disk.specs.Honest.{state_of}
+use Rattle.file_disk.proofs.Going.{sync_bytes, sync_settles, sync_only}
+use Rattle.file_disk.proofs.honest.HonestFileRawFile.sync.Goals as goal
 
 pub returns-clause-moments : goal.returns-clause-moments
 returns-clause-moments c = λ honest.

@@ -10,10 +10,10 @@ use Rattle.std.proofs.Math.Seq.{drop-append-add}
 use Rattle.disk.specs.State.{now, Outside, SameOutside, Touches, AreOpen, IsSynced, sector_of}
 use Rattle.file_disk.specs.Files.{FileMoment, FileState, bytes_of, medium_of, whole_disk, overwritten, WritesOnly}
 use Rattle.file_disk.proofs.Parts.{length-overwritten}
-use Rattle.honest_file.specs.declared.moment.Part.{Part}
-use Rattle.honest_file.specs.declared.moment.Moment.{Moment}
-use Rattle.honest_file.specs.Moments.{is_in, is_open_in, moment_of}
-use Rattle.honest_file.specs.Honest.{seen, state_of}
+use Rattle.file_disk.specs.declared.moment.Part.{Part}
+use Rattle.file_disk.specs.declared.moment.Moment.{Moment}
+use Rattle.file_disk.specs.Moments.{is_in, is_open_in, moment_of}
+use Rattle.file_disk.specs.Honest.{seen, state_of}
 
 -- a sector stays where bytes are written elsewhere
 pub sector_far : (bytes with : List ℕ) (offset s : ℕ) → offset + length with ≤ length bytes → (512 * s + 512 ≤ offset) ⊎ (offset + length with ≤ 512 * s)

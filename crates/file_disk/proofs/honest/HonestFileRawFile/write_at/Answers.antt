@@ -2,10 +2,10 @@ use Rattle.std.proofs.Common.{◌≡◌, ◌+◌, ◌/◌, ◌%◌, ◌<◌, ◌
 use Rattle.std.proofs.lemmas.Grind.{common_steps}
 use Rattle.disk.specs.State.{AreOpen}
 use Rattle.file_disk.specs.Files.{bytes_of, whole_disk, overwritten, WritesOnly}
-use Rattle.honest_file.specs.declared.moment.Moment.{Moment}
-use Rattle.honest_file.specs.Honest.{state_of}
-use Rattle.honest_file.proofs.Going.{write_only, write_opens, write_holds}
-use Rattle.honest_file.proofs.honest.HonestFileRawFile.write_at.Goals as goal
+use Rattle.file_disk.specs.declared.moment.Moment.{Moment}
+use Rattle.file_disk.specs.Honest.{state_of}
+use Rattle.file_disk.proofs.Going.{write_only, write_opens, write_holds}
+use Rattle.file_disk.proofs.honest.HonestFileRawFile.write_at.Goals as goal
 
 pub returns-clause-only : goal.returns-clause-only
 returns-clause-only c = λ honest within.

@@ -2,9 +2,9 @@
 ghost use Rattle.std.specs.Prelude.{◌≡◌, ◌-◌, ◌<◌, [], ◌∷◌, ◌++◌, length, vec_len, IfOk, OnOk, OnErr, Some, slice_get};
 ghost use Rattle.file_disk.specs.Files.{bytes_of};
 
+use crate::RawFile;
 use crate::moment::Moment;
 use disk::DiskFault;
-use file_disk::RawFile;
 use std::alloc::{AllocError, Global};
 
 /// A file in memory that keeps each of its moments. A call reads or writes so many bytes at most.
@@ -17,7 +17,7 @@ pub struct HonestFile {
 }
 
 impl HonestFile {
-    ghost use Rattle.honest_file.specs.Honest.{honest_state};
+    ghost use Rattle.file_disk.specs.Honest.{honest_state};
 
     /// An empty file, whose calls read or write so many bytes at most.
     pub fn new(alloc: Global, most: usize) -> Result<HonestFile, AllocError>
@@ -62,7 +62,7 @@ impl HonestFile {
 }
 
 impl RawFile for HonestFile {
-    ghost use Rattle.honest_file.specs.Honest.{honest_state};
+    ghost use Rattle.file_disk.specs.Honest.{honest_state};
 
     ghost state = { honest_state };
 

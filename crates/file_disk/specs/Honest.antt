@@ -1,9 +1,9 @@
 -- An honest file in memory (this project's profile of tests). Offsets are bytes.
 use Rattle.std.specs.Prelude.{◌-◌, true, false, [], List, length, Option, Some, None, slice_get}
 use Rattle.file_disk.specs.Files.{FileMoment, FileState}
-use Rattle.honest_file.specs.declared.moment.Moment.{Moment}
-use Rattle.honest_file.specs.declared.honest.HonestFile.{HonestFile}
-use Rattle.honest_file.specs.Moments.{moment_of}
+use Rattle.file_disk.specs.declared.moment.Moment.{Moment}
+use Rattle.file_disk.specs.declared.honest.HonestFile.{HonestFile}
+use Rattle.file_disk.specs.Moments.{moment_of}
 
 -- a moment, an empty file where there is none
 abbrev pub seen : Option Moment → FileMoment

@@ -2,8 +2,8 @@
 use Rattle.std.specs.Prelude.{ℕ, ◌+◌, ◌*◌, ◌&&◌, nat_lt, Bool, List}
 use Rattle.std.specs.List.{list_any}
 use Rattle.file_disk.specs.Files.{FileMoment}
-use Rattle.honest_file.specs.declared.moment.Part.{Part}
-use Rattle.honest_file.specs.declared.moment.Moment.{Moment}
+use Rattle.file_disk.specs.declared.moment.Part.{Part}
+use Rattle.file_disk.specs.declared.moment.Moment.{Moment}
 
 -- one of these bytes is in sector s
 abbrev pub is_in : ℕ → Part → Bool

@@ -1,2 +1,0 @@
-pub mod Honest
-pub mod Moments

@@ -13,7 +13,7 @@ cd "$(dirname "$(readlink -f -- "$0")")/rows" || exit 1
 made=$(mktemp -d) || exit 1
 trap 'rm -rf "$made"' EXIT
 mkdir "$made/cases" "$made/answers" || exit 1
-modules=(test_decode test_parts test_modes test_disk test_blocks test_journal test_onboard test_kernel test_track)
+modules=(test_decode test_parts test_modes test_disk test_blocks test_journal test_onboard test_kernel test_track test_json)
 status=0
 
 # rows NAME FLOOR: the rows of a module
@@ -39,4 +39,5 @@ rows test_journal 1100
 rows test_onboard 34585
 rows test_kernel 660
 rows test_track 60
+rows test_json 12
 exit $status

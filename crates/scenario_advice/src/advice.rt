@@ -2,7 +2,7 @@
 
 use command_line::mode_word;
 use hex::FromHexError;
-use json_places::{Outline, Place, Spot};
+use json_values::{Outline, Place, Spot};
 use mode_table::Mode;
 use packets::Packet;
 use serde_json::Value;

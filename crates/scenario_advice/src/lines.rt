@@ -4,7 +4,7 @@ use crate::accepting::refusals;
 use crate::advice::{LocatedAdvice, advice_on};
 use crate::locating::{Faults, LocatedFault, faults_of};
 use events::Step;
-use json_places::{Outline, Place, Position, Repeat, RepeatsError, has_repeats};
+use json_values::{Outline, Place, Position, Repeat, RepeatsError, has_repeats};
 use mode_table::Cold;
 use serde_json::Value;
 use simulator::{Scenario, ScenarioFault};

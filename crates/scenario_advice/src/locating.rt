@@ -4,7 +4,7 @@ ghost use Rattle.simulator.specs.Scenarios.{Tells, FaultOf};
 
 use crate::wanted;
 use events::Step;
-use json_places::{Outline, Place, Position, Spot};
+use json_values::{Outline, Place, Position, Spot};
 use mode_table::Cold;
 use serde_json::Value;
 use simulator::{

@@ -8,7 +8,7 @@ use Rattle.json.proofs.Printed.Utf8.{IsUtf8-are_ascii}
 use Rattle.packets.specs.Packets.{length_of, number_of}
 use Rattle.packets.specs.declared.packet.Packet.{Packet}
 use Rattle.packets.specs.declared.packet.Packet.TheVariants as packets
-use Rattle.serde_json.specs.Data.{Data, number, array, object, Items, item, Members, no_members, depth, items_depth, members_depth}
+use Rattle.serde_json.specs.Data.{Data, array, object, Items, item, Members, no_members, depth, items_depth, members_depth}
 use Rattle.serde_json.specs.Read.{max_depth}
 use Rattle.serde_json.specs.View.{items_of}
 use Rattle.serde_json.specs.Written.{outline}

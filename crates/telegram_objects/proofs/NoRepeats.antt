@@ -3,7 +3,7 @@ use Rattle.std.proofs.Common.{◌≡◌, ℕ, List, Some, None, subst, sym, ◌�
 use Rattle.std.proofs.lemmas.Option.{same_Some}
 use Rattle.json.specs.Json.{document}
 use Rattle.json.specs.Strict.{HasUniqueKeys}
-use Rattle.json_places.specs.Names.{HasUniqueNames, HasRepeats}
+use Rattle.json_values.specs.Names.{HasUniqueNames, HasRepeats}
 
 pub unique_alone : (text : List ℕ) → HasUniqueNames text → HasRepeats text → ⊥
 unique_alone text u r =

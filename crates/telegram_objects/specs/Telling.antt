@@ -6,7 +6,7 @@ use Rattle.std.specs.List.{AllByRecursion}
 use Rattle.bits.specs.Bits.{bits_of}
 use Rattle.bits.specs.Names.{name_text}
 use Rattle.hex.specs.Hex.{decode_of}
-use Rattle.json_places.specs.Names.{HasUniqueNames}
+use Rattle.json_values.specs.Names.{HasUniqueNames}
 use Rattle.packets.specs.Packets.{number_of}
 use Rattle.packets.specs.declared.packet.Packet.{Packet}
 use Rattle.packets.specs.declared.packet.Packet.TheVariants as packets

@@ -1,7 +1,7 @@
 //! The text of an object in which a name comes again.
 
 use crate::faults::{ObjectFault, Place, Reason};
-use json_places::{Outline, Place as TextPlace, Repeat};
+use json_values::{Outline, Place as TextPlace, Repeat};
 use std::alloc::{AllocError, Global};
 use std::fmt;
 use std::fmt::{Formatter, Write};

@@ -1,6 +1,6 @@
 //! From an object to the bytes of the telegram that it tells.
 ghost use Rattle.std.specs.Prelude.{◌≡◌, ◌≢◌, ◌↔◌, ◌≤◌, ℕ, List, length, IsTrue, IsOk, IfOk, IfErr, IfSome, IsSomeAnd, IsUtf8};
-ghost use Rattle.json_places.specs.Names.{HasUniqueNames};
+ghost use Rattle.json_values.specs.Names.{HasUniqueNames};
 ghost use Rattle.serde_json.specs.View.{view};
 ghost use Rattle.telegram.specs.Telegrams.{Carries};
 ghost use Rattle.telegram.specs.declared.message.Telegram.{Telegram};
@@ -14,7 +14,7 @@ use crate::refusing::fault_of;
 use crate::repeated::fault_of_names;
 use arrayvec::ArrayVec;
 use bits::BitWriter;
-use json_places::{RepeatsError, has_repeats};
+use json_values::{RepeatsError, has_repeats};
 use packets::TELEGRAM_BYTES;
 use serde_json::Value;
 use std::alloc::Global;

@@ -1,7 +1,7 @@
 use Rattle.std.proofs.Common.{◌≡◌, ◌≢◌, ℕ, List, Result, Ok, Err, IfErr, subst, sym, ◌∙◌}
 use Rattle.std.specs.Prelude.{IsUtf8}
 use Rattle.std.proofs.lemmas.Option.{same_Some}
-use Rattle.json_places.specs.Names.{HasUniqueNames}
+use Rattle.json_values.specs.Names.{HasUniqueNames}
 use Rattle.serde_json.specs.Data.{Data}
 use Rattle.serde_json.specs.View.{view}
 use Rattle.telegram.specs.Telegrams.{Carries}

@@ -1,7 +1,7 @@
 //! Names that come twice in one object.
 ghost use Rattle.std.specs.Prelude.{◌≡◌, Ok, Err, true, false, None, IsUtf8};
 ghost use Rattle.json.specs.Json.{document};
-ghost use Rattle.json_places.specs.Names.{HasUniqueNames, HasRepeats};
+ghost use Rattle.json_values.specs.Names.{HasUniqueNames, HasRepeats};
 
 use crate::outline::{Outline, Spot, Step};
 use json::{Scratch, Value};

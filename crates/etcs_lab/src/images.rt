@@ -4,9 +4,9 @@ ghost use Rattle.std.specs.Option.{ForSome};
 ghost use Rattle.blocks.specs.FirstSector.{least_slots, most_slots};
 
 use crate::digest::facts_of;
+use crate::given::GivenSlots;
 use crate::status::{Status, fail, unread};
 use file_disk::{FileDisk, ReadError, ReadOnlyFile};
-use given_slots::GivenSlots;
 use lab_examine::FileFacts;
 use std::fs::File;
 use std::rt::Files;

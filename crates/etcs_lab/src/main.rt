@@ -6,6 +6,7 @@ mod checked;
 mod digest;
 mod event_lines;
 mod examined;
+mod given;
 mod help;
 mod images;
 mod linted;

@@ -1,6 +1,6 @@
 use Rattle.std.proofs.Common.{inr, refl}
-use Rattle.given_slots.proofs.GivenSectors.{touches_same}
-use Rattle.given_slots.proofs.given.GivenSlotsWriteDisk.write.Goals as goal
+use Rattle.etcs_lab.proofs.GivenSectors.{touches_same}
+use Rattle.etcs_lab.proofs.given.GivenSlotsWriteDisk.write.Goals as goal
 
 pub returns-clause-moments : goal.returns-clause-moments
 returns-clause-moments g c = λ honest. touches_same c.args.self.now.first c.args.self.now.faults _ c.args._first _ (g.D.WriteDisk.state c.args.self.now.disk)

@@ -1,8 +1,8 @@
 use Rattle.std.proofs.Common.{◌≤◌, length, arith}
 use Rattle.std.proofs.lemmas.Result.{on_ok_weaker}
 use Rattle.disk.specs.State.{contents_of}
-use Rattle.given_slots.proofs.GivenSectors.{touches_given, holds_given}
-use Rattle.given_slots.proofs.given.GivenSlotsDisk.read.Goals as goal
+use Rattle.etcs_lab.proofs.GivenSectors.{touches_given, holds_given}
+use Rattle.etcs_lab.proofs.given.GivenSlotsDisk.read.Goals as goal
 
 pub lay_over-requires-clause-room : goal.lay_over-requires-clause-room
 lay_over-requires-clause-room g c = omega (arith, c.requires.whole, c.requires.some, c.read-answer.auto.bytes)

@@ -1,9 +1,10 @@
-//! The disk.
+//! A disk for reading alone that is read as an image of a given number of slots, whatever its first sector holds (this
+//! project's profile).
 ghost use Rattle.std.specs.Prelude.{◌≡◌, ◌+◌, ◌%◌, ◌^◌, ◌≤◌, length, IsTrue, is_err, if◌then◌else◌};
 ghost use Rattle.std.specs.Option.{ForSome};
 ghost use Rattle.disk.specs.State.{contents_of};
 ghost use Rattle.blocks.specs.FirstSector.{least_slots, most_slots};
-ghost use Rattle.given_slots.specs.Given.{laid_over, ReadsAs, IsGiven};
+ghost use Rattle.etcs_lab.specs.Given.{laid_over, ReadsAs, IsGiven};
 
 use blocks::write_first_sector;
 use disk::{Disk, DiskFault, SECTOR_BYTES, WriteDisk};
@@ -11,7 +12,7 @@ use disk::{Disk, DiskFault, SECTOR_BYTES, WriteDisk};
 /// A disk for reading alone. Where a number of slots is given, its first sector reads as the one that is written for so
 /// many; all else reads as it is. A write is DiskFault and reaches nothing.
 #[derive(Drop)]
-pub struct GivenSlots<D: Disk> {
+pub(crate) struct GivenSlots<D: Disk> {
     disk: D,
     // What the first sector reads as, where that isn't what it holds.
     first: Option<[u8; SECTOR_BYTES]>,
@@ -57,7 +58,7 @@ fn counted(faults: u64, answer: &Result<(), DiskFault>) -> u64
 
 impl<D: Disk> GivenSlots<D> {
     /// A disk that is read as one of so many slots, or as it is where none is given. The caller owes 2 to 1,048,576.
-    pub fn over(disk: D, slots: Option<u32>) -> GivenSlots<D>
+    pub(crate) fn over(disk: D, slots: Option<u32>) -> GivenSlots<D>
         requires { ForSome slots (λ n. (least_slots ≤ n) × (n ≤ most_slots)) }
         ensures sectors { (⟦<GivenSlots<D> as WriteDisk>⟧.state result).sectors ≡ (D.state disk).sectors }
         ensures honest { (⟦<GivenSlots<D> as WriteDisk>⟧.state result).honest ≡ (D.state disk).honest }
@@ -73,7 +74,7 @@ impl<D: Disk> GivenSlots<D> {
 }
 
 impl<D: Disk> WriteDisk for GivenSlots<D> {
-    ghost use Rattle.given_slots.specs.Given.{given_state};
+    ghost use Rattle.etcs_lab.specs.Given.{given_state};
 
     ghost state = { λ it. given_state it.first it.faults (D.state it.disk) };
 

@@ -5,7 +5,7 @@ use Rattle.std.proofs.lemmas.List.{take_at, drop-drop}
 use Rattle.std.proofs.Math.Seq.{drop-append-add}
 use Rattle.disk.proofs.Moments.{touches_none}
 use Rattle.disk.specs.State.{State, Platter, now, Outside, SameOutside, Touches, Holds, sector_of}
-use Rattle.given_slots.specs.Given.{given_at, given_platter, given_state, laid_over, IsGiven, ReadsAs}
+use Rattle.etcs_lab.specs.Given.{given_at, given_platter, given_state, laid_over, IsGiven, ReadsAs}
 
 same_contents : (g : Option (List ℕ)) (f b : ℕ) (old new : Platter) → SameOutside f b old new → (s : ℕ) → Outside f b s → given_at g new.contents s ≡ given_at g old.contents s
 same_contents None f b old new same s out = same.contents s out

@@ -8,13 +8,13 @@ use Rattle.onboard.specs.Events.{account_of, IsAhead}
 use Rattle.onboard.specs.Lives.{IsReady, Opens}
 use Rattle.onboard.specs.declared.errors.OpenError.{OpenError}
 use Rattle.request_disk.specs.Requesting.{request_state}
+use Rattle.relayed_unit.specs.Goings.{OnOpen}
+use Rattle.relayed_unit.specs.Openings.{Opening, medium_state, IsGoing}
+use Rattle.relayed_unit.specs.declared.powering_up.Going.{Going}
+use Rattle.relayed_unit.specs.declared.powering_up.Going.TheVariants as a_going
 use Rattle.unit_calls.specs.PowerUps.{before_any, IsUp}
 use Rattle.unit_calls.specs.declared.handle.Opened.{Opened}
 use Rattle.unit_calls.specs.declared.status.Status.{Status}
-use Rattle.unit_opening.specs.Goings.{OnOpen}
-use Rattle.unit_opening.specs.Openings.{Opening, medium_state, IsGoing}
-use Rattle.unit_opening.specs.declared.opening.Going.{Going}
-use Rattle.unit_opening.specs.declared.opening.Going.TheVariants as a_going
 use Rattle.opening_calls.specs.Goings.{IsGoneOn, IsLeftOn, GoesOn}
 
 -- a unit that came of it was powered up over what the medium held

@@ -1,8 +1,8 @@
 -- A sector that was taken.
 use Rattle.std.proofs.Common.{◌≡◌, ℕ, ◌==◌, ◌&&◌, Bool, true, List, length, nat_lt, refl, sym, ◌∙◌, ap, subst}
+use Rattle.relayed_unit.specs.Openings.{Opening}
 use Rattle.unit_calls.specs.Requests.{Where}
 use Rattle.unit_calls.specs.declared.status.Status.TheVariants as a_status
-use Rattle.unit_opening.specs.Openings.{Opening}
 use Rattle.opening_calls.specs.Calls.{IsProvided, Provides}
 
 pub takes : (sector : ℕ) (bytes : List ℕ) (before after : Opening) → length bytes ≡ 512 → nat_lt sector before.disk.sectors ≡ true

@@ -5,11 +5,11 @@ use Rattle.disk.specs.State.{sector_of}
 use Rattle.image_calls.specs.Answers.{this_abi}
 use Rattle.mode_table.specs.declared.statuses.Cold.{Cold}
 use Rattle.request_disk.specs.Requesting.{knows, with_sector}
+use Rattle.relayed_unit.specs.Openings.{Opening, begun, IsGoing}
 use Rattle.unit_calls.specs.Requests.{Where}
 use Rattle.unit_calls.specs.Words.{word_by}
 use Rattle.unit_calls.specs.declared.status.Status.{Status}
 use Rattle.unit_calls.specs.declared.status.Status.TheVariants as a_status
-use Rattle.unit_opening.specs.Openings.{Opening, begun, IsGoing}
 
 -- a call on a handle: NotOpen where no power-up is under way, and nothing changes; else it stays under way, and stands so
 -- to the one before

@@ -5,15 +5,15 @@ use Rattle.onboard.specs.Lives.{IsOpenRefusal, HasNoCause}
 use Rattle.onboard.specs.declared.errors.OpenError.{OpenError}
 use Rattle.onboard.specs.declared.errors.OpenError.TheVariants as an_open
 use Rattle.relayed_unit.specs.Relayed.{Relayed}
+use Rattle.relayed_unit.specs.Goings.{OnWants, OnOpen}
+use Rattle.relayed_unit.specs.Openings.{Opening, medium_state, IsGoing, IsWanted}
+use Rattle.relayed_unit.specs.declared.powering_up.Going.{Going}
+use Rattle.relayed_unit.specs.declared.powering_up.Going.TheVariants as a_going
 use Rattle.unit_calls.specs.Handles.{IsLeft}
 use Rattle.unit_calls.specs.PowerUps.{before_any, IsUp}
 use Rattle.unit_calls.specs.declared.handle.Opened.{Opened}
 use Rattle.unit_calls.specs.declared.status.Status.{Status}
 use Rattle.unit_calls.specs.declared.status.Status.TheVariants as a_status
-use Rattle.unit_opening.specs.Goings.{OnWants, OnOpen}
-use Rattle.unit_opening.specs.Openings.{Opening, medium_state, IsGoing, IsWanted}
-use Rattle.unit_opening.specs.declared.opening.Going.{Going}
-use Rattle.unit_opening.specs.declared.opening.Going.TheVariants as a_going
 
 -- what `UnitOpening::go_on` promises of an answer
 pub record IsGoneOn (before : Opening) (told : Result Going OpenError) : Type 0 where

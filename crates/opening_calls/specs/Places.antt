@@ -1,6 +1,6 @@
 -- What the handle of a power-up holds (this project's profile).
 use Rattle.std.specs.Prelude.{Option, Some, None}
-use Rattle.unit_opening.specs.Openings.{Opening}
+use Rattle.relayed_unit.specs.Openings.{Opening}
 use Rattle.opening_calls.specs.declared.handle.Place.{Place}
 
 -- the power-up that is under way, None where none is

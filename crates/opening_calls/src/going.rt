@@ -5,9 +5,9 @@ ghost use Rattle.opening_calls.specs.Places.{under_way};
 
 use crate::handle::{EtcsOpening, Place, handle_of, taken};
 use onboard::OpenError;
+use relayed_unit::Going;
 use std::alloc::Global;
 use unit_calls::{EtcsUnit, Status, put_unit};
-use unit_opening::Going;
 
 // Puts what came of going on where it belongs: the power-up back into its place, or the unit into its handle.
 fn leave(

@@ -4,9 +4,9 @@ ghost use Rattle.opening_calls.specs.Places.{under_way};
 
 use crate::raw::Raw;
 use handles::Held;
+use relayed_unit::UnitOpening;
 use std::alloc::Global;
 use std::mem;
-use unit_opening::UnitOpening;
 
 /// Where a power-up stands between two calls.
 #[derive(Drop)]

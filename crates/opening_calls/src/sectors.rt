@@ -5,9 +5,9 @@ ghost use Rattle.opening_calls.specs.Places.{under_way};
 
 use crate::handle::{EtcsOpening, handle_of, taken};
 use disk::SECTOR_BYTES;
+use relayed_unit::UnitOpening;
 use std::alloc::Global;
 use unit_calls::Status;
-use unit_opening::UnitOpening;
 
 // Tells the sector that it wants.
 fn tell_wanted(opening: &UnitOpening, sector: &mut u64) -> Status

@@ -6,9 +6,9 @@ ghost use Rattle.opening_calls.specs.Places.{under_way};
 use crate::handle::{EtcsOpening, Place, handle_of, taken};
 use image_calls::ABI;
 use mode_table::Cold;
+use relayed_unit::UnitOpening;
 use std::alloc::Global;
 use unit_calls::{Status, word_of};
-use unit_opening::UnitOpening;
 
 // Begins into a handle that has none.
 fn begin(alloc: Global, handle: &mut EtcsOpening, sectors: u64, cold: Option<Cold>) -> Status

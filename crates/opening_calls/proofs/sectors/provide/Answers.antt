@@ -1,6 +1,6 @@
 use Rattle.std.proofs.Common.{ℕ, List, sym, ◌∙◌, ap}
 use Rattle.request_disk.specs.Requesting.{with_sector}
-use Rattle.unit_opening.specs.Openings.{Opening}
+use Rattle.relayed_unit.specs.Openings.{Opening}
 use Rattle.opening_calls.proofs.Providing.{takes}
 use Rattle.opening_calls.proofs.sectors.provide.Goals as goal
 

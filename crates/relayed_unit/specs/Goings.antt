@@ -1,8 +1,8 @@
 -- What came of going on with a power-up (this project's profile).
 use Rattle.relayed_unit.specs.Relayed.{Relayed}
-use Rattle.unit_opening.specs.Openings.{Opening}
-use Rattle.unit_opening.specs.declared.opening.Going.{Going}
-use Rattle.unit_opening.specs.declared.opening.Going.TheVariants as a_going
+use Rattle.relayed_unit.specs.Openings.{Opening}
+use Rattle.relayed_unit.specs.declared.powering_up.Going.{Going}
+use Rattle.relayed_unit.specs.declared.powering_up.Going.TheVariants as a_going
 
 -- where it goes on to be under way, P is so of it
 abbrev pub OnWants : Going → (Opening → Type 0) → Type 0

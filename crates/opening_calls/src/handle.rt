@@ -3,10 +3,10 @@ ghost use Rattle.std.specs.Prelude.{◌≡◌, Some, None, IsSome, IfSome, is_so
 ghost use Rattle.opening_calls.specs.Places.{under_way};
 
 use crate::raw::Raw;
-use handles::Held;
 use relayed_unit::UnitOpening;
 use std::alloc::Global;
 use std::mem;
+use unit_calls::Held;
 
 /// Where a power-up stands between two calls.
 #[derive(Drop)]

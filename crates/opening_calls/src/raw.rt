@@ -3,9 +3,9 @@ ghost use Rattle.std.specs.Prelude.{◌≡◌, Option};
 ghost use Rattle.opening_calls.specs.declared.handle.Place.{Place as PlaceValue};
 
 use crate::handle::Place;
-use handles::Held;
 use std::alloc::Global;
 use std::marker::Model;
+use unit_calls::Held;
 
 /// The pointer to the place of a power-up, or any where there is none.
 #[repr(C)]

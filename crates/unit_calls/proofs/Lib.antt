@@ -3,6 +3,7 @@ pub mod Carrying
 pub mod Emptying
 pub mod Untold
 pub mod Floating
+pub mod HeldValues
 pub mod Histories
 pub mod Parts
 pub mod Providing

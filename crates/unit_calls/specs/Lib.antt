@@ -1,5 +1,6 @@
 pub mod Formatting
 pub mod Handles
+pub mod Held
 pub mod Histories
 pub mod Inputs
 pub mod Lent

@@ -5,6 +5,7 @@ mod events_in;
 mod explaining;
 mod formatting;
 mod handle;
+mod held;
 mod inputs;
 mod laws;
 mod opening;
@@ -24,6 +25,7 @@ pub use events_in::{
 pub use explaining::unit_why_call;
 pub use formatting::format_request_call;
 pub use handle::{EtcsUnit, Opened};
+pub use held::Held;
 pub use inputs::EtcsTrainData;
 pub use laws::{format_empties, handed_out_is_on_medium};
 pub use opening::{close_call, open_call, put_unit};

@@ -1,7 +1,7 @@
 use Rattle.std.proofs.Common.{sym, ◌∙◌}
-use Rattle.opening_calls.specs.Places.{under_way}
-use Rattle.opening_calls.proofs.Goings.{ups, went}
-use Rattle.opening_calls.proofs.going.go_on_call.Goals as goal
+use Rattle.unit_calls.specs.Places.{under_way}
+use Rattle.unit_calls.proofs.Goings.{ups, went}
+use Rattle.unit_calls.proofs.going.go_on_call.Goals as goal
 
 -- src/going.rt:36:1
 pub returns : goal.returns

@@ -3,7 +3,7 @@ use Rattle.std.proofs.Common.{◌≡◌, ℕ, ◌==◌, ◌&&◌, Bool, true, Li
 use Rattle.relayed_unit.specs.Openings.{Opening}
 use Rattle.unit_calls.specs.Requests.{Where}
 use Rattle.unit_calls.specs.declared.status.Status.TheVariants as a_status
-use Rattle.opening_calls.specs.Calls.{IsProvided, Provides}
+use Rattle.unit_calls.specs.Openings.{IsProvided, Provides}
 
 pub takes : (sector : ℕ) (bytes : List ℕ) (before after : Opening) → length bytes ≡ 512 → nat_lt sector before.disk.sectors ≡ true
     → IsProvided sector bytes before after → Provides sector bytes before after a_status.Done

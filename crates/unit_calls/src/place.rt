@@ -1,12 +1,12 @@
 // A power-up that C holds.
 ghost use Rattle.std.specs.Prelude.{◌≡◌, Some, None, IsSome, IfSome, is_some};
-ghost use Rattle.opening_calls.specs.Places.{under_way};
+ghost use Rattle.unit_calls.specs.Places.{under_way};
 
-use crate::raw::Raw;
+use crate::held::Held;
+use crate::raw_place::RawPlace;
 use relayed_unit::UnitOpening;
 use std::alloc::Global;
 use std::mem;
-use unit_calls::Held;
 
 /// Where a power-up stands between two calls.
 #[derive(Drop)]
@@ -20,7 +20,7 @@ pub struct Place {
 #[derive(Drop)]
 pub struct EtcsOpening {
     /// Where the power-up is.
-    pub raw: Raw,
+    pub raw: RawPlace,
     // 1 where one is under way.
     is_open: u64,
     ghost matched: { is_open ≡ 1 → IsSome (under_way raw.value) },
@@ -41,7 +41,7 @@ fn nothing(alloc: Global) -> EtcsOpening
     ensures { result.raw.value ≡ None }
 {
     let nowhere = std::ptr::null_mut();
-    let raw = Raw::of(Held::none(nowhere, alloc));
+    let raw = RawPlace::of(Held::none(nowhere, alloc));
     EtcsOpening { raw, is_open: 0 }
 }
 
@@ -51,7 +51,7 @@ pub fn handle_of(opening: UnitOpening, place: Box<Place>) -> EtcsOpening
 {
     let mut place = place;
     place.opening = Some(opening);
-    let raw = Raw::of(Held::of(place));
+    let raw = RawPlace::of(Held::of(place));
     EtcsOpening { raw, is_open: 1 }
 }
 

@@ -1,13 +1,13 @@
-//! Which sector is wanted, and handing it in.
+//! Sectors of a power-up in steps: which one is wanted, and handing it in.
 ghost use Rattle.std.specs.Prelude.{◌≡◌};
-ghost use Rattle.opening_calls.specs.Calls.{OnPlace, OnPlaceInto, TellsWanted, Provides};
-ghost use Rattle.opening_calls.specs.Places.{under_way};
+ghost use Rattle.unit_calls.specs.Openings.{OnPlace, OnPlaceInto, TellsWanted, Provides};
+ghost use Rattle.unit_calls.specs.Places.{under_way};
 
-use crate::handle::{EtcsOpening, handle_of, taken};
+use crate::place::{EtcsOpening, handle_of, taken};
+use crate::status::Status;
 use disk::SECTOR_BYTES;
 use relayed_unit::UnitOpening;
 use std::alloc::Global;
-use unit_calls::Status;
 
 // Tells the sector that it wants.
 fn tell_wanted(opening: &UnitOpening, sector: &mut u64) -> Status

@@ -1,13 +1,15 @@
-//! Going on.
+//! Going on with a power-up in steps.
 ghost use Rattle.std.specs.Prelude.{◌≡◌, None};
-ghost use Rattle.opening_calls.specs.Goings.{GoesOn, IsLeftOn};
-ghost use Rattle.opening_calls.specs.Places.{under_way};
+ghost use Rattle.unit_calls.specs.Goings.{GoesOn, IsLeftOn};
+ghost use Rattle.unit_calls.specs.Places.{under_way};
 
-use crate::handle::{EtcsOpening, Place, handle_of, taken};
+use crate::handle::EtcsUnit;
+use crate::opening::put_unit;
+use crate::place::{EtcsOpening, Place, handle_of, taken};
+use crate::status::Status;
 use onboard::OpenError;
 use relayed_unit::Going;
 use std::alloc::Global;
-use unit_calls::{EtcsUnit, Status, put_unit};
 
 // Puts what came of going on where it belongs: the power-up back into its place, or the unit into its handle.
 fn leave(

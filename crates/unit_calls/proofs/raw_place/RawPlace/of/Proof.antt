@@ -22,11 +22,12 @@ use Rattle.std.specs.contracts.alloc.Global as heap
 use Rattle.std.proofs.alloc.Global.TheLaws as heap_laws
 use Rattle.std.specs.contracts.impls.GlobalAllocator.TheImpl.{ghosts}
 use Rattle.unit_calls.proofs.HeldValues.{both, Held, held_open, none_good, ptr_good}
-use Rattle.opening_calls.specs.contracts.handle.Place as place
-use Rattle.opening_calls.proofs.Values.{one, raw_good, raw_in}
-use Rattle.opening_calls.specs.contracts.raw.Raw.of as f
-use Rattle.opening_calls.proofs.raw.Raw.of.Statement.{statement}
-use Rattle.opening_calls.proofs.raw.Raw.of.Code as code
+use Rattle.unit_calls.specs.contracts.place.Place as place
+use Rattle.unit_calls.proofs.Values.{one, raw_good}
+use Rattle.unit_calls.proofs.PlaceValues.{place_in}
+use Rattle.unit_calls.specs.contracts.raw_place.RawPlace.of as f
+use Rattle.unit_calls.proofs.raw_place.RawPlace.of.Statement.{statement}
+use Rattle.unit_calls.proofs.raw_place.RawPlace.of.Code as code
 
 pub of_spec : {M : Type 1} → statement M
 of_spec 𝓤 𝓛 𝓜 𝓡 wired =
@@ -41,5 +42,5 @@ of_spec 𝓤 𝓛 𝓜 𝓡 wired =
     enter ! 𝓣.C 𝓣.Λ fn (w ∷ []) Post $ alloc_all ! (λ l. pass_all ! refl (none_good R Z LZ ghosts p h fits, tt) $
     sets ! (of_opd ! (get_in ! (fld ! refl (stop !)) (sub ! 0 refl (whole !)))) refl (ptr_good p) $ sets ! (of_opd ! (get ! refl)) refl (ptr_good p) $
     sets ! (agg ! (and_then ! (get ! refl) (no_more !))) refl (raw_good p) $
-    raw_in ! p v.value $ use0 𝓛 (raw (fact 𝓤 (v.value ≡ v.value))) (fact_i 𝓤 (v.value ≡ v.value) (emp 𝓤) refl) $ nothing ! $ nothing ! $ fjoin ! $
+    place_in ! p v.value $ use0 𝓛 (raw (fact 𝓤 (v.value ≡ v.value))) (fact_i 𝓤 (v.value ≡ v.value) (emp 𝓤) refl) $ nothing ! $ nothing ! $ fjoin ! $
     returns ! (look_at ! 0 refl) $ free_all ! refl $ keep ! (3 ∷ 0 ∷ 2 ∷ 1 ∷ []) $ by ! (leaves 𝓛 f.ended hs c z (one (ptr_val p)) (record { at = p; value = v.value }) (tt, tt) (tt, tt)))))

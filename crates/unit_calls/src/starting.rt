@@ -1,14 +1,15 @@
-//! Beginning and closing.
+//! Beginning and closing a power-up in steps.
 ghost use Rattle.std.specs.Prelude.{◌≡◌, ◌*◌, ℕ, List, None, length};
-ghost use Rattle.opening_calls.specs.Calls.{BeginsFrom, Begins, closing};
-ghost use Rattle.opening_calls.specs.Places.{under_way};
+ghost use Rattle.unit_calls.specs.Openings.{BeginsFrom, Begins, closing};
+ghost use Rattle.unit_calls.specs.Places.{under_way};
 
-use crate::handle::{EtcsOpening, Place, handle_of, taken};
+use crate::place::{EtcsOpening, Place, handle_of, taken};
+use crate::status::Status;
+use crate::words::word_of;
 use image_calls::ABI;
 use mode_table::Cold;
 use relayed_unit::UnitOpening;
 use std::alloc::Global;
-use unit_calls::{Status, word_of};
 
 // Begins into a handle that has none.
 fn begin(alloc: Global, handle: &mut EtcsOpening, sectors: u64, cold: Option<Cold>) -> Status

@@ -15,7 +15,7 @@ use Rattle.relayed_unit.specs.declared.powering_up.Going.TheVariants as a_going
 use Rattle.unit_calls.specs.PowerUps.{before_any, IsUp}
 use Rattle.unit_calls.specs.declared.handle.Opened.{Opened}
 use Rattle.unit_calls.specs.declared.status.Status.{Status}
-use Rattle.opening_calls.specs.Goings.{IsGoneOn, IsLeftOn, GoesOn}
+use Rattle.unit_calls.specs.Goings.{IsGoneOn, IsLeftOn, GoesOn}
 
 -- a unit that came of it was powered up over what the medium held
 pub ups : (before : Opening) (told : Result Going OpenError)

@@ -1,10 +1,9 @@
 //! The calls of `include/etcs_unit.h` on a power-up that is under way, and on sectors of a medium that isn't copied.
-use opening_calls::{
-    EtcsOpening, begin_call, go_on_call, opening_close_call, opening_provide_call,
-    opening_wanted_call,
-};
 use std::alloc::Global;
-use unit_calls::{EtcsUnit, provide_call, wanted_call};
+use unit_calls::{
+    EtcsOpening, EtcsUnit, begin_call, go_on_call, opening_close_call, opening_provide_call,
+    opening_wanted_call, provide_call, wanted_call,
+};
 
 /// Begins a power-up on a medium of so many sectors, of which none is known.
 #[unsafe(no_mangle)]

@@ -1,3 +1,4 @@
+pub mod Keeping
 pub mod Refusing
 pub mod Room
 pub mod Standing

@@ -1,3 +1,6 @@
 pub mod Absent
+pub mod Goings
 pub mod LifeNow
+pub mod Looks
+pub mod Openings
 pub mod Relayed

@@ -1,10 +1,14 @@
 pub mod Beside
 pub mod Carrying
 pub mod Emptying
-pub mod Untold
 pub mod Floating
+pub mod Goings
+pub mod HeldValues
 pub mod Histories
 pub mod Parts
+pub mod PlaceValues
 pub mod Providing
 pub mod Releasing
+pub mod Taking
+pub mod Untold
 pub mod Values

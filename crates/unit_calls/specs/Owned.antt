@@ -3,7 +3,7 @@ use Rattle.std.specs.Prelude.{Option}
 use base.Fml.{Fml}
 use denote.RawPtr.{Ptr}
 use Rattle.std.specs.contracts.impls.GlobalAllocator.TheImpl.{ghosts}
-use Rattle.handles.specs.Held.{held_owns, the_heap}
+use Rattle.unit_calls.specs.Held.{held_owns, the_heap}
 use Rattle.unit_calls.specs.declared.handle.Opened.{Opened}
 use Rattle.unit_calls.specs.contracts.handle.Opened.{the_row}
 

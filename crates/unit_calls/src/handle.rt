@@ -1,8 +1,8 @@
 // A unit that C holds.
 ghost use Rattle.std.specs.Prelude.{◌≡◌, Some, None, IsSome, IfSome, is_some};
 
+use crate::held::Held;
 use crate::raw::Raw;
-use handles::Held;
 use onboard::Released;
 use relayed_unit::RelayedUnit;
 use std::alloc::Global;

@@ -1,17 +1,24 @@
-//! The unit, as C programs call it: the calls behind the exports of `etcs_unit`, with their contracts.
+//! The unit, and a power-up in steps, as C programs call them: the calls behind the exports of `etcs_unit`, with their
+//! contracts.
 #![tactic(auto)]
 
 mod events_in;
 mod explaining;
 mod formatting;
+mod going;
 mod handle;
+mod held;
 mod inputs;
 mod laws;
 mod opening;
 mod outputs;
+mod place;
+mod place_sectors;
 mod raw;
+mod raw_place;
 mod relaying;
 mod sectors;
+mod starting;
 mod status;
 mod version;
 mod why;
@@ -23,13 +30,18 @@ pub use events_in::{
 };
 pub use explaining::unit_why_call;
 pub use formatting::format_request_call;
+pub use going::go_on_call;
 pub use handle::{EtcsUnit, Opened};
+pub use held::Held;
 pub use inputs::EtcsTrainData;
 pub use laws::{format_empties, handed_out_is_on_medium};
 pub use opening::{close_call, open_call, put_unit};
 pub use outputs::{EtcsOutput, EtcsState};
+pub use place::{EtcsOpening, Place};
+pub use place_sectors::{opening_provide_call, opening_wanted_call};
 pub use relaying::{done_call, fail_call, prepare_call, release_call, request_call, state_call};
 pub use sectors::{provide_call, wanted_call};
+pub use starting::{begin_call, opening_close_call};
 pub use status::Status;
 pub use version::version_call;
 pub use why::EtcsUnitWhy;

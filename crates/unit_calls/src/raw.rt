@@ -4,7 +4,7 @@ ghost use Rattle.std.specs.Prelude.{◌≡◌, Option, Some, IsSome};
 ghost use Rattle.unit_calls.specs.declared.handle.Opened.{Opened as OpenedValue};
 
 use crate::handle::Opened;
-use handles::Held;
+use crate::held::Held;
 use std::alloc::Global;
 use std::marker::Model;
 

@@ -27,8 +27,8 @@ use Rattle.std.proofs.alloc.Shapes.{after}
 use Rattle.std.proofs.raw_atomic.Walks.{proved}
 use Rattle.std.specs.Box.Ownership.{box_owns}
 use Rattle.std.specs.contracts.impls.GlobalAllocator.TheImpl.{ghosts}
-use Rattle.handles.proofs.HeldValues.{some_of}
-use Rattle.handles.specs.Held.{the_heap}
+use Rattle.unit_calls.proofs.HeldValues.{some_of}
+use Rattle.unit_calls.specs.Held.{the_heap}
 use Rattle.unit_calls.specs.Owned.{raw_owns}
 use Rattle.unit_calls.specs.contracts.handle.Opened as unit
 use Rattle.unit_calls.proofs.Values.{Raw, one, raw_out, raw_in}

@@ -21,7 +21,7 @@ use Rattle.std.proofs.raw_atomic.Walks.{proved_at, leaves}
 use Rattle.std.specs.contracts.alloc.Global as heap
 use Rattle.std.proofs.alloc.Global.TheLaws as heap_laws
 use Rattle.std.specs.contracts.impls.GlobalAllocator.TheImpl.{ghosts}
-use Rattle.handles.proofs.HeldValues.{both, Held, held_open, none_good, ptr_good}
+use Rattle.unit_calls.proofs.HeldValues.{both, Held, held_open, none_good, ptr_good}
 use Rattle.unit_calls.specs.contracts.handle.Opened as unit
 use Rattle.unit_calls.proofs.Values.{one, raw_good, raw_in}
 use Rattle.unit_calls.specs.contracts.raw.Raw.of as f

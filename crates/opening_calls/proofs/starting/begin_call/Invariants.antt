@@ -1,4 +1,0 @@
-use Rattle.opening_calls.proofs.starting.begin_call.Given as goal
-
-abbrev pub ghost-begin : goal.ghost-begin
-ghost-begin g a = g.medium

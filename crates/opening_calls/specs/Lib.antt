@@ -1,4 +1,0 @@
-pub mod Calls
-pub mod Goings
-pub mod Owned
-pub mod Places

@@ -1,0 +1,51 @@
+-- What came of going on, as the call tells it.
+use Rattle.std.proofs.Common.{◌≡◌, ℕ, ◌∷◌, [], List, Bool, true, false, Option, Some, None, Result, Ok, Err, IfOk, IfSome, IsSome, is_some, refl, sym, subst}
+use Rattle.events.specs.declared.input.Event.{Event}
+use Rattle.events.specs.declared.input.Event.TheVariants.{PowerUp}
+use Rattle.journal.specs.Journals.{IsOpen}
+use Rattle.mode_table.specs.declared.statuses.Cold.{Cold}
+use Rattle.onboard.specs.Events.{account_of, IsAhead}
+use Rattle.onboard.specs.Lives.{IsReady, Opens}
+use Rattle.onboard.specs.declared.errors.OpenError.{OpenError}
+use Rattle.request_disk.specs.Requesting.{request_state}
+use Rattle.relayed_unit.specs.Goings.{OnOpen}
+use Rattle.relayed_unit.specs.Openings.{Opening, medium_state, IsGoing}
+use Rattle.relayed_unit.specs.declared.powering_up.Going.{Going}
+use Rattle.relayed_unit.specs.declared.powering_up.Going.TheVariants as a_going
+use Rattle.unit_calls.specs.PowerUps.{before_any, IsUp}
+use Rattle.unit_calls.specs.declared.handle.Opened.{Opened}
+use Rattle.unit_calls.specs.declared.status.Status.{Status}
+use Rattle.unit_calls.specs.Goings.{IsGoneOn, IsLeftOn, GoesOn}
+
+-- a unit that came of it was powered up over what the medium held
+pub ups : (before : Opening) (told : Result Going OpenError)
+    → IfOk told (λ g. OnOpen g (λ u. (u.outputs ≡ []) × (u.done ≡ 0) × (u.failed ≡ false)))
+    → IfOk told (λ g. OnOpen g (λ u. IsSome u.moored))
+    → IfOk told (λ g. OnOpen g (λ u. IfSome u.moored (λ it. it.reading.disk.sectors ≡ before.disk.sectors)))
+    → ((medium : List ℕ) (whole_from : ℕ) (durable accepted : List Event) → IsGoing medium before →
+    IsReady whole_from durable accepted (medium_state medium before.disk.sectors) →
+    IfOk told (λ g. OnOpen g (λ u. IfSome u.moored (λ it. (found : List Event) × (power_up_word : Cold)
+    × Opens whole_from durable accepted found before.cold power_up_word (medium_state medium before.disk.sectors) (request_state it.reading.disk)
+    × IsOpen it.unit.journal (account_of whole_from (PowerUp power_up_word ∷ found)) (request_state it.reading.disk)
+    × IsAhead (PowerUp power_up_word ∷ found) (PowerUp power_up_word ∷ found) it.unit.life))))
+    → (medium : List ℕ) → IsGoing medium before → IfOk told (λ g. OnOpen g (IsUp (before_any medium before.disk.sectors) before.cold))
+ups before (Err e) fresh there sectors up medium going = tt
+ups before (Ok (a_going.Wants it)) fresh there sectors up medium going = tt
+ups before (Ok (a_going.Open u)) fresh there sectors up medium going = record {
+  fresh = fresh;
+  there = there;
+  sectors = sectors;
+  up = λ whole_from durable accepted ready. up medium whole_from durable accepted going ready;
+}
+
+-- where no unit was open, and this power-up was under way
+module _ (it : Opening) (told : Result Going OpenError) (after : Option Opening) (unit : Option Opened) (status : Status) where
+  closed_went : (old : Option Opened) → is_some old ≡ false → IsGoneOn it told → IsLeftOn told after unit status → GoesOn (Some it) old after unit status
+  closed_went (Some opened) shut gone left = absurd cc
+  closed_went None shut gone left = (told, gone, left)
+
+  pub went : (before : Option Opening) (old : Option Opened) → before ≡ Some it → is_some old ≡ false → IsGoneOn it told → IsLeftOn told after unit status
+      → GoesOn before old after unit status
+  went before old is shut gone left =
+      let G : Option Opening → Type 0 = λ o. GoesOn o old after unit status in
+      subst G (sym is) (closed_went old shut gone left)

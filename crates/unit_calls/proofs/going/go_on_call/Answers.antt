@@ -1,0 +1,23 @@
+use Rattle.std.proofs.Common.{sym, ◌∙◌}
+use Rattle.unit_calls.specs.Places.{under_way}
+use Rattle.unit_calls.proofs.Goings.{ups, went}
+use Rattle.unit_calls.proofs.going.go_on_call.Goals as goal
+
+-- src/going.rt:36:1
+pub returns : goal.returns
+returns c =
+    let e = c.go_on-told.ensures in
+    went c.in-Some.it c.go_on-told.result (under_way c.leave.new.opening.raw.value) c.leave.new.unit.raw.value c.leave.result
+    (under_way c.args.opening.now.raw.value) c.args.unit.now.raw.value c.in-Some.ensures.some (sym c.has_unit.ensures ∙ c.if-has_unit.false)
+    (record {
+      wanted = e.wanted;
+      going = e.going;
+      same = e.same;
+      fresh_unit = e.fresh_unit;
+      up = ups c.in-Some.it c.go_on-told.result e.fresh e.there e.sectors e.up;
+      refused = e.refused;
+      no_cause = e.no_cause;
+      none = e.none;
+      exact = e.exact;
+    })
+    c.leave.ensures

@@ -1,0 +1,58 @@
+-- What going on with a power-up leaves in its handle and in that of the unit (this project's profile).
+use Rattle.std.specs.Prelude.{◌≡◌, ◌⊎◌, ℕ, ◌<◌, List, [], Option, Some, None, Result, Ok, Err, IfOk, IfErr, IfSome, MatchResult, false}
+use Rattle.disk.specs.State.{contents_of}
+use Rattle.onboard.specs.Lives.{IsOpenRefusal, HasNoCause}
+use Rattle.onboard.specs.declared.errors.OpenError.{OpenError}
+use Rattle.onboard.specs.declared.errors.OpenError.TheVariants as an_open
+use Rattle.relayed_unit.specs.Relayed.{Relayed}
+use Rattle.relayed_unit.specs.Goings.{OnWants, OnOpen}
+use Rattle.relayed_unit.specs.Openings.{Opening, medium_state, IsGoing, IsWanted}
+use Rattle.relayed_unit.specs.declared.powering_up.Going.{Going}
+use Rattle.relayed_unit.specs.declared.powering_up.Going.TheVariants as a_going
+use Rattle.unit_calls.specs.Handles.{IsLeft}
+use Rattle.unit_calls.specs.PowerUps.{before_any, IsUp}
+use Rattle.unit_calls.specs.declared.handle.Opened.{Opened}
+use Rattle.unit_calls.specs.declared.status.Status.{Status}
+use Rattle.unit_calls.specs.declared.status.Status.TheVariants as a_status
+
+-- what `UnitOpening::go_on` promises of an answer
+pub record IsGoneOn (before : Opening) (told : Result Going OpenError) : Type 0 where
+  -- a sector is wanted that the medium has, and that isn't known
+  pub wanted : IfOk told (λ g. OnWants g (λ it. (s : ℕ) × IsWanted it s))
+  -- it goes on over the same medium
+  pub going : (medium : List ℕ) → IsGoing medium before → IfOk told (λ g. OnWants g (IsGoing medium))
+  pub same : IfOk told (λ g. OnWants g (λ it. (it.disk.sectors ≡ before.disk.sectors) × (it.cold ≡ before.cold)))
+  -- nothing is pending, there is no moment yet, and no flush failed
+  pub fresh_unit : IfOk told (λ g. OnOpen g (λ u. IfSome u.moored (λ it. (it.unit.life.records ≡ [])
+      × (it.unit.life.pairs ≡ []) × (it.unit.life.moment ≡ 0) × (it.unit.journal.failed ≡ false))))
+  -- the unit was powered up over a disk that holds what the medium held
+  pub up : (medium : List ℕ) → IsGoing medium before →
+      IfOk told (λ g. OnOpen g (IsUp (before_any medium before.disk.sectors) before.cold))
+  -- each refusal but NoMemory has its cause
+  pub refused : (medium : List ℕ) → IsGoing medium before → IfErr told (λ e. (e ≡ an_open.NoMemory)
+      ⊎ IsOpenRefusal before.disk.sectors (contents_of (medium_state medium before.disk.sectors)) e)
+  -- where it led to a unit there was no cause but a fault of the device
+  pub no_cause : (medium : List ℕ) → IsGoing medium before → IfOk told (λ g. OnOpen g (λ u.
+      HasNoCause before.disk.sectors (contents_of (medium_state medium before.disk.sectors))))
+  -- a medium of no sector isn't formatted
+  pub none : before.disk.sectors ≡ 0 → told ≡ Err an_open.NotFormatted
+  -- where a refusal has a cause, and there is a sector, no unit comes of it, and no other refusal but NoMemory and a fault
+  -- of the device
+  pub exact : (medium : List ℕ) → IsGoing medium before → 0 < before.disk.sectors → (e : OpenError) →
+      IsOpenRefusal before.disk.sectors (contents_of (medium_state medium before.disk.sectors)) e →
+      (e ≡ an_open.DeviceFault) ⊎ MatchResult told (λ g. OnOpen g (λ u. ⊥))
+      (λ back. (back ≡ an_open.NoMemory) ⊎ ((back ≡ e) ⊎ (back ≡ an_open.DeviceFault)))
+
+-- it goes on in its handle and says so; else that has none, and the unit is in its own, or there was no memory for it
+-- there, or it was refused
+abbrev pub IsLeftOn : Result Going OpenError → Option Opening → Option Opened → Status → Type 0
+IsLeftOn (Ok (a_going.Wants it)) after unit status = (status ≡ a_status.SectorWanted) × (after ≡ Some it) × (unit ≡ None)
+IsLeftOn (Ok (a_going.Open up)) after unit status = (after ≡ None) × IsLeft (Ok up) unit status
+IsLeftOn (Err e) after unit status = (after ≡ None) × IsLeft (Err e) unit status
+
+-- a power-up goes on: IsOpen where a unit is open there, and NotOpen where no power-up is under way; then nothing changes
+abbrev pub GoesOn : Option Opening → Option Opened → Option Opening → Option Opened → Status → Type 0
+GoesOn before (Some it) after unit status = (status ≡ a_status.IsOpen) × (after ≡ before) × (unit ≡ Some it)
+GoesOn None None after unit status = (status ≡ a_status.NotOpen) × (after ≡ None) × (unit ≡ None)
+GoesOn (Some before) None after unit status =
+    (told : Result Going OpenError) × IsGoneOn before told × IsLeftOn told after unit status

@@ -1,0 +1,50 @@
+//! Going on with a power-up in steps.
+ghost use Rattle.std.specs.Prelude.{◌≡◌, None};
+ghost use Rattle.unit_calls.specs.Goings.{GoesOn, IsLeftOn};
+ghost use Rattle.unit_calls.specs.Places.{under_way};
+
+use crate::handle::EtcsUnit;
+use crate::opening::put_unit;
+use crate::place::{EtcsOpening, Place, handle_of, taken};
+use crate::status::Status;
+use onboard::OpenError;
+use relayed_unit::Going;
+use std::alloc::Global;
+
+// Puts what came of going on where it belongs: the power-up back into its place, or the unit into its handle.
+fn leave(
+    alloc: Global,
+    opening: &mut EtcsOpening,
+    place: Box<Place>,
+    unit: &mut EtcsUnit,
+    told: Result<Going, OpenError>,
+) -> Status
+    requires opening { under_way opening.old.raw.value ≡ None }
+    requires unit { unit.old.raw.value ≡ None }
+    ensures { IsLeftOn told (under_way opening.new.raw.value) unit.new.raw.value result }
+{
+    match told {
+        Ok(Going::Wants(next)) => {
+            *opening = handle_of(next, place);
+            Status::SectorWanted
+        }
+        Ok(Going::Open(powered_up)) => put_unit(alloc, unit, Ok(powered_up)),
+        Err(error) => put_unit(alloc, unit, Err(error)),
+    }
+}
+
+/// Goes on as far as sectors are known. SectorWanted where one has to be handed in first; else the power-up is ended, and
+/// the unit is open, or the status is that of a refusal. Nothing changes where a unit is open there already.
+pub fn go_on_call(alloc: Global, opening: &mut EtcsOpening, unit: &mut EtcsUnit) -> Status
+    ensures { GoesOn (under_way opening.old.raw.value) unit.old.raw.value
+        (under_way opening.new.raw.value) unit.new.raw.value result }
+{
+    if unit.has_unit() {
+        return Status::IsOpen;
+    }
+    let Some((it, place)) = taken(alloc, opening) else {
+        return Status::NotOpen;
+    };
+    let told = it.go_on(alloc);
+    leave(alloc, opening, place, unit, told)
+}

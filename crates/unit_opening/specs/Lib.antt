@@ -1,3 +1,0 @@
-pub mod Goings
-pub mod Looks
-pub mod Openings

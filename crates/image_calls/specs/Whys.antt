@@ -8,8 +8,8 @@ use Rattle.examination.specs.Lost.{first_event_of}
 use Rattle.kernel.specs.Brake.{rolled_backward}
 use Rattle.kernel.specs.Lives.{Story, past_at}
 use Rattle.kernel.specs.Output.{output_at}
-use Rattle.limit_causes.specs.Causes.{IsLimitCause}
-use Rattle.limit_causes.specs.declared.cause.LimitCause.{LimitCause}
+use Rattle.speed_supervision.specs.Causes.{IsLimitCause}
+use Rattle.speed_supervision.specs.declared.cause.LimitCause.{LimitCause}
 use Rattle.mode_control.specs.History.{tracks}
 use Rattle.mode_control.specs.Sentences.{values_of}
 use Rattle.reasons.specs.LimitWords.{limit_told}

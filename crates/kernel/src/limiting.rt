@@ -1,11 +1,11 @@
 //! Why the limit is what it is.
 ghost use Rattle.kernel.specs.StandsFor.{StandsForLife};
-ghost use Rattle.limit_causes.specs.Causes.{IsLimitCause};
 ghost use Rattle.mode_control.specs.Life.{Life};
+ghost use Rattle.speed_supervision.specs.Causes.{IsLimitCause};
 ghost use Rattle.speed_supervision.specs.Limit.{limit};
 
 use crate::state::StateOver;
-use limit_causes::{LimitCause, limit_cause};
+use speed_supervision::{LimitCause, limit_cause};
 use track_picture::ProfileStores;
 
 impl<T: ProfileStores> StateOver<T> {

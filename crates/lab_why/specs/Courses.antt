@@ -1,9 +1,9 @@
 -- Which events of a journal have a line that says why they were answered so, and what it says (this project's profile).
 -- Events are numbered from 0, blocks from 1; a story has the newest event first. Told elsewhere, and taken for granted
 -- here: where a life begins (`steps_of`, in lives), the text of a line (`line_of`, in Lines), and what decides a limit
--- (`IsLimitCause`, in limit_causes), where of several of equal force one is named. It is said of every story that may
--- stand before a life, of this unit's own events or not: whatever the head before it tells, there is one behind which
--- just that is kept (`story_by`).
+-- (`IsLimitCause`, in speed_supervision), where of several of equal force one is named. It is said of every story that
+-- may stand before a life, of this unit's own events or not: whatever the head before it tells, there is one behind
+-- which just that is kept (`story_by`).
 use Rattle.std.specs.Prelude.{◌≡◌, ◌⊎◌, ℕ, ◌-◌, ◌^◌, true, false, Option, Some, None, List, [], ◌++◌, Result, Ok, Err}
 use Rattle.std.specs.Io.KnownBytes.{Appends}
 use Rattle.blocks.specs.declared.records.BlockRecord.{BlockRecord}
@@ -12,8 +12,8 @@ use Rattle.events.specs.declared.input.Event.TheVariants.{PowerUp, Input}
 use Rattle.events.specs.declared.kept.Kept.{Kept}
 use Rattle.kernel.specs.Lives.{Story, onward, past_at, left_by, one_more}
 use Rattle.kernel.specs.Output.{output_at}
-use Rattle.limit_causes.specs.Causes.{IsLimitCause}
-use Rattle.limit_causes.specs.declared.cause.LimitCause.{LimitCause}
+use Rattle.speed_supervision.specs.Causes.{IsLimitCause}
+use Rattle.speed_supervision.specs.declared.cause.LimitCause.{LimitCause}
 use Rattle.lives.specs.Steps.{Step}
 use Rattle.lives.specs.declared.visit.Unknown.{Unknown}
 use Rattle.lives.specs.declared.visit.Unknown.TheVariants as an_unknown

@@ -2,7 +2,7 @@
 -- steps of a scenario are numbered from 0; lists of events have the newest first, lists of steps the oldest first.
 -- Told elsewhere, and taken for granted here: the text of a line (`played_line_of`, in Played), what of a life is durable
 -- and what is released of it (`durable_by`, `pair_of`, in onboard), and what decides a limit (`IsLimitCause`, in
--- limit_causes), where of several of equal force one is named.
+-- speed_supervision), where of several of equal force one is named.
 use Rattle.std.specs.Prelude.{◌≡◌, ◌⊎◌, ℕ, ◌+◌, ◌-◌, Option, Some, None, List, [], ◌∷◌, ◌++◌, length, map, take, slice_index}
 use Rattle.std.specs.Option.{option_map_or}
 use Rattle.events.specs.declared.input.Event.{Event}
@@ -11,8 +11,8 @@ use Rattle.events.specs.declared.step.Step.{Step}
 use Rattle.events.specs.declared.step.Step.TheVariants.{Accept, Flush}
 use Rattle.kernel.specs.Lives.{Story, story_of, past_at}
 use Rattle.kernel.specs.Output.{output_at}
-use Rattle.limit_causes.specs.Causes.{IsLimitCause}
-use Rattle.limit_causes.specs.declared.cause.LimitCause.{LimitCause}
+use Rattle.speed_supervision.specs.Causes.{IsLimitCause}
+use Rattle.speed_supervision.specs.declared.cause.LimitCause.{LimitCause}
 use Rattle.onboard.specs.Events.{pair_of}
 use Rattle.onboard.specs.Releases.{Release}
 use Rattle.onboard.specs.Runs.{durable_by}

@@ -3,17 +3,17 @@
 use Rattle.std.specs.Prelude.{ℕ, ℤ, Option, Some, None, List, codes}
 use Rattle.authority.specs.declared.answers.Release.{Release}
 use Rattle.authority.specs.declared.answers.Release.TheVariants as release
-use Rattle.limit_causes.specs.declared.cause.LimitCause.{LimitCause}
-use Rattle.limit_causes.specs.declared.cause.LimitCause.TheVariants as cause
-use Rattle.limit_causes.specs.declared.cause.NationalValue.{NationalValue}
-use Rattle.limit_causes.specs.declared.cause.NationalValue.TheVariants as national
-use Rattle.limit_causes.specs.declared.cause.OverTrain.{OverTrain}
-use Rattle.limit_causes.specs.declared.cause.OverTrain.TheVariants as over
-use Rattle.limit_causes.specs.declared.cause.SpeedCause.{SpeedCause}
-use Rattle.limit_causes.specs.declared.cause.SpeedCause.TheVariants as speed
-use Rattle.limit_causes.specs.declared.cause.TargetAhead.{TargetAhead}
-use Rattle.limit_causes.specs.declared.cause.TargetKind.{TargetKind}
-use Rattle.limit_causes.specs.declared.cause.TargetKind.TheVariants as target
+use Rattle.speed_supervision.specs.declared.cause.LimitCause.{LimitCause}
+use Rattle.speed_supervision.specs.declared.cause.LimitCause.TheVariants as cause
+use Rattle.speed_supervision.specs.declared.cause.NationalValue.{NationalValue}
+use Rattle.speed_supervision.specs.declared.cause.NationalValue.TheVariants as national
+use Rattle.speed_supervision.specs.declared.cause.OverTrain.{OverTrain}
+use Rattle.speed_supervision.specs.declared.cause.OverTrain.TheVariants as over
+use Rattle.speed_supervision.specs.declared.cause.SpeedCause.{SpeedCause}
+use Rattle.speed_supervision.specs.declared.cause.SpeedCause.TheVariants as speed
+use Rattle.speed_supervision.specs.declared.cause.TargetAhead.{TargetAhead}
+use Rattle.speed_supervision.specs.declared.cause.TargetKind.{TargetKind}
+use Rattle.speed_supervision.specs.declared.cause.TargetKind.TheVariants as target
 use Rattle.restriction.specs.declared.restriction.Restriction.{Restriction}
 use Rattle.reasons.specs.declared.limit_words.LimitKind.{LimitKind}
 use Rattle.reasons.specs.declared.limit_words.LimitKind.TheVariants as kind

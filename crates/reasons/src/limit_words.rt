@@ -3,7 +3,9 @@ ghost use Rattle.std.specs.Prelude.{◌≡◌};
 ghost use Rattle.reasons.specs.LimitWords.{plain, restriction_told, placed, over_told, ahead_told, limit_told, limit_word_of, limit_sentence_of, limit_section_of};
 
 use authority::Release;
-use limit_causes::{LimitCause, NationalValue, OverTrain, SpeedCause, TargetAhead, TargetKind};
+use speed_supervision::{
+    LimitCause, NationalValue, OverTrain, SpeedCause, TargetAhead, TargetKind,
+};
 use track_store::Restriction;
 use units::{Cm, Mph};
 use vars::Variable;

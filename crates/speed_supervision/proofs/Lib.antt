@@ -1,1 +1,7 @@
 pub mod Within
+pub mod Finding
+pub mod Naming
+pub mod Hindering
+pub mod Deciding
+pub mod Releasing
+pub mod Overriding

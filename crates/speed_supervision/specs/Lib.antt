@@ -1,2 +1,6 @@
 pub mod Limit
 pub mod Laws
+pub mod Over
+pub mod Targets
+pub mod Supervised
+pub mod Causes

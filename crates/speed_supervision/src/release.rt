@@ -38,8 +38,8 @@ fn target(place: Cm, speed: Mph) -> Target
     Target { place, speed }
 }
 
-// The release speed that holds.
-fn release_speed(release: Release, national: Mph) -> Mph
+/// The release speed that holds, in metres per hour: that of the authority, or the national value.
+pub fn release_speed(release: Release, national: Mph) -> Mph
     ensures { result ≡ release_speed release national }
 {
     match release {

@@ -16,11 +16,11 @@ use Rattle.kernel.specs.Showing.{acknowledgements_of, service_speed, emergency_s
 use Rattle.kernel.specs.declared.causes.BrakeCause.{BrakeCause}
 use Rattle.kernel.specs.declared.showing.Waiting.{Waiting}
 use Rattle.kernel.specs.declared.showing.Waiting.TheVariants as waits
-use Rattle.limit_causes.specs.Causes.{IsLimitCause}
-use Rattle.limit_causes.specs.declared.cause.LimitCause.{LimitCause}
-use Rattle.limit_causes.specs.declared.cause.LimitCause.TheVariants as a_limit
-use Rattle.limit_causes.specs.declared.cause.SpeedCause.{SpeedCause}
-use Rattle.limit_causes.specs.declared.cause.SpeedCause.TheVariants as a_speed
+use Rattle.speed_supervision.specs.Causes.{IsLimitCause}
+use Rattle.speed_supervision.specs.declared.cause.LimitCause.{LimitCause}
+use Rattle.speed_supervision.specs.declared.cause.LimitCause.TheVariants as a_limit
+use Rattle.speed_supervision.specs.declared.cause.SpeedCause.{SpeedCause}
+use Rattle.speed_supervision.specs.declared.cause.SpeedCause.TheVariants as a_speed
 use Rattle.mode_control.specs.Conditions.{left_of_override}
 use Rattle.mode_control.specs.History.{tracks}
 use Rattle.mode_control.specs.Life.{Life}

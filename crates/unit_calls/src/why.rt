@@ -12,8 +12,8 @@ use braking::Target;
 use driver::OverrideLeft;
 use image_calls::{flag, limit_number, or_zero, place_or_zero};
 use kernel::{Acknowledgements, BrakeCause, BrakeCauses, State, Waiting};
-use limit_causes::{LimitCause, SpeedCause};
 use reasons::{LimitTold, limit_told};
+use speed_supervision::{LimitCause, SpeedCause};
 use units::{Cm, Mph};
 
 /// Why the newest released output is what it is, and what a display shows of it. Lengths are centimetres, speeds metres

@@ -1,6 +1,0 @@
-pub mod Finding
-pub mod Naming
-pub mod Hindering
-pub mod Deciding
-pub mod Releasing
-pub mod ByMode

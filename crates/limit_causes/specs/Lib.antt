@@ -1,4 +1,0 @@
-pub mod Over
-pub mod Targets
-pub mod Supervised
-pub mod Causes

@@ -1,0 +1,42 @@
+use Rattle.std.proofs.Common.{◌≡◌, ℕ, ap, sym, subst, ◌∙◌}
+use Rattle.std.specs.Prelude.{◌==◌}
+use Rattle.std.proofs.lemmas.Bool.{and_parts, eqb-true}
+use Rattle.driver.specs.declared.datum.Datum.{Datum}
+use Rattle.driver.specs.Known as driver
+use Rattle.driver.specs.Limits.{Train}
+use Rattle.mode_control.specs.Conditions.{is_overridden}
+use Rattle.mode_control.specs.Life.{driver_of}
+use Rattle.mode_control.specs.Sentences.{values_of}
+use Rattle.mode_control.specs.StandsFor.{KnownModes}
+use Rattle.speed_supervision.specs.Limit.{within_maximum, maximum_in, restricted, while_overridden}
+use Rattle.speed_supervision.specs.Causes.{IsMaximum}
+use Rattle.speed_supervision.proofs.Overriding.{no_override}
+use Rattle.speed_supervision.proofs.cause_by_mode.responsible_cause.Goals as goal
+
+pub returns-in-Some : goal.returns-in-Some
+returns-in-Some g c life s = rw c.in-Some.is at (c.restriction_in.ensures life s)
+
+pub returns-then-is_override : goal.returns-then-is_override
+returns-then-is_override g c life s =
+    let both = and_parts (is_overridden life) ((values_of life).override_speed == c.args.limit) (sym (c.is_override.ensures life s) ∙ c.if-is_override.true) in
+    (both.0, eqb-true (values_of life).override_speed c.args.limit both.1)
+
+pub returns-then-is_maximum : goal.returns-then-is_maximum
+returns-then-is_maximum g c life s =
+    let train : c.train_data.result ≡ (driver_of life).train_data =
+    c.train_data.ensures ∙ ap (λ (d : driver.KnownItems). d.train_data) (c.driver.ensures ∙ ap (λ (k : KnownModes). k.driver) s.parts_are) in
+    subst (λ (d : Datum Train). IsMaximum c.args.limit d) train (rw c.if-is_maximum.true at c.is_maximum.ensures)
+
+pub returns : goal.returns
+returns g c life s =
+    let limit = c.args.limit in
+    let own : ℕ = (values_of life).staff_responsible in
+    let train : c.train_data.result ≡ (driver_of life).train_data =
+    c.train_data.ensures ∙ ap (λ (d : driver.KnownItems). d.train_data) (c.driver.ensures ∙ ap (λ (k : KnownModes). k.driver) s.parts_are) in
+    let unrestricted : (speed : ℕ) → restricted life speed ≡ limit → speed ≡ limit = rw c.in_default.is at (c.restriction_in.ensures life s) in
+    let lowered : while_overridden life (maximum_in life own) ≡ limit = unrestricted (while_overridden life (maximum_in life own)) (sym (c.requires life s)) in
+    let free : maximum_in life own ≡ limit =
+    no_override (is_overridden life) (maximum_in life own) (values_of life).override_speed limit lowered
+    (sym (c.is_override.ensures life s) ∙ c.if-is_override.false) in
+    let other : (speed : ℕ) → within_maximum c.train_data.result speed ≡ limit → speed ≡ limit = rw c.if-is_maximum.false at c.is_maximum.ensures in
+    other own (ap (λ (d : Datum Train). within_maximum d own) train ∙ free)

@@ -1,0 +1,30 @@
+use Rattle.std.proofs.Common.{ap, sym, ◌∙◌}
+use Rattle.track_store.specs.Restrictions.{least_speed}
+use Rattle.speed_profile.specs.Limit.{least_static, bound_speed}
+use Rattle.speed_profile.specs.Track.{speeds_along}
+use Rattle.speed_supervision.proofs.Naming.{area_named, no_area, no_static_speed}
+use Rattle.speed_supervision.proofs.over.over_train.Goals as goal
+
+pub returns-in-Some : goal.returns-in-Some
+returns-in-Some g c =
+    let track = c.args.track.now in
+    area_named track.national track.areas.now c.args.train.now c.args.limit c.in-Some.area (sym c.area_over.ensures ∙ c.in-Some.is)
+
+pub bound_over-requires : goal.bound_over-requires
+bound_over-requires g c =
+    let track = c.args.track.now in
+    let static = g.S.Profile.value track.speeds.now in
+    let train = c.args.train.now in
+    let bounds = c.args.bounds.now in
+    let limit = c.args.limit in
+    let bound = bound_speed train.max_front bounds in
+    let on = least_static static bounds.category train bound in
+    let restricted = no_area track.national track.areas.now train limit (sym c.area_over.ensures ∙ c.in_default.is)
+    (least_speed track.restrictions.now.track train on) (sym c.requires) in
+    let static_is = c.in_default-restriction_over.ensures on restricted in
+    let bound_is = no_static_speed static bounds.category train limit c.in_default-static_speed_over.ensures bound static_is in
+    sym bound_is ∙ ap (λ front. bound_speed front bounds) (sym c.max_front.ensures.value)
+
+pub returns : goal.returns
+returns g c =
+    c.bound_over.ensures c.args.train.now (speeds_along g.S.Profile.value c.args.track.now) (sym c.max_front.ensures.value)

@@ -2,8 +2,9 @@
 
 use crate::status::{Status, no_memory, told};
 use crate::telegrams::bytes_of;
-use packet_lines::{name_pieces, number_pieces, place_pieces, why_piece};
-use packet_uses::{Fate, ToldPacket, never_used_packets};
+use packet_uses::{
+    Fate, ToldPacket, name_pieces, never_used_packets, number_pieces, place_pieces, why_piece,
+};
 use packets::PacketFault;
 use pieces::{Form, Piece, write_parts, write_pieces};
 use std::alloc::Global;

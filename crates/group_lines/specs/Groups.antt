@@ -3,7 +3,7 @@
 use Rattle.std.specs.Prelude.{ℕ, Bool, true, false, if◌then◌else◌, Option, Some, None, List, [], ◌∷◌, ◌++◌, codes, decimal}
 use Rattle.command_line.specs.OutputWords.{mode_text}
 use Rattle.mode_table.specs.declared.mode.Mode.{Mode}
-use Rattle.packet_lines.specs.Words.{number_text, name_told, why_text}
+use Rattle.packet_uses.specs.Words.{number_text, name_told, why_text}
 use Rattle.packet_uses.specs.declared.fate.Fate.{Fate}
 use Rattle.packet_uses.specs.Fates.{fate_told}
 use Rattle.packets.specs.declared.packet.Packet.{Packet}

@@ -10,8 +10,7 @@ ghost use Rattle.group_lines.specs.Groups.{why_in, packet_back, packet_text, pac
 
 use balise_groups::GroupPackets;
 use mode_table::Mode;
-use packet_lines::{name_pieces, number_pieces, why_piece};
-use packet_uses::{Fate, fate_of};
+use packet_uses::{Fate, fate_of, name_pieces, number_pieces, why_piece};
 use packets::Packet;
 use pieces::{Form, Piece, write_parts};
 use reasons::{GroupTold, is_accepted};

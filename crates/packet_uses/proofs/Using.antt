@@ -1,5 +1,5 @@
 -- Packets that are told as used, beside those that are used.
-use Rattle.std.proofs.Common.{◌≡◌, ℕ, ◌+◌, ◌==◌, Bool, true, false, not, ◌&&◌, ◌||◌, if◌then◌else◌, List, [], ◌∷◌, length, filter, Option, Some, None, refl, sym, ap, ◌∙◌}
+use Rattle.std.proofs.Common.{◌≡◌, ℕ, ◌+◌, ◌==◌, Bool, true, false, not, ◌&&◌, ◌||◌, if◌then◌else◌, List, [], ◌∷◌, length, filter, Option, Some, None, refl, ap, ◌∙◌}
 use Rattle.std.specs.Option.{option_map_or}
 use Rattle.balise_groups.specs.Telling.{before_infill, infill}
 use Rattle.mode_table.specs.Packets.{uses}
@@ -9,9 +9,9 @@ use Rattle.packets.specs.declared.packet.Packet.{Packet}
 use Rattle.track_picture.specs.Sentences.{is_used, is_valid, valid_in}
 use Rattle.vars.specs.declared.linking.LinkOrientation.{LinkOrientation}
 use Rattle.vars.specs.declared.packet_head.ValidityDirection.{ValidityDirection}
-use Rattle.packet_uses.specs.Calls.{is_other_than_used, is_unused}
-use Rattle.packet_uses.specs.Fates.{fate_by, fate_told}
-use Rattle.packet_uses.specs.Laws.{if_used, used_among}
+use Rattle.packet_uses.specs.Calls.{is_other_than_used}
+use Rattle.packet_uses.specs.Fates.{fate_by}
+use Rattle.packet_uses.specs.Laws.{used_among}
 use Rattle.packet_uses.specs.Telling.{told_from}
 use Rattle.packet_uses.specs.declared.fate.Fate.TheVariants.{Used, OtherDirection, NotInMode}
 

@@ -1,5 +1,7 @@
 pub mod Calls
 pub mod Fates
 pub mod Laws
+pub mod Lists
 pub mod Never
 pub mod Telling
+pub mod Words

@@ -1,14 +1,19 @@
-//! What the unit does with each packet of a telegram: whether it uses it in a mode and a direction, and why not.
+//! What the unit does with each packet of a telegram: whether it uses it in a mode and a direction, and why not; the
+//! words of it for people and as JSON, and a JSON list (this project's profile). No call takes memory.
 #![tactic(auto)]
 
 mod calls;
 mod fate;
 mod laws;
+mod list;
 mod never;
 mod telling;
+mod words;
 
 pub use calls::{EtcsPacket, unused_call};
 pub use fate::{Fate, fate_of};
 pub use laws::{never_used_is_so, told_as_used_is_used};
+pub use list::{write_never_used, write_told};
 pub use never::never_used_packets;
 pub use telling::{MOST_TOLD, ToldPacket, told_packets};
+pub use words::{name_pieces, number_pieces, place_pieces, why_piece};

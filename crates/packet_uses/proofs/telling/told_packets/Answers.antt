@@ -1,4 +1,4 @@
-use Rattle.std.proofs.Common.{◌≡◌, false, List, ◌++◌, ap, ◌∙◌}
+use Rattle.std.proofs.Common.{false, List, ◌++◌, ap, ◌∙◌}
 use Rattle.telegram.specs.declared.message.Telegram.{Telegram}
 use Rattle.packet_uses.specs.Telling.{told_from}
 use Rattle.packet_uses.specs.declared.telling.ToldPacket.{ToldPacket}

@@ -1,7 +1,7 @@
 use Rattle.std.proofs.KnownBytes.{Appends-trans}
 use Rattle.std.proofs.lemmas.Result.{on_ok_weaker}
-use Rattle.packet_lines.specs.Lists.{list_text}
-use Rattle.packet_lines.proofs.list.write_told.Goals as goal
+use Rattle.packet_uses.specs.Lists.{list_text}
+use Rattle.packet_uses.proofs.list.write_told.Goals as goal
 
 pub returns : goal.returns
 unfolding list_text

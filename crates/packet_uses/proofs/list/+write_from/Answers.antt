@@ -1,7 +1,7 @@
 use Rattle.std.proofs.Common.{◌≡◌, ◌∷◌}
 use Rattle.std.proofs.KnownBytes.{Appends-trans}
 use Rattle.std.proofs.lemmas.Result.{on_ok_weaker}
-use Rattle.packet_lines.proofs.list.+write_from.Goals as goal
+use Rattle.packet_uses.proofs.list.+write_from.Goals as goal
 
 pub returns-in_ok-write_packet-in-Some : goal.returns-in_ok-write_packet-in-Some
 returns-in_ok-write_packet-in-Some g n c =

@@ -3,7 +3,7 @@
 use Rattle.std.specs.Prelude.{ℕ, List, [], ◌∷◌, ◌++◌, Bool, true, false, codes}
 use Rattle.pieces.specs.declared.piece.Form.TheVariants.{Json}
 use Rattle.packet_uses.specs.declared.telling.ToldPacket.{ToldPacket}
-use Rattle.packet_lines.specs.Words.{number_text, name_told, place_text, why_text}
+use Rattle.packet_uses.specs.Words.{number_text, name_told, place_text, why_text}
 
 abbrev pub packet_text : Bool → ToldPacket → List ℕ
 packet_text later p =

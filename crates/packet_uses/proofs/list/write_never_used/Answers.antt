@@ -1,5 +1,5 @@
 use Rattle.std.proofs.lemmas.Result.{on_ok_weaker}
-use Rattle.packet_lines.proofs.list.write_never_used.Goals as goal
+use Rattle.packet_uses.proofs.list.write_never_used.Goals as goal
 
 pub returns : goal.returns
 returns g c =

@@ -1,12 +1,13 @@
-//! The list.
+//! The packets of a telegram as a JSON list.
 ghost use Rattle.std.specs.Prelude.{◌≡◌, List, OnOk};
 ghost use Rattle.std.specs.Io.KnownBytes.{Appends};
-ghost use Rattle.packet_lines.specs.Lists.{list_from, list_text, packet_text};
+ghost use Rattle.packet_uses.specs.Lists.{list_from, list_text, packet_text};
 ghost use Rattle.packet_uses.specs.Never.{TellsNeverUsed};
 ghost use Rattle.packet_uses.specs.declared.telling.ToldPacket.{ToldPacket as a_packet};
 
+use crate::never::never_used_packets;
+use crate::telling::ToldPacket;
 use crate::words::{name_pieces, number_pieces, place_pieces, why_piece};
-use packet_uses::{ToldPacket, never_used_packets};
 use pieces::{Form, Piece, write_parts};
 use std::io;
 use std::io::Write;
@@ -34,8 +35,8 @@ fn write_from<W: Write>(packets: &[ToldPacket], later: bool, out: &mut W) -> io:
     }
 }
 
-/// Writes packets as a JSON list, in their order: each with its number, its name, its first bit in the telegram, its length
-/// in bits, and why it isn't used, or null. The error is that of a write.
+/// Writes packets as a JSON list, in their order: each with its number, its name, its first bit in the telegram, its
+/// length in bits, and why it isn't used, or null. The error is that of a write.
 pub fn write_told<W: Write>(packets: &[ToldPacket], out: &mut W) -> io::Result<()>
     ensures { OnOk result (Appends (W.contents out.old) (W.contents out.new) (list_text packets.now)) }
 {

@@ -1,7 +1,7 @@
 use Rattle.std.proofs.Common.{ℕ, List, [], ◌∷◌, codes, ap, ◌∙◌, append-nil}
 use Rattle.pieces.specs.Pieces.{text_in, joined}
-use Rattle.packet_lines.specs.Words.{name_in, name_told}
-use Rattle.packet_lines.proofs.words.name_pieces.Goals as goal
+use Rattle.packet_uses.specs.Words.{name_in, name_told}
+use Rattle.packet_uses.proofs.words.name_pieces.Goals as goal
 
 pub returns-in-Some : goal.returns-in-Some
 unfolding name_told

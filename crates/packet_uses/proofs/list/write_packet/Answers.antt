@@ -1,5 +1,5 @@
 use Rattle.pieces.specs.declared.piece.Form.TheVariants.{Json}
-use Rattle.packet_lines.proofs.list.write_packet.Goals as goal
+use Rattle.packet_uses.proofs.list.write_packet.Goals as goal
 
 pub returns : goal.returns
 returns g c =

@@ -2,9 +2,9 @@
 ghost use Rattle.std.specs.Prelude.{◌≡◌};
 ghost use Rattle.pieces.specs.Pieces.{text_of, texts};
 ghost use Rattle.pieces.specs.declared.piece.Form.{Form as a_form};
-ghost use Rattle.packet_lines.specs.Words.{name_told, number_text, place_text, why_text};
+ghost use Rattle.packet_uses.specs.Words.{name_told, number_text, place_text, why_text};
 
-use packet_uses::Fate;
+use crate::fate::Fate;
 use pieces::Piece;
 use track_packets::kind_of;
 

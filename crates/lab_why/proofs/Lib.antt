@@ -1,3 +1,4 @@
+pub mod AllGroups
 pub mod Counting
 pub mod Living
 pub mod OneMore

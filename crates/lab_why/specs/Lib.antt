@@ -1,3 +1,4 @@
+pub mod Groups
 pub mod Lines
 pub mod Played
 pub mod Ends

@@ -16,7 +16,7 @@ use Rattle.reasons.specs.LimitWords.{limit_word_of, limit_sentence_of, limit_sec
 use Rattle.mode_control.specs.declared.tripping.TripCause.{TripCause}
 use Rattle.reasons.specs.declared.trips.TripTold.{TripTold}
 use Rattle.reasons.specs.TripWords.{trip_word_of, trip_sentence_of, trip_section_of}
-use Rattle.group_lines.specs.Groups.{groups_text}
+use Rattle.lab_why.specs.Groups.{groups_text}
 use Rattle.mode_table.specs.declared.mode.Mode.{Mode}
 use Rattle.track_picture.specs.declared.closings.Closing.{Closing}
 use Rattle.lab_why.specs.declared.lines.Answer.{Answer}

@@ -5,13 +5,16 @@
 
 mod course;
 mod ends;
+mod group;
 mod lines;
+mod packet;
 mod played;
 mod playing;
 mod telling;
 mod visiting;
 mod walk;
 
+pub use group::write_groups;
 pub use lines::{Answer, Told, told_of, write_line};
 pub use lives::{LateError, WalkError};
 pub use onboard::{FlushError, LiveError, OpenError};

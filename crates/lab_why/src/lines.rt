@@ -6,9 +6,9 @@ ghost use Rattle.pieces.specs.declared.piece.Form.{Form as a_form};
 ghost use Rattle.track_picture.specs.Closings.{all_of};
 ghost use Rattle.lab_why.specs.Lines.{front_text, held_text, free_text, cause_text, told_of, trip_known_text, trip_unknown_text, trip_text, decides_text, place_text, number_text, section_text, end_text, limit_text, last_text, line_of};
 
+use crate::group::write_groups;
 use command_line::brake_word;
 use events::Brake;
-use group_lines::write_groups;
 use kernel::{BrakeCause, TripCause};
 use pieces::{Form, Piece, both, write_parts, write_pieces};
 use reasons::{

@@ -4,7 +4,7 @@ ghost use Rattle.std.specs.Io.KnownBytes.{Appends};
 ghost use Rattle.pieces.specs.Pieces.{text_of, texts};
 ghost use Rattle.pieces.specs.declared.piece.Form.{Form as a_form};
 ghost use Rattle.track_picture.specs.Closings.{all_of};
-ghost use Rattle.group_lines.specs.Groups.{announcement_text, direction_text, group_back, group_begun, group_front, group_if, group_text, groups_text, head_text, packets_of, packets_text, reaction_text};
+ghost use Rattle.lab_why.specs.Groups.{announcement_text, direction_text, group_back, group_begun, group_front, group_if, group_text, groups_text, head_text, packets_of, packets_text, reaction_text};
 
 use crate::packet::write_packets;
 use command_line::mode_word;

@@ -1,7 +1,7 @@
 use Rattle.std.proofs.Common.{false, ℕ, List, Option}
 use Rattle.std.specs.Io.KnownBytes.{Appends}
-use Rattle.group_lines.specs.Groups.{packets_text}
-use Rattle.group_lines.proofs.packet.write_packets.Given as goal
+use Rattle.lab_why.specs.Groups.{packets_text}
+use Rattle.lab_why.proofs.packet.write_packets.Given as goal
 
 -- what the packets still to come add is what is left of the text
 abbrev pub invariant-loop-item : goal.invariant-loop-item

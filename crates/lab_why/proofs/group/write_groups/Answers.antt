@@ -5,10 +5,10 @@ use Rattle.std.proofs.KnownBytes.{Appends-trans}
 use Rattle.std.proofs.lemmas.Result.{on_ok_weaker}
 use Rattle.std.specs.Io.KnownBytes.{Appends}
 use Rattle.track_picture.specs.Closings.{listed}
-use Rattle.group_lines.specs.Groups.{group_if, groups_text}
-use Rattle.group_lines.proofs.All.{written, ended_there, whole_there}
-use Rattle.group_lines.proofs.group.write_groups.Goals as goal
-use Rattle.group_lines.proofs.group.write_groups.Goals.{else-is_none-via-then-is_none+else-is_none-2, else-is_none-via-else-is_none}
+use Rattle.lab_why.specs.Groups.{group_if, groups_text}
+use Rattle.lab_why.proofs.AllGroups.{written, ended_there, whole_there}
+use Rattle.lab_why.proofs.group.write_groups.Goals as goal
+use Rattle.lab_why.proofs.group.write_groups.Goals.{else-is_none-via-then-is_none+else-is_none-2, else-is_none-via-else-is_none}
 
 pub returns : goal.returns
 returns g c =

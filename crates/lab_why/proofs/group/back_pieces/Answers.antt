@@ -1,5 +1,5 @@
 use Rattle.std.proofs.Common.{refl}
-use Rattle.group_lines.proofs.group.back_pieces.Goals as goal
+use Rattle.lab_why.proofs.group.back_pieces.Goals as goal
 
 pub returns : goal.returns
 returns c = λ form. rw (c.reaction_piece.ensures form, c.both.ensures form, c.group_section.ensures) refl

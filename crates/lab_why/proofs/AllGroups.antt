@@ -7,7 +7,7 @@ use Rattle.pieces.specs.Pieces.{text_in}
 use Rattle.pieces.specs.declared.piece.Form.{Form}
 use Rattle.track_picture.specs.Closings.{listed}
 use Rattle.track_picture.specs.declared.closings.Closing.{Closing}
-use Rattle.group_lines.specs.Groups.{group_if, group_text, groups_text}
+use Rattle.lab_why.specs.Groups.{group_if, group_text, groups_text}
 
 module _ (form : Form) (mode : Mode) where
   -- what is written: the beginning, each of the two where there is one, and the end

@@ -5,8 +5,8 @@ use Rattle.packet_uses.specs.Fates.{fate_told}
 use Rattle.packets.specs.declared.packet.Packet.{Packet}
 use Rattle.packets.specs.Packets.{number_of}
 use Rattle.reasons.specs.GroupWords.{is_accepted}
-use Rattle.group_lines.specs.Groups.{packet_text, packets_text}
-use Rattle.group_lines.proofs.packet.write_packets.Goals as goal
+use Rattle.lab_why.specs.Groups.{packet_text, packets_text}
+use Rattle.lab_why.proofs.packet.write_packets.Goals as goal
 
 pub loop-item-preserved : goal.loop-item-preserved
 loop-item-preserved g c = λ all rest.

@@ -1,4 +1,4 @@
-use Rattle.group_lines.proofs.packet.write_packet.Goals as goal
+use Rattle.lab_why.proofs.packet.write_packet.Goals as goal
 
 pub returns : goal.returns
 returns g c =

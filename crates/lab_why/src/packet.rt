@@ -6,7 +6,7 @@ ghost use Rattle.pieces.specs.declared.piece.Form.{Form as a_form};
 ghost use Rattle.packet_uses.specs.Fates.{fate_told};
 ghost use Rattle.packets.specs.Packets.{number_of};
 ghost use Rattle.reasons.specs.GroupWords.{is_accepted};
-ghost use Rattle.group_lines.specs.Groups.{why_in, packet_back, packet_text, packets_text};
+ghost use Rattle.lab_why.specs.Groups.{why_in, packet_back, packet_text, packets_text};
 
 use balise_groups::GroupPackets;
 use mode_table::Mode;

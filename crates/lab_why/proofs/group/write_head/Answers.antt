@@ -1,4 +1,4 @@
-use Rattle.group_lines.proofs.group.write_head.Goals as goal
+use Rattle.lab_why.proofs.group.write_head.Goals as goal
 
 pub returns : goal.returns
 returns g c =

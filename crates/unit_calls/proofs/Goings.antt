@@ -1,5 +1,5 @@
 -- What came of going on, as the call tells it.
-use Rattle.std.proofs.Common.{◌≡◌, ℕ, ◌∷◌, [], List, Bool, true, false, Option, Some, None, Result, Ok, Err, IfOk, IfSome, IsSome, is_some, refl, sym, subst}
+use Rattle.std.proofs.Common.{◌≡◌, ℕ, ◌∷◌, [], List, false, Option, Some, None, Result, Ok, Err, IfOk, IfSome, IsSome, is_some, sym, subst}
 use Rattle.events.specs.declared.input.Event.{Event}
 use Rattle.events.specs.declared.input.Event.TheVariants.{PowerUp}
 use Rattle.journal.specs.Journals.{IsOpen}

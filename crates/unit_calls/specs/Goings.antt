@@ -4,7 +4,6 @@ use Rattle.disk.specs.State.{contents_of}
 use Rattle.onboard.specs.Lives.{IsOpenRefusal, HasNoCause}
 use Rattle.onboard.specs.declared.errors.OpenError.{OpenError}
 use Rattle.onboard.specs.declared.errors.OpenError.TheVariants as an_open
-use Rattle.relayed_unit.specs.Relayed.{Relayed}
 use Rattle.relayed_unit.specs.Goings.{OnWants, OnOpen}
 use Rattle.relayed_unit.specs.Openings.{Opening, medium_state, IsGoing, IsWanted}
 use Rattle.relayed_unit.specs.declared.powering_up.Going.{Going}

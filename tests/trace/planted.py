@@ -172,8 +172,8 @@ PLANTS = (
     (
         "a gap without a reason",
         "docs/requirements.yaml",
-        "    - crates: layouts blocks ring journal onboard\n      why: words",
-        "    - crates: layouts blocks journal onboard\n      why: words",
+        "    - crates: blocks ring journal onboard\n      why: words",
+        "    - crates: blocks journal onboard\n      why: words",
         "definitions of crates/ring are of no requirement",
     ),
     (

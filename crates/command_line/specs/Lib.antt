@@ -1,4 +1,5 @@
 pub mod Begun
 pub mod OutputLine
 pub mod OutputWords
+pub mod Pieces
 pub mod Words

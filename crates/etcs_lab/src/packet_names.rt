@@ -6,7 +6,7 @@ use packet_uses::{
     Fate, ToldPacket, name_pieces, never_used_packets, number_pieces, place_pieces, why_piece,
 };
 use packets::PacketFault;
-use pieces::{Form, Piece, write_parts, write_pieces};
+use command_line::{Form, Piece, write_parts, write_pieces};
 use std::alloc::Global;
 use std::io;
 use std::io::Write;

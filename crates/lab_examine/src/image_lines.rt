@@ -1,14 +1,14 @@
 //! The lines of an image as a whole.
 ghost use Rattle.std.specs.Prelude.{◌≡◌, ◌≤◌, OnOk};
 ghost use Rattle.std.specs.Io.KnownBytes.{Appends};
-ghost use Rattle.pieces.specs.Pieces.{texts};
-ghost use Rattle.pieces.specs.declared.piece.Form.{Form as a_form};
+ghost use Rattle.command_line.specs.Pieces.{texts};
+ghost use Rattle.command_line.specs.declared.piece.Form.{Form as a_form};
 ghost use Rattle.lab_examine.specs.ImageLines.{behind_of, size_text, digits_text, digest_text, image_text};
 
 use crate::file_facts::FileFacts;
 use crate::first_lines::write_first_sector;
 use examination::{Survey, first_sector_of};
-use pieces::{Form, Piece, known, write_pieces};
+use command_line::{Form, Piece, known, write_pieces};
 use std::io;
 use std::io::Write;
 

@@ -10,7 +10,7 @@ use crate::national_lines::{modes_pieces, ranges_pieces, speeds_pieces, write_co
 use driver::DriverIdentity;
 use events::Kept;
 use journal::Found;
-use pieces::{Form, Piece, write_characters, write_parts, write_pieces};
+use command_line::{Form, Piece, write_characters, write_parts, write_pieces};
 use std::io;
 use std::io::Write;
 

@@ -1,12 +1,12 @@
 //! The lines of the national values that a power-up would keep.
 ghost use Rattle.std.specs.Prelude.{◌≡◌, decimal, flat_map, OnOk};
 ghost use Rattle.std.specs.Io.KnownBytes.{Appends};
-ghost use Rattle.pieces.specs.Pieces.{text_of, texts};
-ghost use Rattle.pieces.specs.declared.piece.Form.{Form as a_form};
+ghost use Rattle.command_line.specs.Pieces.{text_of, texts};
+ghost use Rattle.command_line.specs.declared.piece.Form.{Form as a_form};
 ghost use Rattle.lab_examine.specs.NationalLines.{open_text, modes_text, speeds_text, ranges_text, next_country, last_countries, countries_text};
 
 use national::{OverrideDuration, StaffResponsibleDistance, Values};
-use pieces::{Form, Piece, write_pieces};
+use command_line::{Form, Piece, write_pieces};
 use std::io;
 use std::io::Write;
 use units::{Mph, Reach};

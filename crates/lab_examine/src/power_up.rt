@@ -1,15 +1,15 @@
 //! The journal, what a power-up would do, and the verdict, as lines.
 ghost use Rattle.std.specs.Prelude.{◌≡◌, OnOk};
 ghost use Rattle.std.specs.Io.KnownBytes.{Appends};
-ghost use Rattle.pieces.specs.Pieces.{text_of};
-ghost use Rattle.pieces.specs.declared.piece.Form.{Form as a_form};
+ghost use Rattle.command_line.specs.Pieces.{text_of};
+ghost use Rattle.command_line.specs.declared.piece.Form.{Form as a_form};
 ghost use Rattle.lab_examine.specs.EndLines.{verdict_text};
 ghost use Rattle.lab_examine.specs.Examinations.{last_text};
 
 use crate::journal_lines::{journal_pieces, refusal_piece};
 use crate::kept_lines::write_found;
 use crate::opening::Opened;
-use pieces::{Form, Piece, write_parts, write_pieces};
+use command_line::{Form, Piece, write_parts, write_pieces};
 use std::io;
 use std::io::Write;
 

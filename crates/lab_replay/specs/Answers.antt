@@ -5,7 +5,7 @@ use Rattle.std.specs.Fmt.{signed_decimal}
 use Rattle.blocks.specs.declared.records.BlockRecord.{BlockRecord}
 use Rattle.blocks.specs.declared.records.Situation.{Situation}
 use Rattle.command_line.specs.OutputWords.{mode_text, brake_text}
-use Rattle.pieces.specs.Pieces.{joined}
+use Rattle.command_line.specs.Pieces.{joined}
 use Rattle.lab_events.specs.Signs.{signs_of}
 use Rattle.lab_events.specs.Words.{level_value}
 

@@ -8,7 +8,7 @@ use crate::lines::write_head;
 use crate::reports::HeadReport;
 use blocks::Block;
 use lives::LateError;
-use pieces::write_pieces;
+use command_line::write_pieces;
 use replaying::HeadFound;
 use std::io::Write;
 

@@ -1,13 +1,13 @@
 //! What is kept, as a JSON object.
 ghost use Rattle.std.specs.Prelude.{◌≡◌, OnOk};
 ghost use Rattle.std.specs.Io.KnownBytes.{Appends};
-ghost use Rattle.pieces.specs.Pieces.{texts};
-ghost use Rattle.pieces.specs.declared.piece.Form.{Form as a_form};
+ghost use Rattle.command_line.specs.Pieces.{texts};
+ghost use Rattle.command_line.specs.declared.piece.Form.{Form as a_form};
 ghost use Rattle.lab_replay.specs.KeptObject.{flag_text, counts_of, kept_behind};
 
 use events::Kept;
 use lab_examine::write_kept_items;
-use pieces::{Form, Piece, write_parts};
+use command_line::{Form, Piece, write_parts};
 use std::io;
 use std::io::Write;
 

@@ -14,5 +14,5 @@ mod walk;
 mod words;
 
 pub use lives::WalkError;
-pub use pieces::Form;
+pub use command_line::Form;
 pub use walk::{Outcome, replay};

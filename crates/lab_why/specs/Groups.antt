@@ -8,8 +8,8 @@ use Rattle.packet_uses.specs.declared.fate.Fate.{Fate}
 use Rattle.packet_uses.specs.Fates.{fate_told}
 use Rattle.packets.specs.declared.packet.Packet.{Packet}
 use Rattle.packets.specs.Packets.{number_of}
-use Rattle.pieces.specs.Pieces.{text_in, joined}
-use Rattle.pieces.specs.declared.piece.Form.{Form}
+use Rattle.command_line.specs.Pieces.{text_in, joined}
+use Rattle.command_line.specs.declared.piece.Form.{Form}
 use Rattle.reasons.specs.declared.group_words.GroupTold.{GroupTold}
 use Rattle.reasons.specs.GroupWords.{group_told, group_word_of, group_sentence_of, group_section_of, is_accepted}
 use Rattle.track_picture.specs.declared.closings.Closing.{Closing}

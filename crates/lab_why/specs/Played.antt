@@ -12,8 +12,8 @@ use Rattle.mode_control.specs.Sentences.{values_of}
 use Rattle.mode_table.specs.declared.mode.Mode.{Mode}
 use Rattle.onboard.specs.Releases.{Release}
 use Rattle.command_line.specs.OutputWords.{mode_text}
-use Rattle.pieces.specs.Pieces.{joined}
-use Rattle.pieces.specs.declared.piece.Form.TheVariants.{Json}
+use Rattle.command_line.specs.Pieces.{joined}
+use Rattle.command_line.specs.declared.piece.Form.TheVariants.{Json}
 use Rattle.reasons.specs.declared.limit_words.LimitTold.{LimitTold}
 use Rattle.reasons.specs.declared.trips.TripTold.{TripTold}
 use Rattle.lab_events.specs.Signs.{signs_of}

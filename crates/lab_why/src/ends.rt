@@ -2,14 +2,14 @@
 ghost use Rattle.std.specs.Prelude.{◌≡◌, ◌+◌, drop};
 ghost use Rattle.std.specs.Option.{option_map};
 ghost use Rattle.onboard.specs.Stops.{step_of};
-ghost use Rattle.pieces.specs.Pieces.{texts};
-ghost use Rattle.pieces.specs.declared.piece.Form.TheVariants.{Json};
+ghost use Rattle.command_line.specs.Pieces.{texts};
+ghost use Rattle.command_line.specs.declared.piece.Form.TheVariants.{Json};
 ghost use Rattle.lab_why.specs.Ends.{step_at, first_line, stopped_line, last_line};
 
 use lab_events::cold_word;
 use mode_table::Cold;
 use onboard::LiveError;
-use pieces::{Piece, known};
+use command_line::{Piece, known};
 use sessions::of_stop;
 
 /// The step of the scenario that a step of the life comes from, where it is none of the first ones.

@@ -1,15 +1,14 @@
 //! What became of the groups that an event closed.
 ghost use Rattle.std.specs.Prelude.{◌≡◌, OnOk, false};
 ghost use Rattle.std.specs.Io.KnownBytes.{Appends};
-ghost use Rattle.pieces.specs.Pieces.{text_of, texts};
-ghost use Rattle.pieces.specs.declared.piece.Form.{Form as a_form};
+ghost use Rattle.command_line.specs.Pieces.{text_of, texts};
+ghost use Rattle.command_line.specs.declared.piece.Form.{Form as a_form};
 ghost use Rattle.track_picture.specs.Closings.{all_of};
 ghost use Rattle.lab_why.specs.Groups.{announcement_text, direction_text, group_back, group_begun, group_front, group_if, group_text, groups_text, head_text, packets_of, packets_text, reaction_text};
 
 use crate::packet::write_packets;
-use command_line::mode_word;
+use command_line::{Form, Piece, both, mode_word, write_parts, write_pieces};
 use mode_table::Mode;
-use pieces::{Form, Piece, both, write_parts, write_pieces};
 use reasons::{GroupTold, GroupsTold, group_section, group_sentence, group_told, group_word};
 use std::io;
 use std::io::Write;
@@ -153,7 +152,7 @@ fn write_if<W: Write>(
 /// Writes what became of the groups that an event closed, with the packets of each and why they aren't used; nothing
 /// where it closed none. For people each is a part of a line that begins with a semicolon, as JSON all are a member
 /// that begins with a comma. The error is that of a write.
-pub fn write_groups<W: Write>(form: Form, told: &GroupsTold, out: &mut W) -> io::Result<()>
+pub(crate) fn write_groups<W: Write>(form: Form, told: &GroupsTold, out: &mut W) -> io::Result<()>
     ensures { OnOk result (Appends (W.contents out.old) (W.contents out.new) (groups_text form told.now.mode (all_of told.now.closings))) }
 {
     let ended = &told.closings.ended;

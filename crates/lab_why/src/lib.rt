@@ -14,11 +14,10 @@ mod telling;
 mod visiting;
 mod walk;
 
-pub use group::write_groups;
 pub use lines::{Answer, Told, told_of, write_line};
 pub use lives::{LateError, WalkError};
 pub use onboard::{FlushError, LiveError, OpenError};
-pub use pieces::Form;
+pub use command_line::Form;
 pub use played::{Played, write_played_line};
 pub use playing::{PlayedLife, play};
 pub use walk::{Walked, tell_why};

@@ -1,16 +1,15 @@
 //! The line of an event with the causes of its brake and of its limit.
 ghost use Rattle.std.specs.Prelude.{◌≡◌, OnOk, flat_map};
 ghost use Rattle.std.specs.Io.KnownBytes.{Appends};
-ghost use Rattle.pieces.specs.Pieces.{texts};
-ghost use Rattle.pieces.specs.declared.piece.Form.{Form as a_form};
+ghost use Rattle.command_line.specs.Pieces.{texts};
+ghost use Rattle.command_line.specs.declared.piece.Form.{Form as a_form};
 ghost use Rattle.track_picture.specs.Closings.{all_of};
 ghost use Rattle.lab_why.specs.Lines.{front_text, held_text, free_text, cause_text, told_of, trip_known_text, trip_unknown_text, trip_text, decides_text, place_text, number_text, section_text, end_text, limit_text, last_text, line_of};
 
 use crate::group::write_groups;
-use command_line::brake_word;
+use command_line::{Form, Piece, both, brake_word, write_parts, write_pieces};
 use events::Brake;
 use kernel::{BrakeCause, TripCause};
-use pieces::{Form, Piece, both, write_parts, write_pieces};
 use reasons::{
     GroupsTold, LimitKind, LimitTold, Runs, TripTold, ending, limit_section, limit_sentence,
     limit_word, sentence, trip_section, trip_sentence, trip_word, word,

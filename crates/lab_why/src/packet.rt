@@ -1,8 +1,8 @@
 //! The packets of a group.
 ghost use Rattle.std.specs.Prelude.{◌≡◌, OnOk, false};
 ghost use Rattle.std.specs.Io.KnownBytes.{Appends};
-ghost use Rattle.pieces.specs.Pieces.{text_of, texts};
-ghost use Rattle.pieces.specs.declared.piece.Form.{Form as a_form};
+ghost use Rattle.command_line.specs.Pieces.{text_of, texts};
+ghost use Rattle.command_line.specs.declared.piece.Form.{Form as a_form};
 ghost use Rattle.packet_uses.specs.Fates.{fate_told};
 ghost use Rattle.packets.specs.Packets.{number_of};
 ghost use Rattle.reasons.specs.GroupWords.{is_accepted};
@@ -12,7 +12,7 @@ use balise_groups::GroupPackets;
 use mode_table::Mode;
 use packet_uses::{Fate, fate_of, name_pieces, number_pieces, why_piece};
 use packets::Packet;
-use pieces::{Form, Piece, write_parts};
+use command_line::{Form, Piece, write_parts};
 use reasons::{GroupTold, is_accepted};
 use std::io;
 use std::io::Write;

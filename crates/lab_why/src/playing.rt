@@ -14,7 +14,7 @@ use journal::format;
 use lives::LateError;
 use mode_table::Cold;
 use onboard::{LiveError, Released, live};
-use pieces::{Form, write_pieces};
+use command_line::{Form, write_pieces};
 use std::alloc::Global;
 use std::io::Write;
 use units::NoMemory;

@@ -2,8 +2,8 @@
 ghost use Rattle.std.specs.Prelude.{◌≡◌, false, IfOk, OnOk};
 ghost use Rattle.std.specs.Io.KnownBytes.{Appends};
 ghost use Rattle.kernel.specs.Lives.{Story};
-ghost use Rattle.pieces.specs.Pieces.{texts};
-ghost use Rattle.pieces.specs.declared.piece.Form.{Form as a_form};
+ghost use Rattle.command_line.specs.Pieces.{texts};
+ghost use Rattle.command_line.specs.declared.piece.Form.{Form as a_form};
 ghost use Rattle.reasons.specs.Told.{Reasons};
 ghost use Rattle.lab_why.specs.Courses.{line_at, lost_in, AddsLine, Follows, Begins, Tells, AddsStep};
 
@@ -14,7 +14,7 @@ use blocks::Block;
 use events::{Event, Kept};
 use lab_events::lost_block_pieces;
 use lives::{LateError, Seen, Unknown, Visit};
-use pieces::{Form, Piece, write_parts, write_pieces};
+use command_line::{Form, Piece, write_parts, write_pieces};
 use reasons::Reasoning;
 use std::alloc::Global;
 use std::io::Write;

@@ -8,7 +8,7 @@ ghost use Rattle.packet_uses.specs.declared.telling.ToldPacket.{ToldPacket as a_
 use crate::never::never_used_packets;
 use crate::telling::ToldPacket;
 use crate::words::{name_pieces, number_pieces, place_pieces, why_piece};
-use pieces::{Form, Piece, write_parts};
+use command_line::{Form, Piece, write_parts};
 use std::io;
 use std::io::Write;
 

@@ -4,7 +4,7 @@ use Rattle.std.specs.Prelude.{nat_lt, if◌then◌else◌}
 use Rattle.std.proofs.lemmas.Bool.{cases_lt}
 use Rattle.std.proofs.lemmas.Bool.Decides.{nat_tests}
 use Rattle.blocks.specs.FirstSector.{sectors_of, first_sector}
-use Rattle.layouts.specs.Layout.{written}
+use Rattle.blocks.specs.Layout.{written}
 use Rattle.unit_calls.specs.Formatting.{Asked, Writing, asked_at, asked_last, carried, behind_first, FormatEmpties}
 
 -- a request by its place

@@ -32,7 +32,6 @@ pub use explaining::unit_why_call;
 pub use formatting::format_request_call;
 pub use going::go_on_call;
 pub use handle::{EtcsUnit, Opened};
-pub use held::Held;
 pub use inputs::EtcsTrainData;
 pub use laws::{format_empties, handed_out_is_on_medium};
 pub use opening::{close_call, open_call, put_unit};

@@ -1,15 +1,11 @@
 use Rattle.std.proofs.Common.{◌≡◌, ℤ, ◌-ℤ◌, ◌≤◌, ◌≤ℤ◌, ◌*◌, ◌∙◌, arith}
 use Rattle.std.specs.Int.{int_max}
-use Rattle.std.specs.Ordering.{ord_max}
 use Rattle.std.proofs.lemmas.Int.{ints}
 use Rattle.std.proofs.Math.Nat.{mul-le-mul_left}
 use Rattle.units.specs.Stretches.{natural}
-use Rattle.units.specs.contracts.cm.CmOrd.TheImpl.{cmp-value}
+use Rattle.units.proofs.Later.{max_is}
 use Rattle.braking.proofs.Naturals.{parts}
 use Rattle.braking.proofs.seeking.begun_at.Goals as goal
-
-max_is : (a b : ℤ) → ord_max cmp-value.it a b ≡ int_max a b
-max_is a b = grind (arith, ints)
 
 pub begun_evenly-requires : goal.begun_evenly-requires
 begun_evenly-requires c =

@@ -3,16 +3,12 @@ use Rattle.std.specs.Prelude.{None}
 use Rattle.std.specs.Int.{int_max}
 use Rattle.std.proofs.lemmas.Int.{ints}
 use Rattle.std.proofs.lemmas.List.{at_drop_all, drop_more}
-use Rattle.std.specs.Ordering.{ord_max}
-use Rattle.units.specs.contracts.cm.CmOrd.TheImpl.{cmp-value}
+use Rattle.units.proofs.Later.{max_is}
 use Rattle.track_store.specs.declared.profile.Step.{Step}
 use Rattle.track_store.specs.Facts.{passed, last_value}
 use Rattle.track_store.specs.Segments.{value_of_segments, is_reached}
 use Rattle.track_store.proofs.Segmenting.{one_step, unchanged_below, replaced_open, replaced_ended}
 use Rattle.track_store.proofs.segments.hold_steps.Goals as goal
-
-max_is : (a b : ℤ) → ord_max cmp-value.it a b ≡ int_max a b
-max_is a b = grind (arith, ints)
 
 same_max : (a : ℤ) → a ≡ int_max a a
 same_max a = grind (arith, ints)

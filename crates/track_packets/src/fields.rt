@@ -8,7 +8,7 @@ ghost use Rattle.track_packets.specs.declared.reading.FieldsError.{FieldsError};
 
 use crate::kernel::kernel_fields_of;
 use crate::kind::{Body, Kind, kind_of};
-use crate::blocks::{HEAD, rows_of};
+use crate::layouts::{HEAD, rows_of};
 use crate::listing::PacketPlace;
 use crate::reading::{Fields, FieldsError, Reading};
 use bits::BitReader;

@@ -38,7 +38,7 @@ mod variable;
 pub use fault::{FieldFault, FieldPlace};
 pub use fields::fields_of;
 pub use kind::{Body, Issue, KINDS, Kind, PacketName, Sender, Sureness, kind_of};
-pub use blocks::{HEAD, rows_of};
+pub use layouts::{HEAD, rows_of};
 pub use listing::{Listing, ListingEnd, MOST_LISTED, PacketPlace, packets_in_order};
 pub use reading::{Field, Fields, FieldsError};
 pub use row::{Role, Row, When};

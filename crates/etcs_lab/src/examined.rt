@@ -2,7 +2,8 @@
 
 use crate::images::{Image, Named, opened_whole};
 use crate::status::{Status, unread, unwritten};
-use lab_examine::{ExamineError, Form, Verdict, examine};
+use command_line::Form;
+use lab_examine::{ExamineError, Verdict, examine};
 use std::fs::File;
 use std::io::Write;
 use std::rt::Files;

@@ -1,7 +1,8 @@
 //! The command `lint`.
 
 use crate::status::{Status, no_memory, unread_for, unwritten};
-use scenario_advice::{Form, LintError, lint};
+use command_line::Form;
+use scenario_advice::{LintError, lint};
 use simulator::Scenario;
 use std::fs;
 use std::fs::File;
@@ -12,11 +13,10 @@ use std::rt::Files;
 pub(crate) fn linted<R: Files<File = File> + AllocGlobal + Eprint, W: Write>(
     rt: &R,
     path: &str,
-    json: bool,
+    form: Form,
     out: &mut W,
 ) -> Result<Status, Status> {
     let bytes = fs::read(rt, path).map_err(|error| unread_for(rt, path, &error))?;
-    let form = if json { Form::Json } else { Form::People };
     match lint(rt.alloc(), &Scenario { bytes }, form, out) {
         Ok(true) => Ok(Status::Whole),
         Ok(false) => Ok(Status::Damaged),

@@ -37,7 +37,7 @@ pub(crate) fn answer<R: Files<File = File> + Input + AllocGlobal + Eprint, W: Wr
         Some(Asked::Schema) => text_told(rt, SCHEMA, "--schema", out),
         Some(Asked::Decode(digits, is_json)) => decode_told(rt, digits, is_json, out),
         Some(Asked::Packets(digits, form)) => packets_told(rt, digits, form, out),
-        Some(Asked::Lint(scenario, is_json)) => linted(rt, scenario, is_json, out),
+        Some(Asked::Lint(scenario, form)) => linted(rt, scenario, form, out),
         Some(Asked::Run(scenario)) => played(rt, scenario, out),
         None => Err(usage(rt)),
     };

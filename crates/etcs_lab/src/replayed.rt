@@ -2,7 +2,8 @@
 
 use crate::images::{Named, opened};
 use crate::status::{Status, fail, unformatted, unread, unwritten};
-use lab_replay::{Form, Outcome, WalkError, replay};
+use command_line::Form;
+use lab_replay::{Outcome, WalkError, replay};
 use std::fs::File;
 use std::io::Write;
 use std::rt::Files;

@@ -3,7 +3,8 @@
 use crate::images::{Named, opened};
 use crate::replayed::stopped;
 use crate::status::{Status, fail};
-use lab_why::{Form, tell_why};
+use command_line::Form;
+use lab_why::tell_why;
 use std::fs::File;
 use std::io::Write;
 use std::rt::Files;

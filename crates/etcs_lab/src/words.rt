@@ -3,8 +3,7 @@ ghost use Rattle.std.specs.Prelude.{◌+◌, ◌<◌, length, IfSome};
 
 use crate::images::Named;
 use blocks::{LEAST_SLOTS, MOST_SLOTS};
-use command_line::told_apart;
-use lab_examine::Form;
+use command_line::{Form, told_apart};
 
 /// What the words ask for.
 #[derive(Clone, Copy)]
@@ -32,7 +31,7 @@ pub(crate) enum Asked<'a> {
     /// The packets of a telegram by name, by its digits.
     Packets(&'a str, Form),
     /// What is wrong in a scenario, in lines or as JSON.
-    Lint(&'a str, bool),
+    Lint(&'a str, Form),
     /// To play a scenario.
     Run(&'a str),
 }
@@ -85,15 +84,13 @@ fn installed_command<'a>(words: &'a [String]) -> Option<Asked<'a>> {
 fn other_command<'a>(name: &str, words: &'a [String]) -> Option<Asked<'a>> {
     let told = told_apart(words, option_of(name))?;
     let has_option = told.has_option;
+    let form = form_of(has_option);
     match (told.first, told.second) {
         (None, None) if name == "telegram" && has_option => Some(Asked::Schema),
         (Some(file), None) if name == "telegram" && !has_option => Some(Asked::Telegram(file)),
         (Some(digits), None) if name == "decode" => Some(Asked::Decode(digits, has_option)),
-        (Some(digits), None) if name == "packets" => Some(Asked::Packets(
-            digits,
-            form_of(has_option),
-        )),
-        (Some(scenario), None) if name == "lint" => Some(Asked::Lint(scenario, has_option)),
+        (Some(digits), None) if name == "packets" => Some(Asked::Packets(digits, form)),
+        (Some(scenario), None) if name == "lint" => Some(Asked::Lint(scenario, form)),
         (Some(scenario), None) if name == "run" => Some(Asked::Run(scenario)),
         _ => None,
     }

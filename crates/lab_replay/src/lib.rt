@@ -14,5 +14,4 @@ mod walk;
 mod words;
 
 pub use lives::WalkError;
-pub use command_line::Form;
 pub use walk::{Outcome, replay};

@@ -17,7 +17,6 @@ mod walk;
 pub use lines::{Answer, Told, told_of, write_line};
 pub use lives::{LateError, WalkError};
 pub use onboard::{FlushError, LiveError, OpenError};
-pub use command_line::Form;
 pub use played::{Played, write_played_line};
 pub use playing::{PlayedLife, play};
 pub use walk::{Walked, tell_why};

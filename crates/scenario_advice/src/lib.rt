@@ -8,5 +8,5 @@ mod lines;
 mod locating;
 mod wanted;
 
-pub use lines::{Form, LintError, lint};
+pub use lines::{LintError, lint};
 pub use locating::{Faults, LocatedFault, faults_of};

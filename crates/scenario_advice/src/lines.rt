@@ -3,6 +3,7 @@
 use crate::accepting::refusals;
 use crate::advice::{LocatedAdvice, advice_on};
 use crate::locating::{Faults, LocatedFault, faults_of};
+use command_line::Form;
 use events::Step;
 use json_values::{Outline, Place, Position, Repeat, RepeatsError, has_repeats};
 use mode_table::Cold;
@@ -11,15 +12,6 @@ use simulator::{Scenario, ScenarioFault};
 use std::alloc::{AllocError, Global};
 use std::io;
 use std::io::Write;
-
-/// How lines are written.
-#[derive(Clone, Copy)]
-pub enum Form {
-    /// For people: a place, and what is to be told.
-    People,
-    /// An object on a line (RFC 8259).
-    Json,
-}
 
 /// Why nothing can be told.
 #[derive(Clone, Copy)]

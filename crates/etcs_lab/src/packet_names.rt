@@ -2,11 +2,11 @@
 
 use crate::status::{Status, no_memory, told};
 use crate::telegrams::bytes_of;
+use command_line::{Form, Piece, write_parts, write_pieces};
 use packet_uses::{
     Fate, ToldPacket, name_pieces, never_used_packets, number_pieces, place_pieces, why_piece,
 };
 use packets::PacketFault;
-use command_line::{Form, Piece, write_parts, write_pieces};
 use std::alloc::Global;
 use std::io;
 use std::io::Write;

@@ -6,8 +6,8 @@ ghost use Rattle.command_line.specs.declared.piece.Form.{Form as a_form};
 ghost use Rattle.lab_examine.specs.FirstLines.{is_size, some_if, slots_by_size, is_plain, is_quiet, seen_text, sized_text, shown, first_text, sector_text};
 
 use crate::words::field_word;
-use examination::{FirstSector, Survey};
 use command_line::{Form, Piece, both, known, write_parts};
+use examination::{FirstSector, Survey};
 use std::io;
 use std::io::Write;
 

@@ -7,8 +7,8 @@ ghost use Rattle.lab_examine.specs.ImageLines.{behind_of, size_text, digits_text
 
 use crate::file_facts::FileFacts;
 use crate::first_lines::write_first_sector;
-use examination::{Survey, first_sector_of};
 use command_line::{Form, Piece, known, write_pieces};
+use examination::{Survey, first_sector_of};
 use std::io;
 use std::io::Write;
 

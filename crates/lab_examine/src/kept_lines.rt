@@ -7,10 +7,10 @@ use crate::kept_values::{
     level_pieces, position_pieces, running_pieces, train_pieces, trip_pieces,
 };
 use crate::national_lines::{modes_pieces, ranges_pieces, speeds_pieces, write_countries};
+use command_line::{Form, Piece, write_characters, write_parts, write_pieces};
 use driver::DriverIdentity;
 use events::Kept;
 use journal::Found;
-use command_line::{Form, Piece, write_characters, write_parts, write_pieces};
 use std::io;
 use std::io::Write;
 

@@ -4,10 +4,10 @@ ghost use Rattle.command_line.specs.Pieces.{text_of, texts};
 ghost use Rattle.command_line.specs.declared.piece.Form.{Form as a_form};
 ghost use Rattle.lab_examine.specs.KeptLines.{running_text, train_text, level_known, level_text, end_text, position_known, position_text, trip_text};
 
+use command_line::Piece;
 use driver::{Datum, RunningNumber, TrainData};
 use events::Position;
 use mode_table::TrainLevel;
-use command_line::Piece;
 use vars::Variable;
 
 /// The running number that would be kept.

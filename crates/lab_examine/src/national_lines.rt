@@ -5,8 +5,8 @@ ghost use Rattle.command_line.specs.Pieces.{text_of, texts};
 ghost use Rattle.command_line.specs.declared.piece.Form.{Form as a_form};
 ghost use Rattle.lab_examine.specs.NationalLines.{open_text, modes_text, speeds_text, ranges_text, next_country, last_countries, countries_text};
 
-use national::{OverrideDuration, StaffResponsibleDistance, Values};
 use command_line::{Form, Piece, write_pieces};
+use national::{OverrideDuration, StaffResponsibleDistance, Values};
 use std::io;
 use std::io::Write;
 use units::{Mph, Reach};

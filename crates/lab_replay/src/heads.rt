@@ -7,8 +7,8 @@ use crate::course::{Course, finish};
 use crate::lines::write_head;
 use crate::reports::HeadReport;
 use blocks::Block;
-use lives::LateError;
 use command_line::write_pieces;
+use lives::LateError;
 use replaying::HeadFound;
 use std::io::Write;
 

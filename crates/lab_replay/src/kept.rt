@@ -5,9 +5,9 @@ ghost use Rattle.command_line.specs.Pieces.{texts};
 ghost use Rattle.command_line.specs.declared.piece.Form.{Form as a_form};
 ghost use Rattle.lab_replay.specs.KeptObject.{flag_text, counts_of, kept_behind};
 
+use command_line::{Form, Piece, write_parts};
 use events::Kept;
 use lab_examine::write_kept_items;
-use command_line::{Form, Piece, write_parts};
 use std::io;
 use std::io::Write;
 

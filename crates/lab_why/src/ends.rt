@@ -6,10 +6,10 @@ ghost use Rattle.command_line.specs.Pieces.{texts};
 ghost use Rattle.command_line.specs.declared.piece.Form.TheVariants.{Json};
 ghost use Rattle.lab_why.specs.Ends.{step_at, first_line, stopped_line, last_line};
 
+use command_line::{Piece, known};
 use lab_events::cold_word;
 use mode_table::Cold;
 use onboard::LiveError;
-use command_line::{Piece, known};
 use sessions::of_stop;
 
 /// The step of the scenario that a step of the life comes from, where it is none of the first ones.

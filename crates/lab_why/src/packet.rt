@@ -9,10 +9,10 @@ ghost use Rattle.reasons.specs.GroupWords.{is_accepted};
 ghost use Rattle.lab_why.specs.Groups.{why_in, packet_back, packet_text, packets_text};
 
 use balise_groups::GroupPackets;
+use command_line::{Form, Piece, write_parts};
 use mode_table::Mode;
 use packet_uses::{Fate, fate_of, name_pieces, number_pieces, why_piece};
 use packets::Packet;
-use command_line::{Form, Piece, write_parts};
 use reasons::{GroupTold, is_accepted};
 use std::io;
 use std::io::Write;

@@ -8,13 +8,13 @@ ghost use Rattle.lab_why.specs.Playing.{released_in, IsPlayed, PlayEnds};
 
 use crate::ends::{first_pieces, last_pieces};
 use crate::telling::tell_released;
+use command_line::{Form, write_pieces};
 use disk::Memory;
 use events::Step;
 use journal::format;
 use lives::LateError;
 use mode_table::Cold;
 use onboard::{LiveError, Released, live};
-use command_line::{Form, write_pieces};
 use std::alloc::Global;
 use std::io::Write;
 use units::NoMemory;

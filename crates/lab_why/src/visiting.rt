@@ -11,10 +11,10 @@ use crate::course::{Course, Shown, begin_behind, finish, has_line, leave_out, pa
 use crate::lines::{told_of, write_line};
 use crate::played::{answer_in, output_in};
 use blocks::Block;
+use command_line::{Form, Piece, write_parts, write_pieces};
 use events::{Event, Kept};
 use lab_events::lost_block_pieces;
 use lives::{LateError, Seen, Unknown, Visit};
-use command_line::{Form, Piece, write_parts, write_pieces};
 use reasons::Reasoning;
 use std::alloc::Global;
 use std::io::Write;

@@ -18,9 +18,9 @@ ghost use Rattle.telegram_objects.specs.Lines.{body_bytes, members_of, body_memb
 ghost use Rattle.telegram_objects.specs.Telling.{pair_of, TellsText};
 
 use bits::{BitWriter, Run};
+use command_line::{Form, Piece, write_pieces};
 use decoding::{FieldValue, fields_of_header, fields_of_packet, name_of_fault, number_of_fault};
 use packets::{Packet, TELEGRAM_BYTES};
-use command_line::{Form, Piece, write_pieces};
 use std::io;
 use std::io::Write;
 use telegram::{Header, Telegram, TelegramFault, decode_into};

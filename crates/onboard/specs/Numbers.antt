@@ -1,5 +1,5 @@
--- The numbers by which refusals are told (this project's profile).
-use Rattle.std.specs.Prelude.{ℕ}
+-- The numbers and the names by which refusals are told (this project's profile).
+use Rattle.std.specs.Prelude.{ℕ, List, codes}
 use Rattle.onboard.specs.declared.errors.OpenError.{OpenError}
 use Rattle.onboard.specs.declared.errors.OpenError.TheVariants as an_open
 use Rattle.onboard.specs.declared.errors.AcceptError.{AcceptError}
@@ -14,13 +14,31 @@ open_number an_open.Damaged = 3
 open_number an_open.NoMemory = 4
 open_number an_open.WornOut = 6
 
+abbrev pub open_name : OpenError → List ℕ
+open_name an_open.DeviceFault = codes "DeviceFault"
+open_name an_open.NotFormatted = codes "NotFormatted"
+open_name an_open.Damaged = codes "Damaged"
+open_name an_open.NoMemory = codes "NoMemory"
+open_name an_open.WornOut = codes "WornOut"
+
 abbrev pub accept_number : AcceptError → ℕ
 accept_number an_accept.PendingFull = 10
 accept_number an_accept.ClockBack = 11
 accept_number an_accept.NoMemory = 12
 accept_number an_accept.Failed = 13
 
+abbrev pub accept_name : AcceptError → List ℕ
+accept_name an_accept.PendingFull = codes "PendingFull"
+accept_name an_accept.ClockBack = codes "ClockBack"
+accept_name an_accept.NoMemory = codes "NoMemory"
+accept_name an_accept.Failed = codes "Failed"
+
 abbrev pub flush_number : FlushError → ℕ
 flush_number a_flush.DeviceFault = 20
 flush_number a_flush.Failed = 21
 flush_number a_flush.WornOut = 23
+
+abbrev pub flush_name : FlushError → List ℕ
+flush_name a_flush.DeviceFault = codes "DeviceFault"
+flush_name a_flush.Failed = codes "Failed"
+flush_name a_flush.WornOut = codes "WornOut"

@@ -1,27 +1,24 @@
 //! Why calls are refused (this project's profile).
 ghost use Rattle.std.specs.Prelude.{◌≡◌};
-ghost use Rattle.onboard.specs.Numbers.{open_number, accept_number, flush_number};
+ghost use Rattle.onboard.specs.Numbers.{open_number, open_name, accept_number, accept_name, flush_number, flush_name};
 
-use thiserror::Error;
+use std::error::Error;
+use std::fmt;
+use std::fmt::{Formatter, Write};
 
 /// Why no life began.
-#[derive(Clone, Copy, Debug, PartialEq, Eq, Error)]
+#[derive(Clone, Copy, Debug, PartialEq, Eq)]
 pub enum OpenError {
     /// The device failed in this call.
-    #[error("DeviceFault")]
     DeviceFault = 1,
     /// The first sector isn't that of a journal, or there is none. Nothing was written.
-    #[error("NotFormatted")]
     NotFormatted = 2,
     /// The number of sectors isn't that of the slots, or the block of the greatest number is no spelling. Nothing was
     /// written.
-    #[error("Damaged")]
     Damaged = 3,
     /// Memory was refused; nothing was written. `open` takes none, and so never answers it.
-    #[error("NoMemory")]
     NoMemory = 4,
     /// The block of the greatest number has the last number, 2^40; nothing was written.
-    #[error("WornOut")]
     WornOut = 6,
 }
 
@@ -32,22 +29,40 @@ impl OpenError {
     {
         self as u8
     }
+
+    /// The name by which the refusal is told.
+    pub fn name(self) -> &'static str
+        ensures { result.now ≡ open_name self }
+    {
+        match self {
+            OpenError::DeviceFault => "DeviceFault",
+            OpenError::NotFormatted => "NotFormatted",
+            OpenError::Damaged => "Damaged",
+            OpenError::NoMemory => "NoMemory",
+            OpenError::WornOut => "WornOut",
+        }
+    }
 }
 
+/// Its name.
+impl fmt::Display for OpenError {
+    fn fmt<W: Write>(&self, f: &mut Formatter<W>) -> fmt::Result {
+        f.write_str(self.name())
+    }
+}
+
+impl Error for OpenError {}
+
 /// Why an input wasn't accepted.
-#[derive(Clone, Copy, Debug, PartialEq, Eq, Error)]
+#[derive(Clone, Copy, Debug, PartialEq, Eq)]
 pub enum AcceptError {
     /// The device failed in a flush; open again.
-    #[error("Failed")]
     Failed = 13,
     /// Eight events are pending, as many as one block holds; flush first.
-    #[error("PendingFull")]
     PendingFull = 10,
     /// Its moment, in milliseconds, lies before the last one of this life.
-    #[error("ClockBack")]
     ClockBack = 11,
     /// Memory was refused for the event; nothing changed.
-    #[error("NoMemory")]
     NoMemory = 12,
 }
 
@@ -58,20 +73,38 @@ impl AcceptError {
     {
         self as u8
     }
+
+    /// The name by which the refusal is told.
+    pub fn name(self) -> &'static str
+        ensures { result.now ≡ accept_name self }
+    {
+        match self {
+            AcceptError::Failed => "Failed",
+            AcceptError::PendingFull => "PendingFull",
+            AcceptError::ClockBack => "ClockBack",
+            AcceptError::NoMemory => "NoMemory",
+        }
+    }
 }
 
+/// Its name.
+impl fmt::Display for AcceptError {
+    fn fmt<W: Write>(&self, f: &mut Formatter<W>) -> fmt::Result {
+        f.write_str(self.name())
+    }
+}
+
+impl Error for AcceptError {}
+
 /// Why nothing was released.
-#[derive(Clone, Copy, Debug, PartialEq, Eq, Error)]
+#[derive(Clone, Copy, Debug, PartialEq, Eq)]
 pub enum FlushError {
     /// The device failed in an earlier flush; open again.
-    #[error("Failed")]
     Failed = 21,
     /// The block of the greatest number has the last number, 2^40; nothing was written.
-    #[error("WornOut")]
     WornOut = 23,
     /// The device failed in this call: whether the pending events are on the disk isn't known, until it is opened
     /// again.
-    #[error("DeviceFault")]
     DeviceFault = 20,
 }
 
@@ -82,10 +115,30 @@ impl FlushError {
     {
         self as u8
     }
+
+    /// The name by which the refusal is told.
+    pub fn name(self) -> &'static str
+        ensures { result.now ≡ flush_name self }
+    {
+        match self {
+            FlushError::Failed => "Failed",
+            FlushError::WornOut => "WornOut",
+            FlushError::DeviceFault => "DeviceFault",
+        }
+    }
 }
 
+/// Its name.
+impl fmt::Display for FlushError {
+    fn fmt<W: Write>(&self, f: &mut Formatter<W>) -> fmt::Result {
+        f.write_str(self.name())
+    }
+}
+
+impl Error for FlushError {}
+
 /// Why a life ended before its last step, with the number of the step, from 0 on.
-#[derive(Clone, Copy, Debug, PartialEq, Eq, Error)]
+#[derive(Clone, Copy, Debug, PartialEq, Eq, thiserror::Error)]
 pub enum LiveError {
     /// It didn't begin, for this reason.
     #[error("{0}")]

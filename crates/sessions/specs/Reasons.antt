@@ -6,7 +6,7 @@ use Rattle.command_line.specs.declared.status.Status.TheVariants.{Done, Refused,
 use Rattle.journal.specs.Numbers.{format_number}
 use Rattle.journal.specs.declared.errors.FormatError.{FormatError}
 use Rattle.journal.specs.declared.errors.FormatError.TheVariants as a_format
-use Rattle.onboard.specs.Numbers.{open_number, accept_number, flush_number}
+use Rattle.onboard.specs.Numbers.{open_number, open_name, accept_number, accept_name, flush_number, flush_name}
 use Rattle.onboard.specs.declared.errors.OpenError.{OpenError}
 use Rattle.onboard.specs.declared.errors.OpenError.TheVariants as an_open
 use Rattle.onboard.specs.declared.errors.LiveError.{LiveError}
@@ -24,29 +24,11 @@ use Rattle.simulator.specs.declared.fault.ScenarioFault.TheVariants as a_fault
 
 -- ---- why a life stopped: a number and a name
 
-abbrev pub open_name : OpenError → List ℕ
-open_name an_open.DeviceFault = codes "DeviceFault"
-open_name an_open.NotFormatted = codes "NotFormatted"
-open_name an_open.Damaged = codes "Damaged"
-open_name an_open.NoMemory = codes "NoMemory"
-open_name an_open.WornOut = codes "WornOut"
-
 abbrev pub open_reason : OpenError → ℕ × List ℕ
 open_reason error = (open_number error, open_name error)
 
-abbrev pub accept_name : AcceptError → List ℕ
-accept_name an_accept.PendingFull = codes "PendingFull"
-accept_name an_accept.ClockBack = codes "ClockBack"
-accept_name an_accept.NoMemory = codes "NoMemory"
-accept_name an_accept.Failed = codes "Failed"
-
 abbrev pub accept_reason : AcceptError → ℕ × List ℕ
 accept_reason error = (accept_number error, accept_name error)
-
-abbrev pub flush_name : FlushError → List ℕ
-flush_name a_flush.DeviceFault = codes "DeviceFault"
-flush_name a_flush.Failed = codes "Failed"
-flush_name a_flush.WornOut = codes "WornOut"
 
 abbrev pub flush_reason : FlushError → ℕ × List ℕ
 flush_reason error = (flush_number error, flush_name error)

@@ -17,6 +17,26 @@ impl<T: ProfileStores> TracksideOver<T> {
         self.restrictions.room().min(profiles)
     }
 
+    // Makes room for so many packets in both profiles; where memory is refused, nothing changes.
+    fn make_room_for_profiles(&mut self, packets: usize) -> Result<(), NoMemory>
+        ensures room { OnOk result ((packets ≤ T.stores.gradients_room self.new.gradients)
+            × (packets ≤ T.stores.speeds_room self.new.speeds)) }
+        ensures profiles { OnOk result ((T.stores.gradients self.new.gradients ≡ T.stores.gradients self.old.gradients)
+            × (T.stores.speeds self.new.speeds ≡ T.stores.speeds self.old.speeds)) }
+        ensures others { OnOk result ((self.new.parts ≡ self.old.parts) × (self.new.restrictions ≡ self.old.restrictions)) }
+        ensures err { OnErr result (self.new ≡ self.old) }
+    {
+        let before = self.gradients.room();
+        self.gradients.make_room(packets)?;
+        match self.speeds.make_room(packets) {
+            Ok(()) => Ok(()),
+            Err(refused) => {
+                self.gradients.limit_room(before);
+                Err(refused)
+            }
+        }
+    }
+
     /// Makes room for so many packets, unless there is room for them: then, and where memory is refused, nothing
     /// changes.
     pub(crate) fn make_room(&mut self, packets: usize) -> Result<(), NoMemory>
@@ -31,18 +51,14 @@ impl<T: ProfileStores> TracksideOver<T> {
         if packets <= self.room() {
             return Ok(());
         }
-        let restrictions = self.restrictions.room();
-        let gradients = self.gradients.room();
+        let before = self.restrictions.room();
         self.restrictions.make_room(packets)?;
-        if let Err(refused) = self.gradients.make_room(packets) {
-            self.restrictions.limit_room(restrictions);
-            return Err(refused);
+        match self.make_room_for_profiles(packets) {
+            Ok(()) => Ok(()),
+            Err(refused) => {
+                self.restrictions.limit_room(before);
+                Err(refused)
+            }
         }
-        if let Err(refused) = self.speeds.make_room(packets) {
-            self.gradients.limit_room(gradients);
-            self.restrictions.limit_room(restrictions);
-            return Err(refused);
-        }
-        Ok(())
     }
 }

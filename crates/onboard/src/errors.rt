@@ -4,7 +4,6 @@ ghost use Rattle.onboard.specs.Numbers.{open_number, open_name, accept_number, a
 
 use std::error::Error;
 use std::fmt;
-use std::fmt::{Formatter, Write};
 
 /// Why no life began.
 #[derive(Clone, Copy, Debug, PartialEq, Eq)]
@@ -46,7 +45,7 @@ impl OpenError {
 
 /// Its name.
 impl fmt::Display for OpenError {
-    fn fmt<W: Write>(&self, f: &mut Formatter<W>) -> fmt::Result {
+    fn fmt<W: fmt::Write>(&self, f: &mut fmt::Formatter<W>) -> fmt::Result {
         f.write_str(self.name())
     }
 }
@@ -89,7 +88,7 @@ impl AcceptError {
 
 /// Its name.
 impl fmt::Display for AcceptError {
-    fn fmt<W: Write>(&self, f: &mut Formatter<W>) -> fmt::Result {
+    fn fmt<W: fmt::Write>(&self, f: &mut fmt::Formatter<W>) -> fmt::Result {
         f.write_str(self.name())
     }
 }
@@ -130,7 +129,7 @@ impl FlushError {
 
 /// Its name.
 impl fmt::Display for FlushError {
-    fn fmt<W: Write>(&self, f: &mut Formatter<W>) -> fmt::Result {
+    fn fmt<W: fmt::Write>(&self, f: &mut fmt::Formatter<W>) -> fmt::Result {
         f.write_str(self.name())
     }
 }

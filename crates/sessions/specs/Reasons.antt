@@ -3,7 +3,7 @@
 use Rattle.std.specs.Prelude.{ℕ, List, [], ◌++◌, Result, Ok, Err, codes, decimal}
 use Rattle.command_line.specs.declared.status.Status.{Status}
 use Rattle.command_line.specs.declared.status.Status.TheVariants.{Done, Refused, Device}
-use Rattle.journal.specs.Numbers.{format_number}
+use Rattle.journal.specs.Numbers.{format_number, format_name}
 use Rattle.journal.specs.declared.errors.FormatError.{FormatError}
 use Rattle.journal.specs.declared.errors.FormatError.TheVariants as a_format
 use Rattle.onboard.specs.Numbers.{open_number, open_name, accept_number, accept_name, flush_number, flush_name}
@@ -15,12 +15,11 @@ use Rattle.onboard.specs.declared.errors.AcceptError.{AcceptError}
 use Rattle.onboard.specs.declared.errors.AcceptError.TheVariants as an_accept
 use Rattle.onboard.specs.declared.errors.FlushError.{FlushError}
 use Rattle.onboard.specs.declared.errors.FlushError.TheVariants as a_flush
-use Rattle.reader.specs.Numbers.{listing_number}
+use Rattle.reader.specs.Numbers.{listing_number, listing_name}
 use Rattle.reader.specs.declared.errors.ListingError.{ListingError}
 use Rattle.reader.specs.declared.errors.ListingError.TheVariants as a_listing
-use Rattle.simulator.specs.FaultNumbers.{fault_number}
+use Rattle.simulator.specs.FaultNumbers.{fault_number, fault_name}
 use Rattle.simulator.specs.declared.fault.ScenarioFault.{ScenarioFault}
-use Rattle.simulator.specs.declared.fault.ScenarioFault.TheVariants as a_fault
 
 -- ---- why a life stopped: a number and a name
 
@@ -67,11 +66,6 @@ status_of (Err e) = stop_status e
 
 -- ---- why something was refused
 
-abbrev pub format_name : FormatError → List ℕ
-format_name a_format.DeviceFault = codes "DeviceFault"
-format_name a_format.BadSlots = codes "BadSlots"
-format_name a_format.WrongSize = codes "WrongSize"
-
 abbrev pub format_reason : FormatError → ℕ × List ℕ
 format_reason error = (format_number error, format_name error)
 
@@ -79,13 +73,6 @@ abbrev pub format_status : FormatError → Status
 format_status a_format.DeviceFault = Device
 format_status a_format.BadSlots = Refused
 format_status a_format.WrongSize = Refused
-
-abbrev pub listing_name : ListingError → List ℕ
-listing_name a_listing.DeviceFault = codes "DeviceFault"
-listing_name a_listing.NotFormatted = codes "NotFormatted"
-listing_name a_listing.Damaged = codes "Damaged"
-listing_name a_listing.Write = codes "Write"
-listing_name a_listing.NoMemory = codes "NoMemory"
 
 abbrev pub listing_reason : ListingError → ℕ × List ℕ
 listing_reason error = (listing_number error, listing_name error)
@@ -96,13 +83,6 @@ listing_status a_listing.NotFormatted = Refused
 listing_status a_listing.Damaged = Refused
 listing_status a_listing.Write = Refused
 listing_status a_listing.NoMemory = Refused
-
-abbrev pub fault_name : ScenarioFault → List ℕ
-fault_name a_fault.NotJson = codes "NotJson"
-fault_name a_fault.Shape = codes "Shape"
-fault_name a_fault.OutOfRange = codes "OutOfRange"
-fault_name a_fault.BadHex = codes "BadHex"
-fault_name a_fault.NoMemory = codes "NoMemory"
 
 abbrev pub fault_reason : ScenarioFault → ℕ × List ℕ
 fault_reason error = (fault_number error, fault_name error)

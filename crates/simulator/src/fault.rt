@@ -1,28 +1,24 @@
 //! The faults for which a scenario is refused.
 ghost use Rattle.std.specs.Prelude.{◌≡◌};
-ghost use Rattle.simulator.specs.FaultNumbers.{fault_number};
+ghost use Rattle.simulator.specs.FaultNumbers.{fault_number, fault_name};
 
 use std::alloc::{AllocError, AllocFailed};
-use thiserror::Error;
+use std::error::Error;
+use std::fmt;
 use units::NoMemory;
 
 /// Why a scenario is refused (this project's profile).
-#[derive(Clone, Copy, Debug, Error)]
+#[derive(Clone, Copy, Debug)]
 pub enum ScenarioFault {
     /// The bytes are no JSON value.
-    #[error("NotJson")]
     NotJson = 1,
     /// A key is missing or one too many, a value has the wrong kind, or a list the wrong count.
-    #[error("Shape")]
     Shape = 2,
     /// A number or the length of a text is outside its limits.
-    #[error("OutOfRange")]
     OutOfRange = 3,
     /// The text of a telegram isn't hexadecimal digits, two a byte.
-    #[error("BadHex")]
     BadHex = 4,
     /// Memory was refused.
-    #[error("NoMemory")]
     NoMemory = 5,
 }
 
@@ -33,7 +29,29 @@ impl ScenarioFault {
     {
         self as u8
     }
+
+    /// The name by which the refusal is told.
+    pub fn name(self) -> &'static str
+        ensures { result.now ≡ fault_name self }
+    {
+        match self {
+            ScenarioFault::NotJson => "NotJson",
+            ScenarioFault::Shape => "Shape",
+            ScenarioFault::OutOfRange => "OutOfRange",
+            ScenarioFault::BadHex => "BadHex",
+            ScenarioFault::NoMemory => "NoMemory",
+        }
+    }
 }
+
+/// Its name.
+impl fmt::Display for ScenarioFault {
+    fn fmt<W: fmt::Write>(&self, f: &mut fmt::Formatter<W>) -> fmt::Result {
+        f.write_str(self.name())
+    }
+}
+
+impl Error for ScenarioFault {}
 
 impl From<AllocError> for ScenarioFault {
     ghost use Rattle.std.specs.Prelude.{◌≡◌};

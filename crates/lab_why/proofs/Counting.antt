@@ -8,7 +8,7 @@ use Rattle.events.specs.declared.input.Event.TheVariants as an_event
 use Rattle.events.specs.declared.input.Input.{Input}
 use Rattle.events.specs.declared.step.Step.{Step}
 use Rattle.events.specs.declared.step.Step.TheVariants.{Accept, Flush}
-use Rattle.onboard.specs.Runs.{accepted_by}
+use Rattle.whole_lives.specs.Runs.{accepted_by}
 use Rattle.lab_why.specs.Ends.{step_at}
 use Rattle.lab_why.specs.Playing.{inputs_from}
 

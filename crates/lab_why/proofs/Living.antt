@@ -11,16 +11,17 @@ use Rattle.ring.specs.Scans.{IsNewest}
 use Rattle.ring.specs.Slots.{valid_at, IsAtRest}
 use Rattle.ring.proofs.Numbers.{same_newest}
 use Rattle.ring.proofs.Rest.{at_rest}
-use Rattle.onboard.specs.Events.{account_of, pairs_of}
-use Rattle.onboard.specs.Lives.{IsReady, IsWord, IsBlank, IsOpenRefusal}
-use Rattle.onboard.specs.Releases.{Release}
-use Rattle.onboard.specs.Runs.{durable_by, NothingReleased}
-use Rattle.onboard.specs.Stops.{begun_with, AllStand, Stopped, LifeEnds, IsUnopened, IsNextNumber, AreBehind, IsDone}
-use Rattle.onboard.specs.declared.errors.LiveError.{LiveError}
-use Rattle.onboard.specs.declared.errors.LiveError.TheVariants as a_live
-use Rattle.onboard.specs.declared.errors.OpenError.{OpenError}
-use Rattle.onboard.specs.declared.errors.OpenError.TheVariants as an_open
-use Rattle.onboard.proofs.Greatest.{no_cause, same_slots}
+use Rattle.unit_start.specs.Events.{account_of, pairs_of}
+use Rattle.unit_start.specs.Lives.{IsReady, IsWord, IsBlank, IsOpenRefusal, IsNextNumber}
+use Rattle.unit_start.specs.Releases.{Release}
+use Rattle.whole_lives.specs.Runs.{durable_by, NothingReleased}
+use Rattle.onboard.specs.Progress.{begun_with}
+use Rattle.whole_lives.specs.Stops.{AllStand, Stopped, LifeEnds, IsUnopened, AreBehind, IsDone}
+use Rattle.whole_lives.specs.declared.errors.LiveError.{LiveError}
+use Rattle.whole_lives.specs.declared.errors.LiveError.TheVariants as a_live
+use Rattle.unit_start.specs.declared.errors.OpenError.{OpenError}
+use Rattle.unit_start.specs.declared.errors.OpenError.TheVariants as an_open
+use Rattle.unit_start.proofs.Greatest.{no_cause, same_slots}
 use Rattle.lab_why.specs.Images.{IsEmpty}
 use Rattle.lab_why.specs.Playing.{carried_out, PlayEnds}
 use Rattle.lab_why.proofs.Releasing.{begun, nothing_durable}

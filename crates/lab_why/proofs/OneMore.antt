@@ -11,9 +11,9 @@ use Rattle.events.specs.declared.step.Step.{Step}
 use Rattle.events.specs.declared.step.Step.TheVariants.{Accept}
 use Rattle.kernel.specs.Lives.{story_of}
 use Rattle.mode_table.specs.declared.statuses.Cold.{Cold}
-use Rattle.onboard.specs.Events.{pair_of, pairs_of}
-use Rattle.onboard.specs.Releases.{Release}
-use Rattle.onboard.specs.Runs.{accept_one, accepted_by}
+use Rattle.unit_start.specs.Events.{pair_of, pairs_of}
+use Rattle.unit_start.specs.Releases.{Release}
+use Rattle.whole_lives.specs.Runs.{accept_one, accepted_by}
 use Rattle.lab_why.specs.Ends.{step_at}
 use Rattle.lab_why.specs.Playing.{inputs_from, IsLine, AreLines}
 use Rattle.lab_why.proofs.Counting.{count_accepted, its_place}

@@ -9,13 +9,13 @@ use Rattle.events.specs.declared.input.Event.TheVariants as an_event
 use Rattle.events.specs.declared.step.Step.{Step}
 use Rattle.events.specs.declared.step.Step.TheVariants.{Accept, Flush}
 use Rattle.mode_table.specs.declared.statuses.Cold.{Cold}
-use Rattle.onboard.specs.Events.{pair_of, pairs_of}
-use Rattle.onboard.specs.Releases.{Release}
-use Rattle.onboard.specs.Runs.{accept_one, accepted_by, flushed_by, durable_by}
-use Rattle.onboard.specs.declared.errors.LiveError.{LiveError}
-use Rattle.onboard.specs.declared.errors.LiveError.TheVariants as a_live
-use Rattle.onboard.proofs.Chains.{accepted_on}
-use Rattle.onboard.proofs.Lists.{empty_of}
+use Rattle.unit_start.specs.Events.{pair_of, pairs_of}
+use Rattle.unit_start.specs.Releases.{Release}
+use Rattle.whole_lives.specs.Runs.{accept_one, accepted_by, flushed_by, durable_by}
+use Rattle.whole_lives.specs.declared.errors.LiveError.{LiveError}
+use Rattle.whole_lives.specs.declared.errors.LiveError.TheVariants as a_live
+use Rattle.whole_lives.proofs.Chains.{accepted_on}
+use Rattle.unit_start.proofs.Lists.{empty_of}
 use Rattle.lab_why.specs.Playing.{carried_out}
 
 -- ---- of lists of events, what is released

@@ -5,8 +5,8 @@ use Rattle.std.specs.List.{prefix_len}
 use Rattle.std.specs.Option.{option_map}
 use Rattle.mode_table.specs.declared.statuses.Cold.{Cold}
 use Rattle.lab_events.specs.Words.{cold_text}
-use Rattle.onboard.specs.Stops.{step_of}
-use Rattle.onboard.specs.declared.errors.LiveError.{LiveError}
+use Rattle.whole_lives.specs.Stops.{step_of}
+use Rattle.whole_lives.specs.declared.errors.LiveError.{LiveError}
 use Rattle.command_line.specs.Pieces.{joined, known_text}
 use Rattle.command_line.specs.declared.piece.Form.TheVariants.{Json}
 use Rattle.sessions.specs.Reasons.{stop_reason}

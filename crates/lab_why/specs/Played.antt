@@ -10,7 +10,7 @@ use Rattle.kernel.specs.Output.{estimate_in, uncertainty_in}
 use Rattle.mode_control.specs.History.{tracks}
 use Rattle.mode_control.specs.Sentences.{values_of}
 use Rattle.mode_table.specs.declared.mode.Mode.{Mode}
-use Rattle.onboard.specs.Releases.{Release}
+use Rattle.unit_start.specs.Releases.{Release}
 use Rattle.command_line.specs.OutputWords.{mode_text}
 use Rattle.command_line.specs.Pieces.{joined}
 use Rattle.command_line.specs.declared.piece.Form.TheVariants.{Json}

@@ -13,13 +13,14 @@ use Rattle.kernel.specs.Lives.{Story, story_of, past_at}
 use Rattle.kernel.specs.Output.{output_at}
 use Rattle.speed_supervision.specs.Causes.{IsLimitCause}
 use Rattle.speed_supervision.specs.declared.cause.LimitCause.{LimitCause}
-use Rattle.onboard.specs.Events.{pair_of}
-use Rattle.onboard.specs.Releases.{Release}
-use Rattle.onboard.specs.Runs.{durable_by}
-use Rattle.onboard.specs.Stops.{step_of, begun_with, AllStand, Stopped}
-use Rattle.onboard.specs.declared.errors.LiveError.{LiveError}
-use Rattle.onboard.specs.declared.errors.LiveError.TheVariants as a_live
-use Rattle.onboard.specs.declared.errors.OpenError.TheVariants as an_open
+use Rattle.unit_start.specs.Events.{pair_of}
+use Rattle.unit_start.specs.Releases.{Release}
+use Rattle.whole_lives.specs.Runs.{durable_by}
+use Rattle.whole_lives.specs.Stops.{step_of, AllStand, Stopped}
+use Rattle.onboard.specs.Progress.{begun_with}
+use Rattle.whole_lives.specs.declared.errors.LiveError.{LiveError}
+use Rattle.whole_lives.specs.declared.errors.LiveError.TheVariants as a_live
+use Rattle.unit_start.specs.declared.errors.OpenError.TheVariants as an_open
 use Rattle.reasons.specs.Closings.{judged_in, closings_of}
 use Rattle.reasons.specs.LimitWords.{limit_told}
 use Rattle.reasons.specs.Runs.{runs_of}

@@ -1,7 +1,7 @@
 //! The first and the last line of a life that is played.
 ghost use Rattle.std.specs.Prelude.{◌≡◌, ◌+◌, drop};
 ghost use Rattle.std.specs.Option.{option_map};
-ghost use Rattle.onboard.specs.Stops.{step_of};
+ghost use Rattle.whole_lives.specs.Stops.{step_of};
 ghost use Rattle.command_line.specs.Pieces.{texts};
 ghost use Rattle.command_line.specs.declared.piece.Form.TheVariants.{Json};
 ghost use Rattle.lab_why.specs.Ends.{step_at, first_line, stopped_line, last_line};
@@ -9,8 +9,8 @@ ghost use Rattle.lab_why.specs.Ends.{step_at, first_line, stopped_line, last_lin
 use command_line::{Piece, known};
 use lab_events::cold_word;
 use mode_table::Cold;
-use onboard::LiveError;
 use sessions::of_stop;
+use whole_lives::LiveError;
 
 /// The step of the scenario that a step of the life comes from, where it is none of the first ones.
 pub(crate) fn step_from(ends: &[usize], first: usize, place: usize) -> usize

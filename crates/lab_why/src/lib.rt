@@ -16,7 +16,8 @@ mod walk;
 
 pub use lines::{Answer, Told, told_of, write_line};
 pub use lives::{LateError, WalkError};
-pub use onboard::{FlushError, LiveError, OpenError};
+pub use onboard::{FlushError, OpenError};
 pub use played::{Played, write_played_line};
 pub use playing::{PlayedLife, play};
 pub use walk::{Walked, tell_why};
+pub use whole_lives::LiveError;

@@ -2,7 +2,7 @@
 ghost use Rattle.std.specs.Prelude.{◌≡◌, ◌∷◌, ◌++◌, [], List, ℕ, IfOk, OnOk};
 ghost use Rattle.std.specs.Io.KnownBytes.{Appends};
 ghost use Rattle.events.specs.declared.input.Event.TheVariants.{PowerUp};
-ghost use Rattle.onboard.specs.Events.{pairs_of};
+ghost use Rattle.unit_start.specs.Events.{pairs_of};
 ghost use Rattle.lab_why.specs.Images.{IsEmpty};
 ghost use Rattle.lab_why.specs.Playing.{released_in, IsPlayed, PlayEnds};
 
@@ -14,10 +14,11 @@ use events::Step;
 use journal::format;
 use lives::LateError;
 use mode_table::Cold;
-use onboard::{LiveError, Released, live};
+use onboard::Released;
 use std::alloc::Global;
 use std::io::Write;
 use units::NoMemory;
+use whole_lives::{LiveError, live};
 
 /// How many blocks the image has, as few as an image may have.
 const BLOCKS: u32 = 2;

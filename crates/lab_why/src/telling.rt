@@ -4,8 +4,8 @@ ghost use Rattle.std.specs.Io.KnownBytes.{Appends};
 ghost use Rattle.events.specs.declared.input.Event.{Event};
 ghost use Rattle.events.specs.declared.input.Event.TheVariants.{PowerUp, Input as an_input};
 ghost use Rattle.kernel.specs.Lives.{Story, onward};
-ghost use Rattle.onboard.specs.Events.{pairs_of};
-ghost use Rattle.onboard.specs.Runs.{accepted_by};
+ghost use Rattle.unit_start.specs.Events.{pairs_of};
+ghost use Rattle.whole_lives.specs.Runs.{accepted_by};
 ghost use Rattle.reasons.specs.Told.{Reasons};
 ghost use Rattle.lab_why.specs.Playing.{input_steps, IsLine, AreLines};
 

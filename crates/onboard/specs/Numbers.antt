@@ -1,25 +1,9 @@
 -- The numbers and the names by which refusals are told (this project's profile).
 use Rattle.std.specs.Prelude.{ℕ, List, codes}
-use Rattle.onboard.specs.declared.errors.OpenError.{OpenError}
-use Rattle.onboard.specs.declared.errors.OpenError.TheVariants as an_open
 use Rattle.onboard.specs.declared.errors.AcceptError.{AcceptError}
 use Rattle.onboard.specs.declared.errors.AcceptError.TheVariants as an_accept
 use Rattle.onboard.specs.declared.errors.FlushError.{FlushError}
 use Rattle.onboard.specs.declared.errors.FlushError.TheVariants as a_flush
-
-abbrev pub open_number : OpenError → ℕ
-open_number an_open.DeviceFault = 1
-open_number an_open.NotFormatted = 2
-open_number an_open.Damaged = 3
-open_number an_open.NoMemory = 4
-open_number an_open.WornOut = 6
-
-abbrev pub open_name : OpenError → List ℕ
-open_name an_open.DeviceFault = codes "DeviceFault"
-open_name an_open.NotFormatted = codes "NotFormatted"
-open_name an_open.Damaged = codes "Damaged"
-open_name an_open.NoMemory = codes "NoMemory"
-open_name an_open.WornOut = codes "WornOut"
 
 abbrev pub accept_number : AcceptError → ℕ
 accept_number an_accept.PendingFull = 10

@@ -1,6 +1,6 @@
 //! What is released.
 ghost use Rattle.std.specs.Prelude.{◌≡◌};
-ghost use Rattle.onboard.specs.Releases.{nothing_released};
+ghost use Rattle.unit_start.specs.Releases.{nothing_released};
 
 use events::Output;
 use std::marker::Model;
@@ -14,7 +14,7 @@ pub struct Released {
 }
 
 impl Model for Released {
-    ghost use Rattle.onboard.specs.Releases.{Release};
+    ghost use Rattle.unit_start.specs.Releases.{Release};
 
     ghost Value = { Release };
 

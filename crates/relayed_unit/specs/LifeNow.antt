@@ -2,8 +2,8 @@
 use Rattle.std.specs.Prelude.{◌≡◌, List, length}
 use Rattle.events.specs.declared.input.Event.{Event}
 use Rattle.kernel.specs.Output.{estimate_after, uncertainty_after}
-use Rattle.onboard.specs.Events.{IsAhead}
-use Rattle.onboard.specs.UnitState.{LifeState}
+use Rattle.unit_start.specs.Events.{IsAhead}
+use Rattle.unit_start.specs.UnitState.{LifeState}
 use Rattle.relayed_unit.specs.declared.life_now.LifeNow.{LifeNow}
 
 -- What is known of a life behind all accepted events: the place of the train by all of them, the last moment of its

@@ -6,7 +6,7 @@ use Rattle.disk.specs.declared.record.Call.{Call}
 use Rattle.request_disk.specs.Requests.{ends_in_sync}
 use Rattle.request_disk.specs.Requesting.{request_state, knows}
 use Rattle.onboard.specs.Answers.{flush_refusal, puts_block}
-use Rattle.onboard.specs.Releases.{Release}
+use Rattle.unit_start.specs.Releases.{Release}
 use Rattle.onboard.specs.declared.errors.FlushError.{FlushError}
 use Rattle.onboard.specs.declared.errors.FlushError.TheVariants as a_flush
 use Rattle.relayed_unit.specs.declared.errors.PrepareError.{PrepareError}

@@ -9,7 +9,7 @@ use Rattle.blocks.specs.declared.records.Record.{Record}
 use Rattle.events.specs.declared.input.Event.{Event}
 use Rattle.events.specs.declared.input.Event.TheVariants as an_event
 use Rattle.kernel.specs.Lives.{Past, past_of, past_after, past_at, number_at, story_of}
-use Rattle.onboard.specs.Events.{record_in, record_at, record_of, records_of, moment_of, account_of}
+use Rattle.unit_start.specs.Events.{record_in, record_at, record_of, records_of, moment_of, account_of}
 use Rattle.ring.specs.Account.{Tells}
 use Rattle.replaying.specs.Following.{answer_to, AreAnswers}
 

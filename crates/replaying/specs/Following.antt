@@ -9,7 +9,7 @@ use Rattle.events.specs.declared.input.Event.{Event}
 use Rattle.events.specs.declared.kept.Kept.{Kept}
 use Rattle.kernel.specs.Lives.{Story, onward, past_at, number_at, left_by}
 use Rattle.mode_table.specs.declared.statuses.Cold.{Cold}
-use Rattle.onboard.specs.Events.{record_at}
+use Rattle.unit_start.specs.Events.{record_at}
 
 -- what a format tells of the kernel's answer to an event
 abbrev pub answer_to : Format → Story → Event → BlockRecord

@@ -8,7 +8,7 @@ use Rattle.events.specs.declared.input.Event.{Event}
 use Rattle.events.specs.declared.kept.Kept.{Kept}
 use Rattle.mode_table.specs.declared.statuses.Cold.{Cold}
 use Rattle.kernel.specs.Lives.{Story, story_of, story_by}
-use Rattle.onboard.specs.Events.{account_of}
+use Rattle.unit_start.specs.Events.{account_of}
 use Rattle.ring.specs.Account.{Tells}
 use Rattle.replaying.specs.Following.{AreAnswers, IsBehind, answer_to}
 use Rattle.replaying.specs.Judgements.{IsVerdict}

@@ -2,7 +2,7 @@
 use Rattle.std.specs.Prelude.{◌≡◌, ℕ, ◌-◌, ◌^◌, min, ℤ}
 use Rattle.kernel.specs.Lives.{Story, past_at, number_at}
 use Rattle.kernel.specs.StandsFor.{Knowledge}
-use Rattle.onboard.specs.Events.{moment_of, KnowsAt}
+use Rattle.unit_start.specs.Events.{moment_of, KnowsAt}
 use Rattle.speed_profile.specs.declared.told.CategorySpeeds.{CategorySpeeds}
 use Rattle.track_store.specs.Segments.{Segmented}
 

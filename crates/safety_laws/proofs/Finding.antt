@@ -1,9 +1,9 @@
 -- Of which event an output was released.
 use Rattle.std.proofs.Common.{◌≡◌, List, [], ◌∷◌, inl, inr, refl, ap, sym, subst}
 use Rattle.events.specs.declared.input.Event.{Event}
-use Rattle.onboard.specs.Chains.{StandsIn}
+use Rattle.whole_lives.specs.Chains.{StandsIn}
 use Rattle.onboard.specs.declared.released.Released.{Released}
-use Rattle.onboard.specs.Events.{pair_of, pairs_of}
+use Rattle.unit_start.specs.Events.{pair_of, pairs_of}
 use Rattle.speed_profile.proofs.Members.{in_right, in_either}
 use Rattle.units.proofs.Gathering.{IsIn}
 use Rattle.safety_laws.specs.Outputs.{IsOf}

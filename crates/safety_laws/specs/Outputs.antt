@@ -14,8 +14,8 @@ use Rattle.kernel.specs.Laws.{all_deeds}
 use Rattle.kernel.specs.Lives.{life_of}
 use Rattle.mode_control.specs.Life.{Life}
 use Rattle.onboard.specs.declared.released.Released.{Released}
-use Rattle.onboard.specs.Chains.{StandsIn}
-use Rattle.onboard.specs.Events.{pairs_of}
+use Rattle.whole_lives.specs.Chains.{StandsIn}
+use Rattle.unit_start.specs.Events.{pairs_of}
 use Rattle.safety_laws.specs.Stopping.{IsSupervised, IsBraking, front_of, gradient_along, square_at}
 
 -- a pair of a number and an output was released of an event: that of its number, behind those before it

@@ -5,8 +5,8 @@ use Rattle.std.specs.Io.KnownBytes.{Appends}
 use Rattle.std.proofs.KnownBytes.{Appends-trans}
 use Rattle.events.specs.Limits.{most_pending}
 use Rattle.command_line.specs.declared.status.Status.{Status}
-use Rattle.onboard.specs.Answers.{is_full}
-use Rattle.onboard.specs.declared.errors.LiveError.{LiveError}
+use Rattle.whole_lives.specs.Answers.{is_full}
+use Rattle.whole_lives.specs.declared.errors.LiveError.{LiveError}
 use Rattle.onboard.specs.declared.released.Released.{Released}
 use Rattle.sessions.specs.Lines.{lines_of, Printed}
 use Rattle.reader.specs.Listings.{IsListingRefusal}

@@ -6,11 +6,12 @@ use Rattle.command_line.specs.declared.status.Status.TheVariants.{Done, Refused,
 use Rattle.journal.specs.Numbers.{format_number, format_name}
 use Rattle.journal.specs.declared.errors.FormatError.{FormatError}
 use Rattle.journal.specs.declared.errors.FormatError.TheVariants as a_format
-use Rattle.onboard.specs.Numbers.{open_number, open_name, accept_number, accept_name, flush_number, flush_name}
-use Rattle.onboard.specs.declared.errors.OpenError.{OpenError}
-use Rattle.onboard.specs.declared.errors.OpenError.TheVariants as an_open
-use Rattle.onboard.specs.declared.errors.LiveError.{LiveError}
-use Rattle.onboard.specs.declared.errors.LiveError.TheVariants as a_live
+use Rattle.unit_start.specs.Numbers.{open_number, open_name}
+use Rattle.onboard.specs.Numbers.{accept_number, accept_name, flush_number, flush_name}
+use Rattle.unit_start.specs.declared.errors.OpenError.{OpenError}
+use Rattle.unit_start.specs.declared.errors.OpenError.TheVariants as an_open
+use Rattle.whole_lives.specs.declared.errors.LiveError.{LiveError}
+use Rattle.whole_lives.specs.declared.errors.LiveError.TheVariants as a_live
 use Rattle.onboard.specs.declared.errors.AcceptError.{AcceptError}
 use Rattle.onboard.specs.declared.errors.AcceptError.TheVariants as an_accept
 use Rattle.onboard.specs.declared.errors.FlushError.{FlushError}

@@ -14,13 +14,13 @@ use Rattle.command_line.specs.declared.status.Status.TheVariants.{Done, Refused,
 use Rattle.journal.specs.declared.errors.FormatError.TheVariants.{DeviceFault}
 use Rattle.events.specs.declared.step.Step.{Step}
 use Rattle.mode_table.specs.declared.statuses.Cold.{Cold}
-use Rattle.onboard.specs.declared.errors.LiveError.{LiveError}
+use Rattle.whole_lives.specs.declared.errors.LiveError.{LiveError}
 use Rattle.onboard.specs.declared.released.Released.{Released}
-use Rattle.onboard.specs.Answers.{is_full}
-use Rattle.onboard.specs.Lives.{IsReady}
-use Rattle.onboard.specs.Runs.{IsOfLife, Lives}
-use Rattle.onboard.specs.Stops.{LifeEnds, OnlyOpens, IsDone, IsUnflushed}
-use Rattle.onboard.specs.Written.{LeavesLast}
+use Rattle.whole_lives.specs.Answers.{is_full}
+use Rattle.unit_start.specs.Lives.{IsReady}
+use Rattle.whole_lives.specs.Runs.{IsOfLife, Lives}
+use Rattle.whole_lives.specs.Stops.{LifeEnds, OnlyOpens, IsDone, IsUnflushed}
+use Rattle.whole_lives.specs.Written.{LeavesLast}
 use Rattle.reader.specs.Listings.{AddsListing, IsListingRefusal}
 use Rattle.reader.specs.declared.errors.ListingError.{ListingError}
 use Rattle.simulator.specs.declared.fault.ScenarioFault.{ScenarioFault}

@@ -2,7 +2,7 @@
 ghost use Rattle.std.specs.Prelude.{◌≡◌, ℕ, List, IsTrue, IfOk};
 ghost use Rattle.disk.specs.State.{Counted};
 ghost use Rattle.events.specs.declared.input.Event.{Event};
-ghost use Rattle.onboard.specs.Lives.{IsReady};
+ghost use Rattle.unit_start.specs.Lives.{IsReady};
 ghost use Rattle.sessions.specs.Sessions.{is_device, Session};
 
 use crate::printer::Printer;
@@ -10,10 +10,10 @@ use crate::stops::tell_end;
 use command_line::Status;
 use disk::Disk;
 use mode_table::Cold;
-use onboard::{Step, live_into};
 use std::alloc::Global;
 use std::io;
 use std::io::Write;
+use whole_lives::{Step, live_into};
 
 /// One life on a disk: a line for each output, written as it is released, and a last one where the life stopped. After
 /// a write that failed nothing more is released. It hands the disk and the writer back, and answers the status that the

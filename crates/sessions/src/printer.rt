@@ -4,10 +4,11 @@ ghost use Rattle.std.specs.Io.KnownBytes.{Appends};
 ghost use Rattle.sessions.specs.Lines.{lines_of};
 
 use command_line::write_line;
-use onboard::{ReleaseSink, Released};
+use onboard::Released;
 use std::io;
 use std::io::Write;
 use units::NoMemory;
+use whole_lives::ReleaseSink;
 
 fn write_lines<W: Write>(pairs: &[Released], out: &mut W) -> io::Result<()>
     ensures { OnOk result (Appends (W.contents out.old) (W.contents out.new) (lines_of pairs.now)) }

@@ -15,10 +15,10 @@ use Rattle.request_disk.specs.Requests.{ends_in_sync}
 use Rattle.request_disk.specs.Requesting.{Requesting, request_state, with_sector}
 use Rattle.request_disk.specs.declared.reading.Reading.{Reading}
 use Rattle.onboard.specs.Answers.{flush_refusal}
-use Rattle.onboard.specs.Events.{account_of, IsAhead}
-use Rattle.onboard.specs.Lives.{TellsEither}
-use Rattle.onboard.specs.Releases.{Release}
-use Rattle.onboard.specs.UnitState.{LifeState, UnitState}
+use Rattle.unit_start.specs.Events.{account_of, IsAhead}
+use Rattle.unit_start.specs.Lives.{TellsEither}
+use Rattle.unit_start.specs.Releases.{Release}
+use Rattle.unit_start.specs.UnitState.{LifeState, UnitState}
 use Rattle.onboard.specs.declared.errors.AcceptError.{AcceptError}
 use Rattle.relayed_unit.specs.Relayed.{Relayed, refused_as, Turns, list_of, requests_of, release_refusal, prepare_refusal, next_gate, wants_gate, IsLeftBy}
 use Rattle.relayed_unit.specs.declared.absent.Absent.{Absent}

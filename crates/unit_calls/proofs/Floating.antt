@@ -7,11 +7,11 @@ use Rattle.events.specs.declared.input.Event.{Event}
 use Rattle.journal.specs.JournalState.{JournalState}
 use Rattle.journal.specs.Journals.{IsOpen}
 use Rattle.request_disk.specs.Requesting.{Requesting, request_state}
-use Rattle.onboard.specs.Events.{pairs_of, account_of, IsAhead}
-use Rattle.onboard.specs.Lives.{Tells, TellsEither}
-use Rattle.onboard.specs.Releases.{Release}
-use Rattle.onboard.specs.UnitState.{LifeState}
-use Rattle.onboard.proofs.Stepping.{rest_tells}
+use Rattle.unit_start.specs.Events.{pairs_of, account_of, IsAhead}
+use Rattle.unit_start.specs.Lives.{Tells, TellsEither}
+use Rattle.unit_start.specs.Releases.{Release}
+use Rattle.unit_start.specs.UnitState.{LifeState}
+use Rattle.onboard.proofs.Resting.{rest_tells}
 use Rattle.unit_calls.specs.Histories.{IsPartOf, outputs_of, HasAll, AreOnMedium}
 use Rattle.unit_calls.specs.Outputs.{told_of}
 use Rattle.unit_calls.specs.declared.outputs.EtcsOutput.{EtcsOutput}

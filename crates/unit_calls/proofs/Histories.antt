@@ -13,11 +13,11 @@ use Rattle.image_calls.specs.Answers.{this_abi}
 use Rattle.journal.specs.Journals.{IsOpen}
 use Rattle.request_disk.specs.Requesting.{request_state}
 use Rattle.mode_table.specs.declared.statuses.Cold.{Cold}
-use Rattle.onboard.specs.Events.{account_of, IsAhead}
-use Rattle.onboard.specs.Lives.{Tells, TellsEither, IsReady, Opens, IsOfOpening}
-use Rattle.onboard.specs.Releases.{Release}
-use Rattle.onboard.specs.declared.errors.OpenError.{OpenError}
-use Rattle.onboard.proofs.WholeLives.{ready_after}
+use Rattle.unit_start.specs.Events.{account_of, IsAhead}
+use Rattle.unit_start.specs.Lives.{Tells, TellsEither, IsReady, Opens, IsOfOpening}
+use Rattle.unit_start.specs.Releases.{Release}
+use Rattle.unit_start.specs.declared.errors.OpenError.{OpenError}
+use Rattle.unit_start.proofs.Opening.{ready_after}
 use Rattle.relayed_unit.specs.Relayed.{Relayed, list_of, written_of, sectors_in}
 use Rattle.relayed_unit.specs.declared.moored.Moored.{Moored}
 use Rattle.unit_calls.specs.Handles.{OnHandle, OnHandleInto, Takes, Prepares, Says, Fails, Handing, Releases, IsPoweredUp, IsLeft, PowersUp, OpensFrom}

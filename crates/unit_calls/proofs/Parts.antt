@@ -2,7 +2,7 @@
 use Rattle.std.proofs.Common.{◌≡◌, inl, inr, List, [], ◌∷◌, ◌++◌, append_assoc, refl, sym, ◌∙◌, ap, subst}
 use Rattle.std.proofs.lemmas.List.{append-nil, map-append}
 use Rattle.events.specs.declared.input.Event.{Event}
-use Rattle.onboard.specs.Events.{pair_of, pairs_of}
+use Rattle.unit_start.specs.Events.{pair_of, pairs_of}
 use Rattle.unit_calls.specs.Histories.{IsPartOf, outputs_of}
 use Rattle.unit_calls.specs.Outputs.{told_of}
 use Rattle.unit_calls.specs.declared.outputs.EtcsOutput.{EtcsOutput}

@@ -5,7 +5,7 @@ use Rattle.events.specs.declared.input.Event.{Event}
 use Rattle.kernel.specs.Lives.{life_of}
 use Rattle.kernel.specs.StandsFor.{Knowledge, StandsForLife}
 use Rattle.mode_control.specs.Life.{Life}
-use Rattle.onboard.specs.Events.{Knows, IsAhead}
+use Rattle.unit_start.specs.Events.{Knows, IsAhead}
 use Rattle.relayed_unit.specs.Relayed.{is_unreleased}
 use Rattle.relayed_unit.specs.declared.moored.Moored.{Moored}
 use Rattle.speed_profile.specs.declared.told.CategorySpeeds.{CategorySpeeds}

@@ -1,9 +1,9 @@
 -- What going on with a power-up leaves in its handle and in that of the unit (this project's profile).
 use Rattle.std.specs.Prelude.{◌≡◌, ◌⊎◌, ℕ, ◌<◌, List, [], Option, Some, None, Result, Ok, Err, IfOk, IfErr, IfSome, MatchResult, false}
 use Rattle.disk.specs.State.{contents_of}
-use Rattle.onboard.specs.Lives.{IsOpenRefusal, HasNoCause}
-use Rattle.onboard.specs.declared.errors.OpenError.{OpenError}
-use Rattle.onboard.specs.declared.errors.OpenError.TheVariants as an_open
+use Rattle.unit_start.specs.Lives.{IsOpenRefusal, HasNoCause}
+use Rattle.unit_start.specs.declared.errors.OpenError.{OpenError}
+use Rattle.unit_start.specs.declared.errors.OpenError.TheVariants as an_open
 use Rattle.relayed_unit.specs.Goings.{OnWants, OnOpen}
 use Rattle.relayed_unit.specs.Openings.{Opening, medium_state, IsGoing, IsWanted}
 use Rattle.relayed_unit.specs.declared.powering_up.Going.{Going}

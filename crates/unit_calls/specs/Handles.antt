@@ -12,16 +12,17 @@ use Rattle.journal.specs.Journals.{IsOpen, IsWritten}
 use Rattle.kernel.specs.Lives.{kept_by}
 use Rattle.request_disk.specs.Requesting.{copy_of, request_state}
 use Rattle.mode_table.specs.declared.statuses.Cold.{Cold}
-use Rattle.onboard.specs.Answers.{is_device, refusal_of, HasRoom}
-use Rattle.onboard.specs.Events.{account_of, IsAhead}
-use Rattle.onboard.specs.Lives.{IsReady, Opens, IsOpenRefusal, HasNoCause, TellsEither}
-use Rattle.onboard.specs.Releases.{nothing_released}
-use Rattle.onboard.specs.Stops.{progress_of, go_on}
-use Rattle.onboard.specs.Written.{HasNewest}
+use Rattle.unit_start.specs.Answers.{is_device}
+use Rattle.onboard.specs.Answers.{refusal_of, HasRoom}
+use Rattle.unit_start.specs.Events.{account_of, IsAhead}
+use Rattle.unit_start.specs.Lives.{IsReady, Opens, IsOpenRefusal, HasNoCause, TellsEither}
+use Rattle.unit_start.specs.Releases.{nothing_released}
+use Rattle.onboard.specs.Progress.{progress_of, go_on}
+use Rattle.unit_start.specs.Written.{HasNewest}
 use Rattle.onboard.specs.declared.errors.AcceptError.{AcceptError}
 use Rattle.onboard.specs.declared.errors.AcceptError.TheVariants as an_accept
-use Rattle.onboard.specs.declared.errors.OpenError.{OpenError}
-use Rattle.onboard.specs.declared.errors.OpenError.TheVariants as an_open
+use Rattle.unit_start.specs.declared.errors.OpenError.{OpenError}
+use Rattle.unit_start.specs.declared.errors.OpenError.TheVariants as an_open
 use Rattle.relayed_unit.specs.LifeNow.{TellsLife}
 use Rattle.relayed_unit.specs.Relayed.{Relayed, Turns, list_of, requests_of, release_refusal, prepare_refusal, prepare_failed, wants_gate, IsLeftBy}
 use Rattle.relayed_unit.specs.declared.errors.PrepareError.{PrepareError}

@@ -11,8 +11,8 @@ use Rattle.disk.specs.State.{Platter, IsImage}
 use Rattle.events.specs.declared.input.Event.{Event}
 use Rattle.events.specs.declared.input.Input.{Input}
 use Rattle.mode_table.specs.declared.statuses.Cold.{Cold}
-use Rattle.onboard.specs.Events.{pairs_of}
-use Rattle.onboard.specs.Lives.{Tells}
+use Rattle.unit_start.specs.Events.{pairs_of}
+use Rattle.unit_start.specs.Lives.{Tells}
 use Rattle.relayed_unit.specs.Relayed.{Relayed}
 use Rattle.unit_calls.specs.Handles.{OnHandle, OnHandleInto, Takes, Prepares, Says, Fails, Handing, Releases, OpensFrom, IsLeft}
 use Rattle.unit_calls.specs.Mediums.{at_rest, carried_out, IsAtRest, IsReadFrom}

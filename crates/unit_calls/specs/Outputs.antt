@@ -3,7 +3,7 @@ use Rattle.std.specs.Prelude.{◌≡◌, ◌-◌, List, ◌++◌, length, drop, 
 use Rattle.blocks.specs.Codes.{output_level_number, brake_number}
 use Rattle.events.specs.Indications.{number_of as indications_number}
 use Rattle.mode_table.specs.Modes.{number_of as mode_number}
-use Rattle.onboard.specs.Releases.{Release}
+use Rattle.unit_start.specs.Releases.{Release}
 use Rattle.unit_calls.specs.declared.outputs.EtcsOutput.{EtcsOutput}
 
 -- as C sees it

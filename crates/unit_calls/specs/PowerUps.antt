@@ -6,8 +6,8 @@ use Rattle.events.specs.declared.input.Event.{Event}
 use Rattle.events.specs.declared.input.Event.TheVariants.{PowerUp}
 use Rattle.journal.specs.Journals.{IsOpen}
 use Rattle.mode_table.specs.declared.statuses.Cold.{Cold}
-use Rattle.onboard.specs.Events.{account_of, IsAhead}
-use Rattle.onboard.specs.Lives.{IsReady, Opens}
+use Rattle.unit_start.specs.Events.{account_of, IsAhead}
+use Rattle.unit_start.specs.Lives.{IsReady, Opens}
 use Rattle.relayed_unit.specs.Relayed.{Relayed}
 use Rattle.request_disk.specs.Requesting.{request_state}
 

@@ -1,7 +1,7 @@
 -- What calls answer, and its numbers (this project's profile).
 use Rattle.std.specs.Prelude.{ℕ, ◌==◌, Bool, Result, Ok, Err}
-use Rattle.onboard.specs.declared.errors.OpenError.{OpenError}
-use Rattle.onboard.specs.declared.errors.OpenError.TheVariants as an_open
+use Rattle.unit_start.specs.declared.errors.OpenError.{OpenError}
+use Rattle.unit_start.specs.declared.errors.OpenError.TheVariants as an_open
 use Rattle.onboard.specs.declared.errors.AcceptError.{AcceptError}
 use Rattle.onboard.specs.declared.errors.AcceptError.TheVariants as an_accept
 use Rattle.relayed_unit.specs.declared.errors.PrepareError.{PrepareError}

@@ -25,7 +25,7 @@ use Rattle.mode_control.specs.Conditions.{left_of_override}
 use Rattle.mode_control.specs.History.{tracks}
 use Rattle.mode_control.specs.Life.{Life}
 use Rattle.mode_control.specs.Sentences.{values_of, span_of}
-use Rattle.onboard.specs.Events.{IsAhead}
+use Rattle.unit_start.specs.Events.{IsAhead}
 use Rattle.reasons.specs.LimitWords.{limit_told}
 use Rattle.relayed_unit.specs.Relayed.{is_unreleased}
 use Rattle.relayed_unit.specs.declared.moored.Moored.{Moored}

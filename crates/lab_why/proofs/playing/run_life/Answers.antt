@@ -2,11 +2,11 @@ use Rattle.std.proofs.Common.{◌≡◌, ⊎_elim, List, [], ◌++◌, Option, r
 use Rattle.std.specs.Result.{result_err}
 use Rattle.disk.specs.Memory.{memory_state}
 use Rattle.events.specs.declared.step.Step.{Step}
-use Rattle.onboard.specs.Events.{pairs_of}
-use Rattle.onboard.specs.Releases.{Release}
-use Rattle.onboard.specs.Runs.{durable_by}
-use Rattle.onboard.specs.Stops.{OnlyOpens}
-use Rattle.onboard.specs.declared.errors.LiveError.{LiveError}
+use Rattle.unit_start.specs.Events.{pairs_of}
+use Rattle.unit_start.specs.Releases.{Release}
+use Rattle.whole_lives.specs.Runs.{durable_by}
+use Rattle.whole_lives.specs.Stops.{OnlyOpens}
+use Rattle.whole_lives.specs.declared.errors.LiveError.{LiveError}
 use Rattle.lab_why.specs.Playing.{carried_out, PlayEnds}
 use Rattle.lab_why.proofs.Living.{ready, ends, word_or_nothing, releases}
 use Rattle.lab_why.proofs.Releasing.{begun}

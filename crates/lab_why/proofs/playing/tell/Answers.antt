@@ -1,7 +1,7 @@
 use Rattle.std.proofs.Common.{ℕ, List, ◌++◌, length, ◌∙◌, sym, ap}
 use Rattle.std.proofs.KnownBytes.{Appends-trans}
-use Rattle.onboard.specs.Releases.{Release}
-use Rattle.onboard.specs.Events.{pairs_of}
+use Rattle.unit_start.specs.Releases.{Release}
+use Rattle.unit_start.specs.Events.{pairs_of}
 use Rattle.command_line.specs.Pieces.{texts}
 use Rattle.command_line.specs.declared.piece.Form.TheVariants.{Json}
 use Rattle.lab_why.specs.Ends.{first_line, last_line}

@@ -2,7 +2,7 @@ use Rattle.std.proofs.Common.{subst}
 use Rattle.events.specs.declared.input.Event.TheVariants as an_event
 use Rattle.events.specs.declared.input.Input.{Input}
 use Rattle.kernel.specs.Lives.{onward}
-use Rattle.onboard.proofs.Opening.{on_ok_of}
+use Rattle.unit_start.proofs.Opening.{on_ok_of}
 use Rattle.reasons.specs.Told.{Reasons}
 use Rattle.lab_why.proofs.telling.tell_one.Goals as goal
 

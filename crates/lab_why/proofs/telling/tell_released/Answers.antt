@@ -6,8 +6,8 @@ use Rattle.events.specs.declared.kept.Kept.{Kept}
 use Rattle.events.specs.declared.step.Step.{Step}
 use Rattle.events.specs.declared.step.Step.TheVariants.{Accept}
 use Rattle.kernel.specs.Lives.{left_by, story_of}
-use Rattle.onboard.specs.Events.{pair_of}
-use Rattle.onboard.specs.Runs.{accept_one, accepted_by}
+use Rattle.unit_start.specs.Events.{pair_of}
+use Rattle.whole_lives.specs.Runs.{accept_one, accepted_by}
 use Rattle.reasons.specs.Told.{Reasons}
 use Rattle.lab_why.specs.Ends.{step_at}
 use Rattle.lab_why.specs.Playing.{input_steps, AreLines}

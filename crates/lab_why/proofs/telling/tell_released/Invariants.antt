@@ -2,8 +2,8 @@ use Rattle.std.proofs.Common.{◌≡◌, ℕ, suc, ◌≤◌, List, ◌++◌, le
 use Rattle.std.specs.Io.KnownBytes.{Appends}
 use Rattle.events.specs.declared.input.Event.{Event}
 use Rattle.kernel.specs.Lives.{story_of}
-use Rattle.onboard.specs.Events.{pairs_of}
-use Rattle.onboard.specs.Runs.{accepted_by}
+use Rattle.unit_start.specs.Events.{pairs_of}
+use Rattle.whole_lives.specs.Runs.{accepted_by}
 use Rattle.reasons.specs.Told.{Reasons}
 use Rattle.lab_why.specs.Ends.{step_at}
 use Rattle.lab_why.specs.Playing.{input_steps, AreLines}

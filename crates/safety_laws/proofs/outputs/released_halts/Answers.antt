@@ -1,7 +1,7 @@
 use Rattle.std.proofs.Common.{◌∷◌, sym, subst}
 use Rattle.kernel.specs.Lives.{life_of}
 use Rattle.onboard.specs.declared.released.Released.{Released}
-use Rattle.onboard.specs.Events.{pair_of}
+use Rattle.unit_start.specs.Events.{pair_of}
 use Rattle.safety_laws.specs.Outputs.{Halts}
 use Rattle.safety_laws.proofs.Finding.{found_in}
 use Rattle.safety_laws.proofs.outputs.released_halts.Goals as goal

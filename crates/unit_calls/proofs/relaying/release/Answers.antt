@@ -1,5 +1,5 @@
 use Rattle.std.proofs.Common.{rules, ◌≡◌, List, Some, None, refl, ◌∙◌, ap, subst, arith}
-use Rattle.onboard.specs.Releases.{Release}
+use Rattle.unit_start.specs.Releases.{Release}
 use Rattle.relayed_unit.specs.Relayed.{release_refusal}
 use Rattle.unit_calls.specs.Handles.{Handing}
 use Rattle.unit_calls.specs.Outputs.{last_of, AreHanded}

@@ -1,5 +1,0 @@
-use Rattle.std.proofs.Common.{refl}
-use Rattle.onboard.proofs.laws.stands_by.Goals as goal
-
-pub returns : goal.returns
-returns c = λ p word. refl

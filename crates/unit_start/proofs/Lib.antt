@@ -1,0 +1,8 @@
+pub mod Behind
+pub mod Fresh
+pub mod Greatest
+pub mod InParts
+pub mod Lists
+pub mod Meeting
+pub mod NewestBlock
+pub mod Opening

@@ -1,0 +1,7 @@
+pub mod Answers
+pub mod Events
+pub mod Lives
+pub mod Numbers
+pub mod Releases
+pub mod UnitState
+pub mod Written

@@ -1,0 +1,12 @@
+//! What a power-up finds on a disk and puts there, and the records of events.
+#![tactic(auto)]
+
+mod apart;
+mod errors;
+mod records;
+mod starting;
+
+pub use apart::UnitParts;
+pub use errors::OpenError;
+pub use records::{kept_behind, no_moment, power_up_record, recorded};
+pub use starting::{Started, refused, start};

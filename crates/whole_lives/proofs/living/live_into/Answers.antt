@@ -1,0 +1,79 @@
+use Rattle.std.proofs.Common.{◌≡◌, ◌∷◌, false, inl, inr, [], List, refl, sym, subst, ap, IsTrue}
+use Rattle.disk.specs.State.{State}
+use Rattle.events.specs.declared.input.Event.{Event}
+use Rattle.events.specs.declared.input.Event.TheVariants.{PowerUp}
+use Rattle.mode_table.specs.declared.statuses.Cold.{Cold}
+use Rattle.unit_start.specs.Answers.{is_device, wants_memory}
+use Rattle.unit_start.specs.Events.{record_of}
+use Rattle.unit_start.specs.declared.errors.OpenError.{OpenError}
+use Rattle.whole_lives.specs.Runs.{IsOfLife, Lives}
+use Rattle.whole_lives.specs.Written.{LeavesLast}
+use Rattle.onboard.specs.Progress.{Progress}
+use Rattle.whole_lives.specs.Stops.{StepsEnd, OnlyOpens, IsDone, IsUnflushed}
+use Rattle.whole_lives.proofs.Stopping.{begins, same_done, done_opened, not_opening}
+use Rattle.onboard.specs.declared.released.Released.{Released}
+use Rattle.whole_lives.proofs.WholeLives.{lives_refused, lives_ran, unflushed_on, same_unflushed}
+use Rattle.whole_lives.proofs.living.live_into.Goals as goal
+
+pub returns-in-Ok-clause-life : goal.returns-in-Ok-clause-life
+returns-in-Ok-clause-life g c = λ whole_from d a honest ready.
+    let up = c.in-Ok.ensures.up whole_from d a honest ready in
+    let still : IsTrue (g.D.WriteDisk.state c.in-Ok.unit.disk).honest = subst IsTrue (sym c.in-Ok.ensures.counted.honest) honest in
+    let ran = c.run_into-result.ensures.ran whole_from (PowerUp up.1 ∷ up.0) still up.3 up.4 in
+    let it = lives_ran whole_from d a up.0 c.args.cold up.1 c.args.steps.now (g.D.WriteDisk.state c.args.disk) (g.D.WriteDisk.state c.in-Ok.unit.disk) up.2 (g.D.WriteDisk.state c.run_into-result.new.unit.disk) [] ran.0 up.5 c.in-Ok.ensures.counted.sectors ran.2 in
+    let U : Type 0 = OnlyOpens whole_from d a up.0 up.1 (g.D.WriteDisk.state c.args.disk) (g.D.WriteDisk.state c.run_into-result.new.unit.disk) in
+    let T : State → Type 0 = λ s. (x : List Event) × (w : Cold) × (given : List Released) × g.S.ReleaseSink.Gave c.args.sink.now given c.run_into-result.new.sink
+    × (x' : Lives whole_from d a x c.args.cold w c.args.steps.now (g.D.WriteDisk.state c.args.disk) s [] given) × IsDone (PowerUp w ∷ x) c.args.steps.now (OnlyOpens whole_from d a x w (g.D.WriteDisk.state c.args.disk) s) c.run_into-result.result x'.steps_taken x'.durable_at_end x'.accepted_at_end x'.released
+    × IsUnflushed whole_from (IsOfLife whole_from (g.D.WriteDisk.state c.args.disk).sectors d a x w) c.args.steps.now c.run_into-result.result x'.durable_at_end (g.D.WriteDisk.state c.args.disk) s
+    × LeavesLast x w c.args.steps.now c.run_into-result.result s in
+    let I = IsOfLife whole_from (g.D.WriteDisk.state c.args.disk).sectors d a up.0 up.1 in
+    subst T (sym (ap g.D.WriteDisk.state c.close.ensures)) (
+      up.0,
+      up.1,
+      ran.0,
+      ran.1,
+      it.0,
+      same_done (PowerUp up.1 ∷ up.0) c.args.steps.now U c.run_into-result.result _ _ _ _ _ _ _ _ it.1 it.2 it.3 it.4 (done_opened (PowerUp up.1 ∷ up.0) c.args.steps.now U c.run_into-result.result _ _ _ _ ran.3),
+      same_unflushed whole_from I c.args.steps.now c.run_into-result.result ran.2.durable_at_end it.0.durable_at_end (g.D.WriteDisk.state c.args.disk) (g.D.WriteDisk.state c.run_into-result.new.unit.disk) it.2
+          (unflushed_on whole_from d a up.0 c.args.cold up.1 c.args.steps.now (g.D.WriteDisk.state c.args.disk) (g.D.WriteDisk.state c.in-Ok.unit.disk) up.2 (g.D.WriteDisk.state c.run_into-result.new.unit.disk) c.run_into-result.result ran.2.durable_at_end c.in-Ok.ensures.counted.sectors ran.4),
+      c.run_into-result.ensures.last whole_from up.0 (PowerUp up.1 ∷ up.0) still up.3 up.4 (record_of up.0 (PowerUp up.1) ∷ [], refl, up.6),
+    )
+
+pub returns-in-Err-clause-life : goal.returns-in-Err-clause-life
+returns-in-Err-clause-life g c = λ whole_from d a honest ready.
+    let back = c.in-Err.ensures.handed_back whole_from d a honest ready in
+    let it = lives_refused whole_from d a back.0 c.args.cold back.1 c.args.steps.now (g.D.WriteDisk.state c.args.disk) (g.D.WriteDisk.state c.in-Err.disk) back.2 [] in
+    (back.0, back.1, [], g.met.S.ReleaseSink.none c.args.sink.now, it.0, (it.1, back.2.at_each_moment), (λ full. absurd cc), tt)
+
+pub returns-in-Ok-clause-stopped : goal.returns-in-Ok-clause-stopped
+returns-in-Ok-clause-stopped g c =
+    let E : Progress → Type 0 = λ p. StepsEnd p c.args.steps.now c.run_into-result.result in
+    let fresh = c.in-Ok.ensures.fresh in
+    inr (c.in-Ok.unit.journal.newest, c.in-Ok.ensures.next, subst E (begins c.in-Ok.unit.journal c.in-Ok.unit.life fresh.0 fresh.2 fresh.3) c.run_into-result.ensures.stopped)
+
+pub returns-in-Err-clause-stopped : goal.returns-in-Err-clause-stopped
+returns-in-Err-clause-stopped g c = inl (c.in-Err.error, refl, c.in-Err.ensures.refused)
+
+pub returns-in-Ok-clause-unopened : goal.returns-in-Ok-clause-unopened
+returns-in-Ok-clause-unopened g c = λ e is. absurd (not_opening c.run_into-result.result e c.run_into-result.ensures.named is)
+
+pub returns-in-Err-clause-unopened : goal.returns-in-Err-clause-unopened
+returns-in-Err-clause-unopened g c = λ e is.
+    let same : c.in-Err.error ≡ e = cc is in
+    let M : OpenError → Type 0 = λ x. wants_memory x ≡ false in
+    (refl, subst M same c.in-Err.ensures.memory)
+
+pub returns-in-Ok-clause-nothing_added : goal.returns-in-Ok-clause-nothing_added
+returns-in-Ok-clause-nothing_added g c = λ honest e is none. absurd (not_opening c.run_into-result.result e c.run_into-result.ensures.named is)
+
+pub returns-in-Err-clause-nothing_added : goal.returns-in-Err-clause-nothing_added
+returns-in-Err-clause-nothing_added g c = λ honest e is none.
+    let same : c.in-Err.error ≡ e = cc is in
+    let N : OpenError → Type 0 = λ x. is_device x ≡ false in
+    c.in-Err.ensures.nothing_added honest (subst N (sym same) none)
+
+pub returns-in-Ok-clause-no_cause : goal.returns-in-Ok-clause-no_cause
+returns-in-Ok-clause-no_cause g c = λ honest begun. c.in-Ok.ensures.no_cause honest
+
+pub returns-in-Err-clause-no_cause : goal.returns-in-Err-clause-no_cause
+returns-in-Err-clause-no_cause g c = λ honest begun. absurd (begun c.in-Err.error refl)

@@ -1,0 +1,201 @@
+//! The steps of a life.
+ghost use Rattle.std.specs.Prelude.{◌≡◌, ◌≢◌, ℕ, false, ◌-◌, ◌<◌, [], ◌∷◌, List, IsTrue, IfErr, OnOk, OnErr, None, Some, vec_len, vec_capacity};
+ghost use Rattle.disk.specs.State.{contents_of, Counted};
+ghost use Rattle.events.specs.Limits.{most_pending};
+ghost use Rattle.events.specs.declared.input.Event.{Event};
+ghost use Rattle.events.specs.declared.input.Event.TheVariants.{Input as an_input};
+ghost use Rattle.journal.specs.Journals.{IsOpen};
+ghost use Rattle.whole_lives.specs.Answers.{live_failed, is_full};
+ghost use Rattle.unit_start.specs.Events.{account_of, IsAhead};
+ghost use Rattle.whole_lives.specs.Runs.{flush_one, durable_by, IsStepped, IsOfRun, Took, Ran};
+ghost use Rattle.onboard.specs.Progress.{progress_of, go_on};
+ghost use Rattle.whole_lives.specs.Stops.{step_of, Stands, StopsAt, StepsEnd, IsDone, IsUnflushed};
+ghost use Rattle.whole_lives.specs.Written.{earlier_one, earlier_by, IsLastWritten};
+ghost use Rattle.onboard.specs.declared.released.Released.{Released};
+ghost use Rattle.events.specs.declared.step.Step.TheVariants as a_step;
+
+use crate::errors::LiveError;
+use crate::sink::ReleaseSink;
+use disk::Disk;
+use events::{Input, Step};
+use onboard::{Onboard, Released};
+use std::alloc::Global;
+
+// Flushes, once there is room for what may be released.
+fn flush_into<D: Disk, S: ReleaseSink>(
+    unit: &mut Onboard<D>,
+    k: usize,
+    sink: &mut S,
+) -> Result<(), LiveError>
+    ensures counted { Counted (live_failed result) (D.state unit.old.disk) (D.state unit.new.disk) }
+    ensures stepped { (whole_from : ℕ) (durable accepted : List Event) → IsTrue (D.state unit.old.disk).honest →
+        IsOpen unit.old.journal (account_of whole_from durable) (D.state unit.old.disk) →
+        IsAhead durable accepted unit.old.life →
+        IsStepped whole_from a_step.Flush durable accepted (D.state unit.old.disk) (D.state unit.new.disk)
+        × OnOk result (IsOpen unit.new.journal (account_of whole_from accepted) (D.state unit.new.disk)
+        × IsAhead accepted accepted unit.new.life) }
+    ensures last { (whole_from : ℕ) (earlier durable accepted : List Event) → IsTrue (D.state unit.old.disk).honest →
+        IsOpen unit.old.journal (account_of whole_from durable) (D.state unit.old.disk) →
+        IsAhead durable accepted unit.old.life →
+        IsLastWritten (D.state unit.old.disk).sectors earlier durable (contents_of (D.state unit.old.disk)) →
+        OnOk result (IsLastWritten (D.state unit.new.disk).sectors (earlier_one earlier durable accepted a_step.Flush)
+        accepted (contents_of (D.state unit.new.disk))) }
+    ensures released { OnOk result (S.Gave sink.old unit.old.life.pairs sink.new) }
+    ensures nothing { OnErr result (S.Gave sink.old [] sink.new) }
+    ensures full { IfErr result (λ e. IsTrue (is_full e) → (S.room sink.new < most_pending) × (unit.new ≡ unit.old)) }
+    ensures named { IfErr result (λ e. step_of e ≡ Some k) }
+    ensures stood { OnOk result (Stands (progress_of unit.old.journal unit.old.life) a_step.Flush
+        × (progress_of unit.new.journal unit.new.life
+        ≡ go_on (progress_of unit.old.journal unit.old.life) a_step.Flush)) }
+    ensures stopped { IfErr result (StopsAt (progress_of unit.old.journal unit.old.life) k a_step.Flush) }
+{
+    if sink.make_room().is_err() {
+        return Err(LiveError::NoMemory(k));
+    }
+    match unit.flush() {
+        Ok(pairs) => {
+            sink.give(pairs.as_slice());
+            Ok(())
+        }
+        Err(error) => Err(LiveError::Flush(k, error)),
+    }
+}
+
+// Accepts a copy of the input.
+fn accept_one<D: Disk>(
+    alloc: Global,
+    unit: &mut Onboard<D>,
+    k: usize,
+    input: &Input,
+) -> Result<(), LiveError>
+    ensures counted { Counted (live_failed result) (D.state unit.old.disk) (D.state unit.new.disk) }
+    ensures stepped { (whole_from : ℕ) (durable accepted : List Event) → IsTrue (D.state unit.old.disk).honest →
+        IsOpen unit.old.journal (account_of whole_from durable) (D.state unit.old.disk) →
+        IsAhead durable accepted unit.old.life →
+        IsStepped whole_from (a_step.Accept input.now) durable accepted (D.state unit.old.disk) (D.state unit.new.disk)
+        × OnOk result (IsOpen unit.new.journal (account_of whole_from durable) (D.state unit.new.disk)
+        × IsAhead durable (an_input input.now ∷ accepted) unit.new.life) }
+    ensures last { (whole_from : ℕ) (earlier durable accepted : List Event) → IsTrue (D.state unit.old.disk).honest →
+        IsOpen unit.old.journal (account_of whole_from durable) (D.state unit.old.disk) →
+        IsAhead durable accepted unit.old.life →
+        IsLastWritten (D.state unit.old.disk).sectors earlier durable (contents_of (D.state unit.old.disk)) →
+        OnOk result (IsLastWritten (D.state unit.new.disk).sectors
+        (earlier_one earlier durable accepted (a_step.Accept input.now)) durable
+        (contents_of (D.state unit.new.disk))) }
+    ensures roomy { IfErr result (λ e. is_full e ≡ false) }
+    ensures named { IfErr result (λ e. step_of e ≡ Some k) }
+    ensures stood { OnOk result (Stands (progress_of unit.old.journal unit.old.life) (a_step.Accept input.now)
+        × (progress_of unit.new.journal unit.new.life
+        ≡ go_on (progress_of unit.old.journal unit.old.life) (a_step.Accept input.now))) }
+    ensures stopped { IfErr result (StopsAt (progress_of unit.old.journal unit.old.life) k (a_step.Accept input.now)) }
+{
+    match unit.accept(alloc, input.copy()) {
+        Ok(()) => Ok(()),
+        Err(error) => Err(LiveError::Accept(k, error)),
+    }
+}
+
+fn take<D: Disk, S: ReleaseSink>(
+    alloc: Global,
+    unit: &mut Onboard<D>,
+    k: usize,
+    step: &Step,
+    sink: &mut S,
+) -> Result<(), LiveError>
+    ensures counted { Counted (live_failed result) (D.state unit.old.disk) (D.state unit.new.disk) }
+    ensures stepped { (whole_from : ℕ) (durable accepted : List Event) → IsTrue (D.state unit.old.disk).honest →
+        IsOpen unit.old.journal (account_of whole_from durable) (D.state unit.old.disk) →
+        IsAhead durable accepted unit.old.life →
+        IsStepped whole_from step.now durable accepted (D.state unit.old.disk) (D.state unit.new.disk)
+        × OnOk result ((released : List Released) × S.Gave sink.old released sink.new
+        × Took whole_from durable accepted step.now unit.new.journal unit.new.life (D.state unit.new.disk) released) }
+    ensures last { (whole_from : ℕ) (earlier durable accepted : List Event) → IsTrue (D.state unit.old.disk).honest →
+        IsOpen unit.old.journal (account_of whole_from durable) (D.state unit.old.disk) →
+        IsAhead durable accepted unit.old.life →
+        IsLastWritten (D.state unit.old.disk).sectors earlier durable (contents_of (D.state unit.old.disk)) →
+        OnOk result (IsLastWritten (D.state unit.new.disk).sectors (earlier_one earlier durable accepted step.now)
+        (flush_one durable accepted step.now) (contents_of (D.state unit.new.disk))) }
+    ensures nothing { OnErr result (S.Gave sink.old [] sink.new) }
+    ensures full { IfErr result (λ e. IsTrue (is_full e) → (S.room sink.new < most_pending) × (unit.new ≡ unit.old)) }
+    ensures named { IfErr result (λ e. step_of e ≡ Some k) }
+    ensures stood { OnOk result (Stands (progress_of unit.old.journal unit.old.life) step.now
+        × (progress_of unit.new.journal unit.new.life ≡ go_on (progress_of unit.old.journal unit.old.life) step.now)) }
+    ensures stopped { IfErr result (StopsAt (progress_of unit.old.journal unit.old.life) k step.now) }
+{
+    match step {
+        Step::Accept(input) => match accept_one(alloc, unit, k, input) {
+            Ok(()) => Ok(()),
+            Err(error) => Err(error),
+        },
+        Step::Flush => match flush_into(unit, k, sink) {
+            Ok(()) => Ok(()),
+            Err(error) => Err(error),
+        },
+    }
+}
+
+/// Takes the steps in order, up to the first error, whose step it names, and hands on what is released as it is
+/// released (this project's profile).
+pub fn run_into<D: Disk, S: ReleaseSink>(
+    alloc: Global,
+    unit: &mut Onboard<D>,
+    steps: &[Step],
+    sink: &mut S,
+) -> Result<(), LiveError>
+    ensures counted { Counted (live_failed result) (D.state unit.old.disk) (D.state unit.new.disk) }
+    ensures full { IfErr result (λ e. IsTrue (is_full e) → S.room sink.new < most_pending) }
+    ensures stopped { StepsEnd (progress_of unit.old.journal unit.old.life) steps.now result }
+    ensures named { IfErr result (λ e. step_of e ≢ None) }
+    ensures ran { (whole_from : ℕ) (initial : List Event) → IsTrue (D.state unit.old.disk).honest →
+        IsOpen unit.old.journal (account_of whole_from initial) (D.state unit.old.disk) →
+        IsAhead initial initial unit.old.life →
+        (released : List Released) × S.Gave sink.old released sink.new
+        × (it : Ran whole_from initial steps.now (D.state unit.old.disk) (D.state unit.new.disk) [] released)
+        × IsDone initial steps.now ⊥ result it.steps_taken it.durable_at_end it.accepted_at_end it.released
+        × IsUnflushed whole_from (IsOfRun whole_from (D.state unit.old.disk).sectors initial) steps.now result
+        it.durable_at_end
+        (D.state unit.old.disk) (D.state unit.new.disk) }
+    ensures last { (whole_from : ℕ) (earlier initial : List Event) → IsTrue (D.state unit.old.disk).honest →
+        IsOpen unit.old.journal (account_of whole_from initial) (D.state unit.old.disk) →
+        IsAhead initial initial unit.old.life →
+        IsLastWritten (D.state unit.old.disk).sectors earlier initial (contents_of (D.state unit.old.disk)) →
+        OnOk result (IsLastWritten (D.state unit.new.disk).sectors (earlier_by earlier initial initial steps.now)
+        (durable_by initial steps.now) (contents_of (D.state unit.new.disk))) }
+{
+    for k in 0..steps.len() {
+        match take(alloc, unit, k, &steps[k], sink) {
+            Ok(()) => {}
+            Err(error) => return Err(error),
+        }
+    }
+    Ok(())
+}
+
+/// The same, with the same errors; what is released goes to the end of a list.
+pub fn run<D: Disk>(
+    alloc: Global,
+    unit: &mut Onboard<D>,
+    steps: &[Step],
+    out: &mut Vec<Released>,
+) -> Result<(), LiveError>
+    ensures counted { Counted (live_failed result) (D.state unit.old.disk) (D.state unit.new.disk) }
+    ensures full { IfErr result (λ e. IsTrue (is_full e) → vec_capacity out.new - vec_len out.new < most_pending) }
+    ensures stopped { StepsEnd (progress_of unit.old.journal unit.old.life) steps.now result }
+    ensures ran { (whole_from : ℕ) (initial : List Event) → IsTrue (D.state unit.old.disk).honest →
+        IsOpen unit.old.journal (account_of whole_from initial) (D.state unit.old.disk) →
+        IsAhead initial initial unit.old.life →
+        (it : Ran whole_from initial steps.now (D.state unit.old.disk) (D.state unit.new.disk) out.old.items
+        out.new.items)
+        × IsDone initial steps.now ⊥ result it.steps_taken it.durable_at_end it.accepted_at_end it.released
+        × IsUnflushed whole_from (IsOfRun whole_from (D.state unit.old.disk).sectors initial) steps.now result
+        it.durable_at_end
+        (D.state unit.old.disk) (D.state unit.new.disk) }
+    ensures last { (whole_from : ℕ) (earlier initial : List Event) → IsTrue (D.state unit.old.disk).honest →
+        IsOpen unit.old.journal (account_of whole_from initial) (D.state unit.old.disk) →
+        IsAhead initial initial unit.old.life →
+        IsLastWritten (D.state unit.old.disk).sectors earlier initial (contents_of (D.state unit.old.disk)) →
+        OnOk result (IsLastWritten (D.state unit.new.disk).sectors (earlier_by earlier initial initial steps.now)
+        (durable_by initial steps.now) (contents_of (D.state unit.new.disk))) }
+{
+    run_into(alloc, unit, steps, out)
+}

@@ -15,7 +15,7 @@ use track_store::Profile;
 use units::{Cm, Mph, Permille};
 
 /// What lies ahead of a train, and how it brakes (SUBSET-026, 3.13; this project's profile).
-#[derive(Clone, Copy)]
+#[derive(Drop)]
 pub struct Ahead<'a, S, G> {
     /// The train's maximum safe front, in centimetres.
     pub front: Cm,

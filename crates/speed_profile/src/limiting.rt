@@ -10,7 +10,7 @@ use vars::{TrainCategory, TrainLengthDelay};
 
 /// At each centimetre the static speed for a train of a category whose minimum safe front is at a place (SUBSET-026,
 /// 3.11.3).
-#[derive(Clone, Copy)]
+#[derive(Drop)]
 pub struct Limiting<'a, S> {
     /// The static speeds.
     pub speeds: &'a S,

@@ -3,7 +3,7 @@ use areas::{Areas, NationalSpeeds};
 use track_store::Restrictions;
 
 /// The speeds along the track (SUBSET-026, 3.11.3 and 3.11.12).
-#[derive(Clone, Copy)]
+#[derive(Drop)]
 pub struct Track<'a, S> {
     /// The static speeds (packet 27), in metres per hour.
     pub speeds: &'a S,

@@ -2,10 +2,8 @@
 #![tactic(auto)]
 
 mod fields;
-mod refusals;
 mod report;
 mod text;
 
 pub use fields::{FieldList, FieldValue, fields_of_header, fields_of_packet};
-pub use refusals::{name_of_fault, number_of_fault};
 pub use text::decode_text;

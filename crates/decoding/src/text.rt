@@ -4,7 +4,6 @@ ghost use Rattle.std.specs.Io.KnownBytes.{Appends};
 ghost use Rattle.decoding.specs.Lines.{refusal_line};
 ghost use Rattle.decoding.specs.Showing.{IsAnswered, IsShown};
 
-use crate::refusals::{name_of_fault, number_of_fault};
 use crate::report::print_telegram;
 use command_line::{Status, tell};
 use hex::FromHexError;
@@ -16,8 +15,8 @@ use telegram::{Telegram, TelegramFault, decode_into};
 fn refuse<W: Write>(fault: TelegramFault, out: &mut W) -> io::Result<()>
     ensures { OnOk result (Appends (W.contents out.old) (W.contents out.new) (refusal_line fault)) }
 {
-    let number = number_of_fault(fault);
-    let name = name_of_fault(fault);
+    let number = fault.number();
+    let name = fault.name();
     writeln!(out, "refused {number} {name}")
 }
 

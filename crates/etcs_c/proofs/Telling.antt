@@ -1,6 +1,6 @@
 -- What the number of a fault tells, and how many packets a walk has.
 use Rattle.std.proofs.Common.{◌≡◌, ◌==◌, ◌↔◌, ◌<◌, ◌+◌, ◌∙◌, ℕ, suc, List, [], ◌∷◌, length, Result, Ok, refl, sym, ap, if◌then◌else◌, arith}
-use Rattle.etcs_c.specs.Numbers.{fault_number}
+use Rattle.telegram.specs.Faults.{number_of_fault}
 use Rattle.packets.specs.Packets.{length_of}
 use Rattle.packets.specs.declared.packet.Packet.{Packet}
 use Rattle.telegram.specs.Telegrams.{header_bits, Carries}
@@ -15,15 +15,15 @@ fault_at n =
     if n == 1 then Truncated else if n == 2 then WrongLength else if n == 3 then Spare else if n == 4 then OutOfRange else if n == 5 then WrongVersion
     else if n == 6 then NotUplink else if n == 7 then NotBalise else if n == 8 then NoEnd else TooLong
 
-fault_at-number : (e : TelegramFault) → fault_at (fault_number e) ≡ e
+fault_at-number : (e : TelegramFault) → fault_at (number_of_fault e) ≡ e
 unfolding fault_at
 fault_at-number Truncated = refl
 fault_at-number other = refl
 
-pub number_once : (d e : TelegramFault) → fault_number d ≡ fault_number e → d ≡ e
+pub number_once : (d e : TelegramFault) → number_of_fault d ≡ number_of_fault e → d ≡ e
 number_once d e same = sym (fault_at-number d) ∙ ap fault_at same ∙ fault_at-number e
 
-pub number_some : (e : TelegramFault) → 0 < fault_number e
+pub number_some : (e : TelegramFault) → 0 < number_of_fault e
 number_some Truncated = omega arith
 number_some other = omega arith
 

@@ -2,25 +2,25 @@
 #![tactic(auto)]
 
 ghost use Rattle.std.specs.Prelude.{◌≡◌, ◌↔◌, length};
-ghost use Rattle.etcs_c.specs.Numbers.{fault_number};
+ghost use Rattle.telegram.specs.Faults.{number_of_fault};
 ghost use Rattle.telegram.specs.Telegrams.{Carries, RefusesBytes};
 ghost use Rattle.telegram.specs.declared.fault.TelegramFault.{TelegramFault};
 ghost use Rattle.telegram.specs.declared.message.Telegram.{Telegram};
 
 use telegram::TelegramFault;
 
-/// The number of a fault, its discriminant.
+/// The number of a fault.
 fn number_of(fault: TelegramFault) -> u32
-    ensures { result ≡ fault_number fault }
+    ensures { result ≡ number_of_fault fault }
 {
-    fault as u32
+    u32::from(fault.number())
 }
 
 /// Whether the bytes carry a telegram (SUBSET-026, 8.4.2): 0, or the number of the fault.
 #[unsafe(no_mangle)]
 pub extern "C" fn etcs_decode(bytes: &[u8]) -> u32
     ensures carried { (result ≡ 0) ↔ ((t : Telegram) × Carries bytes.now t) }
-    ensures refused { (e : TelegramFault) → (result ≡ fault_number e) ↔ RefusesBytes e bytes.now }
+    ensures refused { (e : TelegramFault) → (result ≡ number_of_fault e) ↔ RefusesBytes e bytes.now }
 {
     match telegram::packets(bytes) {
         Ok(_) => 0,

@@ -1,14 +1,13 @@
 //! The faults of a telegram, those of its packets among them.
 ghost use Rattle.std.specs.Prelude.{◌≡◌};
-ghost use Rattle.telegram.specs.Faults.{fault_name};
+ghost use Rattle.telegram.specs.Faults.{number_of_fault, name_of_fault};
 
 use packets::PacketFault;
 use std::error::Error;
 use std::fmt;
 use vars::NoValue;
 
-/// Why bytes carry no telegram (SUBSET-026, 8.4.2; the numbers: this project's profile). The number of a fault is its
-/// discriminant.
+/// Why bytes carry no telegram (SUBSET-026, 8.4.2; the numbers: this project's profile).
 #[derive(Clone, Copy, Debug, PartialEq, Eq)]
 pub enum TelegramFault {
     /// The bits end within the header or a packet.
@@ -32,9 +31,16 @@ pub enum TelegramFault {
 }
 
 impl TelegramFault {
-    // Its name.
-    fn name(self) -> &'static str
-        ensures { result.now ≡ fault_name self }
+    /// The number by which the fault is told, its discriminant.
+    pub fn number(self) -> u8
+        ensures { result ≡ number_of_fault self }
+    {
+        self as u8
+    }
+
+    /// The name by which the fault is told.
+    pub fn name(self) -> &'static str
+        ensures { result.now ≡ name_of_fault self }
     {
         match self {
             TelegramFault::Truncated => "Truncated",

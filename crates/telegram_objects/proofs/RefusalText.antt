@@ -1,7 +1,7 @@
 -- The text of why bytes carry no telegram: no name of a fault needs an escape in JSON.
 use Rattle.std.proofs.Common.{◌≡◌, ℕ, List, [], ◌∷◌, ◌++◌, codes, decimal, refl, sym, ap, ◌∙◌, append_assoc}
 use Rattle.json.specs.Print.{escape_byte, escape}
-use Rattle.decoding.specs.Refusals.{number_of_fault, name_of_fault}
+use Rattle.telegram.specs.Faults.{number_of_fault, name_of_fault}
 use Rattle.telegram.specs.declared.fault.TelegramFault.{TelegramFault}
 use Rattle.telegram.specs.declared.fault.TelegramFault.TheVariants as a_fault
 use Rattle.telegram_objects.specs.Lines.{refusal_of}

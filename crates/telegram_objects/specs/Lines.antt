@@ -16,7 +16,7 @@ use Rattle.telegram.specs.Telegrams.{header_bits}
 use Rattle.telegram.specs.declared.fault.TelegramFault.{TelegramFault}
 use Rattle.telegram.specs.declared.message.Telegram.{Telegram}
 use Rattle.decoding.specs.Fields.{header_fields, packet_fields}
-use Rattle.decoding.specs.Refusals.{number_of_fault, name_of_fault}
+use Rattle.telegram.specs.Faults.{number_of_fault, name_of_fault}
 use Rattle.telegram_objects.specs.Telling.{pairs_of}
 use Rattle.decoding.specs.declared.fields.FieldValue.{FieldValue}
 

@@ -19,7 +19,7 @@ ghost use Rattle.telegram_objects.specs.Telling.{pair_of, TellsText};
 
 use bits::{BitWriter, Run};
 use command_line::{Form, Piece, write_pieces};
-use decoding::{FieldValue, fields_of_header, fields_of_packet, name_of_fault, number_of_fault};
+use decoding::{FieldValue, fields_of_header, fields_of_packet};
 use packets::{Packet, TELEGRAM_BYTES};
 use std::io;
 use std::io::Write;
@@ -234,8 +234,8 @@ fn write_telegram<W: Write>(telegram: &Telegram<'_>, out: &mut W) -> io::Result<
 fn write_refusal<W: Write>(fault: TelegramFault, out: &mut W) -> io::Result<()>
     ensures { OnOk result (Appends (W.contents out.old) (W.contents out.new) (refusal_of fault)) }
 {
-    let number = number_of_fault(fault);
-    let name = name_of_fault(fault);
+    let number = fault.number();
+    let name = fault.name();
     write!(
         out,
         "{{\"refused\":{{\"number\":{number},\"name\":\"{name}\"}}}}"

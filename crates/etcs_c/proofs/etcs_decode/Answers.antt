@@ -1,7 +1,7 @@
 use Rattle.std.proofs.Common.{◌∙◌, ap, arith, refl, sym, subst}
 use Rattle.bits.proofs.Laws.{err_same}
 use Rattle.etcs_c.proofs.Telling.{number_once, number_some, walk_of}
-use Rattle.etcs_c.specs.Numbers.{fault_number}
+use Rattle.telegram.specs.Faults.{number_of_fault}
 use Rattle.telegram.specs.Telegrams.{RefusesBytes}
 use Rattle.telegram.specs.declared.fault.TelegramFault.{TelegramFault}
 use Rattle.etcs_c.proofs.etcs_decode.Goals as goal
@@ -26,5 +26,5 @@ returns-in-Err-clause-carried c = (
 pub returns-in-Err-clause-refused : goal.returns-in-Err-clause-refused
 returns-in-Err-clause-refused c = λ e. (
   λ same. subst (λ (x : TelegramFault). RefusesBytes x c.args.bytes.now) (number_once _ e (sym c.number_of.ensures ∙ same)) ((c.in-Err.ensures.fault c.in-Err.fault).0 refl),
-  λ r. c.number_of.ensures ∙ ap fault_number (err_same _ _ e ((c.in-Err.ensures.fault e).1 r)),
+  λ r. c.number_of.ensures ∙ ap number_of_fault (err_same _ _ e ((c.in-Err.ensures.fault e).1 r)),
 )

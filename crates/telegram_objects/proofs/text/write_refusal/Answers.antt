@@ -5,5 +5,5 @@ use Rattle.telegram_objects.proofs.text.write_refusal.Goals as goal
 
 pub returns : goal.returns
 returns g c =
-    let written = rw (c.number_of_fault-number.ensures, c.name_of_fault-name.ensures) at c.write.ensures.bytes in
+    let written = rw (c.number-number.ensures, c.name-name.ensures) at c.write.ensures.bytes in
     on_ok_weaker c.write.result (λ line. same_text _ _ _ _ line (refusal_text c.args.fault)) written

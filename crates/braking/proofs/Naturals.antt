@@ -1,7 +1,7 @@
 -- Numbers of centimetres between places.
-use Rattle.std.proofs.Common.{◌≡◌, ℕ, ◌*◌, ◌≤◌, ◌<◌, ◌^◌, ◌+◌, ℤ, pos, negsuc, ◌+ℤ◌, ◌-ℤ◌, ◌≤ℤ◌, refl, arith}
+use Rattle.std.proofs.Common.{◌≡◌, ℕ, ◌*◌, ◌≤◌, ◌<◌, ◌^◌, ◌+◌, ℤ, pos, negsuc, ◌+ℤ◌, ◌-ℤ◌, ◌≤ℤ◌, ◌<ℤ◌, refl, arith}
 use Rattle.std.specs.Int.RustNames.{unsigned_abs}
-use Rattle.std.proofs.lemmas.Int.{ints}
+use Rattle.std.proofs.lemmas.Int.{ints, by_lt_z}
 use Rattle.std.proofs.Math.Nat.{mul-le-mul}
 use Rattle.track_store.proofs.Jumps.{natural_is, natural_none}
 use Rattle.units.specs.Stretches.{natural}
@@ -32,3 +32,9 @@ parts from middle to a b =
 
 pub none_between : (place : ℤ) (to : ℤ) → to ≤ℤ place → natural (to -ℤ place) ≡ 0
 none_between place to h = natural_none (to -ℤ place) (omega (arith, ints))
+
+-- .. whichever of them lies farther
+pub apart_at_most : (from to : ℤ) → (pos 0 ≤ℤ (from +ℤ pos (2 ^ 42))) → to ≤ℤ pos (2 ^ 42) → natural (to -ℤ from) ≤ 2 ^ 43
+apart_at_most from to a b =
+    by_lt_z to from (λ (less : to <ℤ from). omega (arith, none_between from to (omega (arith, ints, less))))
+    (λ (more : from ≤ℤ to). apart from to more a b)

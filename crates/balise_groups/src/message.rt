@@ -26,7 +26,7 @@ pub struct Message {
 
 /// Why a group gives no message (SUBSET-026, 3.16.2; the order and the numbers: this project's profile). Where more
 /// than one holds, Mixed comes before Counter, and Counter before Missing. The number of a cause is its discriminant.
-#[derive(Clone, Copy, Debug, PartialEq, Eq, Drop)]
+#[derive(Clone, Copy, Drop)]
 pub enum Cause {
     /// A balise wasn't read, and no neighbour that was read repeats it.
     Missing = 1,

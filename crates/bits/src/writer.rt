@@ -8,7 +8,7 @@ use std::marker::Model;
 use thiserror::Error;
 
 /// The bits do not fit.
-#[derive(Clone, Copy, Debug, PartialEq, Eq, Error)]
+#[derive(Clone, Copy, Debug, Error)]
 #[error("Full")]
 pub struct Full;
 

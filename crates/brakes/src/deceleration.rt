@@ -9,7 +9,7 @@ use std::marker::Model;
 use units::Permille;
 
 /// The deceleration of a train on level track (SUBSET-026, 3.18.3; this project's profile), in cm/s^2: from 1 to 300.
-#[derive(Clone, Copy, Debug, PartialEq, Eq)]
+#[derive(Clone, Copy, PartialEq, Eq)]
 pub struct Deceleration {
     cm_per_second_squared: u16,
 }

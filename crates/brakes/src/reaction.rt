@@ -7,7 +7,7 @@ use std::marker::Model;
 use units::Mph;
 
 /// The time from an order to brake until the brakes act (this project's profile), in milliseconds: from 0 to 10,000.
-#[derive(Clone, Copy, Debug, PartialEq, Eq)]
+#[derive(Clone, Copy, PartialEq, Eq)]
 pub struct Reaction {
     ms: u16,
 }

@@ -5,7 +5,7 @@ ghost use Rattle.linking.specs.Linking.{both, effect_of};
 use vars::LinkReaction;
 
 /// What linking asks of the train (SUBSET-026, 3.4.4 and 3.16.2). Both may be asked for at once.
-#[derive(Clone, Copy, Debug, PartialEq, Eq)]
+#[derive(Clone, Copy)]
 pub struct Effect {
     /// Whether it asks for a trip.
     pub trip: bool,

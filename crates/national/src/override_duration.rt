@@ -7,7 +7,7 @@ use units::Ms;
 
 /// How long the trip stays overridden where that has an end (T_NVOVTRP; SUBSET-026, 7.5.1), in milliseconds: from 0 to
 /// 254,000.
-#[derive(Clone, Copy, Debug, PartialEq, Eq)]
+#[derive(Clone, Copy, PartialEq, Eq)]
 pub struct OverrideDuration {
     ms: u32,
 }

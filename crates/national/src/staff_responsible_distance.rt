@@ -6,7 +6,7 @@ use std::marker::Model;
 
 /// How far the train may run in Staff Responsible where that has an end (D_NVSTFF; SUBSET-026, 7.5.1), in centimetres:
 /// from 0 to 32,766,000.
-#[derive(Clone, Copy, Debug, PartialEq, Eq)]
+#[derive(Clone, Copy, PartialEq, Eq)]
 pub struct StaffResponsibleDistance {
     cm: u32,
 }

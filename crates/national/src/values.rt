@@ -9,7 +9,7 @@ use vars::{OpenLength, OverrideTime, Scale, SpeedStep, Variable};
 
 /// National values (packet 3; SUBSET-026, 3.18.2). Speeds are metres per hour, distances centimetres, times
 /// milliseconds.
-#[derive(Clone, Copy, Debug, PartialEq, Eq)]
+#[derive(Clone, Copy, PartialEq, Eq)]
 pub struct Values {
     /// The speed in Shunting (V_NVSHUNT).
     pub shunting: Mph,

@@ -6,7 +6,7 @@ use std::error::Error;
 use std::fmt;
 
 /// Why an input wasn't accepted.
-#[derive(Clone, Copy, Debug, PartialEq, Eq)]
+#[derive(Clone, Copy, Debug)]
 pub enum AcceptError {
     /// The device failed in a flush; open again.
     Failed = 13,
@@ -49,7 +49,7 @@ impl fmt::Display for AcceptError {
 impl Error for AcceptError {}
 
 /// Why nothing was released.
-#[derive(Clone, Copy, Debug, PartialEq, Eq)]
+#[derive(Clone, Copy, Debug)]
 pub enum FlushError {
     /// The device failed in an earlier flush; open again.
     Failed = 21,

@@ -2,7 +2,7 @@
 use thiserror::Error;
 
 /// Why a flush wasn't prepared.
-#[derive(Clone, Copy, Debug, PartialEq, Eq, Error)]
+#[derive(Clone, Copy, Debug, Error)]
 pub enum PrepareError {
     /// The medium failed, or the unit did; open again.
     #[error("Failed")]
@@ -19,7 +19,7 @@ pub enum PrepareError {
 }
 
 /// Why nothing was released.
-#[derive(Clone, Copy, Debug, PartialEq, Eq, Error)]
+#[derive(Clone, Copy, Debug, Error)]
 pub enum ReleaseError {
     /// The medium failed, or the unit did; open again.
     #[error("Failed")]

@@ -12,7 +12,7 @@ use packets::{Packet, TELEGRAM_BYTES};
 use thiserror::Error;
 
 /// The telegram has more bits than `TELEGRAM_BYTES` have, which are 832 (SUBSET-026, 8.4.2).
-#[derive(Clone, Copy, Debug, PartialEq, Eq, Error)]
+#[derive(Clone, Copy, Debug, Error)]
 #[error("TooLong")]
 pub struct TooLong;
 

@@ -8,7 +8,7 @@ use std::fmt;
 use vars::NoValue;
 
 /// Why bytes carry no telegram (SUBSET-026, 8.4.2; the numbers: this project's profile).
-#[derive(Clone, Copy, Debug, PartialEq, Eq)]
+#[derive(Clone, Copy, Debug)]
 pub enum TelegramFault {
     /// The bits end within the header or a packet.
     Truncated = 1,

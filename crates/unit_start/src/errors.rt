@@ -6,7 +6,7 @@ use std::error::Error;
 use std::fmt;
 
 /// Why no life began.
-#[derive(Clone, Copy, Debug, PartialEq, Eq)]
+#[derive(Clone, Copy, Debug)]
 pub enum OpenError {
     /// The device failed in this call.
     DeviceFault = 1,

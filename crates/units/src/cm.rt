@@ -8,7 +8,7 @@ use std::marker::Model;
 
 /// A distance or a place, in centimetres: from -2^42 to 2^42 (this project's profile). Places behind the start of a
 /// life are negative.
-#[derive(Clone, Copy, Debug, PartialEq, Eq, PartialOrd, Ord)]
+#[derive(Clone, Copy, PartialEq, Eq, PartialOrd, Ord)]
 pub struct Cm {
     cm: i64,
 }

@@ -5,7 +5,7 @@ ghost use Rattle.units.specs.Limits.{IsMph};
 use std::marker::Model;
 
 /// A speed in metres per hour, 1 km/h being 1,000: from 0 to 600,000 (this project's profile).
-#[derive(Clone, Copy, Debug, PartialEq, Eq, PartialOrd, Ord)]
+#[derive(Clone, Copy, PartialEq, Eq, PartialOrd, Ord)]
 pub struct Mph {
     mph: u32,
 }

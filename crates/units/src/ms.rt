@@ -5,7 +5,7 @@ ghost use Rattle.units.specs.Limits.{IsMs};
 use std::marker::Model;
 
 /// A moment of a life or a span of time, in milliseconds: from 0 to 2^40 - 1 (this project's profile).
-#[derive(Clone, Copy, Debug, PartialEq, Eq, PartialOrd, Ord)]
+#[derive(Clone, Copy, PartialEq, Eq, PartialOrd, Ord)]
 pub struct Ms {
     ms: u64,
 }

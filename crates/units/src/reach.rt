@@ -7,7 +7,7 @@ use std::marker::Model;
 
 /// How far a distance or a length of a packet reaches, in centimetres: from 0 to 32,767,000, which is 2^15 - 1 units of
 /// ten metres (SUBSET-026, 7.5.1).
-#[derive(Clone, Copy, Debug, PartialEq, Eq)]
+#[derive(Clone, Copy, PartialEq, Eq)]
 pub struct Reach {
     cm: u32,
 }

@@ -6,7 +6,7 @@ use std::marker::Model;
 use units::Cm;
 
 /// Q_LINKORIENTATION: the direction in which an announced group will be passed (SUBSET-026, 7.5.1).
-#[derive(Clone, Copy, Debug, PartialEq, Eq)]
+#[derive(Clone, Copy)]
 pub enum LinkOrientation {
     /// In its reverse direction.
     Reverse,

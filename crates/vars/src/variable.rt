@@ -7,7 +7,7 @@ ghost use Rattle.vars.specs.declared.variable.NoValue.{NoValue};
 use thiserror::Error;
 
 /// Why a number has no value of a variable (SUBSET-026, 7.5.1).
-#[derive(Clone, Copy, Debug, PartialEq, Eq, Error)]
+#[derive(Clone, Copy, Debug, Error)]
 pub enum NoValue {
     /// The language keeps the number for later use.
     #[error("Spare")]

@@ -4,7 +4,7 @@ use onboard::{AcceptError, FlushError};
 use unit_start::OpenError;
 
 /// Why a life ended before its last step, with the number of the step, from 0 on.
-#[derive(Clone, Copy, Debug, PartialEq, Eq, thiserror::Error)]
+#[derive(Clone, Copy, Debug, thiserror::Error)]
 pub enum LiveError {
     /// It didn't begin, for this reason.
     #[error("{0}")]

@@ -1,4 +1,5 @@
 pub mod AnyPacket
+pub mod FieldRead
 pub mod FirstFits
 pub mod PacketShown
 pub mod StaticFitting

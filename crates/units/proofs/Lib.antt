@@ -1,2 +1,3 @@
 pub mod Gathering
 pub mod Later
+pub mod Sums

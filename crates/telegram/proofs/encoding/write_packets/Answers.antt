@@ -1,4 +1,5 @@
 use Rattle.std.proofs.Common.{◌++◌, List, Bool, length, refl, sym, ap, ◌∙◌, lit<}
+use Rattle.std.proofs.lemmas.Bool.{false≢true}
 use Rattle.std.proofs.lemmas.Result.{err_from_is_err_and}
 use Rattle.bits.proofs.Numbers.{length-number_bits}
 use Rattle.telegram.proofs.Written.{next_of, last_of, part_fits, whole_fits, one_written}
@@ -16,7 +17,7 @@ returns-in_err-write_packet-clause-room c = λ bits s.
     let w = c.loop-packet.invariant bits s in
     let n = next_of c.args.packets.now c.loop-packet.packet-index c.packet-item.result c.loop-packet.writer _ w.0 c.loop-packet-test.true c.packet-item.is w.1 w.2 in
     rw p.1 (
-      λ no. absurd cc,
+      λ no. absurd (false≢true no),
       λ fits. (c.in_err-write_packet.ensures.room n.front n.spelled).1 (part_fits c.loop-packet.writer n.front n.rest c.args.writer.now bits n.parts fits),
     )
 
@@ -33,7 +34,7 @@ returns-in_err-put-clause-room c = λ bits s.
     let last = last_of c.args.packets.now c.loop-packet.packet-index w.0 c.loop-packet-test.false w.1 in
     let room = whole_fits c.loop-packet.writer w.0 c.args.writer.now bits 8 (ap length last ∙ length-number_bits 8 255) w.2 in
     rw p.1 (
-      λ no. absurd cc,
+      λ no. absurd (false≢true no),
       λ fits. c.in_err-put.ensures.room.1 (room.1 fits),
     )
 

@@ -35,3 +35,6 @@ returns-in_default-clause-value g c place started there from to =
       | in_default-via-in_default w ↦ (let some : IsSome c.get.result = c.get.ensures.lookup.1 (omega arith, started.0) in let never = rw w.in_default.is at some in cc)
     ] in
     none_before place there c.args.segments.now (subst (IsStartedBelow place c.args.segments.now) none started) to
+
+pub returns-in_default-clause-before : goal.returns-in_default-clause-before
+returns-in_default-clause-before g c place started below = below

@@ -1,3 +1,4 @@
+use Rattle.std.proofs.Common.{arith}
 use Rattle.telegram.specs.Telegrams.{header}
 use Rattle.telegram.proofs.header.Header.fields.Goals as goal
 
@@ -5,3 +6,33 @@ pub returns-10 : goal.returns-10
 unfolding header
 returns-10 g c =
     rw (← c.in-Ok-ok.ensures.value, ← c.in-Ok-ok-2.ensures.value, ← c.in-Ok-ok-3.ensures.value, ← c.in-Ok-ok-4.ensures.value, ← c.in-Ok-ok-5.ensures.value, ← c.in-Ok-ok-6.ensures.value, ← c.in-Ok-ok-7.ensures.value, ← c.in-Ok-ok-8.ensures.value, ← c.in-Ok-ok-9.ensures.value) c.put-7.ensures.value
+
+pub field-requires-clause-room : goal.field-requires-clause-room
+field-requires-clause-room g c = omega (arith, c.requires.room)
+
+pub field-requires-2-clause-room : goal.field-requires-2-clause-room
+field-requires-2-clause-room g c = omega (arith, c.requires.room, c.in-Ok-ok.ensures.held)
+
+pub field-requires-3-clause-room : goal.field-requires-3-clause-room
+field-requires-3-clause-room g c = omega (arith, c.requires.room, c.in-Ok-ok.ensures.held, c.in-Ok-ok-2.ensures.held)
+
+pub put-requires : goal.put-requires
+put-requires g c = record { room = omega (arith, c.requires.room, c.in-Ok-ok.ensures.held, c.in-Ok-ok-2.ensures.held, c.in-Ok-ok-3.ensures.held) }
+
+pub put-requires-2 : goal.put-requires-2
+put-requires-2 g c = record { room = omega (arith, c.requires.room, c.in-Ok-ok.ensures.held, c.in-Ok-ok-2.ensures.held, c.in-Ok-ok-3.ensures.held, c.in-Ok-ok-4.ensures.held) }
+
+pub put-requires-3 : goal.put-requires-3
+put-requires-3 g c = record { room = omega (arith, c.requires.room, c.in-Ok-ok.ensures.held, c.in-Ok-ok-2.ensures.held, c.in-Ok-ok-3.ensures.held, c.in-Ok-ok-4.ensures.held, c.in-Ok-ok-5.ensures.held) }
+
+pub put-requires-4 : goal.put-requires-4
+put-requires-4 g c = record { room = omega (arith, c.requires.room, c.in-Ok-ok.ensures.held, c.in-Ok-ok-2.ensures.held, c.in-Ok-ok-3.ensures.held, c.in-Ok-ok-4.ensures.held, c.in-Ok-ok-5.ensures.held, c.in-Ok-ok-6.ensures.held) }
+
+pub put-requires-5 : goal.put-requires-5
+put-requires-5 g c = record { room = omega (arith, c.requires.room, c.in-Ok-ok.ensures.held, c.in-Ok-ok-2.ensures.held, c.in-Ok-ok-3.ensures.held, c.in-Ok-ok-4.ensures.held, c.in-Ok-ok-5.ensures.held, c.in-Ok-ok-6.ensures.held, c.in-Ok-ok-7.ensures.held) }
+
+pub put-requires-6 : goal.put-requires-6
+put-requires-6 g c = record { room = omega (arith, c.requires.room, c.in-Ok-ok.ensures.held, c.in-Ok-ok-2.ensures.held, c.in-Ok-ok-3.ensures.held, c.in-Ok-ok-4.ensures.held, c.in-Ok-ok-5.ensures.held, c.in-Ok-ok-6.ensures.held, c.in-Ok-ok-7.ensures.held, c.in-Ok-ok-8.ensures.held) }
+
+pub put-requires-7 : goal.put-requires-7
+put-requires-7 g c = record { room = omega (arith, c.requires.room, c.in-Ok-ok.ensures.held, c.in-Ok-ok-2.ensures.held, c.in-Ok-ok-3.ensures.held, c.in-Ok-ok-4.ensures.held, c.in-Ok-ok-5.ensures.held, c.in-Ok-ok-6.ensures.held, c.in-Ok-ok-7.ensures.held, c.in-Ok-ok-8.ensures.held, c.in-Ok-ok-9.ensures.held) }

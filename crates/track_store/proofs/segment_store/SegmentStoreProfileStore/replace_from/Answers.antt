@@ -5,9 +5,9 @@ use Rattle.track_store.proofs.segment_store.SegmentStoreProfileStore.replace_fro
 
 pub invariant_of-self : goal.invariant_of-self
 invariant_of-self g c = (
-      rw c.reserve.ensures.items c.self.invariant.0,
-      omega (arith, c.reserve.ensures.len, c.reserve.ensures.capacity, c.self.invariant.1),
-    )
+  rw c.reserve.ensures.items c.self.invariant.0,
+  omega (arith, c.reserve.ensures.len, c.reserve.ensures.capacity, c.self.invariant.1),
+)
 
 pub hold_steps-requires-clause-kept : goal.hold_steps-requires-clause-kept
 hold_steps-requires-clause-kept g c = rw c.reserve.ensures.items c.self.invariant.0

@@ -15,9 +15,9 @@ hold_steps-requires-clause-room g c =
 
 pub invariant_of-self : goal.invariant_of-self
 invariant_of-self g c = (
-      c.hold_steps.ensures.kept,
-      omega (arith, c.hold_steps.ensures.len, c.hold_steps.ensures.capacity, c.self.invariant.1, c.requires, ap (λ (store : Segmented _). store.room) c.self.view_is),
-    )
+  c.hold_steps.ensures.kept,
+  omega (arith, c.hold_steps.ensures.len, c.hold_steps.ensures.capacity, c.self.invariant.1, c.requires, ap (λ (store : Segmented _). store.room) c.self.view_is),
+)
 
 pub returns-clause-value : goal.returns-clause-value
 returns-clause-value g c place =

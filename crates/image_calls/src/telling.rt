@@ -93,16 +93,16 @@ fn why_with(
 pub(crate) fn why_told(event: u64, life: &Reasoning, output: Output) -> EtcsWhy
     ensures { (story : Story) → Reasons story life.now → output ≡ output_at story → TellsWhy event story result }
 {
-    let state = life.state();
+    let motion = life.state().motion();
     let cause = life.limit_cause();
     why_with(
         event,
         output,
         life.runs(),
         life.trip(),
-        state.rolled_backward(),
-        state.allowed_backward(),
-        state.speed(),
+        motion.backward,
+        motion.allowed,
+        motion.speed,
         limit_told(output.limit, &cause),
     )
 }

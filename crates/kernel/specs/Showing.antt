@@ -1,15 +1,21 @@
--- What a display is told beside the output (SUBSET-026, 3.13, 5.7, 5.9, 5.10; this project's profile). Moments and times
--- are milliseconds, speeds metres per hour; lists of entries have the newest first. Told elsewhere, and taken for granted
--- here: the limit, the acknowledgements, and how long one may be owed before the service brake (`brake_delay`, in areas).
-use Rattle.std.specs.Prelude.{ℕ, ◌+◌, ◌-◌}
+-- What a display is told beside the output, and how the train moves (SUBSET-026, 3.13, 5.7, 5.8, 5.9, 5.10; this
+-- project's profile). Moments and times are milliseconds, speeds metres per hour, distances centimetres; lists of entries
+-- have the newest first. Told elsewhere, and taken for granted here: the limit, the acknowledgements, how long one may be
+-- owed before the service brake (`brake_delay`, in areas), and what is left of an override (`left_of_override`).
+use Rattle.std.specs.Prelude.{ℕ, ◌+◌, ◌-◌, ◌^◌, min}
 use Rattle.areas.specs.Acknowledging.{brake_delay}
 use Rattle.areas.specs.declared.acknowledgement.Acknowledgement.{Acknowledgement}
 use Rattle.areas.specs.declared.acknowledgement.Acknowledgement.TheVariants as state
+use Rattle.mode_control.specs.Conditions.{left_of_override}
 use Rattle.mode_control.specs.History.{tracks, on_sight_of, shunting_of, level_0_of}
 use Rattle.mode_control.specs.Life.{Life}
+use Rattle.mode_control.specs.Sentences.{span_of, values_of}
 use Rattle.speed_supervision.specs.Limit.{limit}
-use Rattle.track_picture.specs.History.{moment_of}
+use Rattle.track_picture.specs.History.{moment_of, speed_of}
+use Rattle.kernel.specs.Brake.{rolled_backward}
 use Rattle.kernel.specs.declared.showing.Acknowledgements.{Acknowledgements}
+use Rattle.kernel.specs.declared.showing.Motion.{Motion}
+use Rattle.kernel.specs.declared.showing.Shown.{Shown}
 use Rattle.kernel.specs.declared.showing.Waiting.{Waiting}
 use Rattle.kernel.specs.declared.showing.Waiting.TheVariants as waits
 
@@ -37,3 +43,20 @@ service_speed life = limit life + 5_000
 
 abbrev pub emergency_speed : Life → ℕ
 emergency_speed life = limit life + 10_000
+
+abbrev pub shown_of : Life → Shown
+shown_of life = record {
+  waiting = acknowledgements_of life;
+  overriding = left_of_override life;
+  service_speed = service_speed life;
+  emergency_speed = emergency_speed life;
+  max_front = (span_of life).max_front;
+}
+
+-- the speed of the last reading; how far the train has rolled backward, up to the greatest number of 64 bits; and D_NVROLL
+abbrev pub motion_of : Life → Motion
+motion_of life = record {
+  speed = speed_of (tracks life.entries);
+  backward = min (rolled_backward life) (2 ^ 64 - 1);
+  allowed = (values_of life).roll;
+}

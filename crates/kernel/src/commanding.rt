@@ -1,20 +1,16 @@
 //! What the brakes are commanded to do, row by row of their table, and why.
-ghost use Rattle.std.specs.Prelude.{◌≡◌, ◌-◌, ◌^◌, ◌||◌, min};
-ghost use Rattle.kernel.specs.Brake.{rolled_backward, has_rolled_too_far, must_stand, owes_too_long, brake_of, causes_of};
+ghost use Rattle.std.specs.Prelude.{◌≡◌, ◌||◌};
+ghost use Rattle.kernel.specs.Brake.{has_rolled_too_far, must_stand, owes_too_long, brake_of, causes_of};
 ghost use Rattle.kernel.specs.Causes.{marked};
 ghost use Rattle.kernel.specs.StandsFor.{StandsForLife};
-ghost use Rattle.mode_control.specs.History.{tracks};
 ghost use Rattle.mode_control.specs.Life.{Life};
-ghost use Rattle.mode_control.specs.Sentences.{values_of};
 ghost use Rattle.mode_table.specs.Modes.{is_mode};
-ghost use Rattle.track_picture.specs.History.{speed_of};
 
 use crate::causes::BrakeCauses;
 use crate::state::StateOver;
 use events::Brake;
 use mode_table::Mode;
 use track_picture::ProfileStores;
-use units::Mph;
 
 fn is_trip(mode: Mode) -> bool
     ensures { result ≡ is_mode Mode.Trip mode }
@@ -123,27 +119,5 @@ impl<T: ProfileStores> StateOver<T> {
         ensures { (life : Life) → StandsForLife T.stores self.now life → marked result ≡ causes_of life }
     {
         self.causes()
-    }
-
-    /// The speed of the last reading of this life, in metres per hour; 0 before the first one.
-    pub fn speed(&self) -> Mph
-        ensures { (life : Life) → StandsForLife T.stores self.now life → result ≡ speed_of (tracks life.entries) }
-    {
-        self.supervision.track().speed()
-    }
-
-    /// How far the train has rolled backward since it stood, in centimetres, up to the greatest number of 64 bits.
-    pub fn rolled_backward(&self) -> u64
-        ensures { (life : Life) → StandsForLife T.stores self.now life
-            → result ≡ min (rolled_backward life) (2 ^ 64 - 1) }
-    {
-        self.parts.window.backward
-    }
-
-    /// How far it may roll backward, in centimetres: the national value D_NVROLL that is in force.
-    pub fn allowed_backward(&self) -> u64
-        ensures { (life : Life) → StandsForLife T.stores self.now life → result ≡ (values_of life).roll }
-    {
-        u64::from(self.supervision.track().national().values().roll.get())
     }
 }

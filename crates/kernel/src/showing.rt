@@ -1,17 +1,16 @@
 //! What a display is told beside the output.
 ghost use Rattle.std.specs.Prelude.{◌≡◌, is_some};
-ghost use Rattle.kernel.specs.Showing.{waiting, acknowledgements_of, service_speed, emergency_speed};
+ghost use Rattle.kernel.specs.Showing.{waiting, motion_of, shown_of};
 ghost use Rattle.kernel.specs.StandsFor.{StandsForLife};
-ghost use Rattle.mode_control.specs.Conditions.{is_overridden, left_of_override};
+ghost use Rattle.mode_control.specs.Conditions.{is_overridden};
 ghost use Rattle.mode_control.specs.Life.{Life};
-ghost use Rattle.mode_control.specs.Sentences.{span_of};
 
 use crate::state::StateOver;
 use crate::window::{EMERGENCY_MARGIN, SERVICE_MARGIN};
 use areas::Acknowledgement;
 use driver::OverrideLeft;
 use track_picture::ProfileStores;
-use units::{Cm, Ms};
+use units::{Cm, Mph, Ms};
 
 /// How long an acknowledgement may be owed before it orders the service brake, in milliseconds.
 const BRAKE_DELAY: u64 = 5_000;
@@ -52,49 +51,66 @@ fn waits_at(now: Ms, it: Acknowledgement) -> Waiting
     }
 }
 
+/// How the train moves.
+#[derive(Clone, Copy)]
+pub struct Motion {
+    /// The speed of the last reading of this life, in metres per hour; 0 before the first one.
+    pub speed: Mph,
+    /// How far the train has rolled backward since it stood, in centimetres, up to the greatest number of 64 bits.
+    pub backward: u64,
+    /// How far it may roll backward, in centimetres: the national value D_NVROLL that is in force.
+    pub allowed: u64,
+}
+
+/// What a display shows beside the output.
+#[derive(Clone, Copy)]
+pub struct Shown {
+    /// Which acknowledgements the driver is waited for, and how long yet.
+    pub waiting: Acknowledgements,
+    /// What is left of an override: None exactly where the trip isn't overridden (SUBSET-026, 5.8).
+    pub overriding: Option<OverrideLeft>,
+    /// The speed above which the service brake comes, in metres per hour: the limit and 5 km/h (SUBSET-026, 3.13; the
+    /// margin: this project's profile).
+    pub service_speed: u32,
+    /// The speed above which the emergency brake comes, in metres per hour: the limit and 10 km/h (SUBSET-026, 3.13; the
+    /// margin: this project's profile).
+    pub emergency_speed: u32,
+    /// The maximum safe front, in centimetres from where the life began (SUBSET-026, 3.6.4): from there on what lies
+    /// ahead is braked for.
+    pub max_front: Cm,
+}
+
 impl<T: ProfileStores> StateOver<T> {
-    /// Which acknowledgements the driver is waited for after the last event, and how long yet. Takes no memory, and is
-    /// worked out where it is asked alone.
-    pub fn acknowledgements(&self) -> Acknowledgements
-        ensures { (life : Life) → StandsForLife T.stores self.now life → result ≡ acknowledgements_of life }
+    /// How the train moves after the last event.
+    pub fn motion(&self) -> Motion
+        ensures { (life : Life) → StandsForLife T.stores self.now life → result ≡ motion_of life }
     {
-        let now = self.supervision.track().moment();
-        Acknowledgements {
-            on_sight: waits_at(now, self.supervision.on_sight()),
-            shunting: waits_at(now, self.supervision.shunting()),
-            level_0: waits_at(now, self.supervision.level_0()),
+        let track = self.supervision.track();
+        Motion {
+            speed: track.speed(),
+            backward: self.parts.window.backward,
+            allowed: u64::from(track.national().values().roll.get()),
         }
     }
 
-    /// What is left of an override after the last event: None exactly where the trip isn't overridden (SUBSET-026, 5.8).
-    pub fn override_left(&self) -> Option<OverrideLeft>
-        ensures left { (life : Life) → StandsForLife T.stores self.now life → result ≡ left_of_override life }
-        ensures exact { (life : Life) → StandsForLife T.stores self.now life → is_some result ≡ is_overridden life }
+    /// What a display shows beside the output of the last event. Takes no memory, and is worked out where it is asked
+    /// alone.
+    pub fn shown(&self) -> Shown
+        ensures shown { (life : Life) → StandsForLife T.stores self.now life → result ≡ shown_of life }
+        ensures exact { (life : Life) → StandsForLife T.stores self.now life → is_some result.overriding ≡ is_overridden life }
     {
-        self.supervision.override_left()
-    }
-
-    /// The speed above which the service brake comes after the last event, in metres per hour: the limit and 5 km/h
-    /// (SUBSET-026, 3.13; the margin: this project's profile).
-    pub fn service_speed(&self) -> u32
-        ensures { (life : Life) → StandsForLife T.stores self.now life → result ≡ service_speed life }
-    {
-        self.parts.limit.get() + u32::from(SERVICE_MARGIN)
-    }
-
-    /// The speed above which the emergency brake comes after the last event, in metres per hour: the limit and 10 km/h
-    /// (SUBSET-026, 3.13; the margin: this project's profile).
-    pub fn emergency_speed(&self) -> u32
-        ensures { (life : Life) → StandsForLife T.stores self.now life → result ≡ emergency_speed life }
-    {
-        self.parts.limit.get() + u32::from(EMERGENCY_MARGIN)
-    }
-
-    /// The maximum safe front after the last event, in centimetres from where the life began (SUBSET-026, 3.6.4): from
-    /// there on what lies ahead is braked for.
-    pub fn max_front(&self) -> Cm
-        ensures { (life : Life) → StandsForLife T.stores self.now life → result ≡ (span_of life).max_front }
-    {
-        self.supervision.stretch().max_front()
+        let now = self.supervision.track().moment();
+        let limit = self.parts.limit.get();
+        Shown {
+            waiting: Acknowledgements {
+                on_sight: waits_at(now, self.supervision.on_sight()),
+                shunting: waits_at(now, self.supervision.shunting()),
+                level_0: waits_at(now, self.supervision.level_0()),
+            },
+            overriding: self.supervision.override_left(),
+            service_speed: limit + u32::from(SERVICE_MARGIN),
+            emergency_speed: limit + u32::from(EMERGENCY_MARGIN),
+            max_front: self.supervision.stretch().max_front(),
+        }
     }
 }

@@ -1,18 +1,18 @@
 -- Why the newest released output is what it is, and what a display shows of it, as C is told it (this project's profile).
 -- Places and distances are centimetres, speeds metres per hour, times milliseconds; lists of events have the newest
 -- first.
-use Rattle.std.specs.Prelude.{◌≡◌, ℕ, ◌-◌, ◌^◌, min, ℤ, int_lt, ◌-ℤ◌, Bool, true, false, if◌then◌else◌, List, [], ◌∷◌, map, length, Option, Some, None, is_some, IfSome}
+use Rattle.std.specs.Prelude.{◌≡◌, ℕ, ◌-◌, ℤ, int_lt, ◌-ℤ◌, Bool, true, false, if◌then◌else◌, List, [], ◌∷◌, map, length, Option, Some, None, is_some, IfSome}
 use Rattle.std.specs.Int.RustNames.{unsigned_abs}
 use Rattle.braking.specs.declared.target.Target.{Target}
 use Rattle.driver.specs.declared.override_left.OverrideLeft.{OverrideLeft}
 use Rattle.events.specs.declared.input.Event.{Event}
 use Rattle.image_calls.specs.KeptItems.{or_zero, flag_of}
 use Rattle.image_calls.specs.WhyNumbers.{place_or_zero, limit_number}
-use Rattle.kernel.specs.Brake.{causes_of, rolled_backward}
+use Rattle.kernel.specs.Brake.{causes_of}
 use Rattle.kernel.specs.Causes.{all_causes, is_among}
 use Rattle.kernel.specs.Lives.{life_of}
 use Rattle.kernel.specs.Output.{output_of}
-use Rattle.kernel.specs.Showing.{acknowledgements_of, service_speed, emergency_speed}
+use Rattle.kernel.specs.Showing.{motion_of, shown_of}
 use Rattle.kernel.specs.declared.causes.BrakeCause.{BrakeCause}
 use Rattle.kernel.specs.declared.showing.Waiting.{Waiting}
 use Rattle.kernel.specs.declared.showing.Waiting.TheVariants as waits
@@ -21,16 +21,12 @@ use Rattle.speed_supervision.specs.declared.cause.LimitCause.{LimitCause}
 use Rattle.speed_supervision.specs.declared.cause.LimitCause.TheVariants as a_limit
 use Rattle.speed_supervision.specs.declared.cause.SpeedCause.{SpeedCause}
 use Rattle.speed_supervision.specs.declared.cause.SpeedCause.TheVariants as a_speed
-use Rattle.mode_control.specs.Conditions.{left_of_override}
-use Rattle.mode_control.specs.History.{tracks}
 use Rattle.mode_control.specs.Life.{Life}
-use Rattle.mode_control.specs.Sentences.{values_of, span_of}
 use Rattle.unit_start.specs.Events.{IsAhead}
 use Rattle.reasons.specs.LimitWords.{limit_told}
 use Rattle.relayed_unit.specs.Relayed.{is_unreleased}
 use Rattle.relayed_unit.specs.declared.moored.Moored.{Moored}
 use Rattle.speed_supervision.specs.Limit.{limit}
-use Rattle.track_picture.specs.History.{speed_of}
 use Rattle.unit_calls.specs.Outputs.{told_of}
 use Rattle.unit_calls.specs.Requests.{Where}
 use Rattle.unit_calls.specs.declared.handle.Opened.{Opened}
@@ -111,19 +107,19 @@ override_ends (Some left) = is_some left.time
 abbrev pub why_with : Told → EtcsUnitWhy
 why_with t = record {
   output = t.output;
-  backward = t.backward;
-  allowed = t.allowed;
+  backward = t.motion.backward;
+  allowed = t.motion.allowed;
   place = place_or_zero t.limit.place;
   restriction = or_zero t.limit.number;
-  target_distance = target_distance t.front t.target;
-  on_sight_left = time_left t.waiting.on_sight;
-  shunting_left = time_left t.waiting.shunting;
-  level_0_left = time_left t.waiting.level_0;
-  override_time = override_time t.overriding;
-  override_distance = override_distance t.overriding;
-  service_speed = t.service_speed;
-  emergency_speed = t.emergency_speed;
-  speed = t.speed;
+  target_distance = target_distance t.shown.max_front t.target;
+  on_sight_left = time_left t.shown.waiting.on_sight;
+  shunting_left = time_left t.shown.waiting.shunting;
+  level_0_left = time_left t.shown.waiting.level_0;
+  override_time = override_time t.shown.overriding;
+  override_distance = override_distance t.shown.overriding;
+  service_speed = t.shown.service_speed;
+  emergency_speed = t.shown.emergency_speed;
+  speed = t.motion.speed;
   limit_speed = t.limit.speed;
   target_speed = target_speed t.target;
   release_speed = if t.releases then t.output.limit else 0;
@@ -133,11 +129,11 @@ why_with t = record {
   has_restriction = flag_of (is_some t.limit.number);
   has_target = flag_of (is_some t.target);
   has_release = flag_of t.releases;
-  on_sight = waiting_number t.waiting.on_sight;
-  shunting = waiting_number t.waiting.shunting;
-  level_0 = waiting_number t.waiting.level_0;
-  has_override = flag_of (is_some t.overriding);
-  override_ends = flag_of (override_ends t.overriding);
+  on_sight = waiting_number t.shown.waiting.on_sight;
+  shunting = waiting_number t.shown.waiting.shunting;
+  level_0 = waiting_number t.shown.waiting.level_0;
+  has_override = flag_of (is_some t.shown.overriding);
+  override_ends = flag_of (override_ends t.shown.overriding);
   reserved = 0 ∷ 0 ∷ 0 ∷ 0 ∷ [];
 }
 
@@ -145,17 +141,11 @@ why_with t = record {
 abbrev pub told_in : ℕ → Life → LimitCause → Told
 told_in event life decides = record {
   output = told_of (record { number = event; output = output_of life });
-  backward = min (rolled_backward life) (2 ^ 64 - 1);
-  allowed = (values_of life).roll;
+  motion = motion_of life;
   limit = limit_told (limit life) decides;
   target = target_of decides;
   releases = releases decides;
-  front = (span_of life).max_front;
-  waiting = acknowledgements_of life;
-  overriding = left_of_override life;
-  service_speed = service_speed life;
-  emergency_speed = emergency_speed life;
-  speed = speed_of (tracks life.entries);
+  shown = shown_of life;
   holds = holds_in (causes_of life);
 }
 

@@ -11,7 +11,7 @@ use crate::outputs::{EtcsOutput, output_told};
 use braking::Target;
 use driver::OverrideLeft;
 use image_calls::{flag, limit_number, or_zero, place_or_zero};
-use kernel::{Acknowledgements, BrakeCause, BrakeCauses, State, Waiting};
+use kernel::{BrakeCause, BrakeCauses, Motion, Shown, State, Waiting};
 use reasons::{LimitTold, limit_told};
 use speed_supervision::{LimitCause, SpeedCause};
 use units::{Cm, Mph};
@@ -86,28 +86,16 @@ pub struct EtcsUnitWhy {
 pub struct Told {
     /// The output.
     pub output: EtcsOutput,
-    /// How far the train has rolled backward.
-    pub backward: u64,
-    /// How far it may.
-    pub allowed: u64,
+    /// How the train moves.
+    pub motion: Motion,
     /// What decides the limit.
     pub limit: LimitTold,
     /// The target ahead that does.
     pub target: Option<Target>,
     /// Whether a release speed does.
     pub releases: bool,
-    /// The maximum safe front.
-    pub front: Cm,
-    /// The acknowledgements.
-    pub waiting: Acknowledgements,
-    /// What is left of an override.
-    pub overriding: Option<OverrideLeft>,
-    /// The speed above which the service brake comes.
-    pub service_speed: u32,
-    /// The speed above which the emergency brake comes.
-    pub emergency_speed: u32,
-    /// The speed of the last reading.
-    pub speed: Mph,
+    /// What a display shows.
+    pub shown: Shown,
     /// Which causes of a brake hold.
     pub holds: [u8; 10],
 }
@@ -251,19 +239,19 @@ fn why_with(told: &Told) -> EtcsUnitWhy
 {
     EtcsUnitWhy {
         output: told.output,
-        backward: told.backward,
-        allowed: told.allowed,
+        backward: told.motion.backward,
+        allowed: told.motion.allowed,
         place: place_or_zero(told.limit.place),
         restriction: or_zero(told.limit.number),
-        target_distance: target_distance(told.front, told.target),
-        on_sight_left: time_left(told.waiting.on_sight),
-        shunting_left: time_left(told.waiting.shunting),
-        level_0_left: time_left(told.waiting.level_0),
-        override_time: override_time(told.overriding),
-        override_distance: override_distance(told.overriding),
-        service_speed: told.service_speed,
-        emergency_speed: told.emergency_speed,
-        speed: told.speed.get(),
+        target_distance: target_distance(told.shown.max_front, told.target),
+        on_sight_left: time_left(told.shown.waiting.on_sight),
+        shunting_left: time_left(told.shown.waiting.shunting),
+        level_0_left: time_left(told.shown.waiting.level_0),
+        override_time: override_time(told.shown.overriding),
+        override_distance: override_distance(told.shown.overriding),
+        service_speed: told.shown.service_speed,
+        emergency_speed: told.shown.emergency_speed,
+        speed: told.motion.speed.get(),
         limit_speed: told.limit.speed.get(),
         target_speed: target_speed(told.target),
         release_speed: if told.releases { told.output.limit } else { 0 },
@@ -273,11 +261,11 @@ fn why_with(told: &Told) -> EtcsUnitWhy
         has_restriction: flag(told.limit.number),
         has_target: flag(told.target),
         has_release: u8::from(told.releases),
-        on_sight: waiting_number(told.waiting.on_sight),
-        shunting: waiting_number(told.waiting.shunting),
-        level_0: waiting_number(told.waiting.level_0),
-        has_override: flag(told.overriding),
-        override_ends: u8::from(override_ends(told.overriding)),
+        on_sight: waiting_number(told.shown.waiting.on_sight),
+        shunting: waiting_number(told.shown.waiting.shunting),
+        level_0: waiting_number(told.shown.waiting.level_0),
+        has_override: flag(told.shown.overriding),
+        override_ends: u8::from(override_ends(told.shown.overriding)),
         reserved: [0; 4],
     }
 }
@@ -293,17 +281,11 @@ pub fn why_told(event: u64, state: &State) -> EtcsUnitWhy
     let causes = state.brake_causes();
     let told = Told {
         output: output_told(event, output),
-        backward: state.rolled_backward(),
-        allowed: state.allowed_backward(),
+        motion: state.motion(),
         limit,
         target: target_of(&decides),
         releases: releases(&decides),
-        front: state.max_front(),
-        waiting: state.acknowledgements(),
-        overriding: state.override_left(),
-        service_speed: state.service_speed(),
-        emergency_speed: state.emergency_speed(),
-        speed: state.speed(),
+        shown: state.shown(),
         holds: holds_in(&causes),
     };
     why_with(&told)

@@ -10,15 +10,13 @@ use Rattle.image_calls.proofs.telling.why_told.Goals as goal
 pub returns : goal.returns
 returns c = λ story stands output.
     let life = (past_at story).life in
-    let knows = subst (λ k. StandsAt segment_stores k (past_at story)) (sym c.state-state.ensures) stands.knows in
+    let knows = subst (λ k. StandsAt segment_stores k (past_at story)) (sym c.state.ensures) stands.knows in
     let cause = c.limit_cause-cause.result in
     let runs = c.runs.ensures story stands in
     let trip = c.trip.ensures story stands in
-    let backward = c.rolled_backward.ensures life knows.life_is in
-    let allowed = c.allowed_backward.ensures life knows.life_is in
-    let speed = c.speed.ensures life knows.life_is in
+    let motion = c.motion-motion.ensures life knows.life_is in
     let limit = c.limit_told.ensures ∙ ap (λ (o : Output). limit_told o.limit cause) output in (
       cause,
       c.limit_cause-cause.ensures story stands,
-      c.why_with.ensures ∙ (λ i. why_with c.args.event (output i) (runs i) (trip i) (backward i) (allowed i) (speed i) (limit i)),
+      c.why_with.ensures ∙ (λ i. why_with c.args.event (output i) (runs i) (trip i) ((motion i).backward) ((motion i).allowed) ((motion i).speed) (limit i)),
     )

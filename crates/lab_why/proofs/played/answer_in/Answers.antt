@@ -6,8 +6,6 @@ use Rattle.lab_why.proofs.played.answer_in.Goals as goal
 
 pub returns : goal.returns
 returns c story stands =
-    let knows = subst (λ k. StandsAt segment_stores k (past_at story)) (sym c.state-state.ensures) stands.knows in
-    let speed = c.speed.ensures (past_at story).life knows.life_is in
-    let backward = c.rolled_backward.ensures (past_at story).life knows.life_is in
-    let allowed = c.allowed_backward.ensures (past_at story).life knows.life_is in
+    let knows = subst (λ k. StandsAt segment_stores k (past_at story)) (sym c.state.ensures) stands.knows in
+    let motion = c.motion-motion.ensures (past_at story).life knows.life_is in
     cc

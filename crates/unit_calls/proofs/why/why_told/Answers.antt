@@ -11,33 +11,21 @@ returns c = λ life stands.
     let output = c.output-output.ensures life stands in
     let decides = c.limit_cause-decides.result in
     let told = c.output_told.ensures ∙ ap (λ (o : Output). told_of (record { number = c.args.event; output = o })) output in
-    let backward = c.rolled_backward.ensures life stands in
-    let allowed = c.allowed_backward.ensures life stands in
+    let motion = c.motion.ensures life stands in
     let limit = c.limit_told-limit.ensures ∙ ap (λ (o : Output). limit_told o.limit decides) output in
     let target = c.target_of.ensures in
     let releases = c.releases.ensures in
-    let front = c.max_front.ensures life stands in
-    let waiting = c.acknowledgements.ensures life stands in
-    let overriding = c.override_left.ensures.left life stands in
-    let service = c.service_speed.ensures life stands in
-    let emergency = c.emergency_speed.ensures life stands in
-    let speed = c.speed.ensures life stands in
+    let shown = c.shown.ensures.shown life stands in
     let holds = c.holds_in.ensures ∙ ap (λ (l : List BrakeCause). holds_in l) (c.brake_causes-causes.ensures life stands) in (
       decides,
       c.limit_cause-decides.ensures life stands,
       c.why_with.ensures ∙ (λ i. why_with (record {
         output = told i;
-        backward = backward i;
-        allowed = allowed i;
+        motion = motion i;
         limit = limit i;
         target = target i;
         releases = releases i;
-        front = front i;
-        waiting = waiting i;
-        overriding = overriding i;
-        service_speed = service i;
-        emergency_speed = emergency i;
-        speed = speed i;
+        shown = shown i;
         holds = holds i;
       })),
     )

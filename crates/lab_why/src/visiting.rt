@@ -9,7 +9,7 @@ ghost use Rattle.lab_why.specs.Courses.{line_at, lost_in, AddsLine, Follows, Beg
 
 use crate::course::{Course, Shown, begin_behind, finish, has_line, leave_out, pass_gap, shown_in};
 use crate::lines::{told_of, write_line};
-use crate::played::{answer_in, output_in};
+use crate::played::answer_in;
 use blocks::Block;
 use command_line::{Form, Piece, write_parts, write_pieces};
 use events::{Event, Kept};
@@ -64,7 +64,7 @@ fn write_event<W: Write>(
     ensures { (story : Story) → Reasons story life.now →
         OnOk result (Appends (W.contents out.old) (W.contents out.new) (line_at form story event shown.now)) }
 {
-    let output = output_in(life);
+    let output = life.output();
     let answer = answer_in(life, event, &output);
     let told = told_of(&shown.runs);
     write_line(

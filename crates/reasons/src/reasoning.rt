@@ -1,12 +1,16 @@
 //! A life that is run again, with why it brakes.
 ghost use Rattle.std.specs.Prelude.{◌≡◌, IfOk, OnOk, OnErr};
 ghost use Rattle.events.specs.declared.input.Event.TheVariants.{PowerUp};
+ghost use Rattle.kernel.specs.Brake.{causes_of};
 ghost use Rattle.kernel.specs.Causes.{marked};
 ghost use Rattle.kernel.specs.Closings.{closings_after};
 ghost use Rattle.kernel.specs.Lives.{Story, onward, past_at, left_by};
 ghost use Rattle.kernel.specs.Output.{output_at};
+ghost use Rattle.kernel.specs.StandsFor.{StandsForLife};
 ghost use Rattle.kernel.specs.Trips.{trip_behind};
+ghost use Rattle.mode_control.specs.Life.{Life};
 ghost use Rattle.speed_supervision.specs.Causes.{IsLimitCause};
+ghost use Rattle.track_picture.specs.Stores.{segment_stores};
 ghost use Rattle.reasons.specs.Closings.{AreTold, AreGroups, mode_before};
 ghost use Rattle.reasons.specs.Runs.{runs_of, causes_behind};
 ghost use Rattle.reasons.specs.Trips.{trip_of};
@@ -42,6 +46,13 @@ impl Model for Reasoning {
     ghost view = { λ r. record { state = r.state; next = r.next; runs = r.runs; trip = r.trip; groups = r.groups } };
 }
 
+// The causes that hold in a life.
+fn causes_in(state: &State) -> BrakeCauses
+    ensures { (life : Life) → StandsForLife segment_stores state.now life → marked result ≡ causes_of life }
+{
+    state.brake_causes()
+}
+
 impl Reasoning {
     ghost use Rattle.reasons.specs.Told.{Reasons};
 
@@ -53,7 +64,7 @@ impl Reasoning {
             → result.1 ≡ output_at (onward story (PowerUp word)) }
     {
         let (state, output) = State::power_up(alloc, kept, word);
-        let causes = state.brake_causes();
+        let causes = causes_in(&state);
         let number = kept.events;
         let runs = Runs::begun(&causes, number);
         let reasoning = Reasoning {
@@ -85,7 +96,7 @@ impl Reasoning {
         match event {
             Event::PowerUp(_) => Ok(GroupsTold::NONE),
             Event::Input(_) => Ok(GroupsTold {
-                mode: self.state.output().mode,
+                mode: self.output().mode,
                 closings: self.state.closings_by(alloc, event)?,
             }),
         }
@@ -107,7 +118,7 @@ impl Reasoning {
         let Ok(output) = self.state.apply(alloc, event) else {
             return Err(NoMemory);
         };
-        let causes = self.state.brake_causes();
+        let causes = causes_in(&self.state);
         let number = self.next;
         let before = trip_before(event, self.trip);
         let trip = trip_held(causes.holds(BrakeCause::OwesTrip), entered, before, number);
@@ -118,11 +129,18 @@ impl Reasoning {
         Ok(output)
     }
 
+    /// What was answered to the last event.
+    pub fn output(&self) -> Output
+        ensures { (story : Story) → Reasons story self.now → result ≡ output_at story }
+    {
+        self.state.output()
+    }
+
     /// The causes that hold behind the last event.
     pub fn causes(&self) -> BrakeCauses
         ensures { (story : Story) → Reasons story self.now → marked result ≡ causes_behind story }
     {
-        self.state.brake_causes()
+        causes_in(&self.state)
     }
 
     /// From which event on each of them has held.

@@ -6,7 +6,7 @@ use Rattle.lab_why.proofs.visiting.write_event.Goals as goal
 
 pub returns : goal.returns
 returns g c = λ story stands.
-    let answer = c.answer_in-answer.ensures story stands ∙ ap (answer_in story c.args.event) (c.output_in-output.ensures story stands) in
+    let answer = c.answer_in-answer.ensures story stands ∙ ap (answer_in story c.args.event) (c.output-output.ensures story stands) in
     let told = c.told_of-told.ensures in
     let trip = c.trip.ensures story stands in
     let groups = c.groups.ensures story stands in

@@ -22,7 +22,7 @@ returns-clause-stands c = λ story left.
     record {
       knows = knows;
       numbered = omega (arith, number, one_more_behind story (PowerUp c.args.word));
-      runs_are = c.begun-runs.ensures story c.args.word (c.brake_causes-causes.ensures (past_at begun).life knows.life_is) number;
+      runs_are = c.begun-runs.ensures story c.args.word (c.causes_in-causes.ensures (past_at begun).life knows.life_is) number;
       trip_is = none_held (is_among cause.OwesTrip (causes_behind begun)) (number_behind story);
       groups_are = record { mode_is = refl; closings_are = refl };
     }

@@ -6,4 +6,4 @@ use Rattle.reasons.proofs.reasoning.Reasoning.causes.Goals as goal
 pub returns : goal.returns
 returns c = λ story stands.
     let at = subst (λ (r : Reasoned). Reasons story r) (sym c.self.view_is) stands in
-    c.brake_causes.ensures (past_at story).life at.knows.life_is
+    c.causes_in.ensures (past_at story).life at.knows.life_is

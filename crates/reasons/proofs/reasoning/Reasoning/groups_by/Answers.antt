@@ -10,7 +10,7 @@ pub returns-in_ok-closings_by-in-Input : goal.returns-in_ok-closings_by-in-Input
 returns-in_ok-closings_by-in-Input c = λ story stands.
     let at = subst (λ (r : Reasoned). Reasons story r) (sym c.self.view_is) stands in
     record {
-      mode_is = ap (λ (o : Output). o.mode) (c.output.ensures (past_at story).life at.knows.life_is)
+      mode_is = ap (λ (o : Output). o.mode) (c.output.ensures story stands)
           ∙ ap (mode_before (past_at story)) (sym c.in-Input.is);
       closings_are = c.in_ok-closings_by-in-Input.ensures.closings (past_at story) at.knows;
     }

@@ -5,12 +5,12 @@ ghost use Rattle.decoding.specs.Lines.{refusal_line};
 ghost use Rattle.decoding.specs.Showing.{IsAnswered, IsShown};
 
 use crate::report::print_telegram;
-use command_line::{Status, tell};
 use hex::FromHexError;
 use std::alloc::Global;
 use std::io;
 use std::io::Write;
 use telegram::{Telegram, TelegramFault, decode_into};
+use text_output::{Status, tell};
 
 fn refuse<W: Write>(fault: TelegramFault, out: &mut W) -> io::Result<()>
     ensures { OnOk result (Appends (W.contents out.old) (W.contents out.new) (refusal_line fault)) }

@@ -1,12 +1,13 @@
 //! The commands `decode`, `format`, `run` and `journal`.
 
-use command_line::{Status, tell, told_apart};
+use command_line::told_apart;
 use decoding::decode_text;
 use sessions::{format_image, list_image, run_scenario};
 use std::fs::File;
 use std::io;
 use std::io::Write;
 use std::rt::Files;
+use text_output::{Status, tell};
 
 // What the words ask for.
 #[derive(Clone, Copy)]

@@ -1,10 +1,11 @@
 //! The run of a process: its words, its standard output, and its exit status.
 use crate::program::{etcs_main, status_of};
-use command_line::{Status, take_standard_streams, tell, words_of};
+use command_line::{take_standard_streams, words_of};
 use std::fs::File;
 use std::io;
 use std::io::{BufWriter, Write};
 use std::rt::{Env, Files};
+use text_output::{Status, tell};
 
 fn run_into<R: Env + Files<File = File> + AllocGlobal, W: Write>(rt: &R, out: &mut W) -> u8 {
     match words_of(rt) {

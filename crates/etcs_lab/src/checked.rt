@@ -4,12 +4,12 @@ use crate::examined::verdict_of;
 use crate::images::{Image, Named, opened_whole};
 use crate::replayed::stopped;
 use crate::status::{Status, told};
-use command_line::Form;
 use lab_examine::Verdict;
 use lab_replay::{Outcome, WalkError, replay};
 use std::fs::File;
 use std::io::Write;
 use std::rt::Files;
+use text_output::Form;
 
 // What a check came to: what the image is found to be, and what the replay came to; None where nothing was replayed.
 #[derive(Clone, Copy)]

@@ -2,11 +2,11 @@
 
 use crate::images::{Image, Named, opened_whole};
 use crate::status::{Status, unread, unwritten};
-use command_line::Form;
 use lab_examine::{ExamineError, Verdict, examine};
 use std::fs::File;
 use std::io::Write;
 use std::rt::Files;
+use text_output::Form;
 
 /// Examines an open image, and answers what it is found to be; else says why that isn't known.
 pub(crate) fn verdict_of<R: Eprint, W: Write>(

@@ -1,13 +1,13 @@
 //! The command `lint`.
 
 use crate::status::{Status, no_memory, unread_for, unwritten};
-use command_line::Form;
 use scenario_advice::{LintError, lint};
 use simulator::Scenario;
 use std::fs;
 use std::fs::File;
 use std::io::Write;
 use std::rt::Files;
+use text_output::Form;
 
 /// Tells what is wrong in a scenario, or probably not meant, and answers the status.
 pub(crate) fn linted<R: Files<File = File> + AllocGlobal + Eprint, W: Write>(

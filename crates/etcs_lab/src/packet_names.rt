@@ -2,7 +2,6 @@
 
 use crate::status::{Status, no_memory, told};
 use crate::telegrams::bytes_of;
-use command_line::{Form, Piece, write_parts, write_pieces};
 use packet_uses::{
     Fate, ToldPacket, name_pieces, never_used_packets, number_pieces, place_pieces, why_piece,
 };
@@ -10,6 +9,7 @@ use packets::PacketFault;
 use std::alloc::Global;
 use std::io;
 use std::io::Write;
+use text_output::{Form, Piece, write_parts, write_pieces};
 use track_packets::{
     Field, FieldFault, Fields, FieldsError, ListingEnd, PacketPlace, Variable, fields_of,
     packets_in_order,

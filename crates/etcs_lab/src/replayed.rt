@@ -2,11 +2,11 @@
 
 use crate::images::{Named, opened};
 use crate::status::{Status, fail, unformatted, unread, unwritten};
-use command_line::Form;
 use lab_replay::{Outcome, WalkError, replay};
 use std::fs::File;
 use std::io::Write;
 use std::rt::Files;
+use text_output::Form;
 
 /// Says why a walk over an image did not come to its end.
 pub(crate) fn stopped<R: Eprint>(rt: &R, path: &str, error: WalkError) -> Status {

@@ -3,11 +3,11 @@
 use crate::images::{Named, opened};
 use crate::replayed::stopped;
 use crate::status::{Status, fail};
-use command_line::Form;
 use lab_why::tell_why;
 use std::fs::File;
 use std::io::Write;
 use std::rt::Files;
+use text_output::Form;
 
 /// Tells why the brakes were commanded in an image, which is opened for reading alone, and answers the status.
 pub(crate) fn why_told<R: Files<File = File> + AllocGlobal + Eprint, W: Write>(

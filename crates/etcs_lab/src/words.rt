@@ -3,7 +3,8 @@ ghost use Rattle.std.specs.Prelude.{◌+◌, ◌<◌, length, IfSome};
 
 use crate::images::Named;
 use blocks::{LEAST_SLOTS, MOST_SLOTS};
-use command_line::{Form, told_apart};
+use command_line::told_apart;
+use text_output::Form;
 
 /// What the words ask for.
 #[derive(Clone, Copy)]

@@ -3,9 +3,9 @@ use Rattle.std.specs.Prelude.{ℕ, ◌-◌, ◌*◌, ◌/◌, ◌==◌, ◌&&◌
 use Rattle.examination.specs.declared.first_sector.FirstSector.{FirstSector}
 use Rattle.examination.specs.declared.first_sector.FirstSector.TheVariants.{Readable, Unreadable, Missing}
 use Rattle.examination.specs.declared.survey.Survey.{Survey}
-use Rattle.command_line.specs.Pieces.{text_in, known_text, joined}
-use Rattle.command_line.specs.declared.piece.Form.{Form}
-use Rattle.command_line.specs.declared.piece.Form.TheVariants.{People, Json}
+use Rattle.text_output.specs.Pieces.{text_in, known_text, joined}
+use Rattle.text_output.specs.declared.piece.Form.{Form}
+use Rattle.text_output.specs.declared.piece.Form.TheVariants.{People, Json}
 use Rattle.lab_examine.specs.Words.{field_text}
 
 -- an image of so many slots has so many sectors

@@ -2,8 +2,8 @@
 use Rattle.std.specs.Prelude.{ℕ, ◌+◌, ◌-◌, ◌*◌, ◌++◌, List, [], ◌∷◌, codes, decimal, Option, Some, None}
 use Rattle.examination.specs.FirstSectors.{seen_of}
 use Rattle.examination.specs.declared.survey.Survey.{Survey}
-use Rattle.command_line.specs.Pieces.{text_in, known_text, joined}
-use Rattle.command_line.specs.declared.piece.Form.{Form}
+use Rattle.text_output.specs.Pieces.{text_in, known_text, joined}
+use Rattle.text_output.specs.declared.piece.Form.{Form}
 use Rattle.lab_examine.specs.FirstLines.{sector_text}
 use Rattle.lab_examine.specs.declared.file_facts.FileFacts.{FileFacts}
 

@@ -10,8 +10,8 @@ use Rattle.events.specs.declared.kept.Kept.{Kept}
 use Rattle.journal.specs.declared.opening.Found.{Found}
 use Rattle.mode_table.specs.declared.level.TrainLevel.{TrainLevel}
 use Rattle.mode_table.specs.declared.level.TrainLevel.TheVariants.{Level0, Level1}
-use Rattle.command_line.specs.Pieces.{text_in, joined, escaped}
-use Rattle.command_line.specs.declared.piece.Form.{Form}
+use Rattle.text_output.specs.Pieces.{text_in, joined, escaped}
+use Rattle.text_output.specs.declared.piece.Form.{Form}
 use Rattle.lab_examine.specs.NationalLines.{modes_text, speeds_text, ranges_text, countries_text}
 
 -- an identity between what stands before and behind it

@@ -2,8 +2,8 @@
 -- distances centimetres, times milliseconds.
 use Rattle.std.specs.Prelude.{ℕ, ◌++◌, List, [], ◌∷◌, flat_map, codes, decimal, Option, Some, None}
 use Rattle.national.specs.declared.values.Values.{Values}
-use Rattle.command_line.specs.Pieces.{text_in, joined}
-use Rattle.command_line.specs.declared.piece.Form.{Form}
+use Rattle.text_output.specs.Pieces.{text_in, joined}
+use Rattle.text_output.specs.declared.piece.Form.{Form}
 
 -- a time or a distance, which may have no end
 abbrev pub open_text : Form → Option ℕ → List ℕ

@@ -1,15 +1,15 @@
 //! The line of the first sector.
 ghost use Rattle.std.specs.Prelude.{◌≡◌, ◌*◌, ◌≤◌, [], ◌∷◌, OnOk};
 ghost use Rattle.std.specs.Io.KnownBytes.{Appends};
-ghost use Rattle.command_line.specs.Pieces.{text_of, texts, joined};
-ghost use Rattle.command_line.specs.declared.piece.Form.{Form as a_form};
+ghost use Rattle.text_output.specs.Pieces.{text_of, texts, joined};
+ghost use Rattle.text_output.specs.declared.piece.Form.{Form as a_form};
 ghost use Rattle.lab_examine.specs.FirstLines.{is_size, some_if, slots_by_size, is_plain, is_quiet, seen_text, sized_text, shown, first_text, sector_text};
 
 use crate::words::field_word;
-use command_line::{Form, Piece, both, known, write_parts};
 use examination::{FirstSector, Survey};
 use std::io;
 use std::io::Write;
+use text_output::{Form, Piece, both, known, write_parts};
 
 // Whether an image of so many slots has so many sectors.
 fn is_size(sectors: u64, slots: u64) -> bool

@@ -1,16 +1,16 @@
 //! The lines of an image as a whole.
 ghost use Rattle.std.specs.Prelude.{◌≡◌, ◌≤◌, OnOk};
 ghost use Rattle.std.specs.Io.KnownBytes.{Appends};
-ghost use Rattle.command_line.specs.Pieces.{texts};
-ghost use Rattle.command_line.specs.declared.piece.Form.{Form as a_form};
+ghost use Rattle.text_output.specs.Pieces.{texts};
+ghost use Rattle.text_output.specs.declared.piece.Form.{Form as a_form};
 ghost use Rattle.lab_examine.specs.ImageLines.{behind_of, size_text, digits_text, digest_text, image_text};
 
 use crate::file_facts::FileFacts;
 use crate::first_lines::write_first_sector;
-use command_line::{Form, Piece, known, write_pieces};
 use examination::{Survey, first_sector_of};
 use std::io;
 use std::io::Write;
+use text_output::{Form, Piece, known, write_pieces};
 
 // How many bytes lie behind the last whole slot.
 fn behind_of(bytes: u64, whole: u64) -> u64

@@ -7,12 +7,12 @@ use crate::kept_values::{
     level_pieces, position_pieces, running_pieces, train_pieces, trip_pieces,
 };
 use crate::national_lines::{modes_pieces, ranges_pieces, speeds_pieces, write_countries};
-use command_line::{Form, Piece, write_characters, write_parts, write_pieces};
 use driver::DriverIdentity;
 use events::Kept;
 use journal::Found;
 use std::io;
 use std::io::Write;
+use text_output::{Form, Piece, write_characters, write_parts, write_pieces};
 
 fn write_known_identity<W: Write>(form: Form, bytes: &[u8], out: &mut W) -> io::Result<()>
     ensures { OnOk result (Appends (W.contents out.old) (W.contents out.new) (identity_text form (Some bytes.now))) }

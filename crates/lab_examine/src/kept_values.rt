@@ -1,13 +1,13 @@
 //! The texts of what a power-up would keep: running number, train data, level, position and the outstanding trip.
 ghost use Rattle.std.specs.Prelude.{◌≡◌, Some};
-ghost use Rattle.command_line.specs.Pieces.{text_of, texts};
-ghost use Rattle.command_line.specs.declared.piece.Form.{Form as a_form};
+ghost use Rattle.text_output.specs.Pieces.{text_of, texts};
+ghost use Rattle.text_output.specs.declared.piece.Form.{Form as a_form};
 ghost use Rattle.lab_examine.specs.KeptLines.{running_text, train_text, level_known, level_text, end_text, position_known, position_text, trip_text};
 
-use command_line::Piece;
 use driver::{Datum, RunningNumber, TrainData};
 use events::Position;
 use mode_table::TrainLevel;
+use text_output::Piece;
 use vars::Variable;
 
 /// The running number that would be kept.

@@ -1,14 +1,14 @@
 //! The lines of the national values that a power-up would keep.
 ghost use Rattle.std.specs.Prelude.{◌≡◌, decimal, flat_map, OnOk};
 ghost use Rattle.std.specs.Io.KnownBytes.{Appends};
-ghost use Rattle.command_line.specs.Pieces.{text_of, texts};
-ghost use Rattle.command_line.specs.declared.piece.Form.{Form as a_form};
+ghost use Rattle.text_output.specs.Pieces.{text_of, texts};
+ghost use Rattle.text_output.specs.declared.piece.Form.{Form as a_form};
 ghost use Rattle.lab_examine.specs.NationalLines.{open_text, modes_text, speeds_text, ranges_text, next_country, last_countries, countries_text};
 
-use command_line::{Form, Piece, write_pieces};
 use national::{OverrideDuration, StaffResponsibleDistance, Values};
 use std::io;
 use std::io::Write;
+use text_output::{Form, Piece, write_pieces};
 use units::{Mph, Reach};
 use vars::{Country, Variable};
 

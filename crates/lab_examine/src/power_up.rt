@@ -1,17 +1,17 @@
 //! The journal, what a power-up would do, and the verdict, as lines.
 ghost use Rattle.std.specs.Prelude.{◌≡◌, OnOk};
 ghost use Rattle.std.specs.Io.KnownBytes.{Appends};
-ghost use Rattle.command_line.specs.Pieces.{text_of};
-ghost use Rattle.command_line.specs.declared.piece.Form.{Form as a_form};
+ghost use Rattle.text_output.specs.Pieces.{text_of};
+ghost use Rattle.text_output.specs.declared.piece.Form.{Form as a_form};
 ghost use Rattle.lab_examine.specs.EndLines.{verdict_text};
 ghost use Rattle.lab_examine.specs.Examinations.{last_text};
 
 use crate::journal_lines::{journal_pieces, refusal_piece};
 use crate::kept_lines::write_found;
 use crate::opening::Opened;
-use command_line::{Form, Piece, write_parts, write_pieces};
 use std::io;
 use std::io::Write;
+use text_output::{Form, Piece, write_parts, write_pieces};
 
 fn verdict_piece(is_whole: bool) -> Piece
     ensures { (form : a_form) → text_of form result ≡ verdict_text form is_whole }

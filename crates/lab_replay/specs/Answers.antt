@@ -4,8 +4,8 @@ use Rattle.std.specs.Prelude.{ℕ, List, [], ◌∷◌, ◌++◌, codes, decimal
 use Rattle.std.specs.Fmt.{signed_decimal}
 use Rattle.blocks.specs.declared.records.BlockRecord.{BlockRecord}
 use Rattle.blocks.specs.declared.records.Situation.{Situation}
-use Rattle.command_line.specs.OutputWords.{mode_text, brake_text}
-use Rattle.command_line.specs.Pieces.{joined}
+use Rattle.text_output.specs.OutputWords.{mode_text, brake_text}
+use Rattle.text_output.specs.Pieces.{joined}
 use Rattle.lab_events.specs.Signs.{signs_of}
 use Rattle.lab_events.specs.Words.{level_value}
 

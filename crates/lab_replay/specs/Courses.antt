@@ -2,7 +2,7 @@
 -- project's profile). Events are numbered from 0.
 use Rattle.std.specs.Prelude.{ℕ, Bool, true, false, List, [], Option, Some, None}
 use Rattle.lives.specs.declared.visit.Unknown.TheVariants.{BeforeOldest, Gap}
-use Rattle.command_line.specs.declared.piece.Form.{Form}
+use Rattle.text_output.specs.declared.piece.Form.{Form}
 use Rattle.lab_events.specs.LeftOut.{reason_of, left_out_text}
 use Rattle.lab_events.specs.declared.left_out.Reason.TheVariants as a_reason
 use Rattle.lab_events.specs.declared.left_out.Stretch.{Stretch}

@@ -2,8 +2,8 @@
 use Rattle.std.specs.Prelude.{ℕ, Bool, true, false, List, [], ◌∷◌, ◌++◌, codes, decimal}
 use Rattle.events.specs.declared.kept.Kept.{Kept}
 use Rattle.lab_examine.specs.KeptLines.{items_text}
-use Rattle.command_line.specs.Pieces.{joined}
-use Rattle.command_line.specs.declared.piece.Form.TheVariants.{Json}
+use Rattle.text_output.specs.Pieces.{joined}
+use Rattle.text_output.specs.declared.piece.Form.TheVariants.{Json}
 
 abbrev pub flag_text : Bool → List ℕ
 flag_text true = codes "true"

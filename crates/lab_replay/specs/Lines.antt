@@ -3,8 +3,8 @@
 use Rattle.std.specs.Prelude.{ℕ, List, [], ◌∷◌, ◌++◌, codes, decimal}
 use Rattle.blocks.specs.declared.records.BlockRecord.{BlockRecord}
 use Rattle.events.specs.declared.kept.Kept.{Kept}
-use Rattle.command_line.specs.Pieces.{text_in, joined}
-use Rattle.command_line.specs.declared.piece.Form.{Form}
+use Rattle.text_output.specs.Pieces.{text_in, joined}
+use Rattle.text_output.specs.declared.piece.Form.{Form}
 use Rattle.replaying.specs.declared.differences.KeptField.{KeptField}
 use Rattle.replaying.specs.declared.differences.RecordField.{RecordField}
 use Rattle.lab_events.specs.declared.left_out.Stretch.{Stretch}

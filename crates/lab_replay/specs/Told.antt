@@ -4,7 +4,7 @@ use Rattle.std.specs.Prelude.{◌≡◌, ℕ, ◌≤◌, ◌++◌, false, List, 
 use Rattle.std.specs.Io.KnownBytes.{Appends}
 use Rattle.blocks.specs.declared.block.Block.{Block}
 use Rattle.lives.specs.Walks.{IsWalked}
-use Rattle.command_line.specs.declared.piece.Form.{Form}
+use Rattle.text_output.specs.declared.piece.Form.{Form}
 use Rattle.ring.specs.Scans.{IsScanned}
 use Rattle.ring.specs.Slots.{IsFormatted, IsBlockAt, valid_at}
 use Rattle.lab_replay.specs.Courses.{open_text, begun, outcome_of}

@@ -7,10 +7,10 @@ use crate::course::{Course, finish};
 use crate::lines::write_head;
 use crate::reports::HeadReport;
 use blocks::Block;
-use command_line::write_pieces;
 use lives::LateError;
 use replaying::HeadFound;
 use std::io::Write;
+use text_output::write_pieces;
 
 // Tells what is left, and a head that differs, if it does.
 fn tell_found<W: Write>(

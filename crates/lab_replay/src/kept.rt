@@ -1,15 +1,15 @@
 //! What is kept, as a JSON object.
 ghost use Rattle.std.specs.Prelude.{◌≡◌, OnOk};
 ghost use Rattle.std.specs.Io.KnownBytes.{Appends};
-ghost use Rattle.command_line.specs.Pieces.{texts};
-ghost use Rattle.command_line.specs.declared.piece.Form.{Form as a_form};
+ghost use Rattle.text_output.specs.Pieces.{texts};
+ghost use Rattle.text_output.specs.declared.piece.Form.{Form as a_form};
 ghost use Rattle.lab_replay.specs.KeptObject.{flag_text, counts_of, kept_behind};
 
-use command_line::{Form, Piece, write_parts};
 use events::Kept;
 use lab_examine::write_kept_items;
 use std::io;
 use std::io::Write;
+use text_output::{Form, Piece, write_parts};
 
 fn flag_word(flag: bool) -> &'static str
     ensures { result.now ≡ flag_text flag }

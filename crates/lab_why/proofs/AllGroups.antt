@@ -3,8 +3,8 @@ use Rattle.std.proofs.Common.{◌≡◌, ℕ, List, [], ◌++◌, true, false, O
 use Rattle.std.specs.Prelude.{codes, is_some}
 use Rattle.std.proofs.lemmas.List.{append-nil}
 use Rattle.mode_table.specs.declared.mode.Mode.{Mode}
-use Rattle.command_line.specs.Pieces.{text_in}
-use Rattle.command_line.specs.declared.piece.Form.{Form}
+use Rattle.text_output.specs.Pieces.{text_in}
+use Rattle.text_output.specs.declared.piece.Form.{Form}
 use Rattle.track_picture.specs.Closings.{listed}
 use Rattle.track_picture.specs.declared.closings.Closing.{Closing}
 use Rattle.lab_why.specs.Groups.{group_if, group_text, groups_text}

@@ -17,7 +17,7 @@ use Rattle.speed_supervision.specs.declared.cause.LimitCause.{LimitCause}
 use Rattle.lives.specs.Steps.{Step}
 use Rattle.lives.specs.declared.visit.Unknown.{Unknown}
 use Rattle.lives.specs.declared.visit.Unknown.TheVariants as an_unknown
-use Rattle.command_line.specs.declared.piece.Form.{Form}
+use Rattle.text_output.specs.declared.piece.Form.{Form}
 use Rattle.reasons.specs.Closings.{judged_in, closings_of}
 use Rattle.reasons.specs.LimitWords.{limit_told, limit_word_of}
 use Rattle.reasons.specs.Runs.{runs_of}

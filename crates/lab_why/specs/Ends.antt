@@ -7,8 +7,8 @@ use Rattle.mode_table.specs.declared.statuses.Cold.{Cold}
 use Rattle.lab_events.specs.Words.{cold_text}
 use Rattle.whole_lives.specs.Stops.{step_of}
 use Rattle.whole_lives.specs.declared.errors.LiveError.{LiveError}
-use Rattle.command_line.specs.Pieces.{joined, known_text}
-use Rattle.command_line.specs.declared.piece.Form.TheVariants.{Json}
+use Rattle.text_output.specs.Pieces.{joined, known_text}
+use Rattle.text_output.specs.declared.piece.Form.TheVariants.{Json}
 use Rattle.sessions.specs.Reasons.{stop_reason}
 
 -- ---- which step of the scenario a step of the life comes from: of each step of the scenario it is told how many steps

@@ -1,15 +1,15 @@
 -- What a line tells of the balise groups that its event closed, for people and as a JSON member (this project's
 -- profile; RFC 8259). Groups stand in the order in which they closed, packets in that of their message.
 use Rattle.std.specs.Prelude.{ℕ, Bool, true, false, if◌then◌else◌, Option, Some, None, List, [], ◌∷◌, ◌++◌, codes, decimal}
-use Rattle.command_line.specs.OutputWords.{mode_text}
+use Rattle.text_output.specs.OutputWords.{mode_text}
 use Rattle.mode_table.specs.declared.mode.Mode.{Mode}
 use Rattle.packet_uses.specs.Words.{number_text, name_told, why_text}
 use Rattle.packet_uses.specs.declared.fate.Fate.{Fate}
 use Rattle.packet_uses.specs.Fates.{fate_told}
 use Rattle.packets.specs.declared.packet.Packet.{Packet}
 use Rattle.packets.specs.Packets.{number_of}
-use Rattle.command_line.specs.Pieces.{text_in, joined}
-use Rattle.command_line.specs.declared.piece.Form.{Form}
+use Rattle.text_output.specs.Pieces.{text_in, joined}
+use Rattle.text_output.specs.declared.piece.Form.{Form}
 use Rattle.reasons.specs.declared.group_words.GroupTold.{GroupTold}
 use Rattle.reasons.specs.GroupWords.{group_told, group_word_of, group_sentence_of, group_section_of, is_accepted}
 use Rattle.track_picture.specs.declared.closings.Closing.{Closing}

@@ -4,9 +4,9 @@ use Rattle.std.specs.Prelude.{ℕ, ℤ, Option, Some, None, List, [], ◌∷◌,
 use Rattle.std.specs.Fmt.{signed_decimal}
 use Rattle.kernel.specs.declared.causes.BrakeCause.{BrakeCause}
 use Rattle.kernel.specs.Causes.{all_causes}
-use Rattle.command_line.specs.OutputWords.{brake_text}
-use Rattle.command_line.specs.Pieces.{text_in, joined}
-use Rattle.command_line.specs.declared.piece.Form.{Form}
+use Rattle.text_output.specs.OutputWords.{brake_text}
+use Rattle.text_output.specs.Pieces.{text_in, joined}
+use Rattle.text_output.specs.declared.piece.Form.{Form}
 use Rattle.reasons.specs.declared.runs.Runs.{Runs}
 use Rattle.reasons.specs.Runs.{first_in}
 use Rattle.reasons.specs.Words.{word_of, sentence_of, ending_of}

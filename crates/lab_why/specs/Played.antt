@@ -11,9 +11,9 @@ use Rattle.mode_control.specs.History.{tracks}
 use Rattle.mode_control.specs.Sentences.{values_of}
 use Rattle.mode_table.specs.declared.mode.Mode.{Mode}
 use Rattle.unit_start.specs.Releases.{Release}
-use Rattle.command_line.specs.OutputWords.{mode_text}
-use Rattle.command_line.specs.Pieces.{joined}
-use Rattle.command_line.specs.declared.piece.Form.TheVariants.{Json}
+use Rattle.text_output.specs.OutputWords.{mode_text}
+use Rattle.text_output.specs.Pieces.{joined}
+use Rattle.text_output.specs.declared.piece.Form.TheVariants.{Json}
 use Rattle.reasons.specs.declared.limit_words.LimitTold.{LimitTold}
 use Rattle.reasons.specs.declared.trips.TripTold.{TripTold}
 use Rattle.lab_events.specs.Signs.{signs_of}

@@ -2,7 +2,7 @@
 use Rattle.std.specs.Prelude.{◌≡◌, ℕ, false, Option, List}
 use Rattle.std.specs.Io.KnownBytes.{Appends}
 use Rattle.lives.specs.Walks.{IsWalked}
-use Rattle.command_line.specs.declared.piece.Form.{Form}
+use Rattle.text_output.specs.declared.piece.Form.{Form}
 use Rattle.lab_why.specs.Courses.{begun, left_text, AddsStep}
 use Rattle.lab_why.specs.declared.course.Course.{Course}
 use Rattle.lab_why.specs.declared.walk.Walked.{Walked}

@@ -2,14 +2,14 @@
 ghost use Rattle.std.specs.Prelude.{◌≡◌, ◌+◌, drop};
 ghost use Rattle.std.specs.Option.{option_map};
 ghost use Rattle.whole_lives.specs.Stops.{step_of};
-ghost use Rattle.command_line.specs.Pieces.{texts};
-ghost use Rattle.command_line.specs.declared.piece.Form.TheVariants.{Json};
+ghost use Rattle.text_output.specs.Pieces.{texts};
+ghost use Rattle.text_output.specs.declared.piece.Form.TheVariants.{Json};
 ghost use Rattle.lab_why.specs.Ends.{step_at, first_line, stopped_line, last_line};
 
-use command_line::{Piece, known};
 use lab_events::cold_word;
 use mode_table::Cold;
 use sessions::of_stop;
+use text_output::{Piece, known};
 use whole_lives::LiveError;
 
 /// The step of the scenario that a step of the life comes from, where it is none of the first ones.

@@ -1,17 +1,17 @@
 //! What became of the groups that an event closed.
 ghost use Rattle.std.specs.Prelude.{◌≡◌, OnOk, false};
 ghost use Rattle.std.specs.Io.KnownBytes.{Appends};
-ghost use Rattle.command_line.specs.Pieces.{text_of, texts};
-ghost use Rattle.command_line.specs.declared.piece.Form.{Form as a_form};
+ghost use Rattle.text_output.specs.Pieces.{text_of, texts};
+ghost use Rattle.text_output.specs.declared.piece.Form.{Form as a_form};
 ghost use Rattle.track_picture.specs.Closings.{all_of};
 ghost use Rattle.lab_why.specs.Groups.{announcement_text, direction_text, group_back, group_begun, group_front, group_if, group_text, groups_text, head_text, packets_of, packets_text, reaction_text};
 
 use crate::packet::write_packets;
-use command_line::{Form, Piece, both, mode_word, write_parts, write_pieces};
 use mode_table::Mode;
 use reasons::{GroupTold, GroupsTold, group_section, group_sentence, group_told, group_word};
 use std::io;
 use std::io::Write;
+use text_output::{Form, Piece, both, mode_word, write_parts, write_pieces};
 use track_picture::Closing;
 use vars::{LinkOrientation, LinkReaction, Variable};
 

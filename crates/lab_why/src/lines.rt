@@ -1,13 +1,12 @@
 //! The line of an event with the causes of its brake and of its limit.
 ghost use Rattle.std.specs.Prelude.{◌≡◌, OnOk, flat_map};
 ghost use Rattle.std.specs.Io.KnownBytes.{Appends};
-ghost use Rattle.command_line.specs.Pieces.{texts};
-ghost use Rattle.command_line.specs.declared.piece.Form.{Form as a_form};
+ghost use Rattle.text_output.specs.Pieces.{texts};
+ghost use Rattle.text_output.specs.declared.piece.Form.{Form as a_form};
 ghost use Rattle.track_picture.specs.Closings.{all_of};
 ghost use Rattle.lab_why.specs.Lines.{front_text, held_text, free_text, cause_text, told_of, trip_known_text, trip_unknown_text, trip_text, decides_text, place_text, number_text, section_text, end_text, limit_text, last_text, line_of};
 
 use crate::group::write_groups;
-use command_line::{Form, Piece, both, brake_word, write_parts, write_pieces};
 use events::Brake;
 use kernel::{BrakeCause, TripCause};
 use reasons::{
@@ -16,6 +15,7 @@ use reasons::{
 };
 use std::io;
 use std::io::Write;
+use text_output::{Form, Piece, both, brake_word, write_parts, write_pieces};
 
 /// What was answered to an event, and the numbers that causes speak of.
 #[derive(Clone, Copy)]

@@ -1,21 +1,21 @@
 //! The packets of a group.
 ghost use Rattle.std.specs.Prelude.{◌≡◌, OnOk, false};
 ghost use Rattle.std.specs.Io.KnownBytes.{Appends};
-ghost use Rattle.command_line.specs.Pieces.{text_of, texts};
-ghost use Rattle.command_line.specs.declared.piece.Form.{Form as a_form};
+ghost use Rattle.text_output.specs.Pieces.{text_of, texts};
+ghost use Rattle.text_output.specs.declared.piece.Form.{Form as a_form};
 ghost use Rattle.packet_uses.specs.Fates.{fate_told};
 ghost use Rattle.packets.specs.Packets.{number_of};
 ghost use Rattle.reasons.specs.GroupWords.{is_accepted};
 ghost use Rattle.lab_why.specs.Groups.{why_in, packet_back, packet_text, packets_text};
 
 use balise_groups::GroupPackets;
-use command_line::{Form, Piece, write_parts};
 use mode_table::Mode;
 use packet_uses::{Fate, fate_of, name_pieces, number_pieces, why_piece};
 use packets::Packet;
 use reasons::{GroupTold, is_accepted};
 use std::io;
 use std::io::Write;
+use text_output::{Form, Piece, write_parts};
 
 fn why_in(accepted: bool, fate: Fate) -> Piece
     ensures { (form : a_form) → text_of form result ≡ why_in form accepted fate }

@@ -8,7 +8,6 @@ ghost use Rattle.lab_why.specs.Playing.{released_in, IsPlayed, PlayEnds};
 
 use crate::ends::{first_pieces, last_pieces};
 use crate::telling::tell_released;
-use command_line::{Form, write_pieces};
 use disk::Memory;
 use events::Step;
 use journal::format;
@@ -17,6 +16,7 @@ use mode_table::Cold;
 use onboard::Released;
 use std::alloc::Global;
 use std::io::Write;
+use text_output::{Form, write_pieces};
 use units::NoMemory;
 use whole_lives::{LiveError, live};
 

@@ -2,8 +2,8 @@
 ghost use Rattle.std.specs.Prelude.{◌≡◌, false, IfOk, OnOk};
 ghost use Rattle.std.specs.Io.KnownBytes.{Appends};
 ghost use Rattle.kernel.specs.Lives.{Story};
-ghost use Rattle.command_line.specs.Pieces.{texts};
-ghost use Rattle.command_line.specs.declared.piece.Form.{Form as a_form};
+ghost use Rattle.text_output.specs.Pieces.{texts};
+ghost use Rattle.text_output.specs.declared.piece.Form.{Form as a_form};
 ghost use Rattle.reasons.specs.Told.{Reasons};
 ghost use Rattle.lab_why.specs.Courses.{line_at, lost_in, AddsLine, Follows, Begins, Tells, AddsStep};
 
@@ -11,13 +11,13 @@ use crate::course::{Course, Shown, begin_behind, finish, has_line, leave_out, pa
 use crate::lines::{told_of, write_line};
 use crate::played::answer_in;
 use blocks::Block;
-use command_line::{Form, Piece, write_parts, write_pieces};
 use events::{Event, Kept};
 use lab_events::lost_block_pieces;
 use lives::{LateError, Seen, Unknown, Visit};
 use reasons::Reasoning;
 use std::alloc::Global;
 use std::io::Write;
+use text_output::{Form, Piece, write_parts, write_pieces};
 use units::NoMemory;
 
 // Runs one event more of a life, where that is known.

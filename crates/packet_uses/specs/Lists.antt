@@ -1,7 +1,7 @@
 -- The packets of a telegram as a JSON list with no space, each an object with its members in this order (this project's
 -- profile; RFC 8259).
 use Rattle.std.specs.Prelude.{ℕ, List, [], ◌∷◌, ◌++◌, Bool, true, false, codes}
-use Rattle.command_line.specs.declared.piece.Form.TheVariants.{Json}
+use Rattle.text_output.specs.declared.piece.Form.TheVariants.{Json}
 use Rattle.packet_uses.specs.declared.telling.ToldPacket.{ToldPacket}
 use Rattle.packet_uses.specs.Words.{number_text, name_told, place_text, why_text}
 

@@ -1,8 +1,8 @@
 -- What is told of a packet, for people and as JSON: its number, its name, where it stands and why it isn't used (this
 -- project's profile; RFC 8259). Places and lengths are bits; places are counted from the first bit of the telegram.
 use Rattle.std.specs.Prelude.{ℕ, List, [], ◌∷◌, Bool, Option, Some, None, codes, decimal, if◌then◌else◌}
-use Rattle.command_line.specs.Pieces.{text_in, joined}
-use Rattle.command_line.specs.declared.piece.Form.{Form}
+use Rattle.text_output.specs.Pieces.{text_in, joined}
+use Rattle.text_output.specs.declared.piece.Form.{Form}
 use Rattle.packet_uses.specs.declared.fate.Fate.{Fate}
 use Rattle.packet_uses.specs.declared.fate.Fate.TheVariants as fates
 use Rattle.track_packets.specs.Kinds.{kind_told, name_text}

@@ -8,9 +8,9 @@ ghost use Rattle.packet_uses.specs.declared.telling.ToldPacket.{ToldPacket as a_
 use crate::never::never_used_packets;
 use crate::telling::ToldPacket;
 use crate::words::{name_pieces, number_pieces, place_pieces, why_piece};
-use command_line::{Form, Piece, write_parts};
 use std::io;
 use std::io::Write;
+use text_output::{Form, Piece, write_parts};
 
 fn write_packet<W: Write>(packet: &ToldPacket, later: bool, out: &mut W) -> io::Result<()>
     ensures { OnOk result (Appends (W.contents out.old) (W.contents out.new) (packet_text later packet.now)) }

@@ -1,11 +1,11 @@
 //! Words of packets, for people and as JSON.
 ghost use Rattle.std.specs.Prelude.{◌≡◌};
-ghost use Rattle.command_line.specs.Pieces.{text_of, texts};
-ghost use Rattle.command_line.specs.declared.piece.Form.{Form as a_form};
+ghost use Rattle.text_output.specs.Pieces.{text_of, texts};
+ghost use Rattle.text_output.specs.declared.piece.Form.{Form as a_form};
 ghost use Rattle.packet_uses.specs.Words.{name_told, number_text, place_text, why_text};
 
 use crate::fate::Fate;
-use command_line::Piece;
+use text_output::Piece;
 use track_packets::kind_of;
 
 /// The number of a packet, up to its name: for people behind these words, as JSON behind a comma where it is a later one

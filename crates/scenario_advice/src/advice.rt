@@ -1,6 +1,5 @@
 //! What is probably not meant in a scenario that is accepted.
 
-use command_line::mode_word;
 use hex::FromHexError;
 use json_values::{Outline, Place, Spot};
 use mode_table::Mode;
@@ -10,6 +9,7 @@ use std::alloc::Global;
 use std::fmt;
 use std::fmt::{Formatter, Write};
 use telegram::{TelegramFault, decode};
+use text_output::mode_word;
 
 /// What is probably not meant.
 #[derive(Clone, Copy)]

@@ -3,7 +3,6 @@
 use crate::accepting::refusals;
 use crate::advice::{LocatedAdvice, advice_on};
 use crate::locating::{Faults, LocatedFault, faults_of};
-use command_line::Form;
 use events::Step;
 use json_values::{Outline, Place, Position, Repeat, RepeatsError, has_repeats};
 use mode_table::Cold;
@@ -12,6 +11,7 @@ use simulator::{Scenario, ScenarioFault};
 use std::alloc::{AllocError, Global};
 use std::io;
 use std::io::Write;
+use text_output::Form;
 
 /// Why nothing can be told.
 #[derive(Clone, Copy)]

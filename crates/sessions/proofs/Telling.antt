@@ -4,7 +4,7 @@ use Rattle.std.specs.Prelude.{if◌then◌else◌}
 use Rattle.std.specs.Io.KnownBytes.{Appends}
 use Rattle.std.proofs.KnownBytes.{Appends-trans}
 use Rattle.events.specs.Limits.{most_pending}
-use Rattle.command_line.specs.declared.status.Status.{Status}
+use Rattle.text_output.specs.declared.status.Status.{Status}
 use Rattle.whole_lives.specs.Answers.{is_full}
 use Rattle.whole_lives.specs.declared.errors.LiveError.{LiveError}
 use Rattle.onboard.specs.declared.released.Released.{Released}

@@ -2,7 +2,7 @@
 use Rattle.std.specs.Prelude.{ℕ, List, Bool, Option, IsTrue, flat_map}
 use Rattle.std.specs.Io.KnownBytes.{Appends}
 use Rattle.onboard.specs.declared.released.Released.{Released}
-use Rattle.command_line.specs.OutputLine as one
+use Rattle.text_output.specs.OutputLine as one
 
 abbrev pub line_of : Released → List ℕ
 line_of pair = one.line_of pair.number pair.output

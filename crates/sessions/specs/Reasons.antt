@@ -1,8 +1,8 @@
 -- The numbers and names of refusals and of the ends of lives, and the statuses that go with them (this project's
 -- profile).
 use Rattle.std.specs.Prelude.{ℕ, List, [], ◌++◌, Result, Ok, Err, codes, decimal}
-use Rattle.command_line.specs.declared.status.Status.{Status}
-use Rattle.command_line.specs.declared.status.Status.TheVariants.{Done, Refused, Device}
+use Rattle.text_output.specs.declared.status.Status.{Status}
+use Rattle.text_output.specs.declared.status.Status.TheVariants.{Done, Refused, Device}
 use Rattle.journal.specs.Numbers.{format_number, format_name}
 use Rattle.journal.specs.declared.errors.FormatError.{FormatError}
 use Rattle.journal.specs.declared.errors.FormatError.TheVariants as a_format

@@ -9,8 +9,8 @@ use Rattle.blocks.specs.FirstSector.{sectors_of}
 use Rattle.disk.specs.State.{State, Counted}
 use Rattle.events.specs.declared.input.Event.{Event}
 use Rattle.events.specs.declared.input.Event.TheVariants.{PowerUp}
-use Rattle.command_line.specs.declared.status.Status.{Status}
-use Rattle.command_line.specs.declared.status.Status.TheVariants.{Done, Refused, Usage, Device}
+use Rattle.text_output.specs.declared.status.Status.{Status}
+use Rattle.text_output.specs.declared.status.Status.TheVariants.{Done, Refused, Usage, Device}
 use Rattle.journal.specs.declared.errors.FormatError.TheVariants.{DeviceFault}
 use Rattle.events.specs.declared.step.Step.{Step}
 use Rattle.mode_table.specs.declared.statuses.Cold.{Cold}

@@ -7,12 +7,12 @@ ghost use Rattle.sessions.specs.Sessions.{is_device, Session};
 
 use crate::printer::Printer;
 use crate::stops::tell_end;
-use command_line::Status;
 use disk::Disk;
 use mode_table::Cold;
 use std::alloc::Global;
 use std::io;
 use std::io::Write;
+use text_output::Status;
 use whole_lives::{Step, live_into};
 
 /// One life on a disk: a line for each output, written as it is released, and a last one where the life stopped. After

@@ -3,10 +3,10 @@ ghost use Rattle.std.specs.Prelude.{OnOk};
 ghost use Rattle.std.specs.Io.KnownBytes.{Appends};
 ghost use Rattle.sessions.specs.Lines.{lines_of};
 
-use command_line::write_line;
 use onboard::Released;
 use std::io;
 use std::io::Write;
+use text_output::write_line;
 use units::NoMemory;
 use whole_lives::ReleaseSink;
 

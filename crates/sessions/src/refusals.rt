@@ -4,12 +4,12 @@ ghost use Rattle.std.specs.Io.KnownBytes.{Appends};
 ghost use Rattle.sessions.specs.Reasons.{format_reason, format_status, listing_reason, listing_status, fault_reason, refusal_of};
 
 use crate::reasons::{of_fault, of_format, of_listing, write_reason};
-use command_line::Status;
 use journal::FormatError;
 use reader::ListingError;
 use simulator::ScenarioFault;
 use std::io;
 use std::io::Write;
+use text_output::Status;
 
 /// Tells why no image was made.
 pub(crate) fn refuse_format<W: Write>(error: FormatError, out: &mut W) -> io::Result<Status>

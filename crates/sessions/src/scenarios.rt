@@ -4,7 +4,6 @@ ghost use Rattle.sessions.specs.Sessions.{Plays};
 use crate::images::Image;
 use crate::lives::run_life;
 use crate::refusals::refuse_scenario;
-use command_line::{Status, tell};
 use disk::Disk;
 use file_disk::FileDisk;
 use simulator::{Scenario, ScenarioFault, events_of};
@@ -13,6 +12,7 @@ use std::fs::File;
 use std::io::Write;
 use std::rt::Files;
 use std::{fs, io};
+use text_output::{Status, tell};
 
 /// One life, by the steps that the bytes of a scenario tell, on the image that a call opens. The scenario is judged
 /// before the image is opened. It hands on what became of the image, and the writer back, and answers the status that

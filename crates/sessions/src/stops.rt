@@ -4,10 +4,10 @@ ghost use Rattle.std.specs.Io.KnownBytes.{Appends};
 ghost use Rattle.sessions.specs.Reasons.{stop_status, status_of, ending_of};
 
 use crate::reasons::{of_stop, write_reason};
-use command_line::Status;
 use onboard::{FlushError, OpenError};
 use std::io;
 use std::io::Write;
+use text_output::Status;
 use whole_lives::LiveError;
 
 fn status_of_stop(error: LiveError) -> Status

@@ -4,8 +4,8 @@ ghost use Rattle.std.specs.Io.KnownBytes.{Appends};
 ghost use Rattle.bits.specs.Names.{name_text};
 ghost use Rattle.hex.specs.Hex.{IsBytes, encode_upper};
 ghost use Rattle.packets.specs.Packets.{length_of};
-ghost use Rattle.command_line.specs.Pieces.{text_of, texts};
-ghost use Rattle.command_line.specs.declared.piece.Form.TheVariants.{Json};
+ghost use Rattle.text_output.specs.Pieces.{text_of, texts};
+ghost use Rattle.text_output.specs.declared.piece.Form.TheVariants.{Json};
 ghost use Rattle.serde_json.specs.Data.{unsigned, number as a_number, Items, Members, member, item};
 ghost use Rattle.serde_json.specs.View.{items_of};
 ghost use Rattle.serde_json.specs.Written.{comma_if, compact_text, items_text, members_text};
@@ -18,12 +18,12 @@ ghost use Rattle.telegram_objects.specs.Lines.{body_bytes, members_of, body_memb
 ghost use Rattle.telegram_objects.specs.Telling.{pair_of, TellsText};
 
 use bits::{BitWriter, Run};
-use command_line::{Form, Piece, write_pieces};
 use decoding::{FieldValue, fields_of_header, fields_of_packet};
 use packets::{Packet, TELEGRAM_BYTES};
 use std::io;
 use std::io::Write;
 use telegram::{Header, Telegram, TelegramFault, decode_into};
+use text_output::{Form, Piece, write_pieces};
 
 // The hexadecimal digits.
 const DIGITS: [u8; 16] = *b"0123456789ABCDEF";

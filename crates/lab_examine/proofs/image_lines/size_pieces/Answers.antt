@@ -1,5 +1,5 @@
 use Rattle.std.proofs.Common.{ap, ◌∙◌}
-use Rattle.command_line.specs.Pieces.{known_text}
+use Rattle.text_output.specs.Pieces.{known_text}
 use Rattle.lab_examine.specs.ImageLines.{sizes_text}
 use Rattle.lab_examine.proofs.image_lines.size_pieces.Goals as goal
 

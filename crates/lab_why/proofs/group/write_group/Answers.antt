@@ -4,7 +4,7 @@ use Rattle.std.proofs.KnownBytes.{Appends-trans}
 use Rattle.std.proofs.lemmas.List.{append-nil}
 use Rattle.std.proofs.lemmas.Result.{on_ok_weaker}
 use Rattle.std.specs.Io.KnownBytes.{Appends}
-use Rattle.command_line.specs.Pieces.{text_in}
+use Rattle.text_output.specs.Pieces.{text_in}
 use Rattle.lab_why.specs.Groups.{head_text, packets_of, packets_text}
 use Rattle.lab_why.proofs.group.write_group.Goals as goal
 

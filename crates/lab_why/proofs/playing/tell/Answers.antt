@@ -2,8 +2,8 @@ use Rattle.std.proofs.Common.{ℕ, List, ◌++◌, length, ◌∙◌, sym, ap}
 use Rattle.std.proofs.KnownBytes.{Appends-trans}
 use Rattle.unit_start.specs.Releases.{Release}
 use Rattle.unit_start.specs.Events.{pairs_of}
-use Rattle.command_line.specs.Pieces.{texts}
-use Rattle.command_line.specs.declared.piece.Form.TheVariants.{Json}
+use Rattle.text_output.specs.Pieces.{texts}
+use Rattle.text_output.specs.declared.piece.Form.TheVariants.{Json}
 use Rattle.lab_why.specs.Ends.{first_line, last_line}
 use Rattle.lab_why.specs.Playing.{released_in}
 use Rattle.lab_why.proofs.Releasing.{begun, carried_older}

@@ -1,4 +1,4 @@
-use Rattle.command_line.specs.declared.piece.Form.TheVariants.{Json}
+use Rattle.text_output.specs.declared.piece.Form.TheVariants.{Json}
 use Rattle.packet_uses.proofs.list.write_packet.Goals as goal
 
 pub returns : goal.returns

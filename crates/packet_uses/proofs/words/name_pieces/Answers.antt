@@ -1,5 +1,5 @@
 use Rattle.std.proofs.Common.{ℕ, List, [], ◌∷◌, codes, ap, ◌∙◌, append-nil}
-use Rattle.command_line.specs.Pieces.{text_in, joined}
+use Rattle.text_output.specs.Pieces.{text_in, joined}
 use Rattle.packet_uses.specs.Words.{name_in, name_told}
 use Rattle.packet_uses.proofs.words.name_pieces.Goals as goal
 

@@ -1,7 +1,7 @@
 use Rattle.std.proofs.Common.{decimal}
 use Rattle.telegram_objects.proofs.PieceTexts.{front_in_pieces}
-use Rattle.command_line.specs.Pieces.{text_of}
-use Rattle.command_line.specs.declared.piece.Form.TheVariants.{Json}
+use Rattle.text_output.specs.Pieces.{text_of}
+use Rattle.text_output.specs.declared.piece.Form.TheVariants.{Json}
 use Rattle.serde_json.specs.Written.{comma_if}
 use Rattle.telegram_objects.proofs.text.front_pieces.Goals as goal
 

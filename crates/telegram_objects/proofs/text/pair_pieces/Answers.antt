@@ -1,6 +1,6 @@
 use Rattle.std.proofs.Common.{true, decimal}
-use Rattle.command_line.specs.Pieces.{text_of}
-use Rattle.command_line.specs.declared.piece.Form.TheVariants.{Json}
+use Rattle.text_output.specs.Pieces.{text_of}
+use Rattle.text_output.specs.declared.piece.Form.TheVariants.{Json}
 use Rattle.serde_json.specs.Written.{comma_if, items_text}
 use Rattle.telegram_objects.proofs.PieceTexts.{pair_in_pieces}
 use Rattle.telegram_objects.proofs.text.pair_pieces.Goals as goal

@@ -1,7 +1,7 @@
 //! What a text is made of.
 ghost use Rattle.std.specs.Prelude.{◌≡◌};
-ghost use Rattle.command_line.specs.Pieces.{text_of, known_text};
-ghost use Rattle.command_line.specs.declared.piece.Form.{Form as a_form};
+ghost use Rattle.text_output.specs.Pieces.{text_of, known_text};
+ghost use Rattle.text_output.specs.declared.piece.Form.{Form as a_form};
 
 /// For whom it is written.
 #[derive(Clone, Copy)]

@@ -1,6 +1,6 @@
 use Rattle.std.proofs.KnownBytes.{Appends-trans}
-use Rattle.command_line.specs.OutputLine.{line_of}
-use Rattle.command_line.proofs.output_line.write_line.Goals as goal
+use Rattle.text_output.specs.OutputLine.{line_of}
+use Rattle.text_output.proofs.output_line.write_line.Goals as goal
 
 pub returns : goal.returns
 unfolding line_of

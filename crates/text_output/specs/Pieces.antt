@@ -2,10 +2,10 @@
 use Rattle.std.specs.Prelude.{ℕ, List, codes, decimal, Option, Some, None, [], ◌∷◌, ◌++◌, ◌==◌, if◌then◌else◌}
 use Rattle.std.specs.Borrow.{Bor}
 use Rattle.std.specs.Fmt.{signed_decimal}
-use Rattle.command_line.specs.declared.piece.Form.{Form}
-use Rattle.command_line.specs.declared.piece.Form.TheVariants.{People, Json}
-use Rattle.command_line.specs.declared.piece.Piece.{Piece}
-use Rattle.command_line.specs.declared.piece.Piece.TheVariants as a_piece
+use Rattle.text_output.specs.declared.piece.Form.{Form}
+use Rattle.text_output.specs.declared.piece.Form.TheVariants.{People, Json}
+use Rattle.text_output.specs.declared.piece.Piece.{Piece}
+use Rattle.text_output.specs.declared.piece.Piece.TheVariants as a_piece
 
 -- one text for people, another as JSON
 abbrev pub text_in : Form → List ℕ → List ℕ → List ℕ

@@ -1,7 +1,7 @@
 //! The line of an output.
 ghost use Rattle.std.specs.Prelude.{OnOk};
 ghost use Rattle.std.specs.Io.KnownBytes.{Appends};
-ghost use Rattle.command_line.specs.OutputLine.{front_of, back_of, line_of};
+ghost use Rattle.text_output.specs.OutputLine.{front_of, back_of, line_of};
 
 use crate::output_words::{brake_word, level_word, mode_word};
 use crate::telling::write_texts;

@@ -2,9 +2,9 @@
 use Rattle.std.proofs.Common.{◌≡◌, ℕ, List, Bor, [], ◌∷◌, ◌++◌, flat_map, refl, ap, sym, ◌∙◌}
 use Rattle.std.proofs.lemmas.List.{append_assoc, append-nil}
 use Rattle.std.proofs.lemmas.List.Concat.{flat_map-cons}
-use Rattle.command_line.specs.declared.piece.Form.{Form}
-use Rattle.command_line.specs.declared.piece.Piece.{Piece}
-use Rattle.command_line.specs.Pieces.{text_of, texts, parts_behind, part_texts}
+use Rattle.text_output.specs.declared.piece.Form.{Form}
+use Rattle.text_output.specs.declared.piece.Piece.{Piece}
+use Rattle.text_output.specs.Pieces.{text_of, texts, parts_behind, part_texts}
 
 pub texts-flat : (form : Form) (ps : List Piece) → flat_map (text_of form) ps ≡ texts form ps
 texts-flat form [] = refl

@@ -2,7 +2,7 @@
 ghost use Rattle.std.specs.Prelude.{◌≡◌, flat_map, decimal, OnOk};
 ghost use Rattle.std.specs.Fmt.{signed_decimal};
 ghost use Rattle.std.specs.Io.KnownBytes.{Appends};
-ghost use Rattle.command_line.specs.Pieces.{text_of, texts, part_texts, escaped};
+ghost use Rattle.text_output.specs.Pieces.{text_of, texts, part_texts, escaped};
 
 use crate::piece::{Form, Piece};
 use std::io;

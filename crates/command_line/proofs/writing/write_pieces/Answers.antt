@@ -1,5 +1,0 @@
-use Rattle.command_line.proofs.writing.write_pieces.Goals as goal
-use Rattle.command_line.proofs.Texts.{texts-flat}
-
-pub returns : goal.returns
-returns g c = rw (texts-flat c.args.form c.args.pieces.now) at c.write_each.ensures

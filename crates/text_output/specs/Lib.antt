@@ -1,0 +1,3 @@
+pub mod OutputLine
+pub mod OutputWords
+pub mod Pieces

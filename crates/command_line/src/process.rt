@@ -1,12 +1,22 @@
-//! Standard streams that are closed are taken by the null device.
+//! What a program reads from its process before it opens a file: its arguments, and its standard streams.
 ghost use Rattle.std.specs.Prelude.{pos, ◌<ℤ◌, IfOk};
 ghost use Rattle.std.specs.Fd.{file_raw_fd};
 
 use std::fs::File;
-use std::io;
 use std::io::ErrorKind;
 use std::os::fd::{AsRawFd, IntoRawFd};
-use std::rt::Files;
+use std::rt::{Env, Files};
+use std::{env, io};
+
+/// The arguments of the process, without the program's name. The error is that an argument is not text, or that memory
+/// was refused.
+pub fn args_of<R: Env + AllocGlobal>(rt: &R) -> io::Result<Vec<String>> {
+    let mut args = Vec::new(rt.alloc());
+    for arg in env::args(rt)?.skip(1) {
+        args.push(arg)?;
+    }
+    Ok(args)
+}
 
 // Standard input, output and error have the numbers 0, 1 and 2.
 const LAST_STREAM: i32 = 2;

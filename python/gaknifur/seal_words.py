@@ -6,6 +6,7 @@ from pathlib import Path
 
 from .program import REFUSED
 from .reading import Progress
+from .shown import shown
 
 Word = Callable[[str, str, str], argparse.ArgumentParser]
 
@@ -46,7 +47,7 @@ def verify_bag(told: argparse.Namespace, progress: Progress) -> int:
     from . import seal, signing
     found = seal.verify(told.folder, signing.Trust(told.signers, told.keyring, told.authority))
     for word, lines in (("altered", found.faults), ("shown", found.shown), ("not shown", found.not_shown)):
-        sys.stdout.writelines(f"{word}: {line}\n" for line in lines)
+        sys.stdout.writelines(f"{shown(f'{word}: {line}')}\n" for line in lines)
     sys.stdout.write("the bag is not as it was sealed\n" if found.faults else "the bag is as it was sealed\n")
     return REFUSED if found.faults else 0
 

@@ -29,6 +29,9 @@ WORDS = {"examine.json": ["examine", "--json"], "events.jsonl": ["events", "--al
 """What `etcs_lab` tells of the image: the file, and the words by which it does."""
 FILES = (IMAGE, TIMES, SEAL, PARTS, *WORDS, "table.csv", "journal.db", "report.html")
 """The files that the payload of a bag may have."""
+BAG = (*(f"{bag.PAYLOAD}/{name}" for name in FILES), bag.DECLARATION, bag.INFO, *map(bag.MANIFEST.format, bag.ALGORITHMS),
+       *map(bag.TAG_MANIFEST.format, bag.ALGORITHMS), signing.REQUEST, *signing.LOOSE)
+"""All files that a bag may have."""
 VERSION = 1
 """The version of `seal.json`."""
 RECORD_BYTES = {1: 128, 2: 256, 3: 256}
@@ -162,7 +165,7 @@ def info_of(seal: Json) -> list[tuple[str, str]]:
 def seal(image: Path, folder: Path, how: Sealing, progress: Progress = silent) -> Json:
     """Makes a bag of an image; answers what `seal.json` tells. An image that isn't formatted is sealed too, without what
     can't be told of it."""
-    with files.open_to_read(image) as source, files.new_folder(folder) as made:
+    with files.open_to_read(image) as source, files.new_folder(folder, BAG) as made:
         data = made / bag.PAYLOAD
         data.mkdir()
         progress("copy", 0, 0)

@@ -8,13 +8,19 @@
 - A byte of each file, a file less, more, renamed, cut off, in place of another one, a link in its place; lines of manifests;
   signatures and time stamps of others: each is told, by the name of the file. So is what was closed anew behind the
   alteration, where a signature or a time stamp is asked for.
+- What was closed anew and never signed: values that seal.json can't have, files that are no JSON, pipes, links to devices, files of 2^40 bytes,
+  names and texts that hide or fake a line. Each is told, and in time.
+- A seal that is killed leaves no folder of its name, and the next one takes away what it left, and nothing else.
 - The image that is sealed stays as it is, and is opened once, to be read alone. What is no image, is held by a unit, or has
   its folder already isn't sealed; images that are damaged or not formatted are, with all that can be told of them.
 """
+import errno
 import fcntl
 import json
 import os
+import re
 import shutil
+import signal
 import stat
 import subprocess
 import sys
@@ -27,8 +33,8 @@ TOP = Path(__file__).resolve().parents[2]
 sys.path[:0] = [str(TOP / part) for part in ("python", "tests", "tests/plain", "tests/lab")]
 
 from compared import Compared  # noqa: E402
-from gaknifur import bag, evidence, program, seal, signing  # noqa: E402
-from gaknifur.program import Failed  # noqa: E402
+from gaknifur import bag, evidence, files, program, seal, signing  # noqa: E402
+from gaknifur.program import DEVICE, REFUSED, Failed  # noqa: E402
 from gaknifur.signing import Key, Trust  # noqa: E402
 from replay_rows import examples  # noqa: E402
 
@@ -440,6 +446,51 @@ def at_the_edges(count, room, image):
         count.same(f"signed by OpenSSH alone, {name} named", seal.verify(room / "bag-ssh", trusted).faults, wanted)
 
 
+def killed(count, room, image):
+    """A seal that is killed, or whose last step fails, leaves no folder of the name; the next one seals, and takes away what was left."""
+    at = room / "killed"
+    at.mkdir()
+    (at / ".lab-1-0123456789abcdef").mkdir()
+    (at / ".lab-1-0123456789abcdef/mine").write_text("mine")
+    (at / ".lab-2-0123456789abcdef").mkdir()
+    (at / ".lab-3-0123456789abcdef").write_text("a file")
+    (at / ".lab-4-0123456789abcdef").symlink_to(room / "bag")
+    (at / ".lab-notes").mkdir()
+    strangers = sorted(os.listdir(at))
+    held = os.open(at / ".lab-2-0123456789abcdef", os.O_RDONLY)
+    fcntl.flock(held, fcntl.LOCK_EX)
+    for name in ("seal.copy_image", "seal.draw", "bag.close", "bag.close_tags", "files.sync_file", "files.rename_new"):
+        process = os.fork()
+        if not process:
+            with patch(f"gaknifur.{name}", lambda *_: os.kill(os.getpid(), signal.SIGKILL)):
+                seal.seal(image, at / "new", seal.Sealing())
+            os._exit(0)
+        status = os.waitstatus_to_exitcode(os.waitpid(process, 0)[1])
+        left = sorted(set(os.listdir(at)) - set(strangers))
+        count.same(f"killed at {name}", (status, [re.sub(r"[0-9a-f]+", "_", one) for one in left]), (-signal.SIGKILL, [".l_-_-_"]))
+        seal.seal(image, at / f"sealed-{name}", seal.Sealing())
+        count.same(f"sealed behind that at {name}", sorted(set(os.listdir(at)) - set(strangers)), [f"sealed-{name}"])
+        shutil.rmtree(at / f"sealed-{name}")
+    for number, said, status in ((errno.EIO, "Input/output error", DEVICE), (errno.EEXIST, "since a moment ago", REFUSED)):
+        def fails(*_, number=number):
+            raise OSError(number, os.strerror(number))
+        with patch("gaknifur.files.rename_new", fails):
+            try:
+                seal.seal(image, at / "new", seal.Sealing())
+                count.tell("a name that can't be given is given")
+            except Failed as failed:
+                count.unless(said in str(failed) and failed.status == status, f"no name: {failed}")
+        count.same("where no name is given", sorted(os.listdir(at)), strangers)
+    os.close(held)
+    (at / "there").mkdir()
+    (at / "one").mkdir()
+    try:
+        files.rename_new(at / "one", at / "there")
+        count.tell("a folder that is there is written over")
+    except FileExistsError:
+        pass
+
+
 def main(words):
     os.environ["GAKNIFUR_ETCS_LAB"] = str(Path(words[0]).resolve())
     with tempfile.TemporaryDirectory() as at:
@@ -464,6 +515,7 @@ def main(words):
         in_lines(count, room)
         count.told("signatures of others, where nobody is trusted", [lambda folder: sign(room, folder, "other")], signing.SSH, Trust())
         at_the_edges(count, room, image)
+        killed(count, room, image)
         subprocess.run(["gpgconf", "--kill", "gpg-agent"], capture_output=True)
     few = count.altered < LEAST
     if few:

@@ -102,13 +102,15 @@ def digests(path: Path, algorithms: Sequence[str], most: int) -> dict[str, str]:
 
 
 def names_in(folder: Path) -> tuple[list[str], list[str]]:
-    """The regular files below a folder, and what is neither such a file nor a folder: links, pipes, devices. Both are bounded."""
+    """The regular files below a folder, and what is neither such a file nor a folder that has some: links, pipes, devices, empty folders.
+    Both are bounded."""
     plain, others, count = list[str](), list[str](), 0
     waiting = [(folder, 0)]
     while waiting:
         at, depth = waiting.pop()
         try:
             with os.scandir(at) as entries:
+                before = count
                 for entry in entries:
                     count += 1
                     name = (at / entry.name).relative_to(folder).as_posix()
@@ -120,6 +122,8 @@ def names_in(folder: Path) -> tuple[list[str], list[str]]:
                         waiting.append((at / entry.name, depth + 1))
                     else:
                         (plain if entry.is_file(follow_symlinks=False) else others).append(name)
+                if count == before and at != folder:
+                    others.append(at.relative_to(folder).as_posix())
         except OSError as error:
             raise Unfit(f"can't be listed: {error.strerror}") from error
     return sorted(plain), sorted(others)
@@ -254,7 +258,24 @@ class Members:
                 raise Unfit(f"{at or 'it'} has no member {name}")
 
 
-Schema = Number | Text | OneOf | Maybe | Many | Members
+@dataclass(frozen=True)
+class Table:
+    """An object of members that have names of a form and values of one schema, so many at the most."""
+
+    names: Text
+    schema: "Schema"
+    most: int
+
+    def check(self, value: Any, at: str) -> None:
+        """Refuses another value."""
+        if not isinstance(value, dict) or len(value) > self.most:
+            raise Unfit(f"{at or 'it'} is no object of {self.most} members at the most")
+        for name, one in value.items():
+            self.names.check(name, f"a name in {at or 'it'}")
+            self.schema.check(one, f"{at}.{name[:64]!a}")
+
+
+Schema = Number | Text | OneOf | Maybe | Many | Members | Table
 SHA256, SHA512 = Text(r"[0-9a-f]{64}"), Text(r"[0-9a-f]{128}")
 
 

@@ -342,6 +342,11 @@ def remove_left(folder: Path, names: Collection[str]) -> None:
                 remove_one_left(folder / name, names)
 
 
+def folders_of(names: Collection[str]) -> set[str]:
+    """The folders of some files."""
+    return {name.rpartition("/")[0] for name in names if "/" in name}
+
+
 def remove_one_left(path: Path, names: Collection[str]) -> None:
     """Removes a folder that a killed run left, where it is one."""
     lock = os.open(path, os.O_RDONLY | os.O_DIRECTORY | os.O_NOFOLLOW | os.O_CLOEXEC) if path.is_dir() and not path.is_symlink() else -1
@@ -350,7 +355,7 @@ def remove_one_left(path: Path, names: Collection[str]) -> None:
     try:
         fcntl.flock(lock, fcntl.LOCK_EX | fcntl.LOCK_NB)
         plain, others = evidence.names_in(path)
-        if os.fstat(lock).st_uid == os.geteuid() and not others and set(plain) <= set(names):
+        if os.fstat(lock).st_uid == os.geteuid() and set(others) <= folders_of(names) and set(plain) <= set(names):
             shutil.rmtree(path)
             say(f"{path}: removed; a run that was killed had left it unfinished")
     except (OSError, evidence.Unfit):

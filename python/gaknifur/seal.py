@@ -131,14 +131,15 @@ def parts_text(data: Path) -> str:
     return out.getvalue()
 
 
-def draw(data: Path, name: str, drift_ppm: int, progress: Progress) -> None:
-    """Makes table, database and report of a bag's image, which they call by the name that it had."""
+def draw(data: Path, name: str, drift_ppm: int, progress: Progress) -> list[str]:
+    """Makes table, database and report of a bag's image, which they call by the name that it had; answers what of the image isn't whole,
+    differs or is implausible."""
     times = data / TIMES
     journal = read(data / IMAGE, replay=True, why=True, progress=progress, strays=True)
     if times.is_file():
         journal.times = Times.of(journal, times, drift_ppm)
     journal.path = Path(name)
-    from . import database, report, tables
+    from . import brief, database, report, tables
     table = tables.frame(journal)
     (data / "table.csv").write_text(tables.csv_text(table), encoding="utf-8")
     connection = database.open_database(data / "journal.db")
@@ -147,6 +148,7 @@ def draw(data: Path, name: str, drift_ppm: int, progress: Progress) -> None:
     finally:
         connection.close()
     (data / "report.html").write_text(report.page(journal, progress=progress), encoding="utf-8")
+    return brief.faults(journal) + brief.implausible(brief.findings(journal))
 
 
 def tools() -> Json:
@@ -162,8 +164,8 @@ def info_of(seal: Json) -> list[tuple[str, str]]:
             ("External-Description", f"journal {seal['image']['name']}; medium: {seal['medium'] or 'not told'}")]
 
 
-def seal(image: Path, folder: Path, how: Sealing, progress: Progress = silent) -> Json:
-    """Makes a bag of an image; answers what `seal.json` tells. An image that isn't formatted is sealed too, without what
+def seal(image: Path, folder: Path, how: Sealing, progress: Progress = silent) -> tuple[Json, list[str]]:
+    """Makes a bag of an image; answers what `seal.json` tells, and what of the image isn't as it should be. An image that isn't formatted is sealed too, without what
     can't be told of it."""
     with files.open_to_read(image) as source, files.new_folder(folder, BAG) as made:
         data = made / bag.PAYLOAD
@@ -175,8 +177,7 @@ def seal(image: Path, folder: Path, how: Sealing, progress: Progress = silent) -
         name = shown(image.name)
         told = tell(data)
         is_told = told["examine.json"]["status"] in (WHOLE, NOT_WHOLE)
-        if is_told:
-            draw(data, name, how.drift_ppm, progress)
+        faults = draw(data, name, how.drift_ppm, progress) if is_told else ["is not a formatted image, so nothing is told of it"]
         found = {"version": VERSION, "sealed_at": now(), "by": shown(how.by or who()), "medium": how.medium and shown(how.medium),
                  "image": {"name": name, "bytes": (data / IMAGE).stat().st_size, **digests}, "etcs_lab": told, "tools": tools(),
                  "times": {"file": TIMES, "drift_ppm": how.drift_ppm} if how.times else None,
@@ -189,7 +190,7 @@ def seal(image: Path, folder: Path, how: Sealing, progress: Progress = silent) -
         bag.close_tags(made)
         for key in how.keys:
             key.sign(made / bag.SIGNED)
-    return found
+    return found, faults
 
 
 def check_seal(found: Json) -> None:

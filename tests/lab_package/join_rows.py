@@ -7,6 +7,7 @@
   image that a larger ring has, and etcs_lab tells the same events, replay and causes of both.
 - An archive is cut within its last block, or has zeros there: no block is lost, what a cut left is told, and what is kept then goes
   on behind it. Gaps stay gaps, blocks that contradict are named, and what can't be read is taken from where it can.
+- Blocks of two units are told, and so is a block that can't be read in one source. A gate with a bit altered stops no archive.
 - Files that are there, no archives, and archives that another program holds, stay as they are.
 """
 import json
@@ -152,9 +153,45 @@ def contradictions(rows, room):
     kept[SECTOR + 6 * SLOT + SECTOR + 500] = 1
     bad.write_bytes(kept)
     found = archive.join(room / "mended", [bad, one])
-    rows.same("what can't be read is taken from where it can", (found.chosen[7].path, found.is_whole), (one, True))
+    rows.same("what can't be read is taken from where it can", (found.chosen[7].path, sorted(found.mended), found.is_whole), (one, [7], False))
+    found = archive.join(room / "mended-2", [one, bad])
+    rows.same("and where it can't be is told", (found.chosen[7].path, sorted(found.mended), found.is_whole), (one, [7], False))
+    text, said, status = run(TOP / "lab", ["join", room / "mended-3", bad, one])
+    rows.same("in words", ("block 7 can't be read in bad: it is taken from another source" in text.splitlines(), said, status), (True, "", 4))
     found = archive.join(room / "unreadable", [bad])
     rows.same("what can't be read stays so", (found.unreadable, found.is_whole), ([7], False))
+
+
+def strangers(rows, room):
+    """Blocks of two units in one image: it is made, and what doesn't follow is told."""
+    told, other = journal(), {block["number"]: block for block in blocks_of([("unknown", (*STARTED, "clock 5", "move 7 3")), *TWO, *TWO], 3)}
+    one, two = room / "unit-1", room / "unit-2"
+    write(one, 16, told, 12)
+    write(two, 4, other, 5)
+    lone = {n: b for n, b in told.items() if 6 <= n <= 12}
+    one.write_bytes(image_of(16, ring(16, lone)))
+    for name, sources in (("of two units", [one, two]), ("the other first", [two, one])):
+        found = archive.join(room / f"strangers-{name}", sources)
+        rows.same(name, (found.contradictions, bool(found.breaks or found.differences), found.is_whole), ({}, True, False))
+    text, said, status = run(TOP / "lab", ["join", room / "strangers", one, two])
+    rows.unless("the sources are of different units, or one was altered" in text and not said and status == 4, f"of two units: {text} {said} {status}")
+
+
+def gates(rows, room):
+    """A gate with a bit altered names no block, and what comes behind it is kept all the same."""
+    told, image, path = journal(), room / "gates", room / "gates-archive"
+    for bit in (0, 2, 5, 20, 39, 40, 62):
+        path.unlink(missing_ok=True)
+        write(image, 8, told, 6)
+        data = bytearray(image.read_bytes())
+        at = layout.slot_at(5) + 15 - bit // 8
+        data[at] ^= 1 << bit % 8
+        image.write_bytes(data)
+        with Archive(path) as kept:
+            kept.keep(image)
+            write(image, 8, told, 9)
+            kept.keep(image)
+        rows.same(f"bit {bit} of a gate", sorted(number for number in data_in(path) if number), [1, 2, 3, 4, 6, 7, 8, 9])
 
 
 def stays(rows, room):
@@ -191,6 +228,8 @@ def main(words):
         cut(rows, room)
         put_back(rows, room)
         contradictions(rows, room)
+        strangers(rows, room)
+        gates(rows, room)
         stays(rows, room)
     few = rows.count < 110
     if few:

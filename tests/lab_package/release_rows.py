@@ -23,7 +23,7 @@ import statements  # noqa: E402
 from compared import Compared  # noqa: E402
 
 SLOW, LEAST = 4, 25
-"""The seconds of a processor that an answer may take, and so many tries at least. An answer that never comes is waited for a minute."""
+"""The seconds of a processor that an answer may take, and so many tries at least. An answer that never comes is waited for five minutes."""
 VERSION, COMMIT, STAMP = "1.2.3+unproved", "0" * 40, "2001-02-03T04:05:06Z"
 DEB = f"gaknifur_{VERSION}_amd64.deb"
 DEEP = b'{"a":' * 200_000
@@ -160,10 +160,10 @@ def verified(room, folder, *words):
     """The status of tools/verify, what it printed, and how long it took."""
     begun = used()
     try:
-        done = subprocess.run([TOP / "tools/verify", *words, folder], capture_output=True, stdin=subprocess.DEVNULL, timeout=60, preexec_fn=limited,
+        done = subprocess.run([TOP / "tools/verify", *words, folder], capture_output=True, stdin=subprocess.DEVNULL, timeout=300, preexec_fn=limited,
                               env={**os.environ, "TMPDIR": str(room / "tmp")})
     except subprocess.TimeoutExpired:
-        return None, "no end", 60
+        return None, "no end", 300
     return done.returncode, (done.stdout + done.stderr).decode(errors="replace"), used() - begun
 
 

@@ -390,10 +390,10 @@ def whole_bag(count, room, image):
         return os_open(path, flags, *more, **named)
 
     with patch("os.open", noted):
-        found = seal.seal(image, room / "bag", seal.Sealing("one", "a medium", keys=keys(room)))
+        found, odd = seal.seal(image, room / "bag", seal.Sealing("one", "a medium", keys=keys(room)))
     count.same("the image was opened once, to be read", (opened, image.read_bytes()), ([os.O_RDONLY], data))
     count.same("the copy", (room / "bag/data/image").read_bytes(), data)
-    count.same("what it told", (found["by"], found["medium"], found["image"]["bytes"]), ("one", "a medium", len(data)))
+    count.same("what it told", (found["by"], found["medium"], found["image"]["bytes"], odd), ("one", "a medium", len(data), []))
     stamp(room, room / "bag")
     count.same("its files", evidence.names_in(room / "bag"), (sorted(FILES), []))
     count.same("their modes", {(room / "bag" / name).stat().st_mode & 0o222 for name in FILES if name != signing.ANSWER}, {0})
@@ -439,9 +439,10 @@ def at_the_edges(count, room, image):
     data = image.read_bytes()
     for name, made, status in (("damaged", data[:2000] + b"\xff" + data[2001:], 4), ("cut", data[:5000], 4), ("none", b"text", 1), ("empty", b"", 1)):
         (room / name).write_bytes(made)
-        told = seal.seal(room / name, room / f"bag-{name}", seal.Sealing())
+        told, odd = seal.seal(room / name, room / f"bag-{name}", seal.Sealing())
         seen = seal.verify(room / f"bag-{name}", Trust())
         count.same(f"{name}: sealed", (told["etcs_lab"]["examine.json"]["status"], seen.faults), (status, []))
+        count.unless(bool(odd), f"{name}: nothing is said of it")
         count.same(f"{name}: a report", (room / f"bag-{name}/data/report.html").exists(), status == 4)
     unsigned = seal.verify(room / "bag-cut", trust(room))
     count.same("not signed", [line.split(":")[0] for line in unsigned.faults], [UNSIGNED, signing.ANSWER])

@@ -126,7 +126,7 @@ class Archive(files.Appended):
         for number, data in ring.blocks(self.behind):
             self.append(data)
             self.behind = number
-        if self.count > before:
+        if self.owes_sync:
             self.sync()
         return self.count - before
 

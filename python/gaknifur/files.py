@@ -391,7 +391,9 @@ class Appended:
             raise Failed(f"{path}: {error.strerror}", DEVICE) from error
         try:
             fcntl.flock(self.descriptor, fcntl.LOCK_EX | fcntl.LOCK_NB)
-            self.size = os.lseek(self.descriptor, 0, os.SEEK_END)
+            self.size = self.kept = os.lseek(self.descriptor, 0, os.SEEK_END)
+            self.is_in_doubt = False
+            """Whether a sync failed since the last good one. What was appended since is at `kept`."""
             if self.read(0, len(first)) != first:
                 raise refused(path, f"is there, and is not {name}")
         except BaseException as error:
@@ -419,6 +421,7 @@ class Appended:
         if size < self.size:
             os.ftruncate(self.descriptor, size)
             self.size = size
+            self.kept = min(self.kept, size)
 
     def append(self, data: bytes) -> None:
         """Appends. `sync` has to follow."""
@@ -427,9 +430,28 @@ class Appended:
             done += os.pwrite(self.descriptor, data[done:], self.size + done)
         self.size += done
 
+    @property
+    def owes_sync(self) -> bool:
+        """Whether something was appended that no good sync followed, in this call or in one before."""
+        return self.is_in_doubt or self.kept < self.size
+
     def sync(self) -> None:
-        """Returns when the system says that all is kept."""
+        """Returns when the system says that all is kept. Behind a sync that failed the system takes for kept what perhaps isn't, so all that
+        was appended since the last good one is written again first."""
+        if self.is_in_doubt:
+            self.write_again()
+        self.is_in_doubt = True
         os.fsync(self.descriptor)
+        self.is_in_doubt, self.kept = False, self.size
+
+    def write_again(self) -> None:
+        """Writes once more what no good sync followed."""
+        at = self.kept
+        while at < self.size:
+            data = self.read(at, min(1 << 20, self.size - at))
+            if not data:
+                raise OSError(errno.EIO, os.strerror(errno.EIO), str(self.path))
+            at += os.pwrite(self.descriptor, data, at)
 
 
 # ---- databases

@@ -8,13 +8,16 @@
 - An archive is cut within its last block, or has zeros there: no block is lost, what a cut left is told, and what is kept then goes
   on behind it. Gaps stay gaps, blocks that contradict are named, and what can't be read is taken from where it can.
 - Blocks of two units are told, and so is a block that can't be read in one source. A gate with a bit altered stops no archive.
+- A sync that fails is owed, and made good by the next call.
 - Files that are there, no archives, and archives that another program holds, stay as they are.
 """
+import errno
 import json
 import os
 import sys
 import tempfile
 from pathlib import Path
+from unittest.mock import patch
 
 TOP = Path(__file__).resolve().parents[2]
 sys.path[:0] = [str(TOP / part) for part in ("python", "tests", "tests/plain", "tests/lab")]
@@ -24,6 +27,7 @@ from compared import Compared, run  # noqa: E402
 from gaknifur import archive, layout  # noqa: E402
 from gaknifur.archive import Archive, Ring  # noqa: E402
 from gaknifur.program import Failed  # noqa: E402
+from gaknifur.times import FIRST, Marks  # noqa: E402
 from image_cases import image_of, patched, ring  # noqa: E402
 from replay_rows import STARTED, TWO, blocks_of  # noqa: E402
 
@@ -194,6 +198,50 @@ def gates(rows, room):
         rows.same(f"bit {bit} of a gate", sorted(number for number in data_in(path) if number), [1, 2, 3, 4, 6, 7, 8, 9])
 
 
+def syncs(rows, room):
+    """A sync that fails is owed: the next call writes again what it was for and syncs, also where it has nothing new to keep."""
+    told, image, path, done = journal(), room / "syncs", room / "syncs-archive", []
+    fsync, pwrite = os.fsync, os.pwrite
+
+    def fails(descriptor):
+        raise OSError(errno.EIO, "no sync")
+
+    def noted_sync(descriptor):
+        done.append("sync")
+        fsync(descriptor)
+
+    def noted_write(descriptor, data, at):
+        done.append((at, len(data)))
+        return pwrite(descriptor, data, at)
+
+    write(image, 8, told, 6)
+    with Archive(path) as kept:
+        for name in ("the first", "a second"):
+            with patch("os.fsync", fails):
+                try:
+                    kept.keep(image)
+                    rows.tell(f"{name} sync that fails: all is well")
+                except OSError as error:
+                    rows.same(f"{name} sync that fails", error.errno, errno.EIO)
+        for name, wanted in (("what is owed", [(SECTOR, 6 * SLOT), "sync"]), ("nothing is owed", [])):
+            done.clear()
+            with patch("os.fsync", noted_sync), patch("os.pwrite", noted_write):
+                rows.same(f"{name}: blocks", kept.keep(image), 0)
+            rows.same(name, done, wanted)
+    rows.same("what is there", data_in(path), {n: data_of(told[n]) for n in range(1, 7)})
+    with Marks(room / "syncs.times") as marks:
+        with patch("os.fsync", fails):
+            try:
+                marks.mark(1, 0, 0, 5, "a")
+                rows.tell("a mark whose sync fails: all is well")
+            except OSError as error:
+                rows.same("a mark whose sync fails", error.errno, errno.EIO)
+        done.clear()
+        with patch("os.fsync", noted_sync), patch("os.pwrite", noted_write):
+            marks.mark(1, 5, 5, 5, "a")
+        rows.same("both marks are written and synced", (len(done), done[-1], sum(size for _, size in done[1:-1])), (3, "sync", marks.size - len(FIRST) - 1))
+
+
 def stays(rows, room):
     """What isn't written."""
     told = journal()
@@ -230,6 +278,7 @@ def main(words):
         contradictions(rows, room)
         strangers(rows, room)
         gates(rows, room)
+        syncs(rows, room)
         stays(rows, room)
     few = rows.count < 110
     if few:

@@ -19,7 +19,7 @@ from typing import Self
 
 from . import files, layout
 from .program import DEVICE, REFUSED, Failed
-from .reading import Json, examine
+from .reading import Json, check, examine, silent
 from .shown import shown
 
 
@@ -51,8 +51,11 @@ class Ring:
         os.close(self.descriptor)
 
     def number(self, slot: int) -> int | None:
-        """The number of a slot's gate, where it is a gate as a unit writes it."""
-        return layout.number_of_gate(os.pread(self.descriptor, layout.SECTOR, layout.slot_at(slot)))
+        """The number of a slot's gate, where it is a gate as a unit writes it and the head behind it has the same number: a gate with a bit
+        altered names no block."""
+        data = os.pread(self.descriptor, 2 * layout.SECTOR, layout.slot_at(slot))
+        number = layout.number_of_gate(data)
+        return number if number is not None and layout.number_of_head(data) == number else None
 
     def block(self, number: int) -> bytes | None:
         """The bytes of a block, where its slot holds it. A unit closes the gate before it writes anything else, so what lies
@@ -123,7 +126,7 @@ class Archive(files.Appended):
         for number, data in ring.blocks(self.behind):
             self.append(data)
             self.behind = number
-        if self.count > before:
+        if self.owes_sync:
             self.sync()
         return self.count - before
 
@@ -173,6 +176,12 @@ class Joined:
     """Of blocks that can be read in several places and differ there: the one that is taken, and another one."""
     unreadable: list[int] = field(default_factory=list)
     """Blocks that can't be read in the image that is made."""
+    mended: dict[int, Place] = field(default_factory=dict)
+    """Blocks that can't be read in a source, which is named, and are taken from another one."""
+    breaks: list[Json] = field(default_factory=list)
+    """Blocks of the image that is made that don't follow those before them, as an examination says."""
+    differences: list[Json] = field(default_factory=list)
+    """What a replay of the image that is made finds other than its journal says."""
 
     @property
     def slots(self) -> int:
@@ -186,8 +195,10 @@ class Joined:
 
     @property
     def is_whole(self) -> bool:
-        """Whether nothing is missing, contradicts, or can't be read."""
-        return not self.missing and not self.contradictions and not self.unreadable
+        """Whether nothing is missing, contradicts, or can't be read, in a source or in the image that is made, and its blocks follow one
+        another."""
+        is_read = not self.unreadable and not self.mended and not any(one.unreadable for one in self.sources)
+        return is_read and not self.missing and not self.contradictions and not self.breaks and not self.differences
 
 
 def source(path: Path) -> Source:
@@ -239,10 +250,14 @@ def choose(found: Joined, number: int, place: Place) -> None:
     there, here = other.read(), place.read()
     if there[layout.SECTOR:] == here[layout.SECTOR:]:
         return
-    if not is_readable(number, there):
-        found.chosen[number] = place
-    elif is_readable(number, here):
+    can_there, can_here = is_readable(number, there), is_readable(number, here)
+    if can_there and can_here:
         found.contradictions.setdefault(number, (other, place))
+        return
+    if not can_there:
+        found.chosen[number] = place
+    if can_there != can_here and other.path != place.path:  # (what a loss of power left in an archive is behind it once more)
+        found.mended[number] = place if can_there else other
 
 
 def join(out: Path, paths: list[Path]) -> Joined:
@@ -262,8 +277,17 @@ def join(out: Path, paths: list[Path]) -> Joined:
         for number, place in sorted(found.chosen.items(), key=lambda pair: pair[0] % slots):
             file.seek(layout.slot_at(number % slots))
             file.write(place.read())
-    found.unreadable = [slot["block"] for slot in examine(out)["slots"] if slot["state"] == "unreadable"]
+    judge(found, out)
     return found
+
+
+def judge(found: Joined, out: Path) -> None:
+    """Takes what an examination and a replay say of the image that is made: blocks of different units don't follow one another, or aren't
+    answered as their journal says."""
+    examination, replay = check(out, silent)
+    found.unreadable = [slot["block"] for slot in examination["slots"] if slot["state"] == "unreadable"]
+    found.breaks = [one for one in examination["between"] if one["what"] != "lost"]
+    found.differences = [line for line in replay if line.get("replay") in ("record_differs", "head_differs")]
 
 
 def told(found: Joined) -> list[Json]:
@@ -272,7 +296,15 @@ def told(found: Joined) -> list[Json]:
     lines: list[Json] = [{"source": shown(one.path.name), "blocks": runs(one.numbers), "unreadable": runs(one.unreadable), "odd": one.odd,
                           "bytes_behind": one.behind} for one in found.sources]
     lines += [{"contradicts": number, "taken": shown(one.path.name), "other": shown(other.path.name)} for number, (one, other) in found.contradictions.items()]
+    lines += [{"mended": number, "unreadable_in": shown(place.path.name)} for number, place in found.mended.items()]
+    lines += [{"breaks": one["block"], "what": one["what"]} for one in found.breaks]
+    lines += [{"differs": one["block"], "life": one["life"], "event": one.get("event"), "field": one["field"]} for one in found.differences]
     return [*lines, {"joined": runs(found.chosen), "slots": found.slots, "missing": runs(found.missing), "unreadable": runs(found.unreadable)}]
+
+
+def place_of(line: Json) -> str:
+    """Where a replay differs."""
+    return f"life {line['life']} event {line['event']}" if line["replay"] == "record_differs" else f"the head of block {line['block']}"
 
 
 def text(found: Joined) -> str:
@@ -286,5 +318,10 @@ def text(found: Joined) -> str:
         lines.append(f"from {shown(one.path.name)}: blocks {runs_text(runs(one.numbers))}{more}")
     lines += [f"block {number} differs in {shown(one.path.name)} and {shown(other.path.name)}: the first one is taken"
               for number, (one, other) in found.contradictions.items()]
+    lines += [f"block {number} can't be read in {shown(place.path.name)}: it is taken from another source" for number, place in found.mended.items()]
+    lines += [f"block {one['block']} doesn't follow the block before it ({one['what']}): the sources are of different units, or one was altered"
+              for one in found.breaks]
+    lines += [f"{place_of(one)} differs from its replay, in {one['field']}: the sources are of different units, or one was altered"
+              for one in found.differences]
     lines += [f"{name} {runs_text(runs(numbers))}" for name, numbers in (("missing", found.missing), ("unreadable", found.unreadable)) if numbers]
     return "\n".join([*lines, f"joined blocks {runs_text(runs(found.chosen))} in {found.slots} slots", ""])

@@ -39,6 +39,7 @@ TOP = HERE.parents[2] if VERSION_TOOL.exists() else HERE.parents[3] / "gaknifur"
 """The repository that this package lies in; else the folder of an installed product, which is beside that of Python."""
 
 
+@functools.cache
 def version() -> str:
     """The version of the product, and its commit where that is known."""
     told = HERE.with_name("RELEASE")
@@ -115,6 +116,29 @@ def find(name: str = "etcs_lab") -> str:
 def is_proved(name: str) -> bool:
     """Whether a program is named, or there is a proved one of these sources."""
     return bool(os.environ.get(f"GAKNIFUR_{name.upper()}")) or proved(script(name)) is not None
+
+
+@functools.cache
+def reader_is_proved() -> bool | None:
+    """Whether the `etcs_lab` that reads images is the proved one of these sources; None where the environment names another one, of
+    which nothing says it."""
+    if not (told := os.environ.get("GAKNIFUR_ETCS_LAB")):
+        return proved(script("etcs_lab")) is not None
+    try:
+        own = proved(script("etcs_lab"))
+        return True if own is not None and os.path.samefile(own, told) else None
+    except (Failed, OSError):
+        return None
+
+
+PROOF = {True: "etcs_lab is proved", False: "etcs_lab is not proved: it was compiled without a proof",
+         None: "the environment named etcs_lab, and nothing says whether it is proved"}
+"""What is said of the reader, by `reader_is_proved`."""
+
+
+def reader() -> str:
+    """By what an image is read: the version and the commit, and whether `etcs_lab` is proved."""
+    return f"gaknifur {version()}; {PROOF[reader_is_proved()]}"
 
 
 def built(name: str) -> Path:

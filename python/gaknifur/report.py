@@ -8,7 +8,7 @@ import jinja2
 import numpy as np
 import pandas as pd
 
-from . import brief, causes, chart, tables, words
+from . import brief, causes, chart, plausible, program, tables, words
 from .chart import Picture
 from .extent import Extent
 from .reading import Journal, Json, Progress, silent
@@ -251,4 +251,4 @@ def page(journal: Journal, extent: Extent = Extent(), progress: Progress = silen
         strays=stray_rows(journal), more_strays=max(len(journal.strays) - MOST_STRAYS, 0),
         way_m=float(table["movement_cm"].fillna(0).abs().sum()) / 100, modes=list(dict.fromkeys(table["mode"])),
         service=int((found["worst"] == "service").sum()), emergency=int((found["worst"] == "emergency").sum()),
-        causes=causes, words=words, pd=pd, utc_of=utc_texts(records).get)
+        causes=causes, words=words, pd=pd, plausible=plausible, reader=program.reader(), utc_of=utc_texts(records).get)

@@ -121,6 +121,25 @@ def open_to_read(path: Path) -> BinaryIO:
         raise
 
 
+KINDS = ((stat.S_ISDIR, "a folder"), (stat.S_ISFIFO, "a named pipe (FIFO)"), (stat.S_ISCHR, "a device"), (stat.S_ISBLK, "a device of blocks"))
+"""What isn't a regular file, as it is called."""
+TO_READ = os.O_RDONLY | getattr(os, "O_NONBLOCK", 0) | getattr(os, "O_CLOEXEC", 0) | getattr(os, "O_BINARY", 0)
+
+
+def opened(path: Path) -> BinaryIO:
+    """A regular file, opened to be read. What else is there is refused by its kind; a pipe isn't waited for."""
+    try:
+        descriptor = os.open(path, TO_READ)
+    except OSError as error:
+        raise Failed(f"{path}: {error.strerror}", DEVICE) from error
+    mode = os.fstat(descriptor).st_mode
+    if not stat.S_ISREG(mode):
+        os.close(descriptor)
+        kind = next((name for is_one, name in KINDS if is_one(mode)), "something else")
+        raise Failed(f"{path}: is {kind}, and a regular file is needed", DEVICE)
+    return open(descriptor, "rb")
+
+
 def bytes_of(path: Path, most: int | None = None) -> bytes:
     """The bytes of a regular file, or its first ones."""
     try:

@@ -5,7 +5,6 @@ file which this package made before, as its first bytes tell (`Kind`). An image 
 is. A file is written beside its name and synced, and takes the name once it is whole.
 """
 import contextlib
-import fcntl
 import io
 import os
 import secrets
@@ -21,6 +20,7 @@ from typing import BinaryIO, Self
 from urllib.parse import quote
 
 from . import layout
+from .locks import lock
 from .program import DEVICE, REFUSED, Failed
 from .shown import shown
 
@@ -112,7 +112,7 @@ def open_to_read(path: Path) -> BinaryIO:
         mode = os.fstat(descriptor).st_mode
         if not stat.S_ISREG(mode) and not stat.S_ISBLK(mode):
             raise Failed(f"{path}: is no regular file and no device of blocks", DEVICE)
-        fcntl.flock(descriptor, fcntl.LOCK_SH | fcntl.LOCK_NB)
+        lock(descriptor, is_shared=True)
         return open(descriptor, "rb")
     except BaseException as error:
         os.close(descriptor)
@@ -342,7 +342,7 @@ class Appended:
         except OSError as error:
             raise Failed(f"{path}: {error.strerror}", DEVICE) from error
         try:
-            fcntl.flock(self.descriptor, fcntl.LOCK_EX | fcntl.LOCK_NB)
+            lock(self.descriptor)
             self.size = os.lseek(self.descriptor, 0, os.SEEK_END)
             if self.read(0, len(first)) != first:
                 raise refused(path, f"is there, and is not {name}")

@@ -119,7 +119,7 @@ class Hostile(unittest.TestCase):
 
     def name(self, text: str, **environment: str) -> str:
         """The name that a unit of this text gives itself."""
-        with self.unit(text, **environment) as unit:
+        with self.unit(text, 20.0, **environment) as unit:
             return unit.greet("a").unit
 
     def test_it_answers_without_reading(self) -> None:

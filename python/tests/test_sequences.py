@@ -136,7 +136,9 @@ class Workbooks(unittest.TestCase):
         self.assertEqual(self.rows(), [("2", "2", "ODO", "ODO2", "")])
 
     def test_a_formula_without_what_it_came_to_is_refused(self) -> None:
-        for rows, cell in (([self.HEAD, [1, "ODO", "5 m", "=A2"]], "D2"), ([self.HEAD, [1, "ODO", "=1+1"]], "C2"), ([["=A9"], self.HEAD], "A1")):
+        tables: dict[str, list[list[Any]]] = {"D2": [self.HEAD, [1, "ODO", "5 m", "=A2"]], "C2": [self.HEAD, [1, "ODO", "=1+1"]],
+                                              "A1": [["=A9"], self.HEAD]}
+        for cell, rows in tables.items():
             self.save(rows)
             with self.assertRaisesRegex(Failed, f"table.xlsx: the cell {cell} has a formula, and the workbook doesn't say"):
                 self.rows()

@@ -14,6 +14,7 @@ import os
 import sys
 import tempfile
 from pathlib import Path
+from unittest.mock import patch
 
 TOP = Path(__file__).resolve().parents[2]
 sys.path[:0] = [str(TOP / part) for part in ("python", "tests", "tests/plain", "tests/lab")]
@@ -157,6 +158,30 @@ def contradictions(rows, room):
     rows.same("what can't be read stays so", (found.unreadable, found.is_whole), ([7], False))
 
 
+def many_contradictions(rows, room):
+    """Of many blocks that differ etcs_lab is asked in a few runs, also where a third one can't be read and numbers lie far apart."""
+    runs, examine, numbers = [], archive.examine, [*range(1, 301), 1_000_000, 1_000_001]
+    parts = {name: bytearray(layout.archive_sector()) for name in ("bad", "one", "other")}
+    for number in numbers:
+        for name, moment in (("bad", 7), ("one", 8), ("other", 9)):
+            data = bytearray(data_of(block(3, number, number, 1, [entry(number - 1, ("clock", moment), moment=moment)])))
+            data[SECTOR + 500] ^= name == "bad"
+            parts[name] += data
+    paths = {name: room / f"many-{name}" for name in parts}
+    for name, path in paths.items():
+        path.write_bytes(parts[name])
+
+    def counted(path):
+        runs.append(path)
+        return examine(path)
+
+    with patch.object(archive, "examine", counted):
+        found = archive.Joined([archive.source(paths[name]) for name in ("bad", "one", "other")])
+        archive.choose_all(found)
+    rows.same("many blocks that differ", (sorted(found.contradictions), {place.path for place in found.chosen.values()}, len(runs)),
+              (numbers, {paths["one"]}, 6))
+
+
 def stays(rows, room):
     """What isn't written."""
     told = journal()
@@ -191,6 +216,7 @@ def main(words):
         cut(rows, room)
         put_back(rows, room)
         contradictions(rows, room)
+        many_contradictions(rows, room)
         stays(rows, room)
     few = rows.count < 110
     if few:

@@ -23,6 +23,10 @@ from .reading import Json, check, examine, silent
 from .shown import shown
 
 
+AT_ONCE = 4_096
+"""How many numbers of blocks are looked at in one image."""
+
+
 class Ring:
     """The slots of an image, read also while a unit writes: no lock is taken, so no unit ever waits."""
 
@@ -234,38 +238,63 @@ def image_of(blocks: dict[int, bytes], path: Path) -> None:
     path.write_bytes(data)
 
 
-def is_readable(number: int, data: bytes) -> bool:
-    """Whether a block can be read, as `etcs_lab` says."""
-    with tempfile.TemporaryDirectory() as room:
-        path = Path(room) / "image"
-        image_of({number: data}, path)
-        return [slot["state"] for slot in examine(path)["slots"]] == ["block"]
+def readable(blocks: dict[int, list[Place]]) -> set[Place]:
+    """Of the places of some blocks those that can be read, as `etcs_lab` says. The first places of all blocks are in one image,
+    so many numbers in each, then the second ones, and so on."""
+    found, numbers = set[Place](), sorted(blocks)
+    while numbers:
+        few = [number for number in numbers[:AT_ONCE] if number < numbers[0] + AT_ONCE]
+        numbers = numbers[len(few):]
+        for place in range(max(len(blocks[number]) for number in few)):
+            places = {number: blocks[number][place] for number in few if place < len(blocks[number])}
+            with tempfile.TemporaryDirectory() as room:
+                path = Path(room) / "image"
+                image_of({number: one.read() for number, one in places.items()}, path)
+                found |= {places[slot["block"]] for slot in examine(path)["slots"] if slot["state"] == "block"}
+    return found
 
 
-def choose(found: Joined, number: int, place: Place) -> None:
-    """Takes a further block where there is none of its number yet, or it can be read and the one that is there can't."""
-    other = found.chosen.setdefault(number, place)
-    if other is place:
-        return
-    there, here = other.read(), place.read()
-    if there[layout.SECTOR:] == here[layout.SECTOR:]:
-        return
-    can_there, can_here = is_readable(number, there), is_readable(number, here)
-    if can_there and can_here:
-        found.contradictions.setdefault(number, (other, place))
-        return
-    if not can_there:
-        found.chosen[number] = place
-    if can_there != can_here and other.path != place.path:  # (what a loss of power left in an archive is behind it once more)
-        found.mended[number] = place if can_there else other
+def choose(found: Joined, number: int, places: list[Place], can_be_read: set[Place]) -> None:
+    """Takes of a block that differs the first one that can be read, else the last one."""
+    chosen = places[0]
+    for place in places[1:]:
+        can_there, can_here = chosen in can_be_read, place in can_be_read
+        if can_there and can_here:
+            found.contradictions.setdefault(number, (chosen, place))
+            continue
+        if can_there != can_here and chosen.path != place.path:  # (what a loss of power left in an archive is in it once more)
+            found.mended[number] = place if can_there else chosen
+        if not can_there:
+            chosen = place
+    found.chosen[number] = chosen
+
+
+def different(places: list[Place]) -> list[Place]:
+    """Those of a block's places that hold other bytes behind the gate than those before them."""
+    if len(places) == 1:
+        return places
+    by_bytes: dict[bytes, Place] = {}
+    for place in places:
+        by_bytes.setdefault(place.read()[layout.SECTOR:], place)
+    return list(by_bytes.values())
+
+
+def choose_all(found: Joined) -> None:
+    """Takes each block from one of its places."""
+    places: dict[int, list[Place]] = {}
+    for one in found.sources:
+        for number, place in one.blocks:
+            places.setdefault(number, []).append(place)
+    places = {number: different(of) for number, of in places.items()}
+    can_be_read = readable({number: of for number, of in places.items() if len(of) > 1})
+    for number, of in places.items():
+        choose(found, number, of, can_be_read)
 
 
 def join(out: Path, paths: list[Path]) -> Joined:
     """Makes one image of images and archives of one unit."""
     found = Joined([source(path) for path in paths])
-    for one in found.sources:
-        for number, place in one.blocks:
-            choose(found, number, place)
+    choose_all(found)
     if not found.chosen:
         raise Failed(f"{shown(paths[0])}: there is no block to be joined", REFUSED)
     slots = found.slots

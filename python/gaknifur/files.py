@@ -7,7 +7,6 @@ is. A file is written beside its name and synced, and takes the name once it is 
 import contextlib
 import ctypes
 import errno
-import fcntl
 import io
 import os
 import re
@@ -25,6 +24,7 @@ from urllib.parse import quote
 
 from . import evidence, layout
 from .last_net import say
+from .locks import lock
 from .program import DEVICE, REFUSED, Failed
 from .shown import shown
 
@@ -120,13 +120,32 @@ def open_to_read(path: Path) -> BinaryIO:
         mode = os.fstat(descriptor).st_mode
         if not stat.S_ISREG(mode) and not stat.S_ISBLK(mode):
             raise Failed(f"{path}: is no regular file and no device of blocks", DEVICE)
-        fcntl.flock(descriptor, fcntl.LOCK_SH | fcntl.LOCK_NB)
+        lock(descriptor, is_shared=True)
         return open(descriptor, "rb")
     except BaseException as error:
         os.close(descriptor)
         if isinstance(error, BlockingIOError):
             raise Failed(f"{path}: another program writes it", DEVICE) from error
         raise
+
+
+KINDS = ((stat.S_ISDIR, "a folder"), (stat.S_ISFIFO, "a named pipe (FIFO)"), (stat.S_ISCHR, "a device"), (stat.S_ISBLK, "a device of blocks"))
+"""What isn't a regular file, as it is called."""
+TO_READ = os.O_RDONLY | getattr(os, "O_NONBLOCK", 0) | getattr(os, "O_CLOEXEC", 0) | getattr(os, "O_BINARY", 0)
+
+
+def opened(path: Path) -> BinaryIO:
+    """A regular file, opened to be read. What else is there is refused by its kind; a pipe isn't waited for."""
+    try:
+        descriptor = os.open(path, TO_READ)
+    except OSError as error:
+        raise Failed(f"{path}: {error.strerror}", DEVICE) from error
+    mode = os.fstat(descriptor).st_mode
+    if not stat.S_ISREG(mode):
+        os.close(descriptor)
+        kind = next((name for is_one, name in KINDS if is_one(mode)), "something else")
+        raise Failed(f"{path}: is {kind}, and a regular file is needed", DEVICE)
+    return open(descriptor, "rb")
 
 
 def bytes_of(path: Path, most: int | None = None) -> bytes:
@@ -310,14 +329,14 @@ def unfinished(real: Path) -> Iterator[Path]:
     at the end is removed."""
     beside = real.with_name(f".lab-{os.getpid()}-{secrets.token_hex(8)}")
     beside.mkdir()
-    lock = os.open(beside, os.O_RDONLY | os.O_DIRECTORY | os.O_NOFOLLOW | os.O_CLOEXEC)
+    descriptor = os.open(beside, os.O_RDONLY | os.O_DIRECTORY | os.O_NOFOLLOW | os.O_CLOEXEC)
     try:
-        with contextlib.suppress(OSError):  # (a file system without locks: there nobody removes what is left)
-            fcntl.flock(lock, fcntl.LOCK_EX | fcntl.LOCK_NB)
+        with contextlib.suppress(OSError, Failed):  # (a file system without locks: there nobody removes what is left)
+            lock(descriptor)
         yield beside
     finally:
         shutil.rmtree(beside, ignore_errors=True)
-        os.close(lock)
+        os.close(descriptor)
 
 
 def rename_new(one: Path, other: Path) -> None:
@@ -349,19 +368,19 @@ def folders_of(names: Collection[str]) -> set[str]:
 
 def remove_one_left(path: Path, names: Collection[str]) -> None:
     """Removes a folder that a killed run left, where it is one."""
-    lock = os.open(path, os.O_RDONLY | os.O_DIRECTORY | os.O_NOFOLLOW | os.O_CLOEXEC) if path.is_dir() and not path.is_symlink() else -1
-    if lock < 0:
+    if not path.is_dir() or path.is_symlink():
         return
+    descriptor = os.open(path, os.O_RDONLY | os.O_DIRECTORY | os.O_NOFOLLOW | os.O_CLOEXEC)
     try:
-        fcntl.flock(lock, fcntl.LOCK_EX | fcntl.LOCK_NB)
+        lock(descriptor)
         plain, others = evidence.names_in(path)
-        if os.fstat(lock).st_uid == os.geteuid() and set(others) <= folders_of(names) and set(plain) <= set(names):
+        if os.fstat(descriptor).st_uid == os.geteuid() and set(others) <= folders_of(names) and set(plain) <= set(names):
             shutil.rmtree(path)
             say(f"{path}: removed; a run that was killed had left it unfinished")
-    except (OSError, evidence.Unfit):
+    except (OSError, Failed, evidence.Unfit):
         pass
     finally:
-        os.close(lock)
+        os.close(descriptor)
 
 
 def is_there(path: Path, inputs: Iterable[Path] = ()) -> bool:
@@ -390,7 +409,7 @@ class Appended:
         except OSError as error:
             raise Failed(f"{path}: {error.strerror}", DEVICE) from error
         try:
-            fcntl.flock(self.descriptor, fcntl.LOCK_EX | fcntl.LOCK_NB)
+            lock(self.descriptor)
             self.size = self.kept = os.lseek(self.descriptor, 0, os.SEEK_END)
             self.is_in_doubt = False
             """Whether a sync failed since the last good one. What was appended since is at `kept`."""

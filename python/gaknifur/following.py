@@ -16,17 +16,31 @@ from .words import MODES, event_text, kmh
 MOST_BLOCKS = 256
 """So many blocks are told at once."""
 POLL_SECONDS = 0.1
-LOCKS = Path("/proc/locks")
+PROC = Path("/proc")
+
+
+def device_of(descriptor: int) -> str:
+    """The device of an open file as the system's list of locks names it, which is that of its file system. On some file
+    systems, as Btrfs, `stat` names another one."""
+    with contextlib.suppress(OSError, IndexError, ValueError):
+        opened = dict(line.split(":", 1) for line in (PROC / "self/fdinfo" / str(descriptor)).read_text().splitlines() if ":" in line)
+        for mount in (PROC / "self/mountinfo").read_text().splitlines():
+            number, _, device = mount.split()[:3]
+            if number == opened["mnt_id"].strip():
+                major, minor = device.split(":")
+                return f"{int(major):02x}:{int(minor):02x}"
+    device_number = os.fstat(descriptor).st_dev
+    return f"{os.major(device_number):02x}:{os.minor(device_number):02x}"
 
 
 def is_held(ring: Ring) -> bool:
     """Whether a program holds the image as a unit does, by the system's list of locks. Where there is no such list, one may."""
     try:
-        lines = LOCKS.read_text().splitlines()
+        lines = (PROC / "locks").read_text().splitlines()
     except OSError:
         return True
-    inode = f":{os.fstat(ring.descriptor).st_ino}"
-    return any("FLOCK" in words and "WRITE" in words and any(word.endswith(inode) for word in words) for words in map(str.split, lines))
+    file = f"{device_of(ring.descriptor)}:{os.fstat(ring.descriptor).st_ino}"
+    return any("FLOCK" in words and "WRITE" in words and file in words for words in map(str.split, lines))
 
 
 def records(ring: Ring, blocks: dict[int, bytes]) -> list[Json]:

@@ -6,7 +6,6 @@ unproved, and keeps; it says so on standard error. The scripts are those of this
 installed, those beside it, or else on the PATH.
 """
 import contextlib
-import fcntl
 import functools
 import os
 import shutil
@@ -161,6 +160,9 @@ def ran(words: Sequence[str]) -> Ran:
     """Runs a program to its end. Its output goes to a file in memory, so that nobody has to read beside it, and the process is
     made without a copy of this one: that takes less than half of the time that `subprocess` takes, which a program of a
     millisecond shows."""
+    if not hasattr(os, "memfd_create"):  # (Linux alone has it)
+        done = subprocess.run(words, stdin=subprocess.DEVNULL, capture_output=True)
+        return Ran(done.returncode, done.stdout, done.stderr)
     output, said = memory_file("output"), memory_file("said")
     try:
         process = os.posix_spawnp(words[0], list(words), environment(), setsigdef=(signal.SIGPIPE, signal.SIGXFSZ), file_actions=(
@@ -195,6 +197,7 @@ def memory_file(name: str) -> int:
     file = os.memfd_create(name)
     if file > 2:
         return file
+    import fcntl  # (only where there is no such number, and Windows has no such module)
     other = fcntl.fcntl(file, fcntl.F_DUPFD_CLOEXEC, 3)
     os.close(file)
     return other

@@ -242,6 +242,30 @@ def syncs(rows, room):
         rows.same("both marks are written and synced", (len(done), done[-1], sum(size for _, size in done[1:-1])), (3, "sync", marks.size - len(FIRST) - 1))
 
 
+def many_contradictions(rows, room):
+    """Of many blocks that differ etcs_lab is asked in a few runs, also where a third one can't be read and numbers lie far apart."""
+    runs, examine, numbers = [], archive.examine, [*range(1, 301), 1_000_000, 1_000_001]
+    parts = {name: bytearray(layout.archive_sector()) for name in ("bad", "one", "other")}
+    for number in numbers:
+        for name, moment in (("bad", 7), ("one", 8), ("other", 9)):
+            data = bytearray(data_of(block(3, number, number, 1, [entry(number - 1, ("clock", moment), moment=moment)])))
+            data[SECTOR + 500] ^= name == "bad"
+            parts[name] += data
+    paths = {name: room / f"many-{name}" for name in parts}
+    for name, path in paths.items():
+        path.write_bytes(parts[name])
+
+    def counted(path):
+        runs.append(path)
+        return examine(path)
+
+    with patch.object(archive, "examine", counted):
+        found = archive.Joined([archive.source(paths[name]) for name in ("bad", "one", "other")])
+        archive.choose_all(found)
+    rows.same("many blocks that differ", (sorted(found.contradictions), {place.path for place in found.chosen.values()}, len(runs)),
+              (numbers, {paths["one"]}, 6))
+
+
 def stays(rows, room):
     """What isn't written."""
     told = journal()
@@ -279,6 +303,7 @@ def main(words):
         strangers(rows, room)
         gates(rows, room)
         syncs(rows, room)
+        many_contradictions(rows, room)
         stays(rows, room)
     few = rows.count < 110
     if few:

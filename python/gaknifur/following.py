@@ -11,7 +11,7 @@ from . import layout
 from .archive import Archive, Ring, image_of
 from .program import NOT_WHOLE, WHOLE
 from .reading import Json, objects
-from .words import MODES, event_text, kmh
+from .words import MODES, event_text, exact, kmh
 
 MOST_BLOCKS = 256
 """So many blocks are told at once."""
@@ -109,6 +109,6 @@ def text(line: Json) -> str:
         return f"blocks {told['first_block']} to {told['last_block']} were overwritten before they were read"
     if "unreadable" in line:
         return f"block {line['unreadable']['block']} can't be read"
-    place = "?" if line["place_cm"] is None else f"{line['place_cm'] / 100:g} m"
-    return (f"life {line['life']} event {line['event']} at {line['time_ms'] / 1000:g} s: {event_text(line)}; "
+    place = "?" if line["place_cm"] is None else f"{exact(line['place_cm'], 100)} m"
+    return (f"life {line['life']} event {line['event']} at {exact(line['time_ms'], 1000)} s: {event_text(line)}; "
             f"{MODES.get(line['mode'], line['mode'])}, brake {line['brake']}, limit {kmh(line['limit_m_per_h'])} km/h, front {place}")

@@ -9,7 +9,7 @@ etcs=${2:-$(dirname "$(readlink -f -- "$0")")/../crates/etcs/out/etcs}
 lab=$(realpath "$lab") && etcs=$(realpath "$etcs") || exit 1
 cd "$(dirname "$(readlink -f -- "$0")")/.." || exit 1
 export PYTHONDONTWRITEBYTECODE=1 GAKNIFUR_ETCS_LAB=$lab GAKNIFUR_ETCS=$etcs
-least=770 # results
+least=800 # results
 made=$(mktemp -d) || exit 1
 trap 'rm -rf "$made"' EXIT
 for program in "$lab" "$etcs"; do

@@ -37,7 +37,8 @@ from gaknifur.program import DEVICE, REFUSED, Failed  # noqa: E402
 from gaknifur.signing import Key, Trust  # noqa: E402
 from replay_rows import examples  # noqa: E402
 
-LEAST, SLOW = 300, 3
+LEAST = 300
+SLOW = 3
 """So many altered bags at least, and the seconds of a processor that an answer may take. One that never comes ends the test."""
 UNSIGNED = "the bag isn't signed by anybody who is named"
 AUTHORITY = """

@@ -1,5 +1,5 @@
 -- A telegram with the counter of its packet 3 first: what is as it was, and what is read.
-use Rattle.std.proofs.Common.{◌≡◌, ◌⊎◌, inl, inr, ℕ, ◌+◌, ◌-◌, ◌*◌, ◌/◌, ◌<◌, ◌≤◌, Bool, false, List, ◌++◌, length, length-append, take, drop, replicate, refl, sym, ap, subst, ◌∙◌, arith, append_assoc}
+use Rattle.std.proofs.Common.{◌≡◌, inl, inr, ℕ, ◌+◌, ◌-◌, ◌*◌, ◌/◌, ◌<◌, ◌≤◌, Bool, false, List, ◌++◌, length, length-append, take, drop, replicate, sym, ap, subst, ◌∙◌, arith, append_assoc}
 use Rattle.std.proofs.lemmas.List.{length-drop, length-take-le, take-append-le, drop-append-le, take-take, drop-take, drop-drop, take_at, drop_at, append-nil}
 use Rattle.std.proofs.Math.Seq.{drop-append-add}
 use Rattle.bits.specs.Bits.{number, number_bits}

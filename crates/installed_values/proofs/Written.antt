@@ -11,7 +11,7 @@ use Rattle.track_packets.specs.Layouts.{rows_of}
 use Rattle.track_packets.specs.Listing.{place_at, listed, listing_of, ended}
 use Rattle.track_packets.specs.declared.listing.Listing.{Listing}
 use Rattle.track_packets.specs.declared.listing.ListingEnd.{ListingEnd}
-use Rattle.track_packets.specs.declared.listing.ListingEnd.TheVariants.{EndMark, CutOff, WrongLength}
+use Rattle.track_packets.specs.declared.listing.ListingEnd.TheVariants.{EndMark, CutOff}
 use Rattle.track_packets.specs.declared.listing.PacketPlace.{PacketPlace}
 use Rattle.installed_values.specs.Adapting.{Tells, adapted_bits, countries_at, found_in, has_end}
 use Rattle.installed_values.specs.Finding.{installed_in, of_installed}

@@ -1,8 +1,8 @@
 -- A telegram with this project's packet 3 in place of the track's (this project's profile). Places, lengths and widths are
 -- bits. The track's packet 3 has 29 bits more: Q_NVSRBKTRG 1, Q_NVEMRRLS 1, D_NVPOTRP 15, M_NVCONTACT 2, T_NVCONTACT 8,
 -- M_NVDERUN 1, Q_NVDRIVER_ADHES 1.
-use Rattle.std.specs.Prelude.{◌≡◌, ℕ, ◌+◌, ◌-◌, ◌*◌, ◌/◌, ◌≤◌, Bool, true, false, List, ◌++◌, length, take, drop, replicate, Option, Some, None, Result, Ok, Err, if◌then◌else◌}
-use Rattle.bits.specs.Bits.{bits_of, number, number_bits}
+use Rattle.std.specs.Prelude.{◌≡◌, ℕ, ◌+◌, ◌-◌, ◌*◌, ◌/◌, Bool, true, false, List, ◌++◌, length, take, drop, replicate, Result, Ok, Err, if◌then◌else◌}
+use Rattle.bits.specs.Bits.{bits_of, number_bits}
 use Rattle.track_packets.specs.Layouts.{rows_of}
 use Rattle.track_packets.specs.Listing.{listing_of}
 use Rattle.track_packets.specs.declared.listing.ListingEnd.{ListingEnd}

@@ -1,6 +1,6 @@
 -- What a packet 3 that fits one of the two possible layouts alone says, with the counter of its countries first (this
 -- project's profile). Places and lengths are bits.
-use Rattle.std.specs.Prelude.{◌≡◌, ◌⊎◌, ℕ, ◌+◌, ◌*◌, ◌≤◌, Bool, List, ◌++◌, length, take, drop}
+use Rattle.std.specs.Prelude.{◌≡◌, ◌⊎◌, ℕ, ◌+◌, ◌≤◌, Bool, List, ◌++◌, length, take, drop}
 use Rattle.bits.specs.Bits.{number_bits}
 use Rattle.track_packets.specs.declared.listing.PacketPlace.{PacketPlace}
 use Rattle.installed_values.specs.Fitting.{CounterFirst, CountryFirst, HasLength, counter_at}

@@ -137,8 +137,8 @@ fn rewrite(
 /// Writes a telegram that has a packet 3 as a track of issue 2.3.0 sends it with this project's packet 3: its variables in
 /// the order of the track with the counter of its countries first, without those that this project has no place for
 /// (`has_place`), and all other bits as they were, padded with zero bits to whole bytes. It does so only where the packet 3
-/// fits one of the two layouts that are possible, and not the other. A telegram without one, with no end mark, or too long for a unit is to be handed on
-/// as it is. Where nothing is written, `out` stays.
+/// fits one of the two layouts that are possible, and not the other. A telegram without one, with no end mark, or too long
+/// for a unit is to be handed on as it is. Where nothing is written, `out` stays.
 pub fn adapt(bytes: &[u8], out: &mut [u8; TELEGRAM_BYTES]) -> Result<Adaptation, AdaptError>
     ensures long { 104 < length bytes.now → (result ≡ Ok Adaptation.AsItIs) × (out.new ≡ out.old) }
     ensures told { length bytes.now ≤ 104 → Tells (found_in bytes.now) (bits_of bytes.now) result out.old out.new }

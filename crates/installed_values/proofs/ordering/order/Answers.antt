@@ -1,7 +1,7 @@
-use Rattle.std.proofs.Common.{◌≡◌, ℕ, ◌*◌, Bool, List, length, take, sym, subst, ap, ◌∙◌, arith}
+use Rattle.std.proofs.Common.{◌≡◌, ◌*◌, Bool, List, length, take, sym, subst, ap, ◌∙◌, arith}
 use Rattle.bits.specs.Bits.{bits_of}
 use Rattle.bits.proofs.Bytes.{length-bits_of}
-use Rattle.installed_values.specs.Ordering.{IsCounted, in_order}
+use Rattle.installed_values.specs.Ordering.{FitsBoth, FitsNeither, IsCounted, in_order}
 use Rattle.installed_values.proofs.Ordered.{by_counter, by_country, counter_before, unpadded}
 use Rattle.installed_values.proofs.ordering.order.Goals as goal
 
@@ -11,7 +11,13 @@ write_in_order-requires c =
     let within = r.0.0.0 in
     let len = r.0.0.1 in
     let whole : length c.new-bits.result ≡ 8 * length c.args.bytes.now = ap length c.new-bits.ensures ∙ length-bits_of c.args.bytes.now in
-    (r.3, (omega (arith, within, len), omega (arith, whole, c.requires)))
+    record { few = r.3; there = omega (arith, within, len); room = omega (arith, whole, c.requires) }
+
+pub returns-in-Neither : goal.returns-in-Neither
+returns-in-Neither c = subst (λ (b : List Bool). FitsNeither c.args.place b) c.new-bits.ensures c.in-Neither.ensures
+
+pub returns-in-Both : goal.returns-in-Both
+returns-in-Both c = subst (λ (b : List Bool). FitsBoth c.args.place b) c.new-bits.ensures c.in-Both.ensures
 
 pub returns-in-CounterFirst : goal.returns-in-CounterFirst
 returns-in-CounterFirst c =

@@ -93,7 +93,7 @@ static void adaptations(void) {
     is("too long a telegram", told.outcome, ETCS_ADAPTATION_NONE);
 }
 
-/* The two layouts that a track's packet 3 may have: countries 31, 32, 35, 63 and 64, alone and of two. (The bits that fill the last byte that was sent
+/* The two layouts that a track's packet 3 may have: countries 31, 32, 35, 63 and 64, lists of one and of two. (The bits that fill the last byte that was sent
  * stay: 4 of 248 for one country, 2 of 256 for two.) */
 static void layouts(void) {
     /* the counter first: a is 1, and b is 31, 0, 3, 31, 0; a country first needs b 0 */

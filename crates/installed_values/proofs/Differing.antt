@@ -6,7 +6,7 @@ use Rattle.bits.proofs.Numbers.{number-parts}
 use Rattle.track_packets.specs.declared.listing.PacketPlace.{PacketPlace}
 use Rattle.installed_values.specs.Ordering.{FitsBoth}
 
--- With n countries the counter first is n, and the counter behind a country is n - 1. So the country by the one layout is
+-- With n countries the counter first is n, and the counter after a country is n - 1. So the country by the one layout is
 -- 32 t + n - 1, by the other 32 n + t, where t are the five bits between: 31 t = 31 n + 1 holds for no t.
 pub differ : (place : PacketPlace) (bits : List Bool) → FitsBoth place bits
     → number (take 10 (drop 45 (drop place.start bits))) ≡ number (take 10 (drop 40 (drop place.start bits))) → ⊥

@@ -28,7 +28,7 @@ same p bits sent layout e = record {
 grouping : (f c k z : List Bool) → f ++ (c ++ (k ++ z)) ≡ ((f ++ c) ++ k) ++ z
 grouping f c k z = simp append_assoc
 
--- the counter is written where the first country was, and the country behind it
+-- the counter is written where the first country was, and the country after it
 pub counter_before : (p : PacketPlace) (n : ℕ) (bits : List Bool) → n < 32 → p.start + p.length ≤ length bits → p.length ≡ 176 + 10 * n → AsSent p bits (in_order n p bits)
 counter_before p n bits few there len =
     let f = take (p.start + 40) bits in

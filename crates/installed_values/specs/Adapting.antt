@@ -50,7 +50,7 @@ pub record Rewrites (bits : List Bool) (old new : List ℕ) (n : ℕ) : Type 0 w
   pub written : bits_of (take n new) ≡ bits ++ replicate (8 * n - length bits) false
   pub rest : drop n new ≡ drop n old
 
--- The telegram that fits one layout alone was written, by that layout.
+-- The telegram fits exactly one layout, and was written by that layout.
 abbrev pub IsWritten : PacketPlace → List Bool → ℕ → List ℕ → List ℕ → Type 0
 IsWritten place bits n old new =
     (sent : List Bool) × IsOrdered place bits sent × Rewrites (adapted_bits (countries_at (drop place.start sent)) place sent) old new n

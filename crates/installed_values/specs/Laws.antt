@@ -14,7 +14,7 @@ use Rattle.installed_values.specs.Rebuilding.{IsRebuilt}
 use Rattle.installed_values.specs.Staying.{OthersStay, IsLeftAsItIs, FaultsStay, ValuesStay}
 use Rattle.installed_values.specs.declared.adapting.Adaptation.TheVariants.{Written}
 
--- so it is of each packet 3, the telegram that it stands in, that telegram with the counter first, and what was written
+-- so it is of each packet 3, the telegram that it is in, that telegram with the counter first, and what was written
 abbrev pub OfEachWritten : (PacketPlace → List ℕ → List Bool → List ℕ → Type 0) → Type 0
 OfEachWritten P =
     (bytes old new : List ℕ) (n : ℕ) (installed : PacketPlace) (sent : List Bool)

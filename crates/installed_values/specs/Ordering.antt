@@ -1,4 +1,4 @@
--- What a packet 3 that fits one of the two possible layouts alone says, with the counter of its countries first (this
+-- What a packet 3 that fits exactly one of the two possible layouts says, with the counter of its countries first (this
 -- project's profile). Places and lengths are bits.
 use Rattle.std.specs.Prelude.{◌≡◌, ◌⊎◌, ℕ, ◌+◌, ◌≤◌, Bool, List, ◌++◌, length, take, drop}
 use Rattle.bits.specs.Bits.{number_bits}

@@ -113,7 +113,7 @@ fn write(
     writer.copy_to(out)
 }
 
-/// Writes a telegram with the packet 3 there in this project's order, where it fits one layout alone.
+/// Writes a telegram with the packet 3 there in this project's order, where it fits exactly one layout.
 fn rewrite(
     bytes: &[u8],
     place: PacketPlace,

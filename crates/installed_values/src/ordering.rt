@@ -74,7 +74,7 @@ fn copy_telegram(bytes: &[u8], sent: &mut [u8; TELEGRAM_BYTES])
     sent[..bytes.len()].copy_from_slice(bytes);
 }
 
-/// Writes the telegram as it would be if the track put the counter first, where its packet 3 fits one layout alone.
+/// Writes the telegram as it would be if the track put the counter first, where its packet 3 fits exactly one layout.
 pub(crate) fn order(bytes: &[u8], place: PacketPlace, sent: &mut [u8; TELEGRAM_BYTES]) -> Ordered
     requires { length bytes.now ≤ 104 }
     ensures { Answers place (bits_of bytes.now) (bits_of (take (length bytes.now) sent.new)) result }

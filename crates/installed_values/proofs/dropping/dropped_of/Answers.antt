@@ -22,8 +22,8 @@ returns-in-One-order-clause-told c =
     let n = c.in-One-order.countries in
     let got = bits_of (take (length c.args.bytes.now) c.order.new.sent) in
     let value = c.dropped_there.ensures
-        ∙ ap (λ b. slice_get (values_dropped n place b) i) c.reader_of-bits.ensures
-        ∙ ap (λ k. slice_get (values_dropped k place got) i) c.in-One-order.ensures.counter in
+    ∙ ap (λ b. slice_get (values_dropped n place b) i) c.reader_of-bits.ensures
+    ∙ ap (λ k. slice_get (values_dropped k place got) i) c.in-One-order.ensures.counter in
     λ le. subst (λ (f : Found). TellsDropped f bits i c.dropped_there.result) c.in-One.ensures (inl (got, c.in-One-order.ensures.ordered, value))
 
 pub returns-in-Neither : goal.returns-in-Neither

@@ -387,7 +387,7 @@ enum etcs_adaptation {
     ETCS_ADAPTATION_WRITTEN = 1,     /**< hand on what was written */
     ETCS_ADAPTATION_SEVERAL = 2,     /**< it has more than one: nothing was written, and a unit refuses the telegram */
     ETCS_ADAPTATION_NO_LAYOUT = 3,   /**< it fits neither of the two possible layouts (docs/PACKETS.md): nothing was written, and a unit refuses the telegram */
-    ETCS_ADAPTATION_AMBIGUOUS = 4    /**< it fits both, which list different countries: nothing was written, and a unit refuses the telegram */
+    ETCS_ADAPTATION_AMBIGUOUS = 4    /**< it fits both, which differ in the first country: nothing was written, and a unit refuses the telegram */
 };
 
 /** What came of a telegram. What isn't there is 0. */

@@ -37,8 +37,8 @@ OF_TRACK = f"00000011 10 0000010111010 {SPEEDS} 1 0 {OVERRIDE} 000000011001000 0
 OF_UNIT = f"00000011 10 0000010011101 {SPEEDS} {OVERRIDE} 111111111111111"
 """A packet 3 for one country, by hand: as a track of issue 2.3.0 sends it, and as a unit reads it."""
 SAID = {"several": "etcs_lab: HEX: has more than one packet 3 as a track of issue 2.3.0 sends it\n",
-        "neither": "etcs_lab: HEX: the packet 3 at bit {}, of {} bits, fits neither of its possible layouts. Nothing was changed.\n",
-        "both": "etcs_lab: HEX: the packet 3 at bit {}, of {} bits, fits both of its possible layouts: countries {} with N_ITER first, "
+        "neither": "etcs_lab: HEX: has a packet 3 at bit {}, of {} bits, that fits neither of its possible layouts. Nothing was changed.\n",
+        "both": "etcs_lab: HEX: has a packet 3 at bit {}, of {} bits, that fits both of its possible layouts: countries {} with N_ITER first, "
                 "or {} with a NID_C before it. Nothing was changed.\n"}
 LEAST = {"telegrams": 2_500, "refused": 2_500}
 

@@ -96,7 +96,7 @@ fn not_adapted<R: AllocGlobal + Eprint>(rt: &R, bytes: &[u8], place: PacketPlace
     let (start, length) = (place.start, place.length);
     let which = if fits_both { "both" } else { "neither" };
     let _ = eprint!(rt;
-        "etcs_lab: HEX: the packet 3 at bit {start}, of {length} bits, fits {which} of its possible layouts"
+        "etcs_lab: HEX: has a packet 3 at bit {start}, of {length} bits, that fits {which} of its possible layouts"
     );
     if fits_both {
         say_readings(rt, bytes, place);

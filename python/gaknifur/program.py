@@ -330,7 +330,7 @@ def adapted(digits: str) -> str:
     refuses, that is an error."""
     path = find()
     try:
-        done = subprocess.run([path, "telegram", "--installed", "--", digits], stdin=subprocess.DEVNULL, capture_output=True, text=True,
+        done = subprocess.run([path, "telegram", f"--installed={digits}"], stdin=subprocess.DEVNULL, capture_output=True, text=True,
                               encoding="utf-8", errors="replace")
     except OSError as error:
         raise Failed(f"{path}: {error.strerror}", DEVICE) from error

@@ -134,6 +134,15 @@ for number in range(10_000):
             unit.greet("a")
             for number in range(10_000):
                 unit.answer({"event": number, "kind": "telegram", "telegram": "0" * 200})
+        # (which of the two comes first is a matter of how busy the machine is)
+        self.assertRegex(str(found.exception), "it doesn't read its input|a line that nobody asked for")
+        self.assertLess(time.monotonic() - begun, 60)
+
+    def test_it_neither_reads_nor_answers(self) -> None:
+        begun = time.monotonic()
+        with self.unit("fcntl.fcntl(0, fcntl.F_SETPIPE_SZ, 4096)\ngreet()\ntime.sleep(1000)\n", 2.0) as unit, self.assertRaises(Broken) as found:
+            unit.greet("a")
+            unit.answer({"event": 0, "kind": "telegram", "telegram": "0" * 200_000})
         self.assertIn("it doesn't read its input", str(found.exception))
         self.assertLess(time.monotonic() - begun, 60)
 

@@ -386,7 +386,8 @@ enum etcs_adaptation {
     ETCS_ADAPTATION_NONE = 0,        /**< it has no packet 3 as a track of issue 2.3.0 sends it: hand it on as it is */
     ETCS_ADAPTATION_WRITTEN = 1,     /**< hand on what was written */
     ETCS_ADAPTATION_SEVERAL = 2,     /**< it has more than one: nothing was written, and a unit refuses the telegram */
-    ETCS_ADAPTATION_WRONG_LENGTH = 3 /**< its length isn't 176 + 10 N_ITER: nothing was written, and a unit refuses the telegram */
+    ETCS_ADAPTATION_NO_LAYOUT = 3,   /**< it fits neither of the two possible layouts (docs/PACKETS.md): nothing was written, and a unit refuses the telegram */
+    ETCS_ADAPTATION_AMBIGUOUS = 4    /**< it fits both, which differ in the first country: nothing was written, and a unit refuses the telegram */
 };
 
 /** What came of a telegram. What isn't there is 0. */
@@ -739,7 +740,8 @@ static inline uint32_t etcs_unit_format_request(uint32_t slots, uint32_t index, 
 
 /** Makes of a telegram with a packet 3 as a track of issue 2.3.0 sends it one that a unit reads, before it is handed to
  * etcs_unit_telegram: Q_NVSRBKTRG, Q_NVEMRRLS, D_NVPOTRP, M_NVCONTACT, T_NVCONTACT, M_NVDERUN and Q_NVDRIVER_ADHES of that
- * packet are left out, its L_PACKET is 29 less, and all other bits stay (docs/PACKETS.md). `told` says what came of it, and
+ * packet are left out, its L_PACKET is 29 less, N_ITER comes before the first country, and all other bits stay. It is done
+ * only where the packet fits one of its two possible layouts and not the other (docs/PACKETS.md). `told` says what came of it, and
  * where the packet stands in the telegram that was sent; that one is what the track said, and the journal holds the other:
  * keep it outside. Answers OK, or NO_ROOM where `room` is below ETCS_TELEGRAM_BYTES; then nothing is written. */
 static inline uint32_t etcs_telegram_adapt(const uint8_t *bytes, size_t len, uint8_t *out, size_t room, etcs_adapted *told) {

@@ -38,6 +38,6 @@ rows test_blocks 741
 rows test_journal 1100
 rows test_onboard 34585
 rows test_kernel 705
-rows test_track 60
+rows test_track 86
 rows test_json 12
 exit $status

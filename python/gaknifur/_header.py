@@ -213,7 +213,8 @@ class Adaptation(enum.IntEnum):
     NONE = 0
     WRITTEN = 1
     SEVERAL = 2
-    WRONG_LENGTH = 3
+    NO_LAYOUT = 3
+    AMBIGUOUS = 4
 
 
 class DroppedVariable(enum.IntEnum):

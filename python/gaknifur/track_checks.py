@@ -604,8 +604,10 @@ def packet_3_of_installed_tracks(judged: Judged) -> Iterator[Finding]:
     """A telegram that is refused since its packet 3 has more variables."""
     for event in judged.walked.events:
         for number, bits in packets_sent(event.record) if is_refused(event.record) else ():
-            count = int(bits[40:45] or "0", 2)
-            if number == 3 and int(bits[10:23], 2) == INSTALLED + WIDTH["NID_C"] * count:
+            # N_ITER is before the first NID_C, or after it (docs/PACKETS.md).
+            length, counts = int(bits[10:23], 2), (int(bits[40:45] or "0", 2), 1 + int(bits[50:55] or "0", 2))
+            count = next((one for one in counts if length == INSTALLED + WIDTH["NID_C"] * one), None)
+            if number == 3 and count is not None:
                 yield Finding(39, event.pointer, f"the telegram has a packet 3 of an installed track: {INSTALLED + 10 * count} bits, and "
                               f"{147 + 10 * count} are read here; the whole telegram is refused",
                               "send a packet 3 of this profile (docs/CONFORMANCE.md)")

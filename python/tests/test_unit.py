@@ -317,6 +317,10 @@ class Calls(OverTheLibrary):
         # The 4 bits that fill the last of the 31 bytes that were sent stay: 219 bits are 28 bytes.
         self.assertEqual(units.adapt(track), units.Adapted(Adaptation.WRITTEN, own + b"\0", 50, 186, dropped))
         self.assertEqual(units.adapt(own), units.Adapted(Adaptation.NONE, own, None, None, {}))
+        # Country 64 with N_ITER first (1, 64), or country 34 before N_ITER (34, 0): the same 15 bits.
+        both = telegram("00000011" "10" "0000010111010" + speeds.replace("000010000000111", "000010001000000") + "1" "0" + override
+                        + "000000011001000" "01" "11111111" "1" + "1" * 15 + "0")
+        self.assertEqual(units.adapt(both), units.Adapted(Adaptation.AMBIGUOUS, both, 50, 186, {}))
 
     def test_packets_that_are_not_used(self) -> None:
         """137, which no unit knows, 66 for the other direction, and what no mode but System Failure leaves out (by hand)."""

@@ -276,6 +276,30 @@ def data_of(bits):
     return int(bits, 2).to_bytes(len(bits) // 8, "big") if bits else b""
 
 
+COUNTER_FIRST = LAYOUTS[3]
+COUNTRY_FIRST = COUNTER_FIRST.replace("(N_ITER NID_C)", "NID_C (N_ITER NID_C)")
+"""The two layouts that a track's packet 3 may have."""
+MOST_COUNTRIES = 31
+GREATEST = {"Q_SCALE": 2, "M_NVCONTACT": 2} | dict.fromkeys(
+    "V_NVSHUNT V_NVSTFF V_NVONSIGHT V_NVUNFIT V_NVREL V_NVALLOWOVTRP V_NVSUPOVTRP".split(), 120)
+"""Of each variable of packet 3 that has numbers without a value the greatest one that has (SUBSET-026, 7.5.1)."""
+
+
+def reading(bits, layout):
+    """What a packet 3 of these bits says by a layout: its countries, and its other fields as name, width and number; none where it
+    doesn't fit."""
+    walk = Walk(bits)
+    try:
+        walk.all(["NID_PACKET", "Q_DIR", "L_PACKET"])
+        walk.all(parts_of(layout))
+    except Stopped:
+        return None
+    countries = [number for name, _, _, number in walk.fields if name == "NID_C"]
+    others = [(name, width, number) for name, _, width, number in walk.fields if name not in ("NID_C", "N_ITER")]
+    spare = any(number > GREATEST.get(name, number) for name, _, number in others)
+    return None if spare or walk.at < len(bits) or len(countries) > MOST_COUNTRIES else (countries, others)
+
+
 def adapted(data):
     """What becomes of a telegram: `written` with its bytes, or why it stays; with place and length of the packet 3 that is meant."""
     packets, (end, _) = packets_in_order(data)
@@ -284,12 +308,14 @@ def adapted(data):
         return "as it is", None
     if len(found) > 1:
         return "several", found[1]
-    at, length = found[0]
-    fields, _ = fields_of(data, 3, at, length)
-    if fields is None:
-        return "length", found[0]
-    kept = [(name, width, number) for name, _, width, number in fields if name not in INSTALLED]
+    bits, (at, length) = bits_of(data), found[0]
+    readings = [one for layout in (COUNTER_FIRST, COUNTRY_FIRST) if (one := reading(bits[at:at + length], layout))]
+    if len(readings) != 1:
+        return "both" if readings else "neither", found[0]
+    countries, others = readings[0]
+    kept = [(name, width, number) for name, width, number in others if name not in INSTALLED]
+    where = [name for name, _, _ in kept].index("D_VALIDNV") + 1
+    kept[where:where] = [("N_ITER", WIDTH["N_ITER"], len(countries)), *(("NID_C", WIDTH["NID_C"], country) for country in countries)]
     new = sum(width for _, width, _ in kept)
     body = "".join(f"{new if name == 'L_PACKET' else number:0{width}b}" for name, width, number in kept)
-    bits = bits_of(data)
     return "written", found[0], data_of(bits[:at] + body + bits[at + length:])

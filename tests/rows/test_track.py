@@ -129,7 +129,7 @@ def adapt_told(told):
         told.end()
         return "as it is", None
     place = tuple(told.take(2))
-    answer = {1: "written", 2: "several", 3: "length"}[outcome], place
+    answer = {1: "written", 2: "several", 3: "neither", 4: "both"}[outcome], place
     if outcome == 1:
         answer = *answer, bytes_told(told)
     told.end()
@@ -155,7 +155,7 @@ def adapted(words):
     alike = sum(adapt_told(one) == answer for one, answer in zip(told, wanted))
     again = sum(adapt_told(one) == ("as it is", None) for one in told[len(telegrams):])
     return [f"alike: {alike} of {len(telegrams)}", f"written: {len(written)}, as they are then: {again}",
-            *(f"{why}: {sum(one[0] == why for one in wanted)}" for why in ("as it is", "several", "length"))]
+            *(f"{why}: {sum(one[0] == why for one in wanted)}" for why in ("as it is", "several", "neither", "both"))]
 
 
 def kind(words):
@@ -197,13 +197,36 @@ def packet_bits(chance, number):
     return f"{number:08b}{chance.randint(0, 3):02b}{max(length, 0):013b}" + body
 
 
+def country(chance):
+    """A country; each second one is such that both layouts may fit."""
+    return chance.choice([chance.randint(0, 1023), 32 * chance.randint(0, 31) + chance.randint(0, 2), chance.randint(32, 127)])
+
+
+def national_bits(chance):
+    """A packet 3 by one of the two layouts that a track may have; now and then with a number that has no value, or another length."""
+    countries = [country(chance) for _ in range(chance.randint(0, 4))]
+    listed = "".join(f"{one:010b}" for one in countries)
+    counter = f"{len(countries):05b}" + listed
+    if countries and chance.random() < 0.5:
+        counter = listed[:10] + f"{len(countries) - 1:05b}" + listed[10:]
+    names = re.sub(r"\(.*?\) ", "", plain.COUNTER_FIRST).split()
+    numbers = {name: chance.randint(0, plain.GREATEST.get(name, (1 << plain.WIDTHS[name]) - 1)) for name in names}
+    if chance.random() < 0.1:
+        name = chance.choice(sorted(plain.GREATEST))
+        numbers[name] = chance.randint(plain.GREATEST[name] + 1, (1 << plain.WIDTHS[name]) - 1)
+    told = [f"{numbers[name]:0{plain.WIDTHS[name]}b}" for name in names]
+    body = "".join([*told[:2], counter, *told[2:]])
+    length = 23 + len(body) + (chance.randint(-20, 20) if chance.random() < 0.05 else 0)
+    return f"{3:08b}{chance.randint(0, 2):02b}{length:013b}" + body
+
+
 def telegram(chance, first=()):
     """Packets of random numbers behind a header, and an end mark; at times bits are turned, or the end is cut off."""
     numbers = [*plain.LAYOUTS, 5, 65, 66, 0, 2, 6, 88, 180, 200]
     bits = "".join(chance.choice("01") for _ in range(plain.HEADER_BITS))
     count = chance.randint(1, 2 if first else 4)
     for number in chance.sample([*first, *(chance.choice(numbers) for _ in range(count))], len(first) + count):
-        bits += packet_bits(chance, number)
+        bits += national_bits(chance) if first and number == 3 else packet_bits(chance, number)
     data = bytearray(plain.data_of(bits + "1" * 8))
     for _ in range(chance.choice([0, 0, 0, 1, 2])):
         at = chance.randrange(plain.HEADER_BITS, 8 * len(data))

@@ -19,7 +19,7 @@ TOP = Path(__file__).resolve().parents[2]
 sys.path.insert(0, str(TOP / "python"))
 from gaknifur import track_checks  # noqa: E402
 
-LEAST_ROWS, LEAST_ITEMS, LEAST_CASES = 74, 28, 247
+LEAST_ROWS, LEAST_ITEMS, LEAST_CASES = 75, 28, 247
 HEAD = """test_case: NAME
 feature: Lint
 sections: [3.13]
@@ -34,6 +34,7 @@ VALUES = ("3: D_VALIDNV 32767, V_NVSHUNT 6, V_NVSTFF 8, V_NVONSIGHT 6, V_NVUNFIT
           "D_NVOVTRP 200, T_NVOVTRP 60, D_NVSTFF 32767")
 RESTRICTION = "007F802001506023A0E04B0064427F80"
 INSTALLED = "90007F80200140E0583FFFC0184062820001400300C83C01907FBFFF90A00F83FF80"
+COUNTRY_FIRST = "90007F802003C0E05D3FFFC400061018A080004000C0320F006423DFFFE41808E83800003E905FE0"  # NID_C 64, then N_ITER 0
 
 
 def full(more, end=300):
@@ -187,6 +188,8 @@ ROWS = [
      "D_GRADIENT 199", "D_GRADIENT 200"),
     ("a_packet_3_of_an_installed_track", [("advice", "/steps/4/telegram", ["2 WrongLength"]), (39, "/steps/4/telegram", ["176 bits, and 147"])],
      f'{{steps: [use: staff, {{telegram: "{INSTALLED}"}}]}}', INSTALLED, f"NID_BG 7; {VALUES}"),
+    ("a_packet_3_with_a_country_first", [("advice", "/steps/4/telegram", ["2 WrongLength"]), (39, "/steps/4/telegram", ["186 bits, and 157"])],
+     f'{{steps: [use: staff, {{telegram: "{COUNTRY_FIRST}"}}]}}', COUNTRY_FIRST, f"NID_BG 7; {VALUES}"),
     ("an_authority_in_level_0", [(40, "/steps/4/telegram", ["group 1/7", "level 0"])],
      f"{{steps: [use: unfitted, {{telegram: \"NID_BG 7; 12: V_MAIN 24, L_ENDSECTION 300; {PROFILE}\"}}]}}",
      "NID_BG 7; ", "NID_BG 7; 41: D_LEVELTR 300, M_LEVELTR 2, L_ACKLEVELTR 0; "),

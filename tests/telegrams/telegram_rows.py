@@ -26,7 +26,7 @@ from compared import Compared, loaded, run, status_of_full
 from named import WIDTH
 from random_inputs import headed, mutated
 from test_track import telegram as installed
-from track_packets import adapted, data_of
+from track_packets import COUNTER_FIRST, COUNTRY_FIRST, adapted, bits_of, data_of, reading
 
 RANDOM, SEED = 10_000, 2026
 INSTALLED = 400
@@ -37,7 +37,9 @@ OF_TRACK = f"00000011 10 0000010111010 {SPEEDS} 1 0 {OVERRIDE} 000000011001000 0
 OF_UNIT = f"00000011 10 0000010011101 {SPEEDS} {OVERRIDE} 111111111111111"
 """A packet 3 for one country, by hand: as a track of issue 2.3.0 sends it, and as a unit reads it."""
 SAID = {"several": "etcs_lab: HEX: has more than one packet 3 as a track of issue 2.3.0 sends it\n",
-        "length": "etcs_lab: HEX: has a packet 3 whose length isn't 176 + 10 N_ITER bits\n"}
+        "neither": "etcs_lab: HEX: has a packet 3 at bit {}, of {} bits, that fits neither of its possible layouts. Nothing was changed.\n",
+        "both": "etcs_lab: HEX: has a packet 3 at bit {}, of {} bits, that fits both of its possible layouts: countries {} with N_ITER first, "
+                "or {} with a NID_C before it. Nothing was changed.\n"}
 LEAST = {"telegrams": 2_500, "refused": 2_500}
 
 
@@ -120,6 +122,47 @@ def bits(*parts):
     return data_of("".join(parts).replace(" ", "")).hex().upper()
 
 
+def with_list(track, listed):
+    """A packet 3 of a track with another list, for one country or for two."""
+    length = len("".join(track.split())) - 15 + len(listed.replace(" ", ""))
+    return track.replace("0000010111010", f"{length:013b}").replace("00001 0000000111", listed)
+
+
+"""Lists of a packet 3 by hand: bits, and the countries that a unit is handed, or those by each layout (PACKETS.md has the reason)."""
+LISTS = [
+    ("00001 0000011111", [31]), ("00001 0000100000", ("32", "33")), ("00001 0000100011", [35]), ("00001 0000111111", [63]),
+    ("00001 0001000000", ("64", "34")),
+    ("0000011111 00000", [31]), ("0000100000 00000", ("0", "32")), ("0000100011 00000", ("96", "35")), ("0000111111 00000", ("992", "63")),
+    ("0001000000 00000", [64]),
+    ("00010 0000011111 0001000000", [31, 64]), ("00010 0000100001 0000100011", ("33, 35", "65, 35")),
+    ("0000100011 00001 0000111111", [35, 63]), ("0001000000 00001 0000011111", ("1, 31", "64, 31")),
+]
+
+
+def said_of(data, outcome, place):
+    """What is said of a telegram that isn't adapted."""
+    if outcome != "both":
+        return SAID[outcome].format(*(place or ()))
+    at, length = place
+    readings = [reading(bits_of(data)[at:at + length], layout)[0] for layout in (COUNTER_FIRST, COUNTRY_FIRST)]
+    return SAID["both"].format(at, length, *(", ".join(map(str, countries)) for countries in readings))
+
+
+def compare_lists(answer, compared):
+    """The two layouts that a track's packet 3 may have, by hand."""
+    for listed, wanted in LISTS:
+        packet = with_list(OF_TRACK, listed)
+        length = len("".join(packet.split()))
+        printed, said, status = answer(bits(HEADER, packet, END))
+        if isinstance(wanted, tuple):
+            compared.same(f"list {listed}", (printed, said, status), ("", SAID["both"].format(50, length, *wanted), 1))
+            continue
+        own = f"{len(wanted):05b}" + "".join(f"{country:010b}" for country in wanted)
+        unit = OF_UNIT.replace("0000010011101", f"{length - 29:013b}").replace("00001 0000000111", own)
+        digits = bits(HEADER, unit, END)
+        compared.same(f"list {listed}", (printed.strip()[:len(digits)], said, status), (digits, "", 0))
+
+
 def compare_installed(program, compared):
     """What a unit is to be handed: rows by hand, and random telegrams beside the plain program."""
     def answer(digits):
@@ -135,12 +178,13 @@ def compare_installed(program, compared):
         printed, said, status = run(program, words)
         compared.same(f"words {words}", (printed, said.startswith("error: "), status), ("", True, 2))
     compared.same("a full device", status_of_full(program, ["telegram", "--installed", track]), 1)
+    compare_lists(answer, compared)
     numbers, written = random.Random(SEED), 0
     for _ in range(INSTALLED):
         data = installed(numbers, [3])
-        outcome, _, *new = adapted(data)
+        outcome, place, *new = adapted(data)
         written += outcome == "written"
-        wanted = ("", SAID[outcome], 1) if outcome in SAID else ((new[0] if new else data).hex().upper() + "\n", "", 0)
+        wanted = ("", said_of(data, outcome, place), 1) if outcome in SAID else ((new[0] if new else data).hex().upper() + "\n", "", 0)
         compared.same(f"adapted {data.hex()}", answer(data.hex()), wanted)
     compared.unless(written >= INSTALLED // 2, f"only {written} telegrams were adapted")
 

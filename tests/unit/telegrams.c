@@ -14,7 +14,17 @@
 /* Packet 3 for one country, as a track sends it and as a unit reads it; of the former also one of two bits more. */
 #define SPEEDS "01 111111111111111 00001 0000000111 0000110 0001000 0000110 0010100 0001000 000000000000010 "
 #define OVERRIDE "0000000 0000110 000000011001000 00111100 "
-#define BEHIND SPEEDS "1 0 " OVERRIDE "000000011001000 01 11111111 1 111111111111111 0 "
+#define BEHIND SPEEDS TAIL
+#define TAIL "1 0 " OVERRIDE "000000011001000 01 11111111 1 111111111111111 0 "
+#define LIMITS "0000110 0001000 0000110 0010100 0001000 000000000000010 "
+/* The same with another list. With the counter first it is `n c1 ..`; with a country first `c1 n-1 ..`: of its first 15 bits five are a, five t and five
+ * b. The first layout fits where a is n (c1 is 32 t + b), the other one where b is n - 1 (c1 is 32 a + t). */
+#define LISTED(bits) "00000011 10 " bits LIMITS TAIL
+#define ONE "0000010111010 01 111111111111111 "
+#define TWO "0000011000100 01 111111111111111 "
+/* What a unit reads: 157 bits for one country, 167 for two. */
+#define OWN_OF(country) "00000011 10 0000010011101 01 111111111111111 00001 " country LIMITS OVERRIDE "111111111111111 "
+#define OWN_OF_TWO(countries) "00000011 10 0000010100111 01 111111111111111 00010 " countries LIMITS OVERRIDE "111111111111111 "
 #define INSTALLED "00000011 10 0000010111010 " BEHIND
 #define LONGER "00000011 10 0000010111100 " BEHIND "00 "
 #define OF_NO_COUNTRY "00000011 01 0000010110000 10 000000000001010 00000 0000110 0001000 0000110 0010100 0001000 000000000000010 0 1 " OVERRIDE "111111111111110 10 00000101 0 000000001100100 1 "
@@ -74,13 +84,37 @@ static void adaptations(void) {
     adapts("no byte", "", ETCS_ADAPTATION_NONE, 0, 0, "");
     adapts("both kinds", HEADER OWN INSTALLED END, ETCS_ADAPTATION_WRITTEN, 207, 186, HEADER OWN OWN END "0000000");
     adapts("two of a track", HEADER INSTALLED INSTALLED END, ETCS_ADAPTATION_SEVERAL, 236, 186, "");
-    adapts("another length", HEADER LONGER END, ETCS_ADAPTATION_WRONG_LENGTH, 50, 188, "");
+    adapts("another length", HEADER LONGER END, ETCS_ADAPTATION_NO_LAYOUT, 50, 188, "");
     is("as the track sends it", (uint64_t)(etcs_decode(bytes, len) != ETCS_OK), 1);
     is("adapted", etcs_telegram_adapt(bytes, len, out, sizeof out, &told), ETCS_UNIT_OK);
     is("as a unit reads it", etcs_decode(out, told.len), ETCS_OK);
     is("its packets", etcs_packet_count(out, told.len), 3);
     is("too long a telegram", etcs_telegram_adapt(bytes, ETCS_TELEGRAM_BYTES + 1, out, sizeof out, &told), ETCS_UNIT_OK);
     is("too long a telegram", told.outcome, ETCS_ADAPTATION_NONE);
+}
+
+/* The two layouts that a track's packet 3 may have: countries 31, 32, 35, 63 and 64, lists of one and of two. (The bits that fill the last byte that was sent
+ * stay: 4 of 248 for one country, 2 of 256 for two.) */
+static void layouts(void) {
+    /* the counter first: a is 1, and b is 31, 0, 3, 31, 0; a country first needs b 0 */
+    adapts("first the counter: 31", HEADER LISTED(ONE "00001 0000011111 ") END, ETCS_ADAPTATION_WRITTEN, 50, 186, HEADER OWN_OF("0000011111 ") END "0000");
+    adapts("first the counter: 32", HEADER LISTED(ONE "00001 0000100000 ") END, ETCS_ADAPTATION_AMBIGUOUS, 50, 186, "");
+    adapts("first the counter: 35", HEADER LISTED(ONE "00001 0000100011 ") END, ETCS_ADAPTATION_WRITTEN, 50, 186, HEADER OWN_OF("0000100011 ") END "0000");
+    adapts("first the counter: 63", HEADER LISTED(ONE "00001 0000111111 ") END, ETCS_ADAPTATION_WRITTEN, 50, 186, HEADER OWN_OF("0000111111 ") END "0000");
+    adapts("first the counter: 64", HEADER LISTED(ONE "00001 0001000000 ") END, ETCS_ADAPTATION_AMBIGUOUS, 50, 186, "");
+    /* a country first: b is 0, and a is 0, 1, 1, 1, 2; the counter first needs a 1 */
+    adapts("first a country: 31", HEADER LISTED(ONE "0000011111 00000 ") END, ETCS_ADAPTATION_WRITTEN, 50, 186, HEADER OWN_OF("0000011111 ") END "0000");
+    adapts("first a country: 32", HEADER LISTED(ONE "0000100000 00000 ") END, ETCS_ADAPTATION_AMBIGUOUS, 50, 186, "");
+    adapts("first a country: 35", HEADER LISTED(ONE "0000100011 00000 ") END, ETCS_ADAPTATION_AMBIGUOUS, 50, 186, "");
+    adapts("first a country: 63", HEADER LISTED(ONE "0000111111 00000 ") END, ETCS_ADAPTATION_AMBIGUOUS, 50, 186, "");
+    adapts("first a country: 64", HEADER LISTED(ONE "0001000000 00000 ") END, ETCS_ADAPTATION_WRITTEN, 50, 186, HEADER OWN_OF("0001000000 ") END "0000");
+    /* two countries: a is 2 with the counter first (b is 31, then 1); b is 1 with a country first (a is 1, then 2) */
+    adapts("first the counter: 31 and 64", HEADER LISTED(TWO "00010 0000011111 0001000000 ") END, ETCS_ADAPTATION_WRITTEN, 50, 196,
+           HEADER OWN_OF_TWO("0000011111 0001000000 ") END "00");
+    adapts("first the counter: 33 and 35", HEADER LISTED(TWO "00010 0000100001 0000100011 ") END, ETCS_ADAPTATION_AMBIGUOUS, 50, 196, "");
+    adapts("first a country: 35 and 63", HEADER LISTED(TWO "0000100011 00001 0000111111 ") END, ETCS_ADAPTATION_WRITTEN, 50, 196,
+           HEADER OWN_OF_TWO("0000100011 0000111111 ") END "00");
+    adapts("first a country: 64 and 31", HEADER LISTED(TWO "0001000000 00001 0000011111 ") END, ETCS_ADAPTATION_AMBIGUOUS, 50, 196, "");
 }
 
 /* The values of a telegram that are left out: those of the seven variables, in the order of the packet, or none. */
@@ -113,6 +147,8 @@ static void dropped(void) {
     drops("no byte", "", NULL);
     drops("two of a track", HEADER INSTALLED INSTALLED END, NULL);
     drops("another length", HEADER LONGER END, NULL);
+    drops("first a country", HEADER LISTED(ONE "0001000000 00000 ") END, of_one_country);
+    drops("both layouts", HEADER LISTED(ONE "0000100011 00000 ") END, NULL);
     is("the last index of all", etcs_telegram_dropped(bytes, len, UINT32_MAX, &told), ETCS_UNIT_END);
     is("too long a telegram", etcs_telegram_dropped(bytes, ETCS_TELEGRAM_BYTES + 1, 0, &told), ETCS_UNIT_END);
     is("nothing told", told.number, 9999);
@@ -175,6 +211,7 @@ static void nulls(void) {
 
 int main(void) {
     adaptations();
+    layouts();
     dropped();
     uses();
     nulls();

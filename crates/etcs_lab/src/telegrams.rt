@@ -11,6 +11,7 @@ use std::io::{Read, Write};
 use std::rt::Files;
 use std::{fs, io};
 use telegram_objects::{ObjectFault, Reason, bytes_of_text, write_answer};
+use track_packets::{Fields, PacketPlace, fields_of};
 
 // The bytes of a file, or of standard input.
 fn bytes_in<R: Files<File = File> + Input + AllocGlobal>(
@@ -56,12 +57,64 @@ pub(crate) fn telegram_told<R: Files<File = File> + Input + AllocGlobal + Eprint
     Ok(Status::Whole)
 }
 
-// What is said of a telegram that isn't adapted.
-fn not_adapted(error: AdaptError) -> &'static str {
-    match error {
-        AdaptError::Several(_) => "has more than one packet 3 as a track of issue 2.3.0 sends it",
-        AdaptError::WrongLength(_) => "has a packet 3 whose length isn't 176 + 10 N_ITER bits",
+// Prints the countries that a packet 3 lists, by one of its layouts. The fields are those with N_ITER first: its five bits and the first
+// five of the country after it are the first country of the other layout.
+fn say_countries<R: Eprint>(rt: &R, fields: &Fields, has_country_first: bool) {
+    let (mut counter, mut comma) = (0, "");
+    for field in &fields.fields {
+        let name = field.variable.text();
+        if name == "N_ITER" {
+            counter = field.number % 32;
+        }
+        if name == "NID_C" {
+            let is_other = has_country_first && comma.is_empty();
+            let number = if is_other {
+                32 * counter + field.number / 32
+            } else {
+                field.number
+            };
+            let _ = eprint!(rt; "{comma}{number}");
+            comma = ", ";
+        }
     }
+}
+
+// Prints the countries of the packet 3 there by both layouts.
+fn say_readings<R: AllocGlobal + Eprint>(rt: &R, bytes: &[u8], place: PacketPlace) {
+    let Ok(fields) = fields_of(rt.alloc(), bytes, place) else {
+        return;
+    };
+    let _ = eprint!(rt; ": countries ");
+    say_countries(rt, &fields, false);
+    let _ = eprint!(rt; " with N_ITER first, or ");
+    say_countries(rt, &fields, true);
+    let _ = eprint!(rt; " with a NID_C before it");
+}
+
+// Says at which bit a packet 3 is that isn't adapted, and that nothing was changed.
+fn not_adapted<R: AllocGlobal + Eprint>(rt: &R, bytes: &[u8], place: PacketPlace, fits_both: bool) {
+    let (start, length) = (place.start, place.length);
+    let which = if fits_both { "both" } else { "neither" };
+    let _ = eprint!(rt;
+        "etcs_lab: HEX: has a packet 3 at bit {start}, of {length} bits, that fits {which} of its possible layouts"
+    );
+    if fits_both {
+        say_readings(rt, bytes, place);
+    }
+    let _ = eprintln!(rt; ". Nothing was changed.");
+}
+
+// Says why a telegram isn't adapted.
+fn refusal<R: AllocGlobal + Eprint>(rt: &R, bytes: &[u8], error: AdaptError) -> Status {
+    match error {
+        AdaptError::Several(_) => {
+            let what = "has more than one packet 3 as a track of issue 2.3.0 sends it";
+            return fail(rt, what, "HEX", Status::Refused);
+        }
+        AdaptError::NoLayout(place) => not_adapted(rt, bytes, place, false),
+        AdaptError::Ambiguous(place) => not_adapted(rt, bytes, place, true),
+    }
+    Status::Refused
 }
 
 /// The bytes of digits; else says why they are none.
@@ -88,7 +141,7 @@ pub(crate) fn adapted_told<R: AllocGlobal + Eprint, W: Write>(
     let done = match adapt(telegram.as_slice(), &mut written) {
         Ok(Adaptation::Written(count, _)) => write_hex(&written[..count], out),
         Ok(Adaptation::AsItIs) => write_hex(telegram.as_slice(), out),
-        Err(error) => return Err(fail(rt, not_adapted(error), "HEX", Status::Refused)),
+        Err(error) => return Err(refusal(rt, telegram.as_slice(), error)),
     };
     told(rt, "HEX", done)?;
     Ok(Status::Whole)

@@ -117,12 +117,12 @@ spelled_is v front s =
 
 -- ---- what was written
 
-pub reads_values : (p : PacketPlace) (bytes written : List ℕ) (y pad : List Bool) → IsFor p bytes written y pad
-    → (v : NationalValues) (rest : List Bool) → Begins packet (packets.NationalValues v) (drop p.start (bits_of written)) rest → ReadsValues p (bits_of bytes) v
+pub reads_values : (p : PacketPlace) (bytes written : List ℕ) (y pad : List Bool) → (is : IsFor p bytes written y pad)
+    → (v : NationalValues) (rest : List Bool) → Begins packet (packets.NationalValues v) (drop p.start (bits_of written)) rest → ReadsValues p is.sent v
 reads_values p bytes written y pad is v rest b =
     let old = bits_of bytes in
     let new = bits_of written in
-    let here = drop p.start old in
+    let here = drop p.start is.sent in
     let countries = countries_at here in
     let stay = values_stay p bytes written y pad is in
     let told = length_of (packets.NationalValues v) in

@@ -59,14 +59,14 @@ all_again countries (row ∷ rows) bits rest le =
     (all_again countries rows (drop n bits) rest behind)
     ∙ take_more n (total_bits countries rows) bits
 
-pub is_rebuilt : (p : PacketPlace) (bytes written : List ℕ) (y pad : List Bool) → IsFor p bytes written y pad → IsRebuilt p (bits_of bytes) (bits_of written)
+pub is_rebuilt : (p : PacketPlace) (bytes written : List ℕ) (y pad : List Bool) → (is : IsFor p bytes written y pad) → IsRebuilt p is.sent (bits_of written)
 is_rebuilt p bytes written y pad is =
-    let sent = bits_of bytes in
+    let sent = is.sent in
     let here = drop p.start sent in
     let countries = countries_at here in
     let values = values_dropped countries p sent in
-    let rest = drop (p.start + p.length) sent ++ pad in
-    let layout = is.layout in
+    let rest = drop (p.start + p.length) (bits_of bytes) ++ pad in
+    let within = is.within in
     let len = is.len in
     let rows = behind_head p bytes written y pad is in
     let whole : 153 + 10 * countries ≡ p.length - 23 = omega (arith, len) in

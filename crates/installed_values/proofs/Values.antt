@@ -95,13 +95,13 @@ countries_stay countries len bits rest le =
     ∙ ap (λ b. number (take 5 b)) there
 
 -- the packet 3 that was written: its head, the rows that are kept, and what is behind it
-there : (p : PacketPlace) (bytes written : List ℕ) (y pad : List Bool) → IsFor p bytes written y pad
+there : (p : PacketPlace) (bytes written : List ℕ) (y pad : List Bool) → (is : IsFor p bytes written y pad)
     → drop p.start (bits_of written)
-    ≡ own_head (drop p.start (bits_of bytes)) (p.length - 29)
-    ++ (kept (countries_at (drop p.start (bits_of bytes))) (rows_of 3) (drop 23 (drop p.start (bits_of bytes))) ++ (drop (p.start + p.length) (bits_of bytes) ++ pad))
+    ≡ own_head (drop p.start is.sent) (p.length - 29)
+    ++ (kept (countries_at (drop p.start is.sent)) (rows_of 3) (drop 23 (drop p.start is.sent)) ++ (drop (p.start + p.length) (bits_of bytes) ++ pad))
 there p bytes written y pad is =
     let old = bits_of bytes in
-    let here = drop p.start old in
+    let here = drop p.start is.sent in
     let layout = is.layout in
     let rest = drop (p.start + p.length) old ++ pad in
     let before : length (take p.start old) ≡ p.start = length-take-le p.start old (omega arith) in
@@ -110,31 +110,30 @@ there p bytes written y pad is =
     ∙ ap (λ x. x ++ rest) is.own
     ∙ append_assoc (own_head here (p.length - 29)) (kept (countries_at here) (rows_of 3) (drop 23 here)) rest
 
-head_long : (p : PacketPlace) (bytes written : List ℕ) (y pad : List Bool) → IsFor p bytes written y pad → length (own_head (drop p.start (bits_of bytes)) (p.length - 29)) ≡ 23
+head_long : (p : PacketPlace) (bytes written : List ℕ) (y pad : List Bool) → (is : IsFor p bytes written y pad) → length (own_head (drop p.start is.sent) (p.length - 29)) ≡ 23
 head_long p bytes written y pad is =
-    let old = bits_of bytes in
     let len = is.len in
-    let layout = is.layout in
-    length-own_head (drop p.start old) (p.length - 29) (omega (arith, length-drop p.start old))
+    let within = is.within in
+    length-own_head (drop p.start is.sent) (p.length - 29) (omega (arith, length-drop p.start is.sent))
 
-pub behind_head : (p : PacketPlace) (bytes written : List ℕ) (y pad : List Bool) → IsFor p bytes written y pad
+pub behind_head : (p : PacketPlace) (bytes written : List ℕ) (y pad : List Bool) → (is : IsFor p bytes written y pad)
     → drop 23 (drop p.start (bits_of written))
-    ≡ kept (countries_at (drop p.start (bits_of bytes))) (rows_of 3) (drop 23 (drop p.start (bits_of bytes))) ++ (drop (p.start + p.length) (bits_of bytes) ++ pad)
+    ≡ kept (countries_at (drop p.start is.sent)) (rows_of 3) (drop 23 (drop p.start is.sent)) ++ (drop (p.start + p.length) (bits_of bytes) ++ pad)
 behind_head p bytes written y pad is =
     ap (drop 23) (there p bytes written y pad is)
-    ∙ drop_at (own_head (drop p.start (bits_of bytes)) (p.length - 29)) _ 23 (head_long p bytes written y pad is)
+    ∙ drop_at (own_head (drop p.start is.sent) (p.length - 29)) _ 23 (head_long p bytes written y pad is)
 
-pub values_stay : (p : PacketPlace) (bytes written : List ℕ) (y pad : List Bool) → IsFor p bytes written y pad → ValuesStay p (bits_of bytes) (bits_of written)
+pub values_stay : (p : PacketPlace) (bytes written : List ℕ) (y pad : List Bool) → (is : IsFor p bytes written y pad) → ValuesStay p is.sent (bits_of written)
 values_stay p bytes written y pad is =
     let old = bits_of bytes in
-    let here = drop p.start old in
+    let here = drop p.start is.sent in
     let countries = countries_at here in
     let len = is.len in
-    let layout = is.layout in
+    let within = is.within in
     let u = own_head here (p.length - 29) in
     let k = kept countries (rows_of 3) (drop 23 here) in
     let rest = drop (p.start + p.length) old ++ pad in
-    let long : p.length ≤ length here = omega (arith, length-drop p.start old) in
+    let long : p.length ≤ length here = omega (arith, length-drop p.start is.sent) in
     let at = there p bytes written y pad is in
     let ten : length (take 10 here) ≡ 10 = length-take-le 10 here (omega arith) in
     let nb = number_bits 13 (p.length - 29) in

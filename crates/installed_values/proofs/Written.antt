@@ -3,7 +3,7 @@ use Rattle.std.proofs.Common.{◌≡◌, ◌⊎◌, inl, inr, ℕ, ◌+◌, ◌-
 use Rattle.std.specs.List.{All}
 use Rattle.std.proofs.Math.Seq.{drop-append-add}
 use Rattle.std.proofs.lemmas.Bool.{ltb-false, le-ltb}
-use Rattle.std.proofs.lemmas.List.{length-drop, length-take-le, take-append-le, drop-append-le, take-take, drop-take, drop-drop, take_at, drop_at}
+use Rattle.std.proofs.lemmas.List.{length-drop, length-take-le, take-append-le, drop-append-le, take-take, drop-take, drop-drop, take_at, drop_at, take-append-drop}
 use Rattle.std.proofs.lemmas.List.Elements.{All-weaker, All-same}
 use Rattle.bits.specs.Bits.{bits_of, number, number_bits}
 use Rattle.bits.proofs.Writes.{number-lt}
@@ -11,11 +11,12 @@ use Rattle.track_packets.specs.Layouts.{rows_of}
 use Rattle.track_packets.specs.Listing.{place_at, listed, listing_of, ended}
 use Rattle.track_packets.specs.declared.listing.Listing.{Listing}
 use Rattle.track_packets.specs.declared.listing.ListingEnd.{ListingEnd}
-use Rattle.track_packets.specs.declared.listing.ListingEnd.TheVariants.{EndMark, CutOff, WrongLength}
+use Rattle.track_packets.specs.declared.listing.ListingEnd.TheVariants.{EndMark, CutOff}
 use Rattle.track_packets.specs.declared.listing.PacketPlace.{PacketPlace}
 use Rattle.installed_values.specs.Adapting.{Tells, adapted_bits, countries_at, found_in, has_end}
 use Rattle.installed_values.specs.Finding.{installed_in, of_installed}
 use Rattle.installed_values.specs.Keeping.{kept}
+use Rattle.installed_values.specs.Ordering.{IsOrdered}
 use Rattle.installed_values.specs.Staying.{moved, bits_there, KeepsBits, OthersStay, IsLeftAsItIs}
 use Rattle.installed_values.specs.declared.adapting.AdaptError.{AdaptError}
 use Rattle.installed_values.specs.declared.adapting.AdaptError.TheVariants as errors
@@ -23,7 +24,9 @@ use Rattle.installed_values.specs.declared.adapting.Adaptation.{Adaptation}
 use Rattle.installed_values.specs.declared.adapting.Adaptation.TheVariants.{AsItIs, Written}
 use Rattle.installed_values.specs.declared.finding.Found.{Found}
 use Rattle.installed_values.specs.declared.finding.Found.TheVariants.{Nothing, One, Several}
+use Rattle.installed_values.proofs.Ordered.{as_sent}
 use Rattle.installed_values.proofs.Shorter.{own_packet, is_shorter}
+use Rattle.track_packets.proofs.Steps.{place_front}
 use Rattle.installed_values.proofs.Walks.{Apart, Around, IsShorter, around, stood, is_so, swapped, swapped_behind, back, end_back, moved_before, moved_behind}
 
 -- ---- which packet it was
@@ -76,8 +79,11 @@ pub record IsFor (p : PacketPlace) (bytes written : List ℕ) (y pad : List Bool
   pub layout : p.start + p.length ≤ length (bits_of bytes)
   pub from : 50 ≤ p.start
   pub shorter : IsShorter p y
-  pub len : p.length ≡ 176 + 10 * countries_at (drop p.start (bits_of bytes))
-  pub own : y ≡ own_packet (countries_at (drop p.start (bits_of bytes))) (p.length - 29) (drop p.start (bits_of bytes))
+  pub sent : List Bool
+  pub ordered : IsOrdered p (bits_of bytes) sent
+  pub within : p.start + p.length ≤ length sent
+  pub len : p.length ≡ 176 + 10 * countries_at (drop p.start sent)
+  pub own : y ≡ own_packet (countries_at (drop p.start sent)) (p.length - 29) (drop p.start sent)
   pub bits : bits_of written ≡ swapped p.start p.length y pad (bits_of bytes)
 
 pub few_countries : (bits : List Bool) → 45 ≤ length bits → countries_at bits ≤ 31
@@ -86,43 +92,62 @@ few_countries bits le =
     let small : number (take 5 (drop 40 bits)) < 32 = subst (λ (k : ℕ). number (take 5 (drop 40 bits)) < 2 ^ k) five (number-lt (take 5 (drop 40 bits))) in
     omega arith
 
-pieces : (a h n k z z' pad : List Bool) → z ≡ z' → ((a ++ (h ++ n)) ++ (k ++ z)) ++ pad ≡ a ++ (((h ++ n) ++ k) ++ (z' ++ pad))
-pieces a h n k z z' pad e =
+pieces : (a a' h n k z z' pad : List Bool) → a ≡ a' → z ≡ z' → ((a ++ (h ++ n)) ++ (k ++ z)) ++ pad ≡ a' ++ (((h ++ n) ++ k) ++ (z' ++ pad))
+pieces a a' h n k z z' pad d e =
     append_assoc (a ++ (h ++ n)) (k ++ z) pad ∙ append_assoc a (h ++ n) ((k ++ z) ++ pad)
     ∙ ap (λ r. a ++ ((h ++ n) ++ r)) (append_assoc k z pad)
     ∙ ap (λ r. a ++ r) (sym (append_assoc (h ++ n) k (z ++ pad)))
     ∙ ap (λ r. a ++ (((h ++ n) ++ k) ++ (r ++ pad))) e
+    ∙ ap (λ f. f ++ (((h ++ n) ++ k) ++ (z' ++ pad))) d
+
+-- a place goes by the first 23 bits
+place_same : (at : ℕ) (one other : List Bool) → 23 ≤ length one → 23 ≤ length other → take 23 one ≡ take 23 other → place_at at one ≡ place_at at other
+place_same at one other le le' e =
+    ap (place_at at) (sym (take-append-drop 23 one))
+    ∙ place_front at (take 23 one) (drop 23 one) (omega (arith, length-take-le 23 one le))
+    ∙ ap (place_at at) e
+    ∙ sym (place_front at (take 23 other) (drop 23 other) (omega (arith, length-take-le 23 other le')))
+    ∙ ap (place_at at) (take-append-drop 23 other)
 
 pub was_written : (bytes old new : List ℕ) (n : ℕ) (p : PacketPlace) → Tells (found_in bytes) (bits_of bytes) (Ok (Written n p)) old new
     → (y pad : List Bool) × IsFor p bytes (take n new) y pad
 was_written bytes old new n p tells =
     let bits = bits_of bytes in
-    let here = drop p.start bits in
+    let sent = tells.1.0 in
+    let rewrites = tells.1.2 in
+    let ordered = as_sent p bits sent tells.1.1 in
+    let was = drop p.start bits in
+    let here = drop p.start sent in
     let h = has p bytes tells.0 in
-    let within = tells.1.0.0 in
-    let len = tells.1.0.1 in
-    let rewrites = tells.1.1 in
+    let within = ordered.layout.0 in
+    let len = ordered.layout.1 in
+    let whole = ordered.whole in
     let countries = countries_at here in
-    let long : p.length ≤ length here = omega (arith, length-drop p.start bits) in
+    let long : p.length ≤ length here = omega (arith, length-drop p.start sent) in
+    let was_long : p.length ≤ length was = omega (arith, length-drop p.start bits) in
     let st = stood 34 p 50 (drop 50 bits) h.one in
     let from = st.from in
-    let there : drop (p.start - 50) (drop 50 bits) ≡ here = drop-drop (p.start - 50) 50 bits ∙ ap (λ k. drop k bits) (let k : 50 + (p.start - 50) ≡ p.start = omega arith in k) in
-    let place : place_at p.start here ≡ p = ap (place_at p.start) (sym there) ∙ st.place in
+    let there : drop (p.start - 50) (drop 50 bits) ≡ was = drop-drop (p.start - 50) 50 bits ∙ ap (λ k. drop k bits) (let k : 50 + (p.start - 50) ≡ p.start = omega arith in k) in
+    let place : place_at p.start was ≡ p = ap (place_at p.start) (sym there) ∙ st.place in
+    let place_here : place_at p.start here ≡ p = place_same p.start here was (omega (arith, len)) (omega (arith, len)) ordered.head ∙ place in
     let so = is_so p (listed 34 50 (drop 50 bits)).packets.items h.one in
     let y = own_packet countries (p.length - 29) here in
-    let pad = replicate (8 * n - length (adapted_bits countries p bits)) false in (
+    let pad = replicate (8 * n - length (adapted_bits countries p sent)) false in (
       y,
       pad,
       record {
         has = h;
-        layout = within;
+        layout = omega (arith, within, whole);
         from = from;
+        sent = sent;
+        ordered = tells.1.1;
+        within = within;
         len = len;
         own = refl;
-        shorter = is_shorter p countries here (few_countries here (omega arith)) len long place so;
+        shorter = is_shorter p countries here (few_countries here (omega arith)) len long place_here so;
         bits = rewrites.written
-            ∙ pieces (take p.start bits) (take 10 here) (number_bits 13 (p.length - 29)) (kept countries (rows_of 3) (drop 23 here)) (drop p.length here) (drop (p.start + p.length) bits) pad
-            (drop-drop p.length p.start bits);
+            ∙ pieces (take p.start sent) (take p.start bits) (take 10 here) (number_bits 13 (p.length - 29)) (kept countries (rows_of 3) (drop 23 here)) (drop p.length here) (drop (p.start + p.length) bits) pad
+            ordered.before (drop-drop p.length p.start sent ∙ ordered.behind);
       },
     )
 
@@ -254,7 +279,8 @@ none_told : (found : Found) (bits : List Bool) (answer : Result Adaptation Adapt
 none_told found bits (Ok AsItIs) old new none tells = (refl, tells.1)
 none_told found bits (Ok (Written n p)) old new none tells = absurd (let no : Nothing ≡ One p = sym none ∙ tells.0 in cc)
 none_told found bits (Err (errors.Several p)) old new none tells = absurd (let no : Nothing ≡ Several p = sym none ∙ tells.0 in cc)
-none_told found bits (Err (errors.WrongLength p)) old new none tells = absurd (let no : Nothing ≡ One p = sym none ∙ tells.0 in cc)
+none_told found bits (Err (errors.NoLayout p)) old new none tells = absurd (let no : Nothing ≡ One p = sym none ∙ tells.0 in cc)
+none_told found bits (Err (errors.Ambiguous p)) old new none tells = absurd (let no : Nothing ≡ One p = sym none ∙ tells.0 in cc)
 
 pub as_it_should : (p : PacketPlace) (bytes written : List ℕ) (y pad : List Bool) → IsFor p bytes written y pad → IsLeftAsItIs written
 as_it_should p bytes written y pad is =

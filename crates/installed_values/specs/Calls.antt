@@ -19,7 +19,8 @@ abbrev pub told_of : Result Adaptation AdaptError → EtcsAdapted
 told_of (Ok AsItIs) = record { outcome = 0; len = 0; start = 0; bits = 0 }
 told_of (Ok (Written n place)) = record { outcome = 1; len = n; start = place.start; bits = place.length }
 told_of (Err (errors.Several place)) = record { outcome = 2; len = 0; start = place.start; bits = place.length }
-told_of (Err (errors.WrongLength place)) = record { outcome = 3; len = 0; start = place.start; bits = place.length }
+told_of (Err (errors.NoLayout place)) = record { outcome = 3; len = 0; start = place.start; bits = place.length }
+told_of (Err (errors.Ambiguous place)) = record { outcome = 4; len = 0; start = place.start; bits = place.length }
 
 -- what `adapt` answers of the bytes, and what became of the buffer
 pub record Answers (bytes old new : List ℕ) (told : EtcsAdapted) : Type 0 where

@@ -7,8 +7,9 @@ use Rattle.track_packets.specs.Layouts.{rows_of}
 use Rattle.track_packets.specs.declared.listing.PacketPlace.{PacketPlace}
 use Rattle.track_packets.specs.declared.row.Row.{Row}
 use Rattle.track_packets.specs.declared.variable.Variable.{Variable}
-use Rattle.installed_values.specs.Adapting.{HasLayout, countries_at}
+use Rattle.installed_values.specs.Adapting.{countries_at}
 use Rattle.installed_values.specs.Keeping.{bits_of_row, has_place}
+use Rattle.installed_values.specs.Ordering.{FitsBoth, FitsNeither, IsOrdered}
 use Rattle.installed_values.specs.declared.dropping.Dropped.{Dropped}
 use Rattle.installed_values.specs.declared.finding.Found.{Found}
 use Rattle.installed_values.specs.declared.finding.Found.TheVariants.{Nothing, One, Several}
@@ -40,4 +41,5 @@ abbrev pub TellsDropped : Found → List Bool → ℕ → Option Dropped → Typ
 TellsDropped Nothing bits index told = told ≡ None
 TellsDropped (Several place) bits index told = told ≡ None
 TellsDropped (One place) bits index told =
-    (HasLayout place bits × (told ≡ slice_get (values_dropped (countries_at (drop place.start bits)) place bits) index)) ⊎ ((HasLayout place bits → ⊥) × (told ≡ None))
+    ((sent : List Bool) × IsOrdered place bits sent × (told ≡ slice_get (values_dropped (countries_at (drop place.start sent)) place sent) index))
+    ⊎ ((FitsBoth place bits ⊎ FitsNeither place bits) × (told ≡ None))

@@ -2,8 +2,10 @@ pub mod Adapting
 pub mod Calls
 pub mod Dropping
 pub mod Finding
+pub mod Fitting
 pub mod Keeping
 pub mod Laws
+pub mod Ordering
 pub mod Reading
 pub mod Rebuilding
 pub mod Staying

@@ -1,7 +1,7 @@
 //! A telegram whose packet 3 is as a track sends it is written with this project's packet 3.
-ghost use Rattle.std.specs.Prelude.{◌≡◌, ◌+◌, ◌*◌, ◌<◌, ◌≤◌, ◌++◌, ℕ, IfNone, IfSome, Ok, drop, length};
+ghost use Rattle.std.specs.Prelude.{◌≡◌, ◌+◌, ◌*◌, ◌<◌, ◌≤◌, ◌++◌, ℕ, Ok, drop, length};
 ghost use Rattle.bits.specs.Bits.{bits_of};
-ghost use Rattle.installed_values.specs.Adapting.{Adapts, HasLayout, Rewrites, Tells, adapted_bits, countries_at, found_in, front, has_end};
+ghost use Rattle.installed_values.specs.Adapting.{Rewrites, Tells, TellsOne, adapted_bits, found_in, front, has_end};
 ghost use Rattle.installed_values.specs.Keeping.{kept};
 ghost use Rattle.installed_values.specs.declared.adapting.Adaptation.{Adaptation};
 ghost use Rattle.track_packets.specs.Layouts.{rows_of as rows_told};
@@ -9,7 +9,8 @@ ghost use Rattle.track_packets.specs.declared.listing.PacketPlace.{PacketPlace a
 
 use crate::finding::{Found, find_installed};
 use crate::keeping::keep_rows;
-use crate::moving::{copy, pass};
+use crate::moving::{copy, pass, write_rest};
+use crate::ordering::{Ordered, order, reader_of};
 use bits::{BitReader, BitWriter};
 use packets::TELEGRAM_BYTES;
 use track_packets::{ListingEnd, PacketPlace, packets_in_order, rows_of};
@@ -28,8 +29,10 @@ pub enum Adaptation {
 pub enum AdaptError {
     /// It has more than one packet 3 as a track sends it; this is the second of them.
     Several(PacketPlace),
-    /// The length of its packet 3 isn't 176 + 10 N_ITER.
-    WrongLength(PacketPlace),
+    /// Its packet 3 fits neither of the two layouts that are possible.
+    NoLayout(PacketPlace),
+    /// It fits both, and they don't say the same.
+    Ambiguous(PacketPlace),
 }
 
 /// Whether an end mark stands behind the packets.
@@ -51,20 +54,6 @@ pub(crate) fn found_of(bytes: &[u8]) -> Found
         return Found::Nothing;
     }
     find_installed(listing.packets.as_slice(), None)
-}
-
-/// N_ITER of the packet 3 that the bits begin with.
-fn countries(reader: &BitReader<'_>) -> u32
-    requires { 45 ≤ length reader.now }
-    ensures value { result ≡ countries_at reader.now }
-    ensures bound { result ≤ 31 }
-{
-    let mut ahead = reader.fork();
-    pass(&mut ahead, 40);
-    match ahead.take(5) {
-        Some(number) => number as u32,
-        None => 0,
-    }
 }
 
 /// Writes what stands before the rows of the packet 3 there: the bits before it, its number and its direction, and
@@ -102,16 +91,6 @@ fn keep_all(countries: u32, reader: &mut BitReader<'_>, writer: &mut BitWriter<T
     keep_rows(rows_of(3), countries, reader, writer);
 }
 
-/// Writes all bits that are left.
-#[tactic(auto, using(crate::proofs::Pieces::all_taken))]
-fn write_rest(reader: &mut BitReader<'_>, writer: &mut BitWriter<TELEGRAM_BYTES>)
-    requires { length writer.old + length reader.old ≤ 8 * TELEGRAM_BYTES }
-    ensures { writer.new ≡ writer.old ++ reader.old }
-{
-    let left = reader.remaining() as u32;
-    copy(reader, writer, left);
-}
-
 /// Writes a telegram with its packet 3 in this project's order, and answers how many bytes that are.
 fn write(
     bits: &BitReader<'_>,
@@ -134,47 +113,32 @@ fn write(
     writer.copy_to(out)
 }
 
-/// N_ITER of the packet 3 there, where its length is that of its layout.
-pub(crate) fn countries_of(bits: &BitReader<'_>, place: PacketPlace) -> Option<u32>
-    ensures found { IfSome result (λ n. HasLayout place bits.now × (n ≡ countries_at (drop place.start bits.now)) × (n ≤ 31)) }
-    ensures none { IfNone result (HasLayout place bits.now → ⊥) }
-{
-    let whole = u64::from(place.start) + u64::from(place.length);
-    if place.length < 176 {
-        return None;
-    }
-    if bits.remaining() < u128::from(whole) {
-        return None;
-    }
-    let mut ahead = bits.fork();
-    pass(&mut ahead, place.start);
-    let countries = countries(&ahead);
-    if place.length != 176 + 10 * countries {
-        return None;
-    }
-    Some(countries)
-}
-
-/// Writes a telegram with the packet 3 there in this project's order, where its length is that of its layout.
+/// Writes a telegram with the packet 3 there in this project's order, where it fits exactly one layout.
 fn rewrite(
-    bits: &BitReader<'_>,
+    bytes: &[u8],
     place: PacketPlace,
     out: &mut [u8; TELEGRAM_BYTES],
-) -> Option<usize>
-    requires { length bits.now ≤ 8 * TELEGRAM_BYTES }
-    ensures adapted { Adapts place bits.now result out.old out.new }
-    ensures fits { IfSome result (λ n. n ≤ 104) }
+) -> Result<Adaptation, AdaptError>
+    requires { length bytes.now ≤ 104 }
+    ensures told { TellsOne place (bits_of bytes.now) result out.old out.new }
+    ensures fits { (n : ℕ) (place : a_place) → result ≡ Ok (Adaptation.Written n place) → n ≤ 104 }
 {
-    match countries_of(bits, place) {
-        Some(countries) => Some(write(bits, place, countries, out)),
-        None => None,
+    let mut sent = [0; TELEGRAM_BYTES];
+    match order(bytes, place, &mut sent) {
+        Ordered::Neither => Err(AdaptError::NoLayout(place)),
+        Ordered::Both => Err(AdaptError::Ambiguous(place)),
+        Ordered::One(countries) => {
+            let bits = reader_of(&sent, bytes.len());
+            Ok(Adaptation::Written(write(&bits, place, countries, out), place))
+        }
     }
 }
 
 /// Writes a telegram that has a packet 3 as a track of issue 2.3.0 sends it with this project's packet 3: its variables in
-/// the order of the track, without those that this project has no place for (`has_place`), and all other bits as they were,
-/// padded with zero bits to whole bytes. A telegram without one, with no end mark, or too long for a unit is to be handed on
-/// as it is. Where nothing is written, `out` stays.
+/// the order of the track with the counter of its countries first, without those that this project has no place for
+/// (`has_place`), and all other bits as they were, padded with zero bits to whole bytes. It does so only where the packet 3
+/// fits one of the two layouts that are possible, and not the other. A telegram without one, with no end mark, or too long
+/// for a unit is to be handed on as it is. Where nothing is written, `out` stays.
 pub fn adapt(bytes: &[u8], out: &mut [u8; TELEGRAM_BYTES]) -> Result<Adaptation, AdaptError>
     ensures long { 104 < length bytes.now → (result ≡ Ok Adaptation.AsItIs) × (out.new ≡ out.old) }
     ensures told { length bytes.now ≤ 104 → Tells (found_in bytes.now) (bits_of bytes.now) result out.old out.new }
@@ -188,9 +152,5 @@ pub fn adapt(bytes: &[u8], out: &mut [u8; TELEGRAM_BYTES]) -> Result<Adaptation,
         Found::Several(place) => return Err(AdaptError::Several(place)),
         Found::One(place) => place,
     };
-    let bits = BitReader::new(bytes);
-    match rewrite(&bits, place, out) {
-        Some(count) => Ok(Adaptation::Written(count, place)),
-        None => Err(AdaptError::WrongLength(place)),
-    }
+    rewrite(bytes, place, out)
 }

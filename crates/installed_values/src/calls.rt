@@ -25,7 +25,8 @@ const NO_ROOM: u32 = 252;
 #[derive(Clone, Copy)]
 pub struct EtcsAdapted {
     /// 0 the telegram is to be handed on as it is; 1 what was written is to be handed on; 2 it has several packets 3 as a
-    /// track sends them, 3 one of another length: nothing was written, and a unit refuses the telegram.
+    /// track sends them, 3 one that fits neither layout, 4 one that fits both: nothing was written, and a unit refuses the
+    /// telegram.
     pub outcome: u32,
     /// How many bytes were written.
     pub len: u32,
@@ -74,7 +75,8 @@ fn told_to_c(answer: Result<Adaptation, AdaptError>) -> EtcsAdapted
         },
         Ok(Adaptation::Written(count, place)) => of_packet(1, count as u32, place),
         Err(AdaptError::Several(place)) => of_packet(2, 0, place),
-        Err(AdaptError::WrongLength(place)) => of_packet(3, 0, place),
+        Err(AdaptError::NoLayout(place)) => of_packet(3, 0, place),
+        Err(AdaptError::Ambiguous(place)) => of_packet(4, 0, place),
     }
 }
 

@@ -2,15 +2,16 @@
 ghost use Rattle.std.specs.Prelude.{◌≡◌, ◌+◌, ◌*◌, ◌<◌, ◌≤◌, IsTrue, None, drop, length};
 ghost use Rattle.std.specs.List.{slice_get};
 ghost use Rattle.bits.specs.Bits.{bits_of};
-ghost use Rattle.installed_values.specs.Adapting.{HasLayout, countries_at, found_in};
+ghost use Rattle.installed_values.specs.Adapting.{found_in};
 ghost use Rattle.installed_values.specs.Dropping.{TellsDropped, are_single, dropped_by, value_dropped, values_dropped};
 ghost use Rattle.installed_values.specs.Keeping.{total_bits};
 ghost use Rattle.track_packets.specs.Layouts.{rows_of as rows_told};
 
-use crate::adapting::{countries_of, found_of};
+use crate::adapting::found_of;
 use crate::finding::Found;
 use crate::keeping::{has_place, row_bits};
 use crate::moving::pass;
+use crate::ordering::{Ordered, order, reader_of};
 use bits::BitReader;
 use packets::TELEGRAM_BYTES;
 use track_packets::{PacketPlace, Row, Variable, rows_of};
@@ -93,9 +94,12 @@ pub fn dropped_of(bytes: &[u8], index: u32) -> Option<Dropped>
         Found::One(place) => place,
         Found::Nothing | Found::Several(_) => return None,
     };
-    let bits = BitReader::new(bytes);
-    match countries_of(&bits, place) {
-        Some(countries) => dropped_there(&bits, place, countries, index),
-        None => None,
+    let mut sent = [0; TELEGRAM_BYTES];
+    match order(bytes, place, &mut sent) {
+        Ordered::One(countries) => {
+            let bits = reader_of(&sent, bytes.len());
+            dropped_there(&bits, place, countries, index)
+        }
+        Ordered::Neither | Ordered::Both => None,
     }
 }

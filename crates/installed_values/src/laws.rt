@@ -1,5 +1,5 @@
 //! Laws of `adapt`: what stays as it was, that nothing is lost, that twice is once, and that other faults stay.
-ghost use Rattle.installed_values.specs.Laws.{NothingIsLost, OtherFaultsStay, OthersStayAsTheyWere, TwiceIsOnce, ValuesAreKept, ValuesAreRead};
+ghost use Rattle.installed_values.specs.Laws.{NothingIsLost, OtherFaultsStay, OthersStayAsTheyWere, ReadingsDiffer, TwiceIsOnce, ValuesAreKept, ValuesAreRead};
 
 /// A law: the header, all packets but the packet 3 and the end mark are as they were, each packet bit for bit and in its
 /// order; what is behind the packet 3 stands 29 bits earlier.
@@ -35,4 +35,10 @@ pub fn twice_is_once()
 /// 3 that are decoded from what was written were spelled in the telegram that was sent, each at its place.
 pub fn other_faults_stay()
     ensures { OtherFaultsStay }
+{}
+
+/// A law: a packet 3 that fits both layouts lists another first country by one than by the other, so they never say the
+/// same.
+pub fn readings_differ()
+    ensures { ReadingsDiffer }
 {}

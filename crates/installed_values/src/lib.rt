@@ -5,9 +5,11 @@ mod adapting;
 mod calls;
 mod dropping;
 mod finding;
+mod fitting;
 mod keeping;
 mod laws;
 mod moving;
+mod ordering;
 
 pub use adapting::{AdaptError, Adaptation, adapt};
 pub use calls::{EtcsAdapted, EtcsDropped, adapt_call, dropped_call};
@@ -15,6 +17,6 @@ pub use dropping::{Dropped, dropped_of};
 pub use finding::is_installed;
 pub use keeping::has_place;
 pub use laws::{
-    nothing_is_lost, other_faults_stay, others_stay_as_they_were, twice_is_once, values_are_kept,
-    values_are_read,
+    nothing_is_lost, other_faults_stay, others_stay_as_they_were, readings_differ, twice_is_once,
+    values_are_kept, values_are_read,
 };

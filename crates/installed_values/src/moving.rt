@@ -2,6 +2,7 @@
 ghost use Rattle.std.specs.Prelude.{◌≡◌, ◌+◌, ◌*◌, ◌≤◌, ◌++◌, drop, length, take};
 
 use bits::{BitReader, BitWriter};
+use packets::TELEGRAM_BYTES;
 
 /// Passes so many bits. The caller owes that there are so many.
 #[tactic(auto, using(crate::proofs::Pieces::left_is))]
@@ -30,4 +31,14 @@ pub(crate) fn copy<const N: usize>(reader: &mut BitReader<'_>, writer: &mut BitW
         Some(run) => writer.write_run(&run),
         None => {}
     }
+}
+
+/// Writes all bits that are left.
+#[tactic(auto, using(crate::proofs::Pieces::all_taken))]
+pub(crate) fn write_rest(reader: &mut BitReader<'_>, writer: &mut BitWriter<TELEGRAM_BYTES>)
+    requires { length writer.old + length reader.old ≤ 8 * TELEGRAM_BYTES }
+    ensures { writer.new ≡ writer.old ++ reader.old }
+{
+    let left = reader.remaining() as u32;
+    copy(reader, writer, left);
 }

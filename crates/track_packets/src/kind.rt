@@ -192,8 +192,8 @@ pub enum Body {
     Bits,
     /// By `packets`, which has its layout.
     Kernel,
-    /// By `packets` where its length is that of this project's order (147 + 10 N_ITER), else by the rows of its layout,
-    /// which take all its bits (176 + 10 N_ITER): packet 3.
+    /// By `packets` where its length is that of this project's order (147 + 10 N_ITER), else by the rows of one of its two
+    /// possible layouts, the one with N_ITER before the first NID_C, which take all its bits (176 + 10 N_ITER): packet 3.
     OwnOrRows,
     /// It has its number alone.
     NumberAlone,
@@ -244,7 +244,7 @@ macro_rules! kind {
 pub const KINDS: [Kind; 48] = [
     kind!(0, VirtualBaliseCoverMarker, Balise, Later, Bits, NameAlone),
     kind!(2, SystemVersionOrder, Balise, Later, Bits, NameAlone),
-    kind!(3, NationalValues, Balise, This, OwnOrRows, FairlySure),
+    kind!(3, NationalValues, Balise, This, OwnOrRows, NameAlone),
     kind!(5, Linking, Balise, This, Kernel, Sure),
     kind!(6, VirtualBaliseCoverOrder, Balise, Later, Bits, NameAlone),
     kind!(12, MovementAuthority, Balise, This, Kernel, Sure),

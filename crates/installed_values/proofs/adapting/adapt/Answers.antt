@@ -1,8 +1,8 @@
-use Rattle.std.proofs.Common.{◌≡◌, ◌*◌, length, ap, ◌∙◌, arith}
-use Rattle.bits.proofs.Bytes.{length-bits_of}
+use Rattle.std.proofs.Common.{subst}
+use Rattle.bits.specs.Bits.{bits_of}
+use Rattle.installed_values.specs.Adapting.{Tells}
+use Rattle.installed_values.specs.declared.finding.Found.{Found}
 use Rattle.installed_values.proofs.adapting.adapt.Goals as goal
 
-pub rewrite-requires : goal.rewrite-requires
-rewrite-requires c =
-    let whole : length c.new-bits.result ≡ 8 * length c.args.bytes.now = ap length c.new-bits.ensures ∙ length-bits_of c.args.bytes.now in
-    omega (arith, whole, c.if-bytes-gt-TELEGRAM_BYTES.false)
+pub returns-clause-told : goal.returns-clause-told
+returns-clause-told c = λ le. subst (λ (f : Found). Tells f (bits_of c.args.bytes.now) c.rewrite.result c.args.out.now c.rewrite.new.out) c.in-One.ensures c.rewrite.ensures.told

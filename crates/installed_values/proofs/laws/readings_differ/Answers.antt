@@ -1,0 +1,5 @@
+use Rattle.installed_values.proofs.Differing.{differ}
+use Rattle.installed_values.proofs.laws.readings_differ.Goals as goal
+
+pub returns : goal.returns
+returns c = λ place bits both same. differ place bits both same

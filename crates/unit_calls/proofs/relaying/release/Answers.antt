@@ -24,6 +24,7 @@ returns-in-Ok c =
       last = c.last_of-opened.ensures ∙ ap (λ (l : List Release). last_of l c.args.opened.now.last) again;
       released = record {
         emptied = c.in-Ok.ensures.emptied;
+        wants_nothing = c.in-Ok.ensures.wants_nothing;
         failed = c.release.ensures.failed;
         unit = c.release.ensures.unit;
         sectors = c.release.ensures.sectors;

@@ -151,8 +151,9 @@ Fails before after status = (status ≡ a_status.Done) × (after.unit.failed ≡
 pub record IsReleased (before after : Relayed) : Type 0 where
   -- nothing is held back any more, no request is left, and so none is done
   pub emptied : (after.outputs ≡ []) × (after.done ≡ 0) × (list_of after.moored ≡ [])
-  -- no sector is wanted
-  pub wants_nothing : IfSome after.moored WantsNothing
+  -- no sector is wanted, where there were requests; else the unit and its disk are as they were
+  pub wants_nothing : Turns before.moored after.moored (λ it next. 0 < length it.reading.disk.requests → WantsNothing next)
+  pub idle : Turns before.moored after.moored (λ it next. length it.reading.disk.requests ≡ 0 → next ≡ it)
   -- the medium failed no more than before
   pub failed : after.failed ≡ before.failed
   -- the unit is as it was: nothing was taken, and nothing was put on the disk

@@ -25,6 +25,7 @@ returns-in-Ok c =
       released = record {
         emptied = c.in-Ok.ensures.emptied;
         wants_nothing = c.in-Ok.ensures.wants_nothing;
+        idle = c.release.ensures.idle;
         failed = c.release.ensures.failed;
         unit = c.release.ensures.unit;
         sectors = c.release.ensures.sectors;

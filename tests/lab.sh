@@ -15,5 +15,5 @@ status=0
 ../tools/python --checks || exit 1
 python3 lab/image_rows.py "$lab" "$etcs" || status=1
 python3 lab/verdict_rows.py "$lab" || status=1
-ETCS=$etcs ETCS_LAB=$lab python3 pages.py INVESTIGATING || status=1
+ETCS=$etcs ETCS_LAB=$lab python3 pages.py INVESTIGATING start/investigate || status=1
 exit $status

@@ -170,6 +170,7 @@ fi
 for name in etcs etcs_lab lab; do
     case $name in
         lab) told=$(inside lab --help | sed -n 's/^    \([a-z]*\) .*/\1/p') ;;
+        etcs_lab) told=$(inside etcs_lab --help 2>/dev/null | sed -n 's/^  \([a-z]*\)  *[A-Z].*/\1/p') ;;
         *) told=$(inside $name --help 2>/dev/null | sed -n "s/^  $name \([a-z]*\) .*/\1/p" | sort -u) ;;
     esac
     [ "$(wc -w <<<"$told")" -ge 4 ] || fails "$name --help tells only \"$told\""

@@ -37,7 +37,7 @@ rows test_disk 532
 rows test_blocks 741
 rows test_journal 1100
 rows test_onboard 34585
-rows test_kernel 660
+rows test_kernel 705
 rows test_track 60
 rows test_json 12
 exit $status

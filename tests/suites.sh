@@ -9,7 +9,7 @@ etcs=${2:-$(dirname "$(readlink -f -- "$0")")/../crates/etcs/out/etcs}
 lab=$(realpath "$lab") && etcs=$(realpath "$etcs") || exit 1
 cd "$(dirname "$(readlink -f -- "$0")")/.." || exit 1
 export PYTHONDONTWRITEBYTECODE=1 GAKNIFUR_ETCS_LAB=$lab GAKNIFUR_ETCS=$etcs
-least=770 # results
+least=800 # results
 made=$(mktemp -d) || exit 1
 trap 'rm -rf "$made"' EXIT
 for program in "$lab" "$etcs"; do
@@ -31,6 +31,6 @@ tail -n 1 <<< "$covered"
 /usr/bin/python3 tests/suites/control.py "$etcs" "$lab" || status=1
 /usr/bin/python3 tests/suites/lint_rows.py "$etcs" "$lab" || status=1
 /usr/bin/python3 tests/suites/planted.py --texts || status=1
-ETCS=$etcs ETCS_LAB=$lab /usr/bin/python3 tests/pages.py TESTING_A_TRAIN || status=1
+ETCS=$etcs ETCS_LAB=$lab /usr/bin/python3 tests/pages.py TESTING_A_TRAIN start/tests || status=1
 /usr/bin/python3 tests/suites/search.py "$etcs" "$lab" || status=1
 exit $status

@@ -88,11 +88,15 @@ board "$made/example.elf" >"$made/said"
 gcc -std=c99 -O2 "${strict[@]}" -I "$here_prefix/include" "$top/examples/cortex_a/cyclic.c" "$here_prefix/lib/libetcs_unit_static.a" -pthread -o "$made/cyclic" &&
     "$cross" -std=c99 -O2 "${strict[@]}" -static -I "$arm/include" "$top/examples/cortex_a/cyclic.c" "$arm/lib/libetcs_unit_static.a" -pthread -o "$made/cyclic.aarch64" ||
     fails "the cyclic task doesn't compile"
-"$made/cyclic" "$made/image" 20 5 >"$made/said.here" 2>/dev/null || fails "the cyclic task"
-qemu-aarch64 "$made/cyclic.aarch64" "$made/image.aarch64" 20 5 >"$made/said.aarch64" 2>/dev/null || fails "the cyclic task on aarch64"
+# (on a machine that has other work a cycle may be late by any time)
+"$made/cyclic" "$made/image" 20 5 600000 >"$made/said.here" 2>/dev/null || fails "the cyclic task"
+qemu-aarch64 "$made/cyclic.aarch64" "$made/image.aarch64" 20 5 600000 >"$made/said.aarch64" 2>/dev/null || fails "the cyclic task on aarch64"
 for one in here aarch64; do "$python" "$here/examples.py" cyclic "$made/said.$one" || { cat "$made/said.$one"; fails "the cyclic task says other things ($one)"; }; done
 cmp "$made/image" "$made/image.aarch64" || fails "the cyclic tasks leave other bytes"
-valgrind -q --tool=drd --error-exitcode=9 "$made/cyclic" "$made/image.drd" 10 5 >/dev/null 2>"$made/said" || { cat "$made/said"; fails "the unit isn't handed from task to task in order"; }
+"$made/cyclic" "$made/image.late" 20 5 0 >"$made/said" 2>/dev/null && fails "a cycle that is late ends with status 0"
+grep -qx '1 cycles, event 2: brake 2; OK' "$made/said" && grep -qx 'emergency brake: a cycle ended too late' "$made/said" ||
+    { cat "$made/said"; fails "a cycle that is late doesn't brake"; }
+valgrind -q --tool=drd --error-exitcode=9 "$made/cyclic" "$made/image.drd" 10 5 600000 >/dev/null 2>"$made/said" || { cat "$made/said"; fails "the unit isn't handed from task to task in order"; }
 
 # ---- find_package and pkg-config
 

@@ -1,11 +1,11 @@
 /* The unit in a cyclic task on Linux: on a Cortex-A, or where else there are threads of POSIX.
  *
- *     cyclic IMAGE [CYCLES [MILLISECONDS]]    a journal that etcs_file_format made; where there is no such file it is made
+ *     cyclic IMAGE [CYCLES [MILLISECONDS [LATE]]]    a journal that etcs_file_format made; where there is no such file it is made
  *
  * One task opens the unit, and hands it to the cyclic one under a lock. The cyclic task runs every 100 ms by the system's
  * clock: sensors, medium, outputs. Memory is a buffer of the program's own and is locked, so no cycle waits for a page.
- * A cycle that ends too late means the emergency brake, and so does any answer that is a fault. What a driver enters
- * wrongly is said to him, and entered again. Hardware of its own has to brake where this program stops: here `alive` stands
+ * A cycle that ends LATE milliseconds after it was due, or later, means the emergency brake and the end of the task, and so
+ * does any answer that is a fault. What a driver enters wrongly is said to him, and entered again. Hardware of its own has to brake where this program stops: here `alive` stands
  * for what it watches. */
 #include "etcs_file.h"
 #include "etcs_memory.h"
@@ -26,12 +26,12 @@ static struct {
     etcs_unit unit;
     etcs_file file;
     etcs_unit_output command; /* what the train is commanded now */
-    uint64_t cycles, late, longest_us, alive;
+    uint64_t cycles, longest_us, alive;
     uint32_t fault; /* the first answer that was one */
-    int is_over;
+    int is_late, is_over;
 } our = {.lock = PTHREAD_MUTEX_INITIALIZER, .command = {0, 0, ETCS_STAND_BY, ETCS_LEVEL_INVALID, ETCS_BRAKE_EMERGENCY, ETCS_SHOWS_NOT_REVALIDATED}};
 
-static uint64_t most_cycles = 20, cycle_ms = CYCLE_MS;
+static uint64_t most_cycles = 20, cycle_ms = CYCLE_MS, late_ms = LATE_MS;
 
 static uint64_t now_us(void) {
     struct timespec at;
@@ -102,12 +102,17 @@ static void *cyclic(void *unused) {
         }
         const uint64_t took = now_us() - due;
         our.longest_us = took > our.longest_us ? took : our.longest_us;
-        if (took > LATE_MS * 1000u)
-            our.late++;
         our.cycles++;
-        our.alive++;
-        our.is_over = cycle == most_cycles || our.fault != ETCS_UNIT_OK;
+        our.is_late = took >= late_ms * 1000u;
+        if (our.is_late)
+            our.command.brake = ETCS_BRAKE_EMERGENCY;
+        our.is_over = cycle == most_cycles || our.is_late || our.fault != ETCS_UNIT_OK;
+        if (!our.is_late && our.fault == ETCS_UNIT_OK)
+            our.alive++;
+        const int is_over = our.is_over;
         pthread_mutex_unlock(&our.lock);
+        if (is_over)
+            break;
     }
     return NULL;
 }
@@ -130,6 +135,7 @@ int main(int count, char **words) {
         return 2;
     most_cycles = count > 2 ? strtoull(words[2], NULL, 10) : most_cycles;
     cycle_ms = count > 3 ? strtoull(words[3], NULL, 10) : cycle_ms;
+    late_ms = count > 4 ? strtoull(words[4], NULL, 10) : late_ms;
     if (mlockall(MCL_CURRENT | MCL_FUTURE) != 0)
         puts("the memory can't be locked here: a cycle may wait for a page");
     pthread_mutex_lock(&our.lock);
@@ -144,9 +150,11 @@ int main(int count, char **words) {
     (void)etcs_memory_state(&told);
     printf("%" PRIu64 " cycles, event %" PRIu64 ": brake %u; %s\n", our.cycles, our.command.event, (unsigned)our.command.brake, etcs_status_text(our.fault));
     printf("memory: %" PRIu64 " of %" PRIu64 " bytes\n", told.most_used, told.size);
-    fprintf(stderr, "%" PRIu64 " cycles were late, the longest took %" PRIu64 " us\n", our.late, our.longest_us);
+    if (our.is_late)
+        puts("emergency brake: a cycle ended too late");
+    fprintf(stderr, "the longest cycle took %" PRIu64 " us\n", our.longest_us);
     etcs_file_close(&our.file, &our.unit);
-    const int is_over = our.is_over;
+    const int is_good = our.fault == ETCS_UNIT_OK && !our.is_late;
     pthread_mutex_unlock(&our.lock);
-    return our.fault == ETCS_UNIT_OK && is_over ? 0 : 1;
+    return is_good ? 0 : 1;
 }

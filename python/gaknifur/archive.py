@@ -19,8 +19,12 @@ from typing import Self
 
 from . import files, layout
 from .program import DEVICE, REFUSED, Failed
-from .reading import Json, examine
+from .reading import Json, check, examine, silent
 from .shown import shown
+
+
+AT_ONCE = 4_096
+"""How many numbers of blocks are looked at in one image."""
 
 
 class Ring:
@@ -51,8 +55,11 @@ class Ring:
         os.close(self.descriptor)
 
     def number(self, slot: int) -> int | None:
-        """The number of a slot's gate, where it is a gate as a unit writes it."""
-        return layout.number_of_gate(os.pread(self.descriptor, layout.SECTOR, layout.slot_at(slot)))
+        """The number of a slot's gate, where it is a gate as a unit writes it and the head behind it has the same number: a gate with a bit
+        altered names no block."""
+        data = os.pread(self.descriptor, 2 * layout.SECTOR, layout.slot_at(slot))
+        number = layout.number_of_gate(data)
+        return number if number is not None and layout.number_of_head(data) == number else None
 
     def block(self, number: int) -> bytes | None:
         """The bytes of a block, where its slot holds it. A unit closes the gate before it writes anything else, so what lies
@@ -123,7 +130,7 @@ class Archive(files.Appended):
         for number, data in ring.blocks(self.behind):
             self.append(data)
             self.behind = number
-        if self.count > before:
+        if self.owes_sync:
             self.sync()
         return self.count - before
 
@@ -173,6 +180,12 @@ class Joined:
     """Of blocks that can be read in several places and differ there: the one that is taken, and another one."""
     unreadable: list[int] = field(default_factory=list)
     """Blocks that can't be read in the image that is made."""
+    mended: dict[int, Place] = field(default_factory=dict)
+    """Blocks that can't be read in a source, which is named, and are taken from another one."""
+    breaks: list[Json] = field(default_factory=list)
+    """Blocks of the image that is made that don't follow those before them, as an examination says."""
+    differences: list[Json] = field(default_factory=list)
+    """What a replay of the image that is made finds other than its journal says."""
 
     @property
     def slots(self) -> int:
@@ -186,8 +199,10 @@ class Joined:
 
     @property
     def is_whole(self) -> bool:
-        """Whether nothing is missing, contradicts, or can't be read."""
-        return not self.missing and not self.contradictions and not self.unreadable
+        """Whether nothing is missing, contradicts, or can't be read, in a source or in the image that is made, and its blocks follow one
+        another."""
+        is_read = not self.unreadable and not self.mended and not any(one.unreadable for one in self.sources)
+        return is_read and not self.missing and not self.contradictions and not self.breaks and not self.differences
 
 
 def source(path: Path) -> Source:
@@ -223,34 +238,63 @@ def image_of(blocks: dict[int, bytes], path: Path) -> None:
     path.write_bytes(data)
 
 
-def is_readable(number: int, data: bytes) -> bool:
-    """Whether a block can be read, as `etcs_lab` says."""
-    with tempfile.TemporaryDirectory() as room:
-        path = Path(room) / "image"
-        image_of({number: data}, path)
-        return [slot["state"] for slot in examine(path)["slots"]] == ["block"]
+def readable(blocks: dict[int, list[Place]]) -> set[Place]:
+    """Of the places of some blocks those that can be read, as `etcs_lab` says. The first places of all blocks are in one image,
+    so many numbers in each, then the second ones, and so on."""
+    found, numbers = set[Place](), sorted(blocks)
+    while numbers:
+        few = [number for number in numbers[:AT_ONCE] if number < numbers[0] + AT_ONCE]
+        numbers = numbers[len(few):]
+        for place in range(max(len(blocks[number]) for number in few)):
+            places = {number: blocks[number][place] for number in few if place < len(blocks[number])}
+            with tempfile.TemporaryDirectory() as room:
+                path = Path(room) / "image"
+                image_of({number: one.read() for number, one in places.items()}, path)
+                found |= {places[slot["block"]] for slot in examine(path)["slots"] if slot["state"] == "block"}
+    return found
 
 
-def choose(found: Joined, number: int, place: Place) -> None:
-    """Takes a further block where there is none of its number yet, or it can be read and the one that is there can't."""
-    other = found.chosen.setdefault(number, place)
-    if other is place:
-        return
-    there, here = other.read(), place.read()
-    if there[layout.SECTOR:] == here[layout.SECTOR:]:
-        return
-    if not is_readable(number, there):
-        found.chosen[number] = place
-    elif is_readable(number, here):
-        found.contradictions.setdefault(number, (other, place))
+def choose(found: Joined, number: int, places: list[Place], can_be_read: set[Place]) -> None:
+    """Takes of a block that differs the first one that can be read, else the last one."""
+    chosen = places[0]
+    for place in places[1:]:
+        can_there, can_here = chosen in can_be_read, place in can_be_read
+        if can_there and can_here:
+            found.contradictions.setdefault(number, (chosen, place))
+            continue
+        if can_there != can_here and chosen.path != place.path:  # (what a loss of power left in an archive is in it once more)
+            found.mended[number] = place if can_there else chosen
+        if not can_there:
+            chosen = place
+    found.chosen[number] = chosen
+
+
+def different(places: list[Place]) -> list[Place]:
+    """Those of a block's places that hold other bytes behind the gate than those before them."""
+    if len(places) == 1:
+        return places
+    by_bytes: dict[bytes, Place] = {}
+    for place in places:
+        by_bytes.setdefault(place.read()[layout.SECTOR:], place)
+    return list(by_bytes.values())
+
+
+def choose_all(found: Joined) -> None:
+    """Takes each block from one of its places."""
+    places: dict[int, list[Place]] = {}
+    for one in found.sources:
+        for number, place in one.blocks:
+            places.setdefault(number, []).append(place)
+    places = {number: different(of) for number, of in places.items()}
+    can_be_read = readable({number: of for number, of in places.items() if len(of) > 1})
+    for number, of in places.items():
+        choose(found, number, of, can_be_read)
 
 
 def join(out: Path, paths: list[Path]) -> Joined:
     """Makes one image of images and archives of one unit."""
     found = Joined([source(path) for path in paths])
-    for one in found.sources:
-        for number, place in one.blocks:
-            choose(found, number, place)
+    choose_all(found)
     if not found.chosen:
         raise Failed(f"{shown(paths[0])}: there is no block to be joined", REFUSED)
     slots = found.slots
@@ -262,8 +306,17 @@ def join(out: Path, paths: list[Path]) -> Joined:
         for number, place in sorted(found.chosen.items(), key=lambda pair: pair[0] % slots):
             file.seek(layout.slot_at(number % slots))
             file.write(place.read())
-    found.unreadable = [slot["block"] for slot in examine(out)["slots"] if slot["state"] == "unreadable"]
+    judge(found, out)
     return found
+
+
+def judge(found: Joined, out: Path) -> None:
+    """Takes what an examination and a replay say of the image that is made: blocks of different units don't follow one another, or aren't
+    answered as their journal says."""
+    examination, replay = check(out, silent)
+    found.unreadable = [slot["block"] for slot in examination["slots"] if slot["state"] == "unreadable"]
+    found.breaks = [one for one in examination["between"] if one["what"] != "lost"]
+    found.differences = [line for line in replay if line.get("replay") in ("record_differs", "head_differs")]
 
 
 def told(found: Joined) -> list[Json]:
@@ -272,7 +325,15 @@ def told(found: Joined) -> list[Json]:
     lines: list[Json] = [{"source": shown(one.path.name), "blocks": runs(one.numbers), "unreadable": runs(one.unreadable), "odd": one.odd,
                           "bytes_behind": one.behind} for one in found.sources]
     lines += [{"contradicts": number, "taken": shown(one.path.name), "other": shown(other.path.name)} for number, (one, other) in found.contradictions.items()]
+    lines += [{"mended": number, "unreadable_in": shown(place.path.name)} for number, place in found.mended.items()]
+    lines += [{"breaks": one["block"], "what": one["what"]} for one in found.breaks]
+    lines += [{"differs": one["block"], "life": one["life"], "event": one.get("event"), "field": one["field"]} for one in found.differences]
     return [*lines, {"joined": runs(found.chosen), "slots": found.slots, "missing": runs(found.missing), "unreadable": runs(found.unreadable)}]
+
+
+def place_of(line: Json) -> str:
+    """Where a replay differs."""
+    return f"life {line['life']} event {line['event']}" if line["replay"] == "record_differs" else f"the head of block {line['block']}"
 
 
 def text(found: Joined) -> str:
@@ -286,5 +347,10 @@ def text(found: Joined) -> str:
         lines.append(f"from {shown(one.path.name)}: blocks {runs_text(runs(one.numbers))}{more}")
     lines += [f"block {number} differs in {shown(one.path.name)} and {shown(other.path.name)}: the first one is taken"
               for number, (one, other) in found.contradictions.items()]
+    lines += [f"block {number} can't be read in {shown(place.path.name)}: it is taken from another source" for number, place in found.mended.items()]
+    lines += [f"block {one['block']} doesn't follow the block before it ({one['what']}): the sources are of different units, or one was altered"
+              for one in found.breaks]
+    lines += [f"{place_of(one)} differs from its replay, in {one['field']}: the sources are of different units, or one was altered"
+              for one in found.differences]
     lines += [f"{name} {runs_text(runs(numbers))}" for name, numbers in (("missing", found.missing), ("unreadable", found.unreadable)) if numbers]
     return "\n".join([*lines, f"joined blocks {runs_text(runs(found.chosen))} in {found.slots} slots", ""])

@@ -83,10 +83,12 @@ def short(text: str) -> str:
 
 def once(pairs: list[tuple[str, object]]) -> dict[str, object]:
     """The members of an object, each of another name."""
-    for number, (name, _) in enumerate(pairs):
-        if name in dict(pairs[:number]):
+    found: dict[str, object] = {}
+    for name, value in pairs:
+        if name in found:
             raise Wrong(f"\"{short(name)}\" stands twice")
-    return dict(pairs)
+        found[name] = value
+    return found
 
 
 def object_of(line: bytes) -> Json:

@@ -6,7 +6,7 @@ from typing import Any
 
 import pandas as pd
 
-from . import causes, not_obeyed, tables
+from . import causes, not_obeyed, plausible, tables
 from .reading import Journal, Json
 
 MOST_TRIPS = 12
@@ -31,6 +31,17 @@ def faults(journal: Journal) -> list[str]:
     if not found:
         found += unreplayed(journal)
     return found
+
+
+def findings(journal: Journal) -> list[Json]:
+    """What `lab check` finds implausible in a journal, by its usual thresholds."""
+    return plausible.judge(one for one in journal.records if one.get("source", "journal") == "journal").findings
+
+
+def implausible(found: list[Json]) -> list[str]:
+    """What is said of findings on a line: the first one, and how many more there are."""
+    more = f", and {len(found) - 1} more" if len(found) > 1 else ""
+    return [f"{plausible.text(found[0])}{more}"] if found else []
 
 
 def unreplayed(journal: Journal) -> list[str]:
@@ -93,6 +104,8 @@ class Brief:
     """The last trips, the newest first: where each was entered, and why."""
     more_trips: int
     newest: Newest | None
+    implausible: list[Json]
+    """What physics finds, as `lab check` says it."""
     not_obeyed: str | None
     """Which packets of issue 2.3.0 the telegrams had that the unit doesn't obey; None where they had none."""
 
@@ -125,4 +138,4 @@ def brief(journal: Journal, table: pd.DataFrame, found: pd.DataFrame) -> Brief:
     unobeyed = not_obeyed.summary(table["not_obeyed"])
     trips = [trip_row(table, row) for row in entered[:MOST_TRIPS]]
     return Brief(faults(journal), last, int(of_life.iat[0]) if len(of_life) else None, intervention, trips,
-                 len(entered) - len(trips), newest(journal, table), unobeyed.text() if unobeyed.packets else None)
+                 len(entered) - len(trips), newest(journal, table), findings(journal), unobeyed.text() if unobeyed.packets else None)

@@ -9,6 +9,7 @@ from pathlib import Path
 
 from . import files, program
 from .campaign import COLUMNS, NOT_COMPARED, Job, Row
+from .cells import guarded
 from .digests import digest
 from .program import DEVICE, REFUSED, Failed
 
@@ -124,7 +125,7 @@ def write_csv(path: Path, out: files.Out) -> None:
     try:
         writer = csv.writer(text, lineterminator="\n")
         writer.writerow(COLUMNS)
-        writer.writerows(connection.execute(f"SELECT {', '.join(COLUMNS)} FROM result ORDER BY name"))
+        writer.writerows(map(guarded, row) for row in connection.execute(f"SELECT {', '.join(COLUMNS)} FROM result ORDER BY name"))
     finally:
         connection.close()
     files.write(out, text.getvalue(), [path])

@@ -8,7 +8,7 @@ from pathlib import Path
 from typing import TYPE_CHECKING
 
 from . import campaign, campaign_table, files
-from .program import NOT_WHOLE, REFUSED, WRONG_WORDS, Failed
+from .program import DEVICE, NOT_WHOLE, REFUSED, WRONG_WORDS, Failed
 from .shown import shown
 
 if TYPE_CHECKING:
@@ -52,6 +52,8 @@ def play_campaign(told: argparse.Namespace, progress: "Progress") -> int:
     out = files.Out(told.csv, files.CAMPAIGN_TABLE, told.force) if told.csv else None
     files.check_all([out] if out else [], [told.out], [told.out])
     jobs: campaign.Folder | list[campaign.Job] = campaign.Folder(told.folder, told.slots) if told.folder else []
+    if told.folder and not len(jobs):
+        raise Failed(f"{told.folder}: has no test case and no scenario, so nothing was played", DEVICE)
     table = campaign_table.Table(told.out, campaign_table.settings_of())
     played = 0
 

@@ -167,12 +167,17 @@ def draw_bands(main: Any, x: Any, speed: Any, limit: Any) -> None:
     main.plot(middle, np.maximum(over, 0), color=ABOVE, lw=1.0, label="most above the limit")
 
 
+def length_text(metres: float) -> str:
+    """A length: whole metres, and of a short one three digits."""
+    return f"{metres:,.0f}" if metres >= 100 else f"{metres:.3g}"
+
+
 def draw_many(main: Any, places: list[float], left: float, right: float, top: float) -> None:
     """Telegrams of which each one's sign would cover the next ones: how many there are in each part of the way."""
     count, edges = np.histogram(places, BARS, (left, right))
     part = float(edges[1] - edges[0])
     main.bar(edges[:-1] + part / 2, count / count.max() * top * 0.06, part * 0.6, color=QUIET, lw=0,
-             label=f"telegrams read,\nup to {count.max()} in {part:,.3g} m")
+             label=f"telegrams read,\nup to {count.max()} in {length_text(part)} m")
 
 
 def draw_track(main: Any, picture: Picture, left: float, right: float, top: float) -> float:

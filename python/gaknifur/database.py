@@ -11,11 +11,11 @@ from typing import Any
 import numpy as np
 import pandas as pd
 
-from . import causes, files, tables, times
+from . import brief, causes, files, plausible, program, tables, times
 from .program import DEVICE, REFUSED, Failed
 from .reading import Journal, Json
 
-VERSION = 5
+VERSION = 6
 """The `user_version` of the schema."""
 GREATEST = 2**62
 EVENT = (
@@ -110,6 +110,9 @@ def add_all(connection: sqlite3.Connection, journal: Journal, table: pd.DataFram
     insert(connection, "lost", ["image", *lost], ([image, *(one[name] for name in lost)] for one in journal.lost))
     insert(connection, "contradiction", ["image", "block", "what"],
            ([image, one["block"], one["what"]] for one in journal.contradictions))
+    insert(connection, "implausible", ["image", "finding", "what", "life", "first_event", "last_event", "says"],
+           ([image, number, one["implausible"], one["life"], one["first_event"], one["last_event"], plausible.text(one)]
+            for number, one in enumerate(brief.findings(journal))))
     insert(connection, "replay", ["image", "line", "verdict", *REPLAY[1:], "journal", "kernel"],
            ([image, number, *row] for number, row in enumerate(replay_rows(journal.replay))))
     add_events(connection, image, table)
@@ -123,7 +126,8 @@ def add_image(connection: sqlite3.Connection, journal: Journal) -> int:
     row = {
         "name": journal.name, "sha256": journal.sha256, "bytes": image["bytes"], "sectors": image["sectors"],
         "slots": image["slots"], "power_up_opens": power_up["opens"], "power_up_refusal": power_up["refusal"],
-        "is_whole": journal.is_whole, "events_refusal": journal.refusal}
+        "is_whole": journal.is_whole, "events_refusal": journal.refusal,
+        "reader": program.reader(), "reader_is_proved": program.reader_is_proved()}
     row |= {name: extent.get(name) for name in ("first_block", "newest_block", "first_event", "last_event", "lives")}
     insert(connection, "image", list(row), [list(row.values())])
     return int(connection.execute("SELECT last_insert_rowid()").fetchone()[0])

@@ -18,6 +18,7 @@ from .shown import shown
 
 VERDICTS = {
     "same": "both hold the same journal",
+    "lost": "a block was erased, or can't be read, in A or in B; what both hold is the same, but nothing shows that it is the same journal",
     "continues": "B continues A: what both hold is the same, and B goes on after it",
     "older": "B is older than A: what both hold is the same, and A goes on after it. Where B was read later, an older image was put back",
     "fork": "both went on from the same block in different ways, or the blocks from there on were altered",
@@ -48,11 +49,19 @@ class Side:
         """Numbers of blocks that can't be read."""
         return [slot["block"] for slot in self.examination["slots"] if slot["state"] == "unreadable"]
 
+    def lost(self) -> list[int]:
+        """Numbers of blocks that it has to hold and that can't be read there. The slot of the oldest one may be closed, since the unit
+        closes it before it writes the next block; no other block goes by turning."""
+        if not self.blocks:
+            return []
+        first = max(1, self.newest - self.examination["image"]["slots"] + 2)
+        return sorted({*range(first, self.newest + 1), *self.unreadable()} - self.blocks.keys())
+
     def told(self) -> Json:
         """The image, as JSON tells it."""
         image = self.examination["image"]
         return {"name": shown(self.path.name), "sha256": image["sha256"], "slots": image["slots"], "blocks": runs(self.blocks),
-                "unreadable": runs(self.unreadable())}
+                "unreadable": runs(self.unreadable()), "lost": runs(self.lost())}
 
 
 @dataclass
@@ -163,7 +172,9 @@ def verdict(a: Side, b: Side, differ: Iterable[int]) -> str:
         if any(number > first for number in both - unlike):
             return "altered"
         return "fork" if both - unlike else "other"
-    return "same" if a.newest == b.newest else "continues" if a.newest < b.newest else "older"
+    if a.newest > b.newest:
+        return "older"
+    return "lost" if a.lost() or b.lost() else "same" if a.newest == b.newest else "continues"
 
 
 def compare(one: Path, other: Path) -> Difference:
@@ -202,7 +213,7 @@ def text(found: Difference) -> str:
     lines = []
     for name, one in (("A", found.a), ("B", found.b)):
         told = one.told()
-        bad = f", unreadable {runs_text(told['unreadable'])}" if told["unreadable"] else ""
+        bad = "".join(f", {word} {runs_text(told[word])}" for word in ("unreadable", "lost") if told[word])
         lines.append(f"{name} {told['name']} slots {told['slots']} blocks {runs_text(told['blocks'])}{bad}")
     numbers = found.numbers()
     lines += [f"in both {runs_text(numbers['both'])}", f"in A alone {runs_text(numbers['only_a'])}",

@@ -39,7 +39,7 @@ def write_capture(told: argparse.Namespace, progress: Progress) -> int:
     from . import brief
     out = files.Out(told.out, dissector.CAPTURE, told.force)
     files.check_all([out], [told.image])
-    journal = read(told.image, progress=progress)
+    journal = read(told.image, replay=True, progress=progress)
     data, count = dissector.capture(journal)
     if not count:
         raise Failed(f"{told.image}: there is no telegram in the journal", REFUSED)

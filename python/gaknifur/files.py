@@ -5,22 +5,26 @@ file which this package made before, as its first bytes tell (`Kind`). An image 
 is. A file is written beside its name and synced, and takes the name once it is whole.
 """
 import contextlib
-import fcntl
+import ctypes
+import errno
 import io
 import os
+import re
 import secrets
 import shutil
 import sqlite3
 import stat
 import zipfile
-from collections.abc import Callable, Iterable, Iterator
+from collections.abc import Callable, Collection, Iterable, Iterator
 from dataclasses import dataclass
 from pathlib import Path
 from types import TracebackType
 from typing import BinaryIO, Self
 from urllib.parse import quote
 
-from . import layout
+from . import evidence, layout
+from .last_net import say
+from .locks import lock
 from .program import DEVICE, REFUSED, Failed
 from .shown import shown
 
@@ -32,6 +36,10 @@ WAIT_SECONDS = 60.0
 """How long a database is waited for that another program writes to."""
 
 
+AT_CURRENT, RENAME_NOREPLACE = -100, 1
+"""Linux' numbers for renameat2: the current folder, and that no name is taken the place of."""
+LEFT = re.compile(r"\.lab-[0-9]+-[0-9a-f]{16}")
+"""The names of what isn't finished."""
 MAKER = "gaknifur lab"
 """The maker that pages, pictures and workbooks tell."""
 
@@ -112,13 +120,32 @@ def open_to_read(path: Path) -> BinaryIO:
         mode = os.fstat(descriptor).st_mode
         if not stat.S_ISREG(mode) and not stat.S_ISBLK(mode):
             raise Failed(f"{path}: is no regular file and no device of blocks", DEVICE)
-        fcntl.flock(descriptor, fcntl.LOCK_SH | fcntl.LOCK_NB)
+        lock(descriptor, is_shared=True)
         return open(descriptor, "rb")
     except BaseException as error:
         os.close(descriptor)
         if isinstance(error, BlockingIOError):
             raise Failed(f"{path}: another program writes it", DEVICE) from error
         raise
+
+
+KINDS = ((stat.S_ISDIR, "a folder"), (stat.S_ISFIFO, "a named pipe (FIFO)"), (stat.S_ISCHR, "a device"), (stat.S_ISBLK, "a device of blocks"))
+"""What isn't a regular file, as it is called."""
+TO_READ = os.O_RDONLY | getattr(os, "O_NONBLOCK", 0) | getattr(os, "O_CLOEXEC", 0) | getattr(os, "O_BINARY", 0)
+
+
+def opened(path: Path) -> BinaryIO:
+    """A regular file, opened to be read. What else is there is refused by its kind; a pipe isn't waited for."""
+    try:
+        descriptor = os.open(path, TO_READ)
+    except OSError as error:
+        raise Failed(f"{path}: {error.strerror}", DEVICE) from error
+    mode = os.fstat(descriptor).st_mode
+    if not stat.S_ISREG(mode):
+        os.close(descriptor)
+        kind = next((name for is_one, name in KINDS if is_one(mode)), "something else")
+        raise Failed(f"{path}: is {kind}, and a regular file is needed", DEVICE)
+    return open(descriptor, "rb")
 
 
 def bytes_of(path: Path, most: int | None = None) -> bytes:
@@ -270,31 +297,90 @@ def sync_file(path: Path) -> None:
 
 
 @contextlib.contextmanager
-def new_folder(path: Path) -> Iterator[Path]:
-    """A folder that is filled beside its name, and takes the name once all in it is whole and synced. Nothing may stand under
-    the name. Where it can't be filled, nothing of it stays."""
+def new_folder(path: Path, names: Collection[str]) -> Iterator[Path]:
+    """A folder that is filled next to its name, and takes the name once all in it is whole and synced. Nothing may have the name. Where it
+    can't be filled, nothing of it stays; what a run left that was killed is removed first. `names` are those of the files that it may have."""
     if standing(path) is not None or path.is_symlink():
         raise refused(path, "is there; a folder that isn't there yet is made")
     real = Path(os.path.realpath(path))
-    beside = real.with_name(f".lab-{os.getpid()}-{secrets.token_hex(8)}")
+    remove_left(real.parent, names)
     try:
-        beside.mkdir()
-        yield beside
-        for folder, _, names in os.walk(beside, topdown=False):
-            for name in names:
-                os.chmod(Path(folder, name), 0o444)
-                sync_file(Path(folder, name))
-            sync_folder(Path(folder))
-        try:
-            real.mkdir()
-        except FileExistsError as error:
-            raise refused(path, "is there since a moment ago; nothing takes its place") from error
-        os.replace(beside, real)
-        sync_folder(real.parent)
+        with unfinished(real) as beside:
+            yield beside
+            for folder, _, some in os.walk(beside, topdown=False):
+                for name in some:
+                    os.chmod(Path(folder, name), 0o444)
+                    sync_file(Path(folder, name))
+                sync_folder(Path(folder))
+            try:
+                rename_new(beside, real)
+            except OSError as error:
+                if error.errno in (errno.EEXIST, errno.ENOTEMPTY, errno.ENOTDIR):
+                    raise refused(path, "is there since a moment ago; nothing takes its place") from error
+                raise
+            sync_folder(real.parent)
     except OSError as error:
         raise Failed(f"{path}: {error.strerror}", DEVICE) from error
+
+
+@contextlib.contextmanager
+def unfinished(real: Path) -> Iterator[Path]:
+    """A folder next to a name, locked as long as it is filled, so that nobody takes it for one that a killed run left. What is left of it
+    at the end is removed."""
+    beside = real.with_name(f".lab-{os.getpid()}-{secrets.token_hex(8)}")
+    beside.mkdir()
+    descriptor = os.open(beside, os.O_RDONLY | os.O_DIRECTORY | os.O_NOFOLLOW | os.O_CLOEXEC)
+    try:
+        with contextlib.suppress(OSError, Failed):  # (a file system without locks: there nobody removes what is left)
+            lock(descriptor)
+        yield beside
     finally:
         shutil.rmtree(beside, ignore_errors=True)
+        os.close(descriptor)
+
+
+def rename_new(one: Path, other: Path) -> None:
+    """Gives a folder a name that nothing has, in one step. Where the file system can't refuse a name that is there, an empty folder of that
+    name may be taken the place of."""
+    call = getattr(ctypes.CDLL(None, use_errno=True), "renameat2", None)
+    if call is not None:
+        if call(AT_CURRENT, os.fsencode(one), AT_CURRENT, os.fsencode(other), RENAME_NOREPLACE) == 0:
+            return
+        number = ctypes.get_errno()
+        if number not in (errno.EINVAL, errno.ENOSYS):
+            raise OSError(number, os.strerror(number), str(other))
+    os.rename(one, other)
+
+
+def remove_left(folder: Path, names: Collection[str]) -> None:
+    """Removes the folders that runs left which were killed while they filled them, and says so: such that this user has, that nobody locks,
+    and that have only files of these names."""
+    with contextlib.suppress(OSError):
+        for name in sorted(os.listdir(folder)):
+            if LEFT.fullmatch(name):
+                remove_one_left(folder / name, names)
+
+
+def folders_of(names: Collection[str]) -> set[str]:
+    """The folders of some files."""
+    return {name.rpartition("/")[0] for name in names if "/" in name}
+
+
+def remove_one_left(path: Path, names: Collection[str]) -> None:
+    """Removes a folder that a killed run left, where it is one."""
+    if not path.is_dir() or path.is_symlink():
+        return
+    descriptor = os.open(path, os.O_RDONLY | os.O_DIRECTORY | os.O_NOFOLLOW | os.O_CLOEXEC)
+    try:
+        lock(descriptor)
+        plain, others = evidence.names_in(path)
+        if os.fstat(descriptor).st_uid == os.geteuid() and set(others) <= folders_of(names) and set(plain) <= set(names):
+            shutil.rmtree(path)
+            say(f"{path}: removed; a run that was killed had left it unfinished")
+    except (OSError, Failed, evidence.Unfit):
+        pass
+    finally:
+        os.close(descriptor)
 
 
 def is_there(path: Path, inputs: Iterable[Path] = ()) -> bool:
@@ -323,8 +409,10 @@ class Appended:
         except OSError as error:
             raise Failed(f"{path}: {error.strerror}", DEVICE) from error
         try:
-            fcntl.flock(self.descriptor, fcntl.LOCK_EX | fcntl.LOCK_NB)
-            self.size = os.lseek(self.descriptor, 0, os.SEEK_END)
+            lock(self.descriptor)
+            self.size = self.kept = os.lseek(self.descriptor, 0, os.SEEK_END)
+            self.is_in_doubt = False
+            """Whether a sync failed since the last good one. What was appended since is at `kept`."""
             if self.read(0, len(first)) != first:
                 raise refused(path, f"is there, and is not {name}")
         except BaseException as error:
@@ -352,6 +440,7 @@ class Appended:
         if size < self.size:
             os.ftruncate(self.descriptor, size)
             self.size = size
+            self.kept = min(self.kept, size)
 
     def append(self, data: bytes) -> None:
         """Appends. `sync` has to follow."""
@@ -360,9 +449,28 @@ class Appended:
             done += os.pwrite(self.descriptor, data[done:], self.size + done)
         self.size += done
 
+    @property
+    def owes_sync(self) -> bool:
+        """Whether something was appended that no good sync followed, in this call or in one before."""
+        return self.is_in_doubt or self.kept < self.size
+
     def sync(self) -> None:
-        """Returns when the system says that all is kept."""
+        """Returns when the system says that all is kept. Behind a sync that failed the system takes for kept what perhaps isn't, so all that
+        was appended since the last good one is written again first."""
+        if self.is_in_doubt:
+            self.write_again()
+        self.is_in_doubt = True
         os.fsync(self.descriptor)
+        self.is_in_doubt, self.kept = False, self.size
+
+    def write_again(self) -> None:
+        """Writes once more what no good sync followed."""
+        at = self.kept
+        while at < self.size:
+            data = self.read(at, min(1 << 20, self.size - at))
+            if not data:
+                raise OSError(errno.EIO, os.strerror(errno.EIO), str(self.path))
+            at += os.pwrite(self.descriptor, data, at)
 
 
 # ---- databases

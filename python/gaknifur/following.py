@@ -11,22 +11,36 @@ from . import layout
 from .archive import Archive, Ring, image_of
 from .program import NOT_WHOLE, WHOLE
 from .reading import Json, objects
-from .words import MODES, event_text, kmh
+from .words import MODES, event_text, exact, kmh
 
 MOST_BLOCKS = 256
 """So many blocks are told at once."""
 POLL_SECONDS = 0.1
-LOCKS = Path("/proc/locks")
+PROC = Path("/proc")
+
+
+def device_of(descriptor: int) -> str:
+    """The device of an open file as the system's list of locks names it, which is that of its file system. On some file
+    systems, as Btrfs, `stat` names another one."""
+    with contextlib.suppress(OSError, IndexError, ValueError):
+        opened = dict(line.split(":", 1) for line in (PROC / "self/fdinfo" / str(descriptor)).read_text().splitlines() if ":" in line)
+        for mount in (PROC / "self/mountinfo").read_text().splitlines():
+            number, _, device = mount.split()[:3]
+            if number == opened["mnt_id"].strip():
+                major, minor = device.split(":")
+                return f"{int(major):02x}:{int(minor):02x}"
+    device_number = os.fstat(descriptor).st_dev
+    return f"{os.major(device_number):02x}:{os.minor(device_number):02x}"
 
 
 def is_held(ring: Ring) -> bool:
     """Whether a program holds the image as a unit does, by the system's list of locks. Where there is no such list, one may."""
     try:
-        lines = LOCKS.read_text().splitlines()
+        lines = (PROC / "locks").read_text().splitlines()
     except OSError:
         return True
-    inode = f":{os.fstat(ring.descriptor).st_ino}"
-    return any("FLOCK" in words and "WRITE" in words and any(word.endswith(inode) for word in words) for words in map(str.split, lines))
+    file = f"{device_of(ring.descriptor)}:{os.fstat(ring.descriptor).st_ino}"
+    return any("FLOCK" in words and "WRITE" in words and file in words for words in map(str.split, lines))
 
 
 def records(ring: Ring, blocks: dict[int, bytes]) -> list[Json]:
@@ -95,6 +109,6 @@ def text(line: Json) -> str:
         return f"blocks {told['first_block']} to {told['last_block']} were overwritten before they were read"
     if "unreadable" in line:
         return f"block {line['unreadable']['block']} can't be read"
-    place = "?" if line["place_cm"] is None else f"{line['place_cm'] / 100:g} m"
-    return (f"life {line['life']} event {line['event']} at {line['time_ms'] / 1000:g} s: {event_text(line)}; "
+    place = "?" if line["place_cm"] is None else f"{exact(line['place_cm'], 100)} m"
+    return (f"life {line['life']} event {line['event']} at {exact(line['time_ms'], 1000)} s: {event_text(line)}; "
             f"{MODES.get(line['mode'], line['mode'])}, brake {line['brake']}, limit {kmh(line['limit_m_per_h'])} km/h, front {place}")

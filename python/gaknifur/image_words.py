@@ -5,7 +5,7 @@ from collections.abc import Callable, Iterable
 from importlib.util import find_spec
 from pathlib import Path
 
-from . import files
+from . import files, program
 from .last_net import say
 from .program import DEVICE, NOT_WHOLE, WRONG_WORDS, Failed
 from .reading import Journal, Progress, read
@@ -67,16 +67,18 @@ def add_force(parser: argparse.ArgumentParser) -> None:
     parser.add_argument("--force", action="store_true", help="write over files that lab made; nothing writes over others")
 
 
-def note(journal: Journal) -> int:
-    """Says that an image isn't whole, or that the replay differs; answers the status."""
+def note(journal: Journal, is_judged: bool = False) -> int:
+    """Says that an image isn't whole, that the replay differs, and where it is asked what is implausible; answers the status."""
     from . import brief
-    found = brief.faults(journal)
+    found, odd = brief.faults(journal), brief.implausible(brief.findings(journal)) if is_judged else []
     if journal.times is not None:
         for fault in journal.times.faults():
             say(f"{journal.times.path}: {fault}")
+    for finding in odd:
+        say(f"{journal.path}: {finding}")
     if found:
         say(f"{journal.path}: {'; '.join(found)}")
-    return NOT_WHOLE if found else 0
+    return NOT_WHOLE if found or odd else 0
 
 
 def take_times(journal: Journal, told: argparse.Namespace) -> None:
@@ -117,7 +119,7 @@ def write_table(told: argparse.Namespace, progress: Progress) -> int:
     take_times(journal, told)
     from . import tables, timeline
     table = tables.strays(journal) if told.damaged else tables.frame(journal)
-    says = [f"sha256 {journal.sha256}", *([journal.times.says()] if journal.times else [])]
+    says = [f"sha256 {journal.sha256}", f"read by {program.reader()}", *([journal.times.says()] if journal.times else [])]
     write(out, timeline.workbook(tables.written(table), says) if is_book else tables.csv_parts(table), told.image)
     return note(journal)
 
@@ -127,7 +129,7 @@ def write_timeline(told: argparse.Namespace, progress: Progress) -> int:
     if told.out is not None and told.out.suffix not in (".csv", ".jsonl"):
         raise Failed(f"{told.out}: its name ends in .csv or .jsonl", WRONG_WORDS)
     out = out_of(told, files.TIMELINE, told.image)
-    journal = read(told.image, progress=progress)
+    journal = read(told.image, replay=True, progress=progress)
     take_times(journal, told)
     from . import timeline
     if told.out is not None and told.out.suffix == ".csv":
@@ -153,7 +155,7 @@ def write_database(told: argparse.Namespace, progress: Progress) -> int:
             progress("database", 0, 0)
             if not database.add(connection, journal, tables.frame(journal)):
                 say(f"{image}: is in the database already")
-            status = max(status, note(journal))
+            status = max(status, note(journal, is_judged=True))
     finally:
         connection.close()
     return status
@@ -168,7 +170,7 @@ def write_report(told: argparse.Namespace, progress: Progress) -> int:
     take_times(journal, told)
     from . import report
     write(out, report.page(journal, extent, progress, told.newest_first), told.image)
-    return note(journal)
+    return note(journal, is_judged=True)
 
 
 WORDS: dict[str, Callable[[argparse.Namespace, Progress], int | None]] = {"table": write_table, "timeline": write_timeline,

@@ -10,7 +10,7 @@ from dataclasses import dataclass, replace
 from pathlib import Path
 from typing import Any
 
-from . import case_files, cases, closed_loop, drives, track_checks
+from . import case_files, cases, closed_loop, drives, files, track_checks
 from .course import DRIVE, Life, of_case, played, scenario_of
 from .last_net import say
 from .located import Value, document
@@ -209,6 +209,7 @@ def of_file(path: Path) -> Iterator[Subject]:
         scenario, drive = drives.read(path)
         yield Subject(path, [Life(at, scenario, None, drive=drive)])
     else:
+        files.opened(path).close()  # (etcs_lab would wait for a pipe)
         yield Subject(path, [Life(None, None, path)])
 
 

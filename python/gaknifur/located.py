@@ -14,6 +14,7 @@ from typing import Any
 
 import yaml
 
+from .files import opened
 from .program import DEVICE, REFUSED, Failed
 
 NUMBER = re.compile(r"-?[0-9][0-9_]*(\.[0-9]+)?")
@@ -242,7 +243,7 @@ def check(path: Path, node: yaml.Node, sizes: dict[int, int]) -> int:
 def text_of(path: Path) -> str:
     """The text of a file."""
     try:
-        with path.open("rb") as file:
+        with opened(path) as file:
             data = file.read(MOST_BYTES + 1)
     except OSError as error:
         raise Failed(f"{path}: {error.strerror}", DEVICE) from error

@@ -84,7 +84,8 @@ def text_of(found: ByCase) -> str:
 def read(path: Path) -> ByCase:
     """What cases reach, by a file that `lab test --reached` made."""
     try:
-        told = json.loads(path.read_text(encoding="utf-8"))["reached_by"]
+        with files.opened(path) as file:
+            told = json.loads(file.read().decode("utf-8"))["reached_by"]
         return {str(case): {str(name): [str(one) for one in members] for name, members in sets.items()}
                 for case, sets in told.items()}
     except OSError as error:

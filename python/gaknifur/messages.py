@@ -11,6 +11,8 @@ from .reading import Json
 from .words import SCALES_CM
 
 NEAR_CM, NO_END, NOW = 1_300, 32_767, 32_767
+INFILL = 136
+"""The packet that ends what is used of a telegram."""
 BY_AUTHORITY = ("FS", "OS")
 """The modes that keep announced groups, authority, profiles and areas; each other one deletes them where it is entered."""
 USED = {"SH": (3, 65, 66), "TR": (3, 65, 66), "PT": (3, 41, 65, 66), "SF": ()}
@@ -18,7 +20,7 @@ USED = {"SH": (3, 65, 66), "TR": (3, 65, 66), "PT": (3, 41, 65, 66), "SF": ()}
 ON_SIGHT, SHUNTING = 0, 1
 TRIP, SERVICE, NONE = 0, 1, 2
 """Q_LINKREACTION."""
-NATIONAL_SPEED, ONBOARD = 127, 126
+NATIONAL_SPEED, ONBOARD, NO_SPEED = 127, 126, 127
 ALWAYS = 255
 """A restriction of this number isn't revoked."""
 Group = tuple[int, int]
@@ -151,6 +153,8 @@ class Known:
     areas: tuple[Area, ...] = ()
     authority: tuple["Message", Packet] | None = None
     has_profile: bool = False
+    speeds_end_cm: int | None = None
+    """Where the static speeds end; none where no end is sent, and where the last speed before it is 0."""
     national: National = National()
     waiting: tuple[int, National] | None = None
     """A packet 3 that comes into force at a place."""
@@ -200,6 +204,8 @@ class Message:
     place_cm: int = 0
     """From where its distances count, as the kernel has it."""
     mode: str = "SB"
+    direction: int | None = None
+    """That in which it was passed: of its own, or of its announcement."""
     packets: tuple[Packet, ...] = ()
     """Those that are used, in the order in which they are."""
     before: Known = Known()
@@ -279,7 +285,7 @@ def packets_of(decoded: Json, pointer: str) -> tuple[Packet, ...]:
     """The packets of a telegram before infill that are known."""
     found: list[Packet] = []
     for packet in decoded["packets"]:
-        if packet["packet"] == 136:
+        if packet["packet"] == INFILL:
             break
         if "skipped_bits" not in packet:
             found.append(Packet(packet["packet"], tuple((name, number) for name, number in packet["fields"]), pointer))
@@ -367,7 +373,7 @@ class Walk:
         if self.known.waiting and record["max_safe_front_cm"] >= self.known.waiting[0]:
             self.known = replace(self.known, national=self.known.waiting[1], waiting=None)
         if record["mode"] != mode and record["mode"] not in BY_AUTHORITY:
-            self.known = replace(self.known, links=(), authority=None, areas=(), has_profile=False)
+            self.known = replace(self.known, links=(), authority=None, areas=(), has_profile=False, speeds_end_cm=None)
 
     # ---- groups
 
@@ -419,8 +425,8 @@ class Walk:
         nominal = link.nominal if link and message.nominal is None else message.nominal
         packets = tuple(packet for packet in message.own if is_used and packet.number in USED.get(mode, (packet.number,))
                         and packet.told("Q_DIR") in (2, nominal))
-        message = replace(message, link=link, is_used=is_used, makes_fix=makes_fix, place_cm=place, mode=mode, packets=packets,
-                          before=self.known)
+        message = replace(message, link=link, is_used=is_used, makes_fix=makes_fix, place_cm=place, mode=mode, direction=nominal,
+                          packets=packets, before=self.known)
         if link:
             left = links[links.index(link) + 1:] if is_used else tuple(one for one in links if one is not link)
             self.known = replace(self.known, links=left)
@@ -448,8 +454,10 @@ class Walk:
             self.known = replace(known, links=tuple(links_of(packet, message.group[0], here)))
         elif packet.number == 12:
             self.known = replace(known, authority=(message, packet), areas=())
-        elif packet.number in (21, 27):
+        elif packet.number == 21:
             self.known = replace(known, has_profile=True)
+        elif packet.number == 27:
+            self.known = replace(known, has_profile=True, speeds_end_cm=speeds_end(packet, here))
         elif packet.number == 80:
             self.known = replace(known, areas=tuple(areas_of(packet, message)))
         elif packet.number in (65, 66):
@@ -475,6 +483,17 @@ def links_of(packet: Packet, country: int, place: int) -> Iterable[Link]:
         country = told.get("NID_C", country)
         yield Link((country, told["NID_BG"]), place, 100 * told["Q_LOCACC"], told["Q_LINKORIENTATION"], told["Q_LINKREACTION"],
                    packet.pointer)
+
+
+def speeds_end(packet: Packet, place: int) -> int | None:
+    """Where the static speeds of a packet 27 end; none where no end is sent, and where the train is to stop before it."""
+    last = NO_SPEED
+    for sent in packet.elements("D_STATIC"):
+        place += packet.cm(sent["D_STATIC"])
+        if sent["V_STATIC"] == NO_SPEED:
+            return place if last else None
+        last = sent["V_STATIC"]
+    return None
 
 
 def areas_of(packet: Packet, message: Message) -> Iterable[Area]:

@@ -15,6 +15,7 @@ from .cases import DRIVEN, derived, with_train
 from .other_unit import Broken, OtherUnit
 from .program import REFUSED, Failed
 from .reading import Json
+from .shown import shown
 
 PLACE = ("place_cm", "uncertainty_cm")
 FOLLOWS = {"limit_kmh": ("limit_m_per_h",), "place_m": ("place_cm",), "min_safe_front_cm": PLACE,
@@ -115,7 +116,7 @@ def lines(asked: Asked) -> Iterator[Line]:
     """All that is told."""
     if asked.greeting:
         left = asked.greeting.leaves_out
-        yield Line(f"the unit {asked.greeting.unit}" + (f"; it doesn't tell {', '.join(left)}" if left else ""),
+        yield Line(f"the unit {shown(asked.greeting.unit)}" + (f"; it doesn't tell {', '.join(left)}" if left else ""),
                    {"unit": asked.greeting.unit, "tells": list(asked.greeting.tells)})
     pairs = list(zip(asked.records, asked.answers))
     for life, inner in itertools.groupby(pairs, lambda pair: int(pair[0]["life"])):

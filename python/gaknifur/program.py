@@ -6,7 +6,6 @@ unproved, and keeps; it says so on standard error. The scripts are those of this
 installed, those beside it, or else on the PATH.
 """
 import contextlib
-import fcntl
 import functools
 import os
 import shutil
@@ -39,6 +38,7 @@ TOP = HERE.parents[2] if VERSION_TOOL.exists() else HERE.parents[3] / "gaknifur"
 """The repository that this package lies in; else the folder of an installed product, which is beside that of Python."""
 
 
+@functools.cache
 def version() -> str:
     """The version of the product, and its commit where that is known."""
     told = HERE.with_name("RELEASE")
@@ -117,6 +117,29 @@ def is_proved(name: str) -> bool:
     return bool(os.environ.get(f"GAKNIFUR_{name.upper()}")) or proved(script(name)) is not None
 
 
+@functools.cache
+def reader_is_proved() -> bool | None:
+    """Whether the `etcs_lab` that reads images is the proved one of these sources; None where the environment names another one, of
+    which nothing says it."""
+    if not (told := os.environ.get("GAKNIFUR_ETCS_LAB")):
+        return proved(script("etcs_lab")) is not None
+    try:
+        own = proved(script("etcs_lab"))
+        return True if own is not None and os.path.samefile(own, told) else None
+    except (Failed, OSError):
+        return None
+
+
+PROOF = {True: "etcs_lab is proved", False: "etcs_lab is not proved: it was compiled without a proof",
+         None: "the environment named etcs_lab, and nothing says whether it is proved"}
+"""What is said of the reader, by `reader_is_proved`."""
+
+
+def reader() -> str:
+    """By what an image is read: the version and the commit, and whether `etcs_lab` is proved."""
+    return f"gaknifur {version()}; {PROOF[reader_is_proved()]}"
+
+
 def built(name: str) -> Path:
     """The file of a program that is named or proved. Another one is refused."""
     if not is_proved(name):
@@ -137,6 +160,9 @@ def ran(words: Sequence[str]) -> Ran:
     """Runs a program to its end. Its output goes to a file in memory, so that nobody has to read beside it, and the process is
     made without a copy of this one: that takes less than half of the time that `subprocess` takes, which a program of a
     millisecond shows."""
+    if not hasattr(os, "memfd_create"):  # (Linux alone has it)
+        done = subprocess.run(words, stdin=subprocess.DEVNULL, capture_output=True)
+        return Ran(done.returncode, done.stdout, done.stderr)
     output, said = memory_file("output"), memory_file("said")
     try:
         process = os.posix_spawnp(words[0], list(words), environment(), setsigdef=(signal.SIGPIPE, signal.SIGXFSZ), file_actions=(
@@ -171,6 +197,7 @@ def memory_file(name: str) -> int:
     file = os.memfd_create(name)
     if file > 2:
         return file
+    import fcntl  # (only where there is no such number, and Windows has no such module)
     other = fcntl.fcntl(file, fcntl.F_DUPFD_CLOEXEC, 3)
     os.close(file)
     return other
@@ -303,7 +330,7 @@ def adapted(digits: str) -> str:
     refuses, that is an error."""
     path = find()
     try:
-        done = subprocess.run([path, "telegram", "--installed", "--", digits], stdin=subprocess.DEVNULL, capture_output=True, text=True,
+        done = subprocess.run([path, "telegram", f"--installed={digits}"], stdin=subprocess.DEVNULL, capture_output=True, text=True,
                               encoding="utf-8", errors="replace")
     except OSError as error:
         raise Failed(f"{path}: {error.strerror}", DEVICE) from error

@@ -8,9 +8,10 @@ import jinja2
 import numpy as np
 import pandas as pd
 
-from . import brief, causes, chart, tables, words
+from . import brief, causes, chart, plausible, program, tables, words
 from .chart import Picture
 from .extent import Extent
+from .program import REFUSED, Failed
 from .reading import Journal, Json, Progress, silent
 
 MOST_ROWS, MOST_WINDOWS, MOST_LIVES, MOST_TOLD, AROUND, SHORT = 1500, 12, 12, 400, 25, 400
@@ -219,11 +220,21 @@ def pictures_of(table: pd.DataFrame, drawn: list[Life], chosen: pd.DataFrame, ro
     return pictures, anchors
 
 
+def extent_of(records: pd.DataFrame) -> str:
+    """Which events and lives some records are of."""
+    if records.empty:
+        return "none that can be read"
+    (first, last), lives = records["event"].agg(["min", "max"]), list(dict.fromkeys(records["life"]))
+    return f"events {first} to {last}, of life {lives[0]}" + (f" to {lives[-1]}" if len(lives) > 1 else "")
+
+
 def page(journal: Journal, extent: Extent = Extent(), progress: Progress = silent, is_newest_first: bool = False) -> str:
     """The page of a journal, or of a part of it."""
     records = tables.frame(journal)
     at_top = brief.brief(journal, records, tables.interventions(records))
     table = extent.take(records)
+    if table.empty and not extent.is_all:
+        raise Failed(f"{journal.path}: the journal has no record {extent.text()}; it has {extent_of(records)}. Nothing was written.", REFUSED)
     found, usual = interventions(table, is_newest_first)
     readings = tables.some_of(table, table["kind"] == "odometer", ("event", "speed_kmh"))
     fastest, over = top_of(readings, "speed_kmh"), top_of(table, "over_limit_kmh")
@@ -251,4 +262,4 @@ def page(journal: Journal, extent: Extent = Extent(), progress: Progress = silen
         strays=stray_rows(journal), more_strays=max(len(journal.strays) - MOST_STRAYS, 0),
         way_m=float(table["movement_cm"].fillna(0).abs().sum()) / 100, modes=list(dict.fromkeys(table["mode"])),
         service=int((found["worst"] == "service").sum()), emergency=int((found["worst"] == "emergency").sum()),
-        causes=causes, words=words, pd=pd, utc_of=utc_texts(records).get)
+        causes=causes, words=words, pd=pd, plausible=plausible, reader=program.reader(), utc_of=utc_texts(records).get)

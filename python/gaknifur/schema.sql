@@ -15,7 +15,9 @@ CREATE TABLE image (
     power_up_opens INTEGER NOT NULL CHECK (power_up_opens IN (0, 1)),
     power_up_refusal TEXT,
     is_whole INTEGER NOT NULL CHECK (is_whole IN (0, 1)),
-    events_refusal TEXT
+    events_refusal TEXT,
+    reader TEXT NOT NULL,
+    reader_is_proved INTEGER CHECK (reader_is_proved IN (0, 1))
 ) STRICT;
 
 -- each slot that isn't empty
@@ -54,6 +56,18 @@ CREATE TABLE contradiction (
     block INTEGER NOT NULL,
     what TEXT NOT NULL,
     PRIMARY KEY (image, block, what)
+) STRICT, WITHOUT ROWID;
+
+-- What physics finds implausible, as `lab check` says it by its usual thresholds; says is its sentence.
+CREATE TABLE implausible (
+    image INTEGER NOT NULL REFERENCES image ON DELETE CASCADE,
+    finding INTEGER NOT NULL,
+    what TEXT NOT NULL,
+    life INTEGER NOT NULL,
+    first_event INTEGER NOT NULL,
+    last_event INTEGER NOT NULL,
+    says TEXT NOT NULL,
+    PRIMARY KEY (image, finding)
 ) STRICT, WITHOUT ROWID;
 
 -- the lines of a replay, in their order
@@ -357,4 +371,4 @@ FROM extent
 JOIN step AS first ON (first.image, first.block, first.event) = (extent.image, extent.first_block, extent.first_event)
 JOIN step AS last ON (last.image, last.block, last.event) = (extent.image, extent.last_block, extent.last_event);
 
-PRAGMA user_version = 5;
+PRAGMA user_version = 6;

@@ -16,7 +16,8 @@ from dataclasses import dataclass, field
 from pathlib import Path
 from typing import BinaryIO
 
-from . import bag, files, layout, program, signing
+from . import bag, evidence, files, layout, program, signing
+from .evidence import Unfit
 from .program import DEVICE, NOT_WHOLE, REFUSED, WHOLE, Failed, Run
 from .reading import Json, Progress, parsed, read, silent
 from .shown import shown
@@ -26,6 +27,11 @@ IMAGE, SEAL, PARTS, TIMES = "image", "seal.json", "digests.csv", "image.times"
 WORDS = {"examine.json": ["examine", "--json"], "events.jsonl": ["events", "--all"], "replay.jsonl": ["replay", "--json"],
          "why.jsonl": ["why", "--json"]}
 """What `etcs_lab` tells of the image: the file, and the words by which it does."""
+FILES = (IMAGE, TIMES, SEAL, PARTS, *WORDS, "table.csv", "journal.db", "report.html")
+"""The files that the payload of a bag may have."""
+BAG = (*(f"{bag.PAYLOAD}/{name}" for name in FILES), bag.DECLARATION, bag.INFO, *map(bag.MANIFEST.format, bag.ALGORITHMS),
+       *map(bag.TAG_MANIFEST.format, bag.ALGORITHMS), signing.REQUEST, *signing.LOOSE)
+"""All files that a bag may have."""
 VERSION = 1
 """The version of `seal.json`."""
 RECORD_BYTES = {1: 128, 2: 256, 3: 256}
@@ -125,14 +131,15 @@ def parts_text(data: Path) -> str:
     return out.getvalue()
 
 
-def draw(data: Path, name: str, drift_ppm: int, progress: Progress) -> None:
-    """Makes table, database and report of a bag's image, which they call by the name that it had."""
+def draw(data: Path, name: str, drift_ppm: int, progress: Progress) -> list[str]:
+    """Makes table, database and report of a bag's image, which they call by the name that it had; answers what of the image isn't whole,
+    differs or is implausible."""
     times = data / TIMES
     journal = read(data / IMAGE, replay=True, why=True, progress=progress, strays=True)
     if times.is_file():
         journal.times = Times.of(journal, times, drift_ppm)
     journal.path = Path(name)
-    from . import database, report, tables
+    from . import brief, database, report, tables
     table = tables.frame(journal)
     (data / "table.csv").write_text(tables.csv_text(table), encoding="utf-8")
     connection = database.open_database(data / "journal.db")
@@ -141,14 +148,13 @@ def draw(data: Path, name: str, drift_ppm: int, progress: Progress) -> None:
     finally:
         connection.close()
     (data / "report.html").write_text(report.page(journal, progress=progress), encoding="utf-8")
+    return brief.faults(journal) + brief.implausible(brief.findings(journal))
 
 
 def tools() -> Json:
-    """The tools that made a bag, and whether they are proved; null where `etcs_lab` was named by the environment."""
-    path = Path(program.find())
-    is_named = bool(os.environ.get("GAKNIFUR_ETCS_LAB"))
-    return {"lab": program.version(), "lab_is_proved": False, "etcs_lab_sha256": bag.digests(path)["sha256"],
-            "etcs_lab_is_proved": None if is_named else program.is_proved("etcs_lab"), "python": platform.python_version()}
+    """The tools that made a bag, and whether they are proved; null where the environment named `etcs_lab`, and it isn't the proved one."""
+    return {"lab": program.version(), "lab_is_proved": False, "etcs_lab_sha256": bag.digests(Path(program.find()))["sha256"],
+            "etcs_lab_is_proved": program.reader_is_proved(), "python": platform.python_version()}
 
 
 def info_of(seal: Json) -> list[tuple[str, str]]:
@@ -158,10 +164,10 @@ def info_of(seal: Json) -> list[tuple[str, str]]:
             ("External-Description", f"journal {seal['image']['name']}; medium: {seal['medium'] or 'not told'}")]
 
 
-def seal(image: Path, folder: Path, how: Sealing, progress: Progress = silent) -> Json:
-    """Makes a bag of an image; answers what `seal.json` tells. An image that isn't formatted is sealed too, without what
+def seal(image: Path, folder: Path, how: Sealing, progress: Progress = silent) -> tuple[Json, list[str]]:
+    """Makes a bag of an image; answers what `seal.json` tells, and what of the image isn't as it should be. An image that isn't formatted is sealed too, without what
     can't be told of it."""
-    with files.open_to_read(image) as source, files.new_folder(folder) as made:
+    with files.open_to_read(image) as source, files.new_folder(folder, BAG) as made:
         data = made / bag.PAYLOAD
         data.mkdir()
         progress("copy", 0, 0)
@@ -171,12 +177,12 @@ def seal(image: Path, folder: Path, how: Sealing, progress: Progress = silent) -
         name = shown(image.name)
         told = tell(data)
         is_told = told["examine.json"]["status"] in (WHOLE, NOT_WHOLE)
-        if is_told:
-            draw(data, name, how.drift_ppm, progress)
+        faults = draw(data, name, how.drift_ppm, progress) if is_told else ["is not a formatted image, so nothing is told of it"]
         found = {"version": VERSION, "sealed_at": now(), "by": shown(how.by or who()), "medium": how.medium and shown(how.medium),
                  "image": {"name": name, "bytes": (data / IMAGE).stat().st_size, **digests}, "etcs_lab": told, "tools": tools(),
                  "times": {"file": TIMES, "drift_ppm": how.drift_ppm} if how.times else None,
                  "signed_by": [{"kind": key.kind, "key": key.told()} for key in how.keys]}
+        check_seal(found)
         (data / SEAL).write_text(json.dumps(found, indent=1, ensure_ascii=False) + "\n", encoding="utf-8")
         progress("digests", 0, 0)
         bag.close(made, info_of(found))
@@ -184,10 +190,35 @@ def seal(image: Path, folder: Path, how: Sealing, progress: Progress = silent) -
         bag.close_tags(made)
         for key in how.keys:
             key.sign(made / bag.SIGNED)
-    return found
+    return found, faults
+
+
+def check_seal(found: Json) -> None:
+    """Refuses to seal what nobody could verify, as a text without an end."""
+    try:
+        SCHEMA.check(found, "")
+    except Unfit as unfit:
+        raise Failed(f"can't be sealed: {SEAL}: {unfit}", REFUSED) from unfit
 
 
 # ---- what a bag shows
+
+FINGERPRINTS = evidence.Text(r"SHA256:[A-Za-z0-9+/]{1,64}|[0-9A-F]{16,64}")
+LINE = evidence.Text()
+RAN = evidence.Maybe(evidence.Text(most=1 << 15))
+SCHEMA = evidence.Members({
+    "version": evidence.OneOf((VERSION,)), "sealed_at": evidence.Text(r"[0-9]{4}-[0-9]{2}-[0-9]{2}T[0-9]{2}:[0-9]{2}:[0-9]{2}Z"),
+    "by": LINE, "medium": evidence.Maybe(LINE),
+    "image": evidence.Members({"name": LINE, "bytes": evidence.Number(1 << 62), "sha256": evidence.SHA256, "sha512": evidence.SHA512}),
+    "etcs_lab": evidence.Members({
+        name: evidence.Members({"words": evidence.OneOf((" ".join(words),)), "status": evidence.OneOf((WHOLE, REFUSED, NOT_WHOLE)), "said": RAN})
+        for name, words in WORDS.items()}),
+    "tools": evidence.Members({"lab": LINE, "lab_is_proved": evidence.OneOf((False,)), "etcs_lab_sha256": evidence.SHA256,
+                               "etcs_lab_is_proved": evidence.OneOf((True, False, None)), "python": LINE}),
+    "times": evidence.Maybe(evidence.Members({"file": evidence.OneOf((TIMES,)), "drift_ppm": evidence.Number(1 << 40)})),
+    "signed_by": evidence.Many(evidence.Members({"kind": evidence.OneOf(tuple(signing.NAMES)), "key": FINGERPRINTS}), len(signing.NAMES))})
+"""What `seal.json` has, and nothing else."""
+
 
 @dataclass
 class Shown:
@@ -199,32 +230,59 @@ class Shown:
 
 
 def seal_of(folder: Path, found: Shown) -> Json | None:
-    """What `seal.json` of a bag tells; None, and a fault, where it is none."""
+    """What `seal.json` of a bag says; None, and a fault, where it isn't as its schema has it."""
     name = f"{bag.PAYLOAD}/{SEAL}"
     try:
-        told = json.loads((folder / name).read_text(encoding="utf-8")) if (folder / name).is_file() else {}
-        if told["version"] == VERSION and {"sealed_at", "by", "image", "etcs_lab", "tools", "signed_by"} <= set(told):
-            return dict(told)
-    except (OSError, ValueError, TypeError, KeyError):
-        pass
-    found.faults.append(f"{name}: is missing, or is no seal of version {VERSION}")
+        told: Json = evidence.parsed(folder / name, SCHEMA)
+        kinds = [one["kind"] for one in told["signed_by"]]
+        if len(set(kinds)) == len(kinds):
+            return told
+        raise Unfit("signed_by names a kind twice")
+    except Unfit as unfit:
+        found.faults.append(f"{name}: is no seal of version {VERSION}: {unfit}")
     return None
 
 
-def check_contents(data: Path, told: Json, found: Shown) -> None:
-    """What is told of the image in the bag is told of just this image."""
-    digests = bag.digests(data / IMAGE)
-    if any(told["image"][name] != digest for name, digest in digests.items()):
+def is_printed(name: str, data: Path) -> bool:
+    """Whether a file of the bag has, byte for byte, what `etcs_lab` prints of the image."""
+    run = Run(WORDS[name], data / IMAGE)
+    is_same = True
+    with evidence.opened(data / name) as file:
+        for line in run.lines():
+            text = (line if line.endswith("\n") else f"{line}\n").encode()
+            is_same = is_same and file.read(len(text)) == text
+        is_same = is_same and not file.read(1)
+    if run.status not in (WHOLE, REFUSED, NOT_WHOLE):
+        raise run.failed(data / IMAGE)
+    return is_same
+
+
+def check_image(data: Path, told: Json, found: Shown) -> None:
+    """The image has the bytes and the digests that `seal.json` says."""
+    size = (data / IMAGE).stat().st_size
+    now = evidence.digests(data / IMAGE, bag.ALGORITHMS, size)
+    if any(told["image"][name] != digest for name, digest in now.items()):
         found.faults.append(f"{bag.PAYLOAD}/{IMAGE}: is another image than the one that {SEAL} tells")
+    elif told["image"]["bytes"] != size:
+        found.faults.append(f"{bag.PAYLOAD}/{SEAL}: says that the image has {told['image']['bytes']} bytes, and it has {size}")
     else:
-        found.shown.append(f"the image has {told['image']['bytes']} bytes and the SHA-256 {digests['sha256']}")
-    if parts_text(data) != (data / PARTS).read_text(encoding="utf-8"):
+        found.shown.append(f"the image has {size} bytes and the SHA-256 {now['sha256']}")
+    if (told["times"] is not None) != (data / TIMES).exists():
+        found.faults.append(f"{bag.PAYLOAD}/{SEAL}: says {'that' if told['times'] else 'of no'} marks of the time of day "
+                            f"{'are in ' + TIMES if told['times'] else ''}, and {TIMES} is {'missing' if told['times'] else 'there'}")
+
+
+def check_contents(data: Path, told: Json, found: Shown) -> None:
+    """What is said of the image in the bag is said of this image. Nothing of it is parsed that `etcs_lab` doesn't print here too."""
+    check_image(data, told, found)
+    differ = [name for name in WORDS if not is_printed(name, data)]
+    is_same_tool = told["tools"]["etcs_lab_sha256"] == tools()["etcs_lab_sha256"]
+    if {"examine.json", "events.jsonl"} & set(differ):
+        found.not_shown.append(f"that {PARTS} has the digests of the image's parts: {' and '.join(differ)} tell other parts than this etcs_lab")
+    elif parts_text(data).encode() != evidence.data_of(data / PARTS, (data / PARTS).stat().st_size):
         found.faults.append(f"{bag.PAYLOAD}/{PARTS}: tells other digests than those of the image's parts")
     else:
         found.shown.append("the digests of its slots and records are those of digests.csv")
-    differ = [name for name, words in WORDS.items()
-              if lines_of(words, data / IMAGE)[0] != (data / name).read_text(encoding="utf-8")]
-    is_same_tool = told["tools"]["etcs_lab_sha256"] == tools()["etcs_lab_sha256"]
     if not differ:
         by = "the etcs_lab by which it was sealed" if is_same_tool else "this etcs_lab, which is another one than it was sealed by,"
         found.shown.append(f"{by} tells the same of the image: examination, events, replay and causes")
@@ -235,41 +293,80 @@ def check_contents(data: Path, told: Json, found: Shown) -> None:
                                "by, and tells something else")
 
 
-def check_signatures(folder: Path, told: Json, trust: signing.Trust, found: Shown) -> None:
-    """What signatures show."""
-    found_signatures = signing.signatures(folder, trust)
-    for kind, seen in found_signatures.items():
+def check_tools(told: Json, found: Shown) -> None:
+    """Says by which tools the bag was sealed, and whether they were proved."""
+    by = f"{SEAL} says that it was sealed by lab {told['tools']['lab']}"
+    proved = told["tools"]["etcs_lab_is_proved"]
+    if proved:
+        found.shown.append(f"{by}, with a proved etcs_lab")
+    else:
+        found.not_shown.append(f"that a proved etcs_lab read the image: {by}, and that {program.PROOF[proved]}")
+
+
+def check_signed_by(told: Json, signatures: dict[str, signing.Signature], found: Shown) -> None:
+    """The signatures are those that `seal.json` names."""
+    for kind, seen in signatures.items():
         said = [one["key"] for one in told["signed_by"] if one["kind"] == kind]
+        if seen.fault:
+            continue
         if seen.is_there and not said:
             found.faults.append(f"{seen.name}: {SEAL} tells no such signature")
         elif said and not seen.is_there:
             found.faults.append(f"{seen.name}: is missing; {SEAL} tells a signature by {said[0]}")
         elif seen.key and seen.key not in said:
             found.faults.append(f"{seen.name}: is by the key {seen.key}, and {SEAL} tells {said[0]}")
-        elif seen.fault:
-            found.faults.append(f"{seen.name}: {seen.fault}")
-        elif seen.is_there:
-            (found.shown if seen.signer else found.not_shown).append(seen.told)
-    if not told["signed_by"]:
-        found.not_shown.append("who sealed it: the bag isn't signed, so whoever altered it could have closed it anew")
-    if trust.asks_for_signature and not any(seen.signer for seen in found_signatures.values()):
+
+
+def vouched(signatures: dict[str, signing.Signature], stamp: signing.Stamp, trust: signing.Trust, found: Shown) -> bool:
+    """Takes what signatures and time stamp are wrong in; answers whether somebody vouches who is named, or nobody is named."""
+    found.faults += [f"{seen.name}: {seen.fault}" for seen in signatures.values() if seen.fault]
+    is_signed = any(seen.signer for seen in signatures.values())
+    if trust.asks_for_signature and not is_signed:
         found.faults.append("the bag isn't signed by anybody who is named")
+    found.faults += [stamp.fault] if stamp.fault else []
+    return is_signed or stamp.is_shown or not (trust.asks_for_signature or trust.authority)
+
+
+def tell_signatures(signatures: dict[str, signing.Signature], stamp: signing.Stamp, found: Shown) -> None:
+    """Says what signatures and time stamp show, and what they don't."""
+    for seen in signatures.values():
+        if seen.told and not any(line.startswith(f"{seen.name}: ") for line in found.faults):
+            (found.shown if seen.signer else found.not_shown).append(seen.told)
+    if not any(seen.is_there for seen in signatures.values()):
+        found.not_shown.append("who sealed it: the bag isn't signed, so whoever altered it could have closed it anew")
+    if not stamp.fault:
+        (found.shown if stamp.is_shown else found.not_shown).append(stamp.told)
 
 
 def verify(folder: Path, trust: signing.Trust) -> Shown:
-    """What a bag shows. Contents are looked at where each file is as it was sealed."""
+    """What a bag shows: the signature first, over the bytes that are signed; then digests; then the schema of `seal.json`; then contents.
+    Each of these is looked at only where what is before it is as it was sealed."""
     found = Shown()
     if not folder.is_dir():
         raise Failed(f"{folder}: there is no such folder", DEVICE)
-    found.faults = bag.faults(folder, signing.LOOSE)
-    told = seal_of(folder, found)
-    if not found.faults and told is not None:
-        count = len(bag.names_in(folder)[0])
-        found.shown.append(f"each of {count} files is as it was sealed, by SHA-256 and SHA-512")
-        check_contents(folder / bag.PAYLOAD, told, found)
-    if told is not None:
-        check_signatures(folder, told, trust, found)
-        stamp = signing.time_stamp(folder, trust)
-        (found.faults if stamp.fault else found.shown if stamp.is_shown else found.not_shown).append(stamp.fault or stamp.told)
+    signatures, stamp = signing.signatures(folder, trust), signing.time_stamp(folder, trust)
+    if vouched(signatures, stamp, trust, found):
+        look_inside(folder, signatures, found)
+        tell_signatures(signatures, stamp, found)
+    else:
+        found.not_shown.append("anything else of the bag: nobody who is named vouches for it, so nothing of it is read")
     found.not_shown.append("that the image wasn't altered before it was sealed")
     return found
+
+
+def look_inside(folder: Path, signatures: dict[str, signing.Signature], found: Shown) -> None:
+    """Looks at digests, `seal.json` and contents."""
+    looked = bag.look(folder, signing.LOOSE, FILES)
+    found.faults += looked.faults
+    if found.faults:
+        return
+    told = seal_of(folder, found)
+    if told is None:
+        return
+    found.shown.append(f"each of {len(looked.plain)} files is as it was sealed, by SHA-256 and SHA-512")
+    check_signed_by(told, signatures, found)
+    try:
+        check_contents(folder / bag.PAYLOAD, told, found)
+    except Unfit as unfit:
+        found.faults.append(f"{bag.PAYLOAD}: a file changed while it was read: {unfit}")
+    check_tools(told, found)

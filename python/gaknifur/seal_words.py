@@ -4,8 +4,10 @@ import sys
 from collections.abc import Callable
 from pathlib import Path
 
-from .program import REFUSED
+from .last_net import say
+from .program import NOT_WHOLE, REFUSED
 from .reading import Progress
+from .shown import shown
 
 Word = Callable[[str, str, str], argparse.ArgumentParser]
 
@@ -13,7 +15,8 @@ Word = Callable[[str, str, str], argparse.ArgumentParser]
 def add_words(word: Word) -> None:
     """Adds the words."""
     seal = word("seal", "puts an image and all that is told of it into a bag of evidence (BagIt 1.0)",
-                "The image is read once, and never opened to be written. The folder is made.")
+                "The image is read once, and never opened to be written. The folder is made. Status 4 where something of the image is lost, "
+                "damaged, contradicts or is implausible, or the replay differs.")
     seal.add_argument("image", metavar="IMAGE", type=Path)
     seal.add_argument("folder", metavar="FOLDER", type=Path)
     seal.add_argument("--by", metavar="TEXT", help="who seals it; else the user of this machine")
@@ -35,10 +38,13 @@ def seal_image(told: argparse.Namespace, progress: Progress) -> int:
     from . import seal, signing, times
     keys = [signing.Key(kind, name) for kind, name in (("ssh", told.ssh_key), ("openpgp", told.gpg_key)) if name]
     how = seal.Sealing(told.by, told.medium, times.beside(told.image, told.times), times.DRIFT_PPM if told.drift is None else told.drift, keys)
-    found = seal.seal(told.image, told.folder, how, progress)
-    sys.stdout.write(f"sealed {found['image']['name']}, {found['image']['bytes']} bytes, by {found['by']}\n"
+    found, faults = seal.seal(told.image, told.folder, how, progress)
+    sys.stdout.write(f"sealed {shown(found['image']['name'])}, {found['image']['bytes']} bytes, by {shown(found['by'])}\n"
                      f"sha256 {found['image']['sha256']}\n")
-    return 0
+    sys.stdout.flush()
+    for fault in faults:
+        say(f"{told.image}: {fault}")
+    return NOT_WHOLE if faults else 0
 
 
 def verify_bag(told: argparse.Namespace, progress: Progress) -> int:
@@ -46,7 +52,7 @@ def verify_bag(told: argparse.Namespace, progress: Progress) -> int:
     from . import seal, signing
     found = seal.verify(told.folder, signing.Trust(told.signers, told.keyring, told.authority))
     for word, lines in (("altered", found.faults), ("shown", found.shown), ("not shown", found.not_shown)):
-        sys.stdout.writelines(f"{word}: {line}\n" for line in lines)
+        sys.stdout.writelines(f"{shown(f'{word}: {line}')}\n" for line in lines)
     sys.stdout.write("the bag is not as it was sealed\n" if found.faults else "the bag is as it was sealed\n")
     return REFUSED if found.faults else 0
 

@@ -1,12 +1,13 @@
 """The word `search` of `./lab`: looks through random scenarios for one that breaks a property (docs/SEARCHING.md)."""
 import argparse
+import io
 import json
 import secrets
 from collections.abc import Callable, Sequence
 from pathlib import Path
 from typing import Any
 
-from . import oracle_words, playing, properties
+from . import files, oracle_words, playing, properties
 from .located import BadFile
 from .other_unit import words_of
 from .program import DEVICE, REFUSED, WRONG_WORDS, Failed
@@ -83,7 +84,7 @@ def record_of(path: Path, number: int, line: str) -> Json | None:
 def records_of(path: Path) -> list[Json]:
     """The records of a file."""
     try:
-        with path.open(encoding="utf-8") as file:
+        with io.TextIOWrapper(files.opened(path), encoding="utf-8") as file:
             found = [one for number, line in enumerate(file, 1) if (one := record_of(path, number, line)) is not None]
     except OSError as error:
         raise Failed(f"{path}: {error.strerror}", DEVICE) from error

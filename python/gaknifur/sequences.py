@@ -6,11 +6,14 @@ for steps and for expected results. What no pattern fits is told by its row, and
 """
 import contextlib
 import csv
+import io
 import itertools
+import os
 import re
-from collections.abc import Iterator
+from collections.abc import Iterable, Iterator
 from dataclasses import dataclass, field
 from pathlib import Path
+from typing import Any, BinaryIO
 
 from . import files
 from .located import Value, document, shortened
@@ -100,35 +103,53 @@ def mapping(path: Path) -> Mapping:
 def cells(path: Path) -> Iterator[list[str]]:
     """The cells of a table, row by row."""
     try:
-        if path.stat().st_size > MOST_BYTES:
-            raise Failed(f"{path}: has more than {MOST_BYTES:,} bytes", REFUSED)
-        if path.suffix == ".xlsx":
-            yield from of_workbook(path)
-            return
-        with path.open(encoding="utf-8-sig", newline="") as file:
-            first = file.readline()
-            file.seek(0)
-            yield from csv.reader(file, delimiter=max(",;\t", key=first.count), strict=True)
+        with files.opened(path) as file:
+            if os.fstat(file.fileno()).st_size > MOST_BYTES:
+                raise Failed(f"{path}: has more than {MOST_BYTES:,} bytes", REFUSED)
+            yield from of_workbook(path, file) if path.suffix == ".xlsx" else of_text(file)
     except OSError as error:
         raise Failed(f"{path}: {error.strerror}", DEVICE) from error
     except (UnicodeDecodeError, csv.Error) as error:
         raise Failed(f"{path}: this is no table in UTF-8: {error}", REFUSED) from error
 
 
-def of_workbook(path: Path) -> Iterator[list[str]]:
-    """The cells of the first sheet of a workbook; of a formula what it came to."""
+def of_text(file: BinaryIO) -> Iterator[list[str]]:
+    """The cells of a table in CSV."""
+    with io.TextIOWrapper(file, encoding="utf-8-sig", newline="") as text:
+        first = text.readline()
+        text.seek(0)
+        yield from csv.reader(text, delimiter=max(",;\t", key=first.count), strict=True)
+
+
+def of_workbook(path: Path, file: BinaryIO) -> Iterator[list[str]]:
+    """The cells of the first sheet of a workbook; of a formula what it came to. It is read twice at once: a reader gives either
+    the formulas or what they came to."""
     try:
         import openpyxl
     except ImportError as error:
         raise Failed("openpyxl is missing; tools/python installs it by Debian's packages", DEVICE) from error
     try:
-        with contextlib.closing(openpyxl.load_workbook(path, read_only=True, data_only=True)) as book:
-            sheet = book.worksheets[0]
-            sheet.reset_dimensions()  # what a sheet tells of its own size isn't always so
-            for row in sheet.iter_rows(values_only=True):
-                yield [text_of(cell) for cell in row]
+        with contextlib.ExitStack() as books:
+            sheets = []
+            for has_values in (True, False):
+                book = books.enter_context(contextlib.closing(openpyxl.load_workbook(file, read_only=True, data_only=has_values)))
+                sheets.append(book.worksheets[0])
+                sheets[-1].reset_dimensions()  # what a sheet tells of its own size isn't always so
+            for row, formulas in zip(sheets[0].iter_rows(), sheets[1].iter_rows()):
+                check_saved(path, row, formulas)
+                yield [text_of(cell.value) for cell in row]
+    except Failed:
+        raise
     except Exception as error:  # (the reader has no kind of error of its own)
         raise Failed(f"{path}: this is no workbook with a sheet: {type(error).__name__}", REFUSED) from error
+
+
+def check_saved(path: Path, row: Iterable[Any], formulas: Iterable[Any]) -> None:
+    """The workbook says of each formula what it came to. A program that isn't a spreadsheet may write the formula alone."""
+    for cell, formula in zip(row, formulas):
+        if formula.value is not None and formula.data_type == "f" and cell.value is None and cell.data_type == "n":
+            raise Failed(f"{path}: the cell {formula.coordinate} has a formula, and the workbook doesn't say what it came to; "
+                         "save the workbook with a spreadsheet program, or write the value in place of the formula", REFUSED)
 
 
 def text_of(cell: object) -> str:
@@ -204,10 +225,24 @@ class Case:
                           "expected:", *(f"  - {one}" for one in self.expected), ""])
 
 
+def named(rows: list[Row]) -> Iterator[tuple[str, list[Row]]]:
+    """The sequences of a table with their names. A row without a name belongs to the sequence of the row before it: of merged
+    cells the first one has the name."""
+    names = itertools.accumulate((row.texts.get("sequence", "") for row in rows), lambda before, name: name or before)
+    seen = set[str]()
+    for name, pairs in itertools.groupby(zip(names, rows), lambda pair: pair[0]):
+        inner = [row for _, row in pairs]
+        if name in seen:
+            raise Failed(f"{inner[0].at}: the sequence \"{shortened(name)}\" comes again after another one; its rows have to follow "
+                         "one another", REFUSED)
+        seen.add(name)
+        yield name, inner
+
+
 def cases_of(told: Mapping, rows: list[Row], name: str) -> Made:
     """The cases of the rows of a table, one for each sequence."""
     made = Made()
-    for sequence, inner in itertools.groupby(rows, lambda row: row.texts.get("sequence", "")):
+    for sequence, inner in named(rows):
         case = Case(made, told)
         for row in inner:
             case.add(row)

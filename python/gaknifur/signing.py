@@ -1,11 +1,15 @@
 """Signatures and time stamps of bags, by the tools that are there for them: `ssh-keygen` (OpenSSH), `gpg` and `gpgv`
 (OpenPGP), `openssl ts` (RFC 3161). What is signed is `tagmanifest-sha512.txt`, and stamped `manifest-sha512.txt`.
 """
+import contextlib
 import re
+import tempfile
+from collections.abc import Iterator
 from dataclasses import dataclass
 from pathlib import Path
 
-from . import bag
+from . import bag, evidence
+from .evidence import Unfit
 from .program import REFUSED, Failed, tool
 from .shown import shown
 
@@ -78,48 +82,81 @@ class Signature:
     told: str = ""
 
 
+@contextlib.contextmanager
+def copies(folder: Path, *names: str) -> Iterator[list[Path]]:
+    """Copies of small files of a bag in a folder of their own, so that a tool reads the bytes that were looked at, and no pipe or device.
+    `Unfit` where one is no such file."""
+    with tempfile.TemporaryDirectory(prefix="gaknifur-") as at:
+        paths = []
+        for name in names:
+            try:
+                data = evidence.data_of(folder / name, evidence.MOST_TEXT if name in (bag.SIGNED, STAMPED) else evidence.MOST_SIGNATURE)
+            except Unfit as unfit:
+                raise Unfit(f"{name}: {unfit}") from unfit
+            paths.append(Path(at, name))
+            paths[-1].write_bytes(data)
+        yield paths
+
+
 def ssh_signature(folder: Path, trust: Trust) -> Signature:
     """What the signature of OpenSSH shows."""
-    path, found = folder / SSH, Signature(SSH, (folder / SSH).is_file())
+    found = Signature(SSH, evidence.is_there(folder / SSH))
     if not found.is_there:
         return found
-    data = (folder / bag.SIGNED).read_bytes() if (folder / bag.SIGNED).is_file() else b""
+    try:
+        with copies(folder, SSH, bag.SIGNED) as (path, signed):
+            check_ssh(found, path, signed.read_bytes(), trust)
+    except Unfit as unfit:
+        found.fault = f"can't be checked: {unfit}"
+    return found
+
+
+def check_ssh(found: Signature, path: Path, data: bytes, trust: Trust) -> None:
+    """Takes what ssh-keygen says of a signature of some bytes."""
     done = tool("ssh-keygen", "-Y", "check-novalidate", "-n", NAMESPACE, "-s", path, given=data)
     key = FINGERPRINT.search(done.output + done.said)
     if done.status or not key:
         found.fault = "is no signature of this bag"
-        return found
+        return
     found.key = key.group()
     if trust.signers is None:
         found.told = f"whose key {key.group()} is, by which the bag is signed: no signers are named (--signers)"
-        return found
+        return
     asked = tool("ssh-keygen", "-Y", "find-principals", "-s", path, "-f", trust.signers)
     for name in asked.output.splitlines():
         if not tool("ssh-keygen", "-Y", "verify", "-f", trust.signers, "-I", name, "-n", NAMESPACE, "-s", path, given=data).status:
             found.signer, found.told = name, f"{shown(name)} signed the bag, by the key {key.group()}"
-            return found
+            return
     found.fault = f"is by the key {key.group()}, which is of none of {shown(trust.signers)}"
-    return found
 
 
 def pgp_signature(folder: Path, trust: Trust) -> Signature:
     """What the signature of OpenPGP shows."""
-    path, found = folder / PGP, Signature(PGP, (folder / PGP).is_file())
+    found = Signature(PGP, evidence.is_there(folder / PGP))
     if not found.is_there:
         return found
     if trust.keyring is None:
         found.told = "by whom the OpenPGP signature is, and that it is of this bag: no keyring is named (--keyring)"
         return found
-    done = tool("gpgv", "--status-fd", "1", "--keyring", trust.keyring.absolute(), path, folder / bag.SIGNED)
+    try:
+        with copies(folder, PGP, bag.SIGNED) as (path, signed):
+            check_pgp(found, path, signed, trust.keyring)
+    except Unfit as unfit:
+        found.fault = f"can't be checked: {unfit}"
+    return found
+
+
+def check_pgp(found: Signature, path: Path, signed: Path, keyring: Path) -> None:
+    """Takes what gpgv says of a signature of a file."""
+    done = tool("gpgv", "--status-fd", "1", "--keyring", keyring.absolute(), path, signed)
     valid = re.search(r"^\[GNUPG:\] VALIDSIG .*?([0-9A-F]+)$", done.output, re.MULTILINE)
     if done.status or not valid:
-        found.fault = f"is no signature of this bag by a key of {shown(trust.keyring)}"
-        return found
+        found.fault = f"is no signature of this bag by a key of {shown(keyring)}"
+        return
     found.key = valid.group(1)
     name = re.search(r"^\[GNUPG:\] GOODSIG \S+ (.*)$", done.output, re.MULTILINE)
     found.signer = shown(name.group(1)) if name else valid.group(1)
     found.told = f"{found.signer} signed the bag, by the OpenPGP key {valid.group(1)}"
-    return found
 
 
 def signatures(folder: Path, trust: Trust) -> dict[str, Signature]:
@@ -153,15 +190,24 @@ def time_of(path: Path) -> str:
 
 def time_stamp(folder: Path, trust: Trust) -> Stamp:
     """What the answer of an authority of time stamps shows."""
-    path = folder / ANSWER
-    if not path.is_file():
+    if not evidence.is_there(folder / ANSWER):
         if trust.authority is not None:
             return Stamp(False, fault=f"{ANSWER}: is missing")
         return Stamp(False, f"when it was sealed, but by the clock of the machine that did: no authority answered {REQUEST} "
                             f"({ANSWER} is missing)")
-    if trust.authority is None:
-        return Stamp(False, f"when it was sealed: {ANSWER} tells {time_of(path)}, and no authority is named (--authority)")
-    for word, name in (("-data", STAMPED), ("-queryfile", REQUEST)):
-        if tool("openssl", "ts", "-verify", word, folder / name, "-in", path, "-CAfile", trust.authority).status:
-            return Stamp(False, fault=f"{ANSWER}: is no time stamp of this bag by an authority of {shown(trust.authority)}")
+    try:
+        if trust.authority is None:
+            with copies(folder, ANSWER) as (path,):
+                return Stamp(False, f"when it was sealed: {ANSWER} tells {time_of(path)}, and no authority is named (--authority)")
+        with copies(folder, ANSWER, STAMPED, REQUEST) as (path, stamped, request):
+            return check_stamp(path, stamped, request, trust.authority)
+    except Unfit as unfit:
+        return Stamp(False, fault=f"{ANSWER}: can't be checked: {unfit}")
+
+
+def check_stamp(path: Path, stamped: Path, request: Path, authority: Path) -> Stamp:
+    """What openssl says of the answer of an authority."""
+    for option, name in (("-data", stamped), ("-queryfile", request)):
+        if tool("openssl", "ts", "-verify", option, name, "-in", path, "-CAfile", authority).status:
+            return Stamp(False, fault=f"{ANSWER}: is no time stamp of this bag by an authority of {shown(authority)}")
     return Stamp(True, f"the payload was there at {time_of(path)}, by the time stamp")

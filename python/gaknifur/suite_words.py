@@ -1,5 +1,6 @@
 """The words of `./lab` about suites of test cases: `build`, `test` and `coverage`."""
 import argparse
+import difflib
 import hashlib
 import os
 import sys
@@ -49,6 +50,8 @@ WITHOUT_PYTHON = ("-c", os.devnull, "--noconftest", *(word for name in ("python"
 """Words of pytest, by which it runs nothing of the folder."""
 PLUGIN = ("-p", "no:gaknifur", "-p", "gaknifur.pytest_plugin")
 """Words of pytest that take the plugin once, also where it is installed and pytest would find it by itself."""
+OPTIONS = ("--section", "--feature", "--junitxml", "--reached", "--python", "--force", "--keep", "--against", "--answer-within")
+"""The options of `lab test` itself."""
 WRITING = ("--log-file", "--basetemp", "--debug", "--pastebin")
 """Words of pytest that write where they are told, or send."""
 
@@ -68,6 +71,15 @@ def results_of(folder: Path) -> Path:
     return Path(cache).absolute() / "gaknifur" / hashlib.sha256(os.fsencode(folder.resolve())).hexdigest()[:16]
 
 
+def check_options(others: list[str]) -> None:
+    """None of the options that go to pytest is a misspelt one of `lab test`. Its value would be taken for the folder."""
+    for word in others:
+        name = word.partition("=")[0]
+        near = difflib.get_close_matches(name, OPTIONS, 1, cutoff=0.8) if name.startswith("--") else []
+        if near:
+            raise Failed(f"test: unknown option {name}; did you mean {near[0]}?", WRONG_WORDS)
+
+
 def run_tests(told: argparse.Namespace, progress: Progress) -> None:
     """The word `test`."""
     try:
@@ -76,6 +88,7 @@ def run_tests(told: argparse.Namespace, progress: Progress) -> None:
         from .junit import results_in_xml
     except ImportError as error:
         raise Failed("pytest is missing; tools/python installs it by Debian's packages", DEVICE) from error
+    check_options(told.others)
     if not told.folder.exists():
         raise Failed(f"{told.folder}: there is no such folder", DEVICE)
     for word in told.others:

@@ -32,7 +32,7 @@ from typing import Any
 import numpy as np
 import pandas as pd
 
-from . import actions, causes, not_obeyed, times
+from . import actions, causes, cells, not_obeyed, times
 from .layout import SECTOR, SLOT_SECTORS
 from .reading import Journal, Json
 from .words import INDICATIONS
@@ -312,11 +312,18 @@ def written(table: pd.DataFrame) -> pd.DataFrame:
     return table.drop(columns=["decoded", "unused", "held", "trip", "why"], errors="ignore")
 
 
+def guarded_table(table: pd.DataFrame) -> pd.DataFrame:
+    """A table whose texts no spreadsheet takes for formulas (module `cells`). Few columns have any such text."""
+    texts = [name for name in table if table[name].dtype == object and any(isinstance(one, str) and one.startswith(cells.FORMULA)
+                                                                           for one in set(table[name].dropna()))]
+    return table.assign(**{name: table[name].map(cells.guarded) for name in texts}) if texts else table
+
+
 def csv_parts(table: pd.DataFrame) -> Iterator[str]:
     """The table as comma-separated values, so many rows at once; nothing stands where nothing is known."""
     told = written(table)
     for at in range(0, max(len(told), 1), AT_ONCE):
-        yield told.iloc[at:at + AT_ONCE].to_csv(index=False, header=at == 0, lineterminator="\n")
+        yield guarded_table(told.iloc[at:at + AT_ONCE]).to_csv(index=False, header=at == 0, lineterminator="\n")
 
 
 def csv_text(table: pd.DataFrame) -> str:

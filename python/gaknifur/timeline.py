@@ -21,18 +21,20 @@ NO_FORMULA = ("=", "+", "-", "@", "\t", "\r")
 """What a cell may begin with that a spreadsheet takes for a formula."""
 
 
-def message(record: Json) -> str:
-    """What happened, and what was answered, on a line."""
+def message(record: Json, differs: str | None = None) -> str:
+    """What happened, and what was answered, on a line; and in which field the replay differs from it."""
+    more = f"; the replay differs in {differs}" if differs else ""
     return (f"life {record['life']} event {record['event']}: {event_text(record)}; {MODES.get(record['mode'], record['mode'])}, "
-            f"brake {record['brake']}, limit {kmh(record['limit_m_per_h'])} km/h")
+            f"brake {record['brake']}, limit {kmh(record['limit_m_per_h'])} km/h{more}")
 
 
 def lines(journal: Journal) -> Iterator[Json]:
     """Each record, with its time of day where marks tell one. `datetime` and the two beside it are null elsewhere."""
+    differs = {(one["block"], one["event"]): one["field"] for one in journal.differences if one["replay"] == "record_differs"}
     for record in journal.records:
         told = journal.times.utc(record["life"], record["time_ms"]) if journal.times else None
         yield {"datetime": times.iso(told[0]).replace("Z", "+00:00") if told else None, "timestamp_desc": DESCRIPTION if told else None,
-               "message": message(record), "timestamp": told[0] * 1000 if told else None, "uncertainty_ms": told[1] if told else None,
+               "message": message(record, differs.get((record["block"], record["event"]))), "timestamp": told[0] * 1000 if told else None, "uncertainty_ms": told[1] if told else None,
                "image": journal.name, **record}
 
 

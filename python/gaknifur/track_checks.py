@@ -8,10 +8,11 @@ from dataclasses import dataclass
 from decimal import Decimal
 from itertools import pairwise
 
+from . import not_obeyed
 from .course import DRIVE
 from .drives import Drive
-from .messages import (NATIONAL_SPEED, NEAR_CM, NONE, ON_SIGHT, ONBOARD, SHUNTING, TRIP, Area, Known, Link, Message, National,
-                       Packet, Restriction, Train, Walked, name_of, rounded_up, speed_of)
+from .messages import (INFILL, NATIONAL_SPEED, NEAR_CM, NONE, ON_SIGHT, ONBOARD, SHUNTING, TRIP, Area, Known, Link, Message, National,
+                       Packet, Read, Restriction, Train, Walked, links_of, name_of, rounded_up, speed_of)
 from .reading import Json
 from .telegrams import WIDTH, packets_in
 from .words import kmh
@@ -25,6 +26,8 @@ FIX_CM, KM_CM, ACKNOWLEDGED_WITHIN_S = 500, 100_000, 5
 CM_PER_S2 = 2_592
 """The square of a speed in m/h grows by so much a cm with 1 cm/s2."""
 UNKNOWN_GRADIENT, LEVEL_1 = 255, 2
+WRONG_VERSION, UNKNOWN_GROUP = 5, 16_383
+"""The refusal of a telegram by its M_VERSION; NID_BG of a group whose identity isn't known."""
 TRIP_MODES = ("FS", "OS", "SR")
 
 
@@ -93,6 +96,17 @@ def is_under(start: int, end: int | None, record: Json, length_cm: int) -> bool:
 def is_left(end: int | None, record: Json) -> bool:
     """Whether a stretch isn't behind the minimum safe front."""
     return end is None or end > record["min_safe_front_cm"]
+
+
+def is_refused(record: Json) -> bool:
+    """Whether a record is that of a telegram that the kernel refuses."""
+    return record["kind"] == "telegram" and "refused" in record["decoded"]
+
+
+def packets_sent(record: Json) -> Iterator[tuple[int, str]]:
+    """The packets of a telegram's record by their lengths, each with its bits."""
+    digits = record["telegram"]
+    return packets_in(f"{int(digits, 16):0{4 * len(digits)}b}")
 
 
 # ---- messages and linking
@@ -521,6 +535,34 @@ def authority_in_level_0(judged: Judged) -> Iterator[Finding]:
                               "send authorities in level 0 only together with the level that they are for")
 
 
+@item(40)
+def other_versions(judged: Judged) -> Iterator[Finding]:
+    """A telegram of another version, which is refused."""
+    for event in judged.walked.events:
+        if not is_refused(event.record) or event.record["decoded"]["refused"]["number"] != WRONG_VERSION:
+            continue
+        version = int(event.record["telegram"][:2], 16) % 128
+        said = f"the telegram has M_VERSION {version}, version {version // 16}.{version % 16}; it is refused and has no effect"
+        if version // 16 == 1:
+            yield Finding(40, event.pointer, f"{said}, and a train of issue 2.3.0 uses it",
+                          "send M_VERSION 16, or announce each such group with a reaction")
+        elif version // 16 > 1:
+            yield Finding(40, event.pointer, f"{said}, and a train of issue 2.3.0 trips",
+                          "announce the first such groups with Q_LINKREACTION 0")
+
+
+@item(40)
+def group_of_unknown_identity(judged: Judged) -> Iterator[Finding]:
+    """An announcement of a repositioning group by NID_BG 16383."""
+    for message in judged.walked.messages:
+        for packet in message.packets:
+            for link in links_of(packet, message.group[0], message.place_cm) if packet.number == 5 else ():
+                if link.group[1] == UNKNOWN_GROUP:
+                    yield Finding(40, packet.pointer, f"group {message.name} announces NID_BG 16383 at {metres(link.place_cm)}, in issue 2.3.0 a "
+                                  "repositioning group whose identity isn't known; here it is a group of that number, which is always missed, "
+                                  f"so Q_LINKREACTION {link.reaction} comes", "announce the group by its own NID_BG")
+
+
 @item(37)
 def overlap_without_end(judged: Judged) -> Iterator[Finding]:
     """An overlap that no standstill ends, and no timer."""
@@ -528,6 +570,27 @@ def overlap_without_end(judged: Judged) -> Iterator[Finding]:
         if packet.get("T_OL") == NEVER_S:
             yield Finding(37, packet.pointer, f"the overlap of group {message.name} has T_OL 1023 and never ends, nor does a standstill end it",
                           "give the overlap a time, and release nothing behind the end before it is over")
+
+
+@item(44)
+def speed_beyond_the_known_track(judged: Judged) -> Iterator[Finding]:
+    """A V_LOA by which a train may run beyond the static speeds that it knows."""
+    for number, known in enumerate(judged.walked.known):
+        before = judged.walked.known_before(number)
+        if known.authority is None or (known.authority, known.speeds_end_cm) == (before.authority, before.speeds_end_cm):
+            continue
+        message, packet = known.authority
+        fast, lasts = speed_of(packet.told("V_LOA")), packet.told("T_LOA")
+        if fast and lasts == NEVER_S:
+            yield Finding(44, packet.pointer, f"group {message.name} sends V_LOA {speed(fast)} with T_LOA 1023, which never ends; the train may "
+                          f"run past the end of authority, {metres(packet.end_cm)} ahead, and past all track that it knows, without a brake",
+                          "send a T_LOA that is over before the train can be beyond the static speeds that are sent, or V_LOA 0")
+        known_cm = (known.speeds_end_cm or 0) - message.place_cm - packet.end_cm
+        way = rounded_up(fast * lasts, 36)
+        if known.speeds_end_cm is not None and lasts != NEVER_S and 0 <= known_cm < way:
+            yield Finding(44, packet.pointer, f"group {message.name} sends V_LOA {speed(fast)} for T_LOA {lasts} s, in which a train runs "
+                          f"{metres(way)}; beyond the end of authority static speeds are known for {metres(known_cm)}",
+                          f"send a T_LOA of at most {36 * known_cm // fast} s, or static speeds for {metres(way)} beyond the end")
 
 
 # ---- packets, countries, trains
@@ -540,15 +603,57 @@ INSTALLED = 176
 def packet_3_of_installed_tracks(judged: Judged) -> Iterator[Finding]:
     """A telegram that is refused since its packet 3 has more variables."""
     for event in judged.walked.events:
-        if event.record["kind"] != "telegram" or "refused" not in event.record["decoded"]:
-            continue
-        digits = event.record["telegram"]
-        for number, bits in packets_in(f"{int(digits, 16):0{4 * len(digits)}b}"):
+        for number, bits in packets_sent(event.record) if is_refused(event.record) else ():
             count = int(bits[40:45] or "0", 2)
             if number == 3 and int(bits[10:23], 2) == INSTALLED + WIDTH["NID_C"] * count:
                 yield Finding(39, event.pointer, f"the telegram has a packet 3 of an installed track: {INSTALLED + 10 * count} bits, and "
                               f"{147 + 10 * count} are read here; the whole telegram is refused",
                               "send a packet 3 of this profile (docs/CONFORMANCE.md)")
+
+
+@dataclass(frozen=True)
+class Obeyed:
+    """What a train of issue 2.3.0 does by a packet that the unit skips, and what to do instead."""
+
+    does: str
+    do: str
+    go_bit: int | None = None
+    """The bit of the packet that is 1 where such a train needs to do nothing."""
+
+
+OBEYED = {
+    16: Obeyed("takes L_SECTION from this group on as what is left of its section", "send the authority anew (packet 12) by this group"),
+    46: Obeyed("changes to a level of the list where its own isn't in it", "order the level by a packet 41"),
+    49: Obeyed("trips in Shunting at each group that isn't listed", "let the equipment around the unit brake there"),
+    51: Obeyed("runs no faster than the speed for its axle load", "send that speed as a restriction (packet 65), or let no heavier train run "
+               "there", 25),
+    70: Obeyed("stops before the place that it isn't suitable for", "let only suitable trains run there", 25),
+    71: Obeyed("brakes by what slippery rails allow", "enter a deceleration that they allow, or send a restriction (packet 65)", 55),
+    132: Obeyed("trips in Shunting", "let the equipment around the unit brake there", 23),
+    135: Obeyed("doesn't go on with Shunting when the desk is opened", "let the driver close the desk, which leads to Stand By"),
+    137: Obeyed("trips in Staff Responsible", "let the equipment around the unit brake there", 23),
+}
+"""Such packets. Where the bits are is in docs/PACKETS.md."""
+
+
+def skipped_by(judged: Judged, message: Message, read: Read) -> Iterator[int]:
+    """The packets of a telegram that ask a train of issue 2.3.0 for something, are valid in its direction, and are skipped."""
+    for number, bits in packets_sent(judged.walked.events[read.event].record):
+        if number == INFILL:
+            return
+        one = OBEYED.get(number)
+        if one and int(bits[8:10], 2) in (2, message.direction) and not (one.go_bit and bits[one.go_bit:one.go_bit + 1] == "1"):
+            yield number
+
+
+@item(45)
+def packets_not_obeyed(judged: Judged) -> Iterator[Finding]:
+    """A packet that a train of issue 2.3.0 obeys, and the unit skips."""
+    for message in judged.walked.messages:
+        for read in message.reads if message.is_used else ():
+            for number in skipped_by(judged, message, read):
+                yield Finding(45, read.pointer, f"group {message.name} sends packet {not_obeyed.name_of(number)}, which is skipped, and is read in "
+                              f"{message.mode}; a train of issue 2.3.0 {OBEYED[number].does}", OBEYED[number].do)
 
 
 @item(41)

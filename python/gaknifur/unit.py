@@ -19,7 +19,6 @@ what it raises. Outputs come from `Unit.flush` alone, and only when all of it is
 """
 import ctypes
 import errno
-import fcntl
 import functools
 import os
 from abc import ABC, abstractmethod
@@ -34,6 +33,7 @@ from . import _header
 from ._header import (ABI, OUTPUTS, REQUEST_BYTES, SECTOR, TELEGRAM_BYTES, VERSION_BYTES, Acknowledgement, Action, Adaptation,
                       Brake, BrakeCause, Cold, Direction, DroppedVariable, Indication, Kind, Level, LimitCause, Mode, RequestKind, SlotState,
                       Status, UnusedReason)
+from .locks import lock
 from .program import TOP
 
 __all__ = ["ABI", "OUTPUTS", "REQUEST_BYTES", "SECTOR", "VERSION_BYTES", "Acknowledgement", "Action", "AnyUnit", "Brake",
@@ -269,7 +269,7 @@ class FileMedium:
     def __init__(self, path: str | Path, *, create: bool = False) -> None:
         self.descriptor = os.open(path, os.O_RDWR | os.O_CLOEXEC | (os.O_CREAT if create else 0), 0o666)
         try:
-            fcntl.flock(self.descriptor, fcntl.LOCK_EX | fcntl.LOCK_NB)
+            lock(self.descriptor)
         except OSError:
             self.close()
             raise

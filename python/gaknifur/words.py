@@ -1,4 +1,5 @@
 """The words of `etcs_lab` as people say them (docs/GLOSSARY.md), and texts of events, telegrams and actions."""
+from decimal import Decimal
 from typing import Any
 
 from . import not_obeyed
@@ -22,6 +23,11 @@ SCALES_CM = {0: 10, 1: 100, 2: 1000}
 def kmh(metres_per_hour: float | None) -> str:
     """A speed in km/h; a question mark where it isn't known."""
     return "?" if metres_per_hour is None else f"{metres_per_hour / 1000:g}"
+
+
+def exact(value: int, unit: int) -> str:
+    """A whole number in a unit so many times as great, with all of its digits."""
+    return f"{Decimal(value) / unit:f}"
 
 
 def action_text(record: Json) -> str:
@@ -68,9 +74,9 @@ def event_text(record: Json) -> str:
     if kind == "driver":
         return f"the driver {action_text(record)}"
     if kind == "odometer":
-        return f"moved {record['movement_cm'] / 100:g} m, at {kmh(record['speed_m_per_h'])} km/h"
+        return f"moved {exact(record['movement_cm'], 100)} m, at {kmh(record['speed_m_per_h'])} km/h"
     if kind == "clock":
-        return f"moment {record['now_ms'] / 1000:g} s"
+        return f"moment {exact(record['now_ms'], 1000)} s"
     return f"power-up, moved without power: {record['word'].replace('_', ' ')}"
 
 

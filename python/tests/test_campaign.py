@@ -19,6 +19,7 @@ from unittest.mock import patch
 from gaknifur import campaign, campaign_jobs, campaign_table, campaign_words, outputs, scheduled, sound
 from gaknifur.campaign import MOST_AT_ONCE, Batches, Job, Row
 from gaknifur.reading import Json
+from gaknifur.program import Failed
 
 from .samples import AUTHORITY, journal, record
 
@@ -88,6 +89,13 @@ class Folders(unittest.TestCase):
         wanted = ["0/a/c.json", "0/b.json", "0 c.json", "1\\u202e.json", "a b.json", "d.json"]
         self.assertEqual(([job.name for job in found], len(found)), (wanted, len(wanted)))
         self.assertEqual({job.files[0][1].decode() for job in found}, set(self.names))
+
+    def test_a_folder_of_nothing_is_refused(self) -> None:
+        (empty := self.folder / "empty").mkdir()
+        told = argparse.Namespace(folder=empty, out=self.out, slots=64, random=3, seed=1, csv=None, scheduler=None, workers=1)
+        with patch.object(campaign_table, "settings_of", dict), self.assertRaisesRegex(Failed, "empty: has no test case and no scenario"):
+            campaign_words.play_campaign(told, lambda what, done, whole: None)
+        self.assertFalse(self.out.exists())
 
     def test_a_file_that_goes_meanwhile(self) -> None:
         def here(jobs: Iterator[Job], count: int, workers: int, take: Callable[[list[Row]], None]) -> None:

@@ -4,7 +4,9 @@ import contextlib
 import io
 import multiprocessing
 import os
+import socket
 import sqlite3
+import subprocess
 import tempfile
 import unittest
 from collections.abc import Callable
@@ -21,6 +23,7 @@ from gaknifur.unit import Medium, MemoryMedium
 
 from .samples import journal, record
 
+TOP = Path(__file__).resolve().parents[2]
 IMAGE = files.IMAGE_MARK + bytes(504)
 TABLE = b"block,event,life,stretch,kind,time_ms,mode,level\n"
 NAMES = ("a#b", "a?b", "a%41", "a b\n", "a'b\"", os.fsdecode(b"a\xff"), "\u202ea")
@@ -278,6 +281,35 @@ def add_one(path: Path, number: int) -> None:
         told.examination["image"]["sha256"] = digest
         database.add(connection, told, tables.frame(told))
     connection.close()
+
+
+class Inputs(Room):
+    """A file that is read is a regular one; what else is there is named, and isn't waited for."""
+
+    def test_a_fifo(self) -> None:
+        os.mkfifo(self.room / "fifo")
+        mapping = self.file("mapping.yaml", b"columns: {step: a, interface: b, action: c}\n"
+                            b"case: {feature: a, sections: [4.4], rule: b, starting_conditions: c}\nactions: []\n")
+        table = self.file("table.csv", b"a,b,c\n")
+        for words in (("build", "fifo"), ("sweep", "fifo"), ("search", "fifo"), ("lint", "fifo"),
+                      ("sequence", "fifo", mapping.name), ("sequence", table.name, "fifo"),
+                      ("search", "--records", "fifo", str(TOP / "suites/safety_laws.search.yaml")),
+                      ("coverage", "--measured", "--reached", "fifo", str(TOP / "suites"))):
+            with self.subTest(words):
+                done = subprocess.run([TOP / "lab", *words], cwd=self.room, stdin=subprocess.DEVNULL, capture_output=True, text=True, timeout=60)
+                self.assertEqual((done.returncode, done.stderr), (DEVICE, "lab: fifo: is a named pipe (FIFO), and a regular file is needed\n"))
+
+    def test_others(self) -> None:
+        (self.room / "folder").mkdir()
+        with socket.socket(socket.AF_UNIX) as bound:
+            bound.bind(str(self.room / "socket"))
+            for name, said in (("folder", "is a folder, and a regular file"), ("/dev/null", "is a device, and"), ("socket", "No such device"),
+                               ("none", "No such file")):
+                with self.assertRaisesRegex(Failed, said) as caught:
+                    files.opened(self.room / name)
+                self.assertEqual(caught.exception.status, DEVICE)
+        with files.opened(self.file("a", b"text")) as file:
+            self.assertEqual(file.read(), b"text")
 
 
 class Databases(Room):

@@ -1,13 +1,16 @@
 """Another unit under the protocol of docs/ORACLE.md, and properties of records (docs/SEARCHING.md)."""
 import json
 import os
+import resource
+import shlex
 import sys
 import tempfile
+import time
 import unittest
 from pathlib import Path
 from unittest.mock import patch
 
-from gaknifur import asking, cases, oracle, playing, properties, search_words
+from gaknifur import asking, cases, confined, oracle, playing, properties, search_words
 from gaknifur.other_unit import Broken, OtherUnit, words_of
 from gaknifur.program import Failed
 from gaknifur.reading import Json
@@ -92,6 +95,151 @@ class Processes(unittest.TestCase):
                 unit.greet("a")
             self.assertEqual(str(found.exception), "greeting: it ended with status 0")
             self.assertEqual(list(Path(room).iterdir()), [])
+
+
+NO_SANDBOX = {"GAKNIFUR_UNIT_SANDBOX": "none"}
+GREETS = """
+import fcntl, json, os, resource, socket, subprocess, sys, time
+def say(told):
+    sys.stdout.write(json.dumps(told) + "\\n")
+    sys.stdout.flush()
+def greet(name="x"):
+    sys.stdin.readline()
+    say({"protocol": 1, "unit": name, "tells": ["mode", "brake"]})
+"""
+
+
+class Hostile(unittest.TestCase):
+    """Units that mean no good: each call comes back, and says why."""
+
+    def unit(self, text: str, within_s: float = 20.0, **environment: str) -> OtherUnit:
+        """A unit of this text."""
+        with patch.dict(os.environ, environment):
+            return OtherUnit(shlex.join([sys.executable, "-c", GREETS + text]), within_s)
+
+    def name(self, text: str, **environment: str) -> str:
+        """The name that a unit of this text gives itself."""
+        with self.unit(text, 20.0, **environment) as unit:
+            return unit.greet("a").unit
+
+    def test_it_answers_without_reading(self) -> None:
+        text = """fcntl.fcntl(0, fcntl.F_SETPIPE_SZ, 4096)
+greet()
+for number in range(10_000):
+    time.sleep(0.01)
+    say({"event": number, "mode": "SB", "brake": "none"})
+"""
+        begun = time.monotonic()
+        with self.unit(text, 2.0) as unit, self.assertRaises(Broken) as found:
+            unit.greet("a")
+            for number in range(10_000):
+                unit.answer({"event": number, "kind": "telegram", "telegram": "0" * 200})
+        # (which of the two comes first is a matter of how busy the machine is)
+        self.assertRegex(str(found.exception), "it doesn't read its input|a line that nobody asked for")
+        self.assertLess(time.monotonic() - begun, 60)
+
+    def test_it_neither_reads_nor_answers(self) -> None:
+        begun = time.monotonic()
+        with self.unit("fcntl.fcntl(0, fcntl.F_SETPIPE_SZ, 4096)\ngreet()\ntime.sleep(1000)\n", 2.0) as unit, self.assertRaises(Broken) as found:
+            unit.greet("a")
+            unit.answer({"event": 0, "kind": "telegram", "telegram": "0" * 200_000})
+        self.assertIn("it doesn't read its input", str(found.exception))
+        self.assertLess(time.monotonic() - begun, 60)
+
+    def test_a_line_at_the_limit(self) -> None:
+        text = """sys.stdin.readline()
+greeting = json.dumps({"protocol": 1, "unit": "x", "tells": ["mode", "brake"]})
+sys.stdout.write(greeting + " " * (SIZE - 1 - len(greeting)) + "\\n")
+sys.stdout.flush()
+time.sleep(60)
+"""
+        with self.unit(text.replace("SIZE", "65_536")) as unit:
+            self.assertEqual(unit.greet("a").unit, "x")
+        for size in ("65_537", "131_000"):
+            with self.unit(text.replace("SIZE", size)) as unit, self.assertRaises(Broken) as found:
+                unit.greet("a")
+            self.assertEqual(str(found.exception), "greeting: a line of more than 65,536 bytes")
+
+    def test_its_standard_error_is_bounded(self) -> None:
+        self.assertIn("pipe:", self.name("greet(os.readlink('/proc/self/fd/2'))", **NO_SANDBOX))
+        text = "sys.stderr.write('a line\\n' * 1_000_000 + 'the last one\\n')\nsys.exit(7)"
+        with self.unit(text) as unit, self.assertRaises(Broken) as found:
+            unit.greet("a")
+        self.assertEqual(str(found.exception), "greeting: it ended with status 7; it said: the last one")
+        with self.unit("greet()\nwhile True: sys.stderr.write('on and on\\n')", 2.0) as unit, self.assertRaises(Broken) as found:
+            unit.greet("a")
+            unit.answer({"event": 0})
+        self.assertIn("event 0: no answer within 2 s", str(found.exception))
+
+    def test_it_is_limited(self) -> None:
+        told = "greet(' '.join(str(resource.getrlimit(getattr(resource, 'RLIMIT_' + one))[1]) for one in ('CORE', 'FSIZE', 'NOFILE', 'AS')))"
+        wanted = f"0 {64 << 20} 256 {4096 << 20}"
+        self.assertEqual(self.name(told, **NO_SANDBOX), wanted)
+        self.assertEqual(self.name(told), wanted)
+        self.assertEqual(self.name(told, GAKNIFUR_UNIT_MEMORY="1000").split()[-1], str(1000 << 20))
+        self.assertEqual(self.name(told, GAKNIFUR_UNIT_MEMORY="0").split()[-1], str(resource.getrlimit(resource.RLIMIT_AS)[1]))
+        for wrong in ("much", "-1", ""):
+            with self.assertRaises(Failed):
+                self.unit("", GAKNIFUR_UNIT_MEMORY=wrong)
+        text = "greet()\nsys.stdin.readline()\nheld = bytearray(5 << 30)\nsay({'event': 0, 'mode': 'SB', 'brake': 'none'})"
+        with self.unit(text) as unit, self.assertRaises(Broken) as found:
+            unit.greet("a")
+            unit.answer({"event": 0})
+        self.assertEqual(str(found.exception), "event 0: it ended with status 1; it said: MemoryError")
+
+    def test_nothing_of_its_session_is_left(self) -> None:
+        text = """child = subprocess.Popen([sys.executable, "-c", "import os, time; os.setpgid(0, 0); time.sleep(600)"])
+while os.getpgid(child.pid) != child.pid: time.sleep(0.01)
+greet(str(child.pid))
+time.sleep(600)
+"""
+        child = int(self.name(text, **NO_SANDBOX))
+        for _ in range(500):
+            try:
+                if Path(f"/proc/{child}/stat").read_text().rpartition(")")[2].split()[0] == "Z":
+                    return
+            except OSError:
+                return
+            time.sleep(0.01)
+        self.fail("its process is left")
+
+    def test_the_sandbox(self) -> None:
+        if confined.bubblewrap() is None:
+            self.skipTest("bubblewrap doesn't work here")
+        text = """def tried(does):
+    try:
+        does()
+        return "done"
+    except OSError as error:
+        return os.strerror(error.errno)
+scratch = os.environ["TMPDIR"]
+greet("; ".join((tried(lambda: open(WRITTEN, "w")), tried(lambda: open(scratch + "/a", "w")),
+                 tried(lambda: open(scratch + "/b", "wb").write(bytes(70 << 20))), str(len(socket.if_nameindex())), str(os.getpid() < 10))))
+"""
+        with tempfile.TemporaryDirectory() as room:
+            name = self.name(text.replace("WRITTEN", repr(f"{room}/made")))
+            self.assertEqual(name, "Read-only file system; done; File too large; 1; True")
+            self.assertEqual(list(Path(room).iterdir()), [])
+        for text, said in (("os.kill(os.getpid(), 11)", "it was ended by signal 11 (SIGSEGV)"), ("sys.exit(3)", "it ended with status 3")):
+            with self.unit(text) as unit, self.assertRaises(Broken) as found:
+                unit.greet("a")
+            self.assertEqual(str(found.exception), f"greeting: {said}")
+        with self.assertRaises(Failed) as failed:
+            OtherUnit("/nowhere/unit")
+        self.assertIn("/nowhere/unit: No such file", str(failed.exception))
+
+    def test_its_name_is_spelled(self) -> None:
+        for name, wanted in (("good\nnothing differs\x1b[8m", "good\\x0anothing differs\\x1b[8m"), ("\ud800", "\\ud800"),
+                             ("a\u202eb", "a\\u202eb")):
+            told = oracle.Asked([], asking.Greeting(name, asking.ANSWER))
+            self.assertEqual(next(oracle.lines(told)).text, f"the unit {wanted}")
+
+    def test_many_names_take_linear_time(self) -> None:
+        told = line({f"n{number}": 0 for number in range(12_000)})
+        begun = time.process_time()
+        with self.assertRaises(asking.Wrong):
+            asking.greeting_of(told)
+        self.assertLess(time.process_time() - begun, 1)
 
 
 def asked(records: list[Json], **changes: Json) -> oracle.Asked:

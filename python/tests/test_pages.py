@@ -10,7 +10,7 @@ from pathlib import Path
 import pandas as pd
 
 import gaknifur.tables as tables
-from gaknifur import brief, chart, database, report, words
+from gaknifur import brief, chart, database, following, report, words
 from gaknifur.causes import CAUSES
 from gaknifur.extent import Extent, bound
 from gaknifur.program import Failed
@@ -335,6 +335,15 @@ class Texts(unittest.TestCase):
         self.assertEqual(words.telegram_text(AUTHORITY), "telegram of group 1/2, balise 1 of 2, packet 12")
         self.assertEqual(words.telegram_text({"refused": {"number": 3, "name": "Spare"}}),
                          "telegram that can't be decoded: 3 Spare")
+
+    def test_numbers_keep_their_digits(self) -> None:
+        far = record(1, "odometer", movement_cm=1_234_567, speed_m_per_h=0)
+        self.assertEqual(words.event_text(far), "moved 12345.67 m, at 0 km/h")
+        self.assertEqual(words.event_text(record(1, now_ms=3_600_123)), "moment 3600.123 s")
+        self.assertEqual([words.event_text(record(1, now_ms=ms)) for ms in (0, 500, 20_000_000)], ["moment 0 s", "moment 0.5 s", "moment 20000 s"])
+        self.assertIn("at 1234.567 s: ", following.text(record(1, time_ms=1_234_567)))
+        self.assertTrue(following.text(record(1, place_cm=123_456_789)).endswith("front 1234567.89 m"))
+        self.assertEqual([chart.length_text(one) for one in (27_000.0, 123.4, 12.34, 0.1234)], ["27,000", "123", "12.3", "0.123"])
 
     def test_an_authority_ends_at_the_sum_of_its_sections(self) -> None:
         self.assertEqual(words.announced_end_cm(AUTHORITY), 30_000)

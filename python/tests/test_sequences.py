@@ -65,6 +65,14 @@ class Tables(unittest.TestCase):
                          mapping)
         self.assertEqual([one.splitlines()[0] for one in made.cases], ['test_case: "a"', 'test_case: "b"'])
 
+    def test_a_name_holds_for_the_rows_below_it(self) -> None:
+        mapping = MAPPING.replace("columns: {", "columns: {sequence: S, ")
+        head = "S\tNo\tI/F\tAction\tExpected\n"
+        made = self.made(f"{head}a\t1\tODO\t5 m\t\n\t2\tODO\t6 m\t\nb\t1\tODO\t7 m\t\n\t2\tODO\t8 m\t\n", mapping)
+        self.assertEqual([(one.splitlines()[0], one.count("drive:")) for one in made.cases], [('test_case: "a"', 2), ('test_case: "b"', 2)])
+        with self.assertRaisesRegex(Failed, r'table.csv:4: the sequence "a" comes again after another one; its rows have to follow one another'):
+            self.made(f"{head}a\t1\tODO\t5 m\t\nb\t1\tODO\t7 m\t\na\t2\tODO\t6 m\t\n", mapping)
+
     def test_faults(self) -> None:
         for table, mapping, said in (
                 ("No,Action\n", MAPPING, "no row names the columns"),
@@ -117,15 +125,23 @@ class Workbooks(unittest.TestCase):
     def test_of_a_formula_what_it_came_to(self) -> None:
         def saved(xml: str) -> str:
             """As a spreadsheet saves it: a formula, and beside it what it came to."""
-            for place, formula, kind, value in (("A2", "1+1", "n", "2.0"), ("C2", "B2&amp;A2", "str", "ODO2")):
+            for place, formula, kind, value in (("A2", "1+1", "n", "2.0"), ("C2", "B2&amp;A2", "str", "ODO2"), ("D2", 'IF(1,"","x")', "str", "")):
                 told = f'<c r="{place}"><f>{formula}</f><v></v></c>'
                 assert told in xml or told.replace("<v></v>", "<v />") in xml, xml
                 for one in (told, told.replace("<v></v>", "<v />")):
                     xml = xml.replace(one, f'<c r="{place}" t="{kind}"><f>{formula}</f><v>{value}</v></c>')
             return xml
 
-        self.save([self.HEAD, ["=1+1", "ODO", "=B2&A2", "=A2"]], saved)
+        self.save([self.HEAD, ["=1+1", "ODO", "=B2&A2", '=IF(1,"","x")']], saved)
         self.assertEqual(self.rows(), [("2", "2", "ODO", "ODO2", "")])
+
+    def test_a_formula_without_what_it_came_to_is_refused(self) -> None:
+        tables: dict[str, list[list[Any]]] = {"D2": [self.HEAD, [1, "ODO", "5 m", "=A2"]], "C2": [self.HEAD, [1, "ODO", "=1+1"]],
+                                              "A1": [["=A9"], self.HEAD]}
+        for cell, rows in tables.items():
+            self.save(rows)
+            with self.assertRaisesRegex(Failed, f"table.xlsx: the cell {cell} has a formula, and the workbook doesn't say"):
+                self.rows()
 
     def test_a_sheet_that_tells_another_size(self) -> None:
         self.save([self.HEAD, [1, "ODO", "5 m", "brake none"]],

@@ -1,4 +1,5 @@
 """The script ./lab: nothing of the current folder is run, and whatever goes wrong is told in a line."""
+import json
 import os
 import shutil
 import subprocess
@@ -9,7 +10,8 @@ from collections.abc import Mapping
 from pathlib import Path
 from unittest.mock import patch
 
-from gaknifur import campaign_table, last_net
+from gaknifur import campaign_table, last_net, locks
+from gaknifur.program import DEVICE, Failed
 from gaknifur.shown import shown
 
 TOP = Path(__file__).resolve().parents[2]
@@ -52,6 +54,37 @@ class Room(unittest.TestCase):
         done = subprocess.run([TOP / "lab", *words], cwd=self.work, env={**os.environ, **env}, stdin=subprocess.DEVNULL, capture_output=True,
                               text=True, timeout=120)
         return done.returncode, done.stdout, done.stderr
+
+
+class WithoutLocks(Room):
+    """A system like Windows, which has no locks of files, no limits of processes and no files in memory."""
+
+    def begun(self, *words: str) -> tuple[int, str, str]:
+        """Runs a command there."""
+        text = ("import os, sys; sys.modules['fcntl'] = sys.modules['resource'] = None; del os.memfd_create, os.O_NONBLOCK, os.O_CLOEXEC; "
+                f"sys.path.insert(0, {str(TOP / 'python')!r}); from gaknifur.__main__ import main; sys.exit(main())")
+        done = subprocess.run([sys.executable, "-I", "-B", "-c", text, *words], cwd=self.work, stdin=subprocess.DEVNULL, capture_output=True, text=True)
+        return done.returncode, done.stdout, done.stderr
+
+    def test_what_needs_none_goes(self) -> None:
+        status, printed, said = self.begun("--version")
+        self.assertEqual((status, printed.splitlines()[-1], said), (0, "not proved: the package is tested", ""))
+        (self.work / "a.yaml").write_text("steps: [{drive: 1 m at 5 km/h}]\n")
+        status, printed, said = self.begun("build", "a.yaml")
+        self.assertEqual((status, json.loads(printed), said), (0, {"groups": [], "steps": [{"drive": [100, 5000]}]}, ""))
+
+    def test_what_needs_one_is_refused(self) -> None:
+        with patch.object(locks, "fcntl", None), self.assertRaisesRegex(Failed, "no locks of files") as found:
+            locks.lock(0)
+        self.assertEqual(found.exception.status, DEVICE)
+
+
+class Misspelt(Room):
+    """An option that isn't one, whose value would be taken for the folder."""
+
+    def test_the_nearest_is_named(self) -> None:
+        for word, near in (("--sectoin", "--section"), ("--agianst", "--against"), ("--reachd=a", "--reached")):
+            self.assertEqual(self.lab("test", word, "3", "suites"), (2, "", f"lab: test: unknown option {word.partition('=')[0]}; did you mean {near}?\n"))
 
 
 class Beginning(unittest.TestCase):

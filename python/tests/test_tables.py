@@ -1,11 +1,16 @@
 """Tables of records."""
+import csv
+import io
 import unittest
 from unittest.mock import patch
 
 import pandas as pd
 
 import gaknifur.tables as tables
+from gaknifur import cells, report
 from gaknifur.actions import is_refused
+from gaknifur.extent import Extent, bound
+from gaknifur.program import REFUSED, Failed
 
 from .samples import AUTHORITY, action, journal, reading, record
 
@@ -69,6 +74,26 @@ class Columns(unittest.TestCase):
         self.assertEqual(len(table), 0)
         self.assertEqual(len(tables.interventions(table)), 0)
         self.assertEqual(tables.csv_text(table).count("\n"), 1)
+
+
+class Written(unittest.TestCase):
+    """The table as CSV."""
+
+    def test_no_text_is_a_formula(self) -> None:
+        identities = ["=1+1", "@SUM(A1)", "+1", "-1", "\t=1", "'=1", "IC 704", "a=1", ""]
+        table = tables.frame(journal(*(action(event, "enter_identity", identity=one) for event, one in enumerate(identities))))
+        rows = list(csv.DictReader(io.StringIO(tables.csv_text(table))))
+        self.assertEqual([row["identity"] for row in rows], ["'=1+1", "'@SUM(A1)", "'+1", "'-1", "'\t=1", "''=1", "IC 704", "a=1", ""])
+        self.assertEqual([cells.unguarded(row["identity"]) for row in rows], identities)
+        self.assertEqual([row["min_safe_front_cm"] for row in rows][0], "-500")
+
+    def test_a_part_without_a_record_is_no_report(self) -> None:
+        told = journal(record(0, "powerup"), record(1))
+        for extent, said in ((Extent(life=9), "of life 9"), (Extent(bound("5000")), "from 5000"), (Extent(None, bound("-1m")), "to -1m")):
+            with self.assertRaises(Failed) as found:
+                report.page(told, extent)
+            self.assertEqual((found.exception.status, str(found.exception)),
+                             (REFUSED, f"image: the journal has no record {said}; it has events 0 to 1, of life 1. Nothing was written."))
 
 
 class Interventions(unittest.TestCase):

@@ -76,10 +76,12 @@ class Completion(unittest.TestCase):
         self.assertEqual(self.completed("table", "-"), {name for name in options if len(name) > 2} - {"--junit-xml"})
 
     def test_of_etcs_lab(self) -> None:
-        told = (Path(__file__).parents[2] / "crates/etcs_lab/stdout").read_text(encoding="utf-8")
-        words = set(re.findall(r"^  etcs_lab ([a-z]+) ", told, re.MULTILINE))
+        crates = Path(__file__).parents[2] / "crates"
+        told = (crates / "etcs_lab/stdout").read_text(encoding="utf-8")
+        words = set(re.findall(r"^  ([a-z]+) +[A-Z]", told, re.MULTILINE))
+        options = set(re.findall(r'\.long\("([a-z]+)"\)', (crates / "command_line/src/lab_app.rt").read_text(encoding="utf-8")))
         self.assertEqual(self.completed("", program="etcs_lab"), words | {"--version", "--help"})
-        self.assertEqual(self.completed("check", "-", program="etcs_lab"), set(re.findall("--[a-z]+", told)) - {"--help"})
+        self.assertEqual(self.completed("check", "-", program="etcs_lab"), {f"--{name}" for name in options})
 
 
 class Sets(unittest.TestCase):

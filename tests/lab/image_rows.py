@@ -52,6 +52,38 @@ def compare_image(program, path, name, image, slots, compared):
     return status
 
 
+def compare_help(program, compared):
+    """The help, and messages that name the nearest right argument."""
+    printed, said, status = run(program, ["--help"])
+    compared.same("help", ("examine" in printed, "digest" in printed.split("\n\n")[-1], "copy" in printed.split("\n\n")[-1], said, status), (True, True, True, "", 0))
+    for words in (["help"], ["--help", "--help"], ["--help", "look"]):
+        compared.same(f"words {words}", run(program, words), (printed, "", 0))
+    compared.same("no command", run(program, []), ("", printed, 2))
+    help_of_events = """\
+Print each event of a journal as a JSON object on its own line, the oldest first
+
+Usage: etcs_lab events [OPTIONS] <IMAGE>
+
+Arguments:
+  <IMAGE>  Journal image: a file or a block device
+
+Options:
+      --all        Include events of other blocks and of damaged ones, each with its source
+      --slots <N>  Read the image as one of N slots, whatever its first sector says
+  -h, --help       Print help
+"""
+    for words in (["help", "events"], ["events", "--help"]):
+        compared.same(f"words {words}", run(program, words), (help_of_events, "", 0))
+    for words, named in (
+        (["evnts", "image"], ("'evnts'", "a similar subcommand exists: 'events'", "Usage: etcs_lab <COMMAND>")),
+        (["examine", "--jsn", "image"], ("'--jsn'", "a similar argument exists: '--json'", "Usage: etcs_lab examine")),
+        (["examine", "--slots", "1", "image"], ("'1'", "'--slots <N>'", "1 is not in 2..=1048576")),
+        (["telegram"], ("FILE", "'--schema'", "'--installed <HEX>'")),
+    ):
+        printed, said, status = run(program, words)
+        compared.same(f"words {words}", (printed, [one for one in named if one not in said], status), ("", [], 2))
+
+
 def compare_words(program, room, compared):
     """Words, files that can't be read, a file that can't be written, locks, streams."""
     good = room / "good"
@@ -59,28 +91,25 @@ def compare_words(program, room, compared):
     good.write_bytes(image)
     text = text_of(image)[0]
     wrong = (
-        [], ["examine"], ["examine", "--jso", str(good)], ["examine", str(good), "x"], ["look", str(good)], ["examine", "--json"], ["--json"], [""], ["help"],
+        ["examine"], ["examine", "--jso", str(good)], ["examine", str(good), "x"], ["look", str(good)], ["examine", "--json"], ["--json"], [""],
         ["--", "examine", str(good)], ["--json", "examine", str(good)], ["examine", "--json", "--json", str(good)], ["examine", "--json=1", str(good)],
-        ["examine", "--help"], ["examine", "-j", str(good)], ["examine", "--all", str(good)], ["events", "--json", str(good)], ["why", str(good), "x"],
+        ["examine", "-j", str(good)], ["examine", "--all", str(good)], ["events", "--json", str(good)], ["why", str(good), "x"],
         ["why", str(good), "-1"], ["why", str(good), "8", "9"], ["check"], ["check", str(good), "x"], ["check", "--all", str(good)], ["telegram"], ["telegram", "--schema", str(good)], ["decode"], ["lint", str(good), "x"],
-        ["--help", "--help"], ["--help", "look"], ["--help", "--", "x"], ["--slots", "6"], ["--slots", "6", "--help"], ["--help", "--slots", "6"],
+        ["--slots", "6"], ["--slots", "6", "--help"], ["--slots", "6", "examine", str(good)],
         ["examine", "--slots", "6"], ["examine", str(good), "--slots"], ["examine", "--slots", "6", "--slots", "6", str(good)], ["lint", "--slots", "6", str(good)],
         ["decode", "--slots", "6", "90"], ["run", str(good), "--slots", "6"], ["examine", "--", "--slots", "6", str(good)],
         *(["examine", "--slots", slots, str(good)] for slots in ("", "1", "1048577", "-6", "6.0", "x", "4294967302")),
     )
     for words in wrong:
         printed, said, status = run(program, words)
-        compared.same(f"words {words}", (printed, said.count("\n"), status), ("", 1, 2))
-    printed, said, status = run(program, ["--help"])
-    compared.same("help", ("examine" in printed, "digest" in printed.split("\n\n")[-1], "copy" in printed.split("\n\n")[-1], said, status), (True, True, True, "", 0))
-    compared.same("help, and the end of the options", run(program, ["--help", "--"]), (printed, "", 0))
-    compared.same("a command behind --help", run(program, ["--help", "examine", str(good)])[::2], (text, 0))
+        compared.same(f"words {words}", (printed, said.startswith("error: "), status), ("", True, 2))
+    compare_help(program, compared)
     compared.same("an option behind the image", run(program, ["examine", str(good), "--json"]), run(program, ["examine", "--json", str(good)]))
     compared.same("the end of the options behind the image", run(program, ["examine", str(good), "--"])[::2], (text, 0))
     compared.same("behind --", run(program, ["examine", "--", "-odd"], cwd=room)[2], 3)
     (room / "-odd").write_bytes(image)
     compared.same("behind -- a file", run(program, ["examine", "--", "-odd"], cwd=room)[::2], (text, 0))
-    for words in (["examine", "--slots", "6", str(good)], ["--slots", "6", "examine", str(good)], ["examine", str(good), "--slots", "6", "--"]):
+    for words in (["examine", "--slots", "6", str(good)], ["examine", str(good), "--slots", "6", "--"]):
         compared.same(f"words {words}", run(program, words)[::2], (text, 0))
     good.chmod(0o444)
     room.chmod(0o755)

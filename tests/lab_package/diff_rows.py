@@ -156,7 +156,19 @@ def by_hand(pairs):
         {"block": 6, "head_byte": 27}, *({"block": 6, "event": event, "field": "life", "a": 1, "b": 2} for event in (9, 10))])
     bad = patched(upto[6], SECTOR + SLOT * (5 % 4) + 3 * SECTOR - 1, b"\1")
     found = pairs.found(upto[6], bad)
-    pairs.same("one that can't be read", (found["verdict"], found["both"], found["b"]["unreadable"]), ("same", [[3, 4], [6, 6]], [[5, 5]]))
+    pairs.same("one that can't be read", (found["verdict"], found["both"], found["b"]["unreadable"], found["b"]["lost"]), ("lost", [[3, 4], [6, 6]], [[5, 5]], [[5, 5]]))
+    for number in (3, 4, 5):
+        erased = [patched(upto[last], SECTOR + SLOT * (number % 4), bytes(SLOT)) for last in (6, 7)]
+        lost = [[number, number]] if number > 3 else []
+        found = pairs.found(upto[6], erased[0])
+        pairs.same(f"block {number} erased in B", (found["verdict"], found["a"]["lost"], found["b"]["lost"]), ("lost" if lost else "same", [], lost))
+        found = pairs.found(erased[0], upto[6])
+        pairs.same(f"block {number} erased in A", (found["verdict"], found["a"]["lost"], found["b"]["lost"]), ("lost" if lost else "same", lost, []))
+        if number == 5:
+            found = pairs.found(upto[6], erased[1])
+            pairs.same("a block erased, and goes on", (found["verdict"], found["b"]["lost"]), ("lost", lost))
+            found = pairs.found(erased[0], erased[0])
+            pairs.same("a block erased in both", (found["verdict"], found["a"]["lost"], found["b"]["lost"]), ("lost", lost, lost))
     shut = patched(upto[6], SECTOR + SLOT * (6 % 4), bytes(SECTOR))
     pairs.told("the newest gate closed", upto[6], shut, "older", only_a=[[6, 6]])
     for name, (byte, value, before, behind) in FIELDS.items():
@@ -186,6 +198,10 @@ def in_words(pairs, upto):
     pairs.same("text", (text.splitlines(), said, status), (lines, "", 0))
     text, said, status = run(lab, ["diff", "--json", *reversed(pairs.paths)])
     pairs.same("JSON", (json.loads(text)["verdict"], said, status), ("older", "", 4))
+    for path, image in zip(pairs.paths, (upto[6], patched(upto[6], SECTOR + SLOT, bytes(SLOT)))):
+        path.write_bytes(image)
+    text, said, status = run(lab, ["diff", *pairs.paths])
+    pairs.same("a block that was erased", (text.splitlines()[1], text.splitlines()[-1].split(":")[0], said, status), ("B b slots 4 blocks 3..4 6, lost 5", "lost", "", 4))
     pairs.paths[1].write_bytes(b"text")
     text, said, status = run(lab, ["diff", *pairs.paths])
     pairs.same("no image", (text, said, status), ("", "lab: " + str(pairs.paths[1]) + ": is not a formatted image\n", 1))

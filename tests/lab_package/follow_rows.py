@@ -111,6 +111,26 @@ def torn(rows, room):
             rows.same(f"and then, behind {sectors} sectors", slots.block(11) == data_of(told[11]), True)
 
 
+def of_locks(rows, room):
+    """A lock on a file with the same inode number on another file system isn't one on the image."""
+    image, proc = room / "locks", room / "proc"
+    write(image, SLOTS, journal(), 5)
+    (proc / "self/fdinfo").mkdir(parents=True)
+    with Ring(image) as slots:
+        number, inode = str(slots.descriptor), os.fstat(slots.descriptor).st_ino
+        (proc / "self/fdinfo" / number).write_text("pos:\t0\nmnt_id:\t29\n")
+        (proc / "self/mountinfo").write_text("29 1 253:18 / / rw - ext4 /dev/a rw\n30 29 0:27 / /dev/shm rw - tmpfs tmpfs rw\n")
+        for lock, wanted in ((f"FLOCK  ADVISORY  WRITE 7 fd:12:{inode} 0 EOF", True), (f"FLOCK  ADVISORY  WRITE 7 00:1b:{inode} 0 EOF", False),
+                             (f"FLOCK  ADVISORY  WRITE 7 fd:12:1{inode} 0 EOF", False), (f"FLOCK  ADVISORY  READ 7 fd:12:{inode} 0 EOF", False)):
+            (proc / "locks").write_text(f"1: {lock}\n")
+            with patch.object(following, "PROC", proc):
+                rows.same(lock, following.is_held(slots), wanted)
+        rows.same("no unit runs", following.is_held(slots), False)
+        with image.open("r+b") as file:
+            fcntl.flock(file, fcntl.LOCK_EX)
+            rows.same("a unit runs", following.is_held(slots), True)
+
+
 def in_words(rows, room):
     """The word itself, where no unit runs, where one ends, and for a time."""
     told, image = journal(), room / "words"
@@ -142,6 +162,7 @@ def main(words):
         for is_awaited in (True, False):
             followed(rows, events, room, is_awaited)
         torn(rows, room)
+        of_locks(rows, room)
         in_words(rows, room)
     return rows.end(f"journals that are followed: {rows.count} comparisons")
 

@@ -7,13 +7,17 @@
   image that a larger ring has, and etcs_lab tells the same events, replay and causes of both.
 - An archive is cut within its last block, or has zeros there: no block is lost, what a cut left is told, and what is kept then goes
   on behind it. Gaps stay gaps, blocks that contradict are named, and what can't be read is taken from where it can.
+- Blocks of two units are told, and so is a block that can't be read in one source. A gate with a bit altered stops no archive.
+- A sync that fails is owed, and made good by the next call.
 - Files that are there, no archives, and archives that another program holds, stay as they are.
 """
+import errno
 import json
 import os
 import sys
 import tempfile
 from pathlib import Path
+from unittest.mock import patch
 
 TOP = Path(__file__).resolve().parents[2]
 sys.path[:0] = [str(TOP / part) for part in ("python", "tests", "tests/plain", "tests/lab")]
@@ -23,6 +27,7 @@ from compared import Compared, run  # noqa: E402
 from gaknifur import archive, layout  # noqa: E402
 from gaknifur.archive import Archive, Ring  # noqa: E402
 from gaknifur.program import Failed  # noqa: E402
+from gaknifur.times import FIRST, Marks  # noqa: E402
 from image_cases import image_of, patched, ring  # noqa: E402
 from replay_rows import STARTED, TWO, blocks_of  # noqa: E402
 
@@ -152,9 +157,113 @@ def contradictions(rows, room):
     kept[SECTOR + 6 * SLOT + SECTOR + 500] = 1
     bad.write_bytes(kept)
     found = archive.join(room / "mended", [bad, one])
-    rows.same("what can't be read is taken from where it can", (found.chosen[7].path, found.is_whole), (one, True))
+    rows.same("what can't be read is taken from where it can", (found.chosen[7].path, sorted(found.mended), found.is_whole), (one, [7], False))
+    found = archive.join(room / "mended-2", [one, bad])
+    rows.same("and where it can't be is told", (found.chosen[7].path, sorted(found.mended), found.is_whole), (one, [7], False))
+    text, said, status = run(TOP / "lab", ["join", room / "mended-3", bad, one])
+    rows.same("in words", ("block 7 can't be read in bad: it is taken from another source" in text.splitlines(), said, status), (True, "", 4))
     found = archive.join(room / "unreadable", [bad])
     rows.same("what can't be read stays so", (found.unreadable, found.is_whole), ([7], False))
+
+
+def strangers(rows, room):
+    """Blocks of two units in one image: it is made, and what doesn't follow is told."""
+    told, other = journal(), {block["number"]: block for block in blocks_of([("unknown", (*STARTED, "clock 5", "move 7 3")), *TWO, *TWO], 3)}
+    one, two = room / "unit-1", room / "unit-2"
+    write(one, 16, told, 12)
+    write(two, 4, other, 5)
+    lone = {n: b for n, b in told.items() if 6 <= n <= 12}
+    one.write_bytes(image_of(16, ring(16, lone)))
+    for name, sources in (("of two units", [one, two]), ("the other first", [two, one])):
+        found = archive.join(room / f"strangers-{name}", sources)
+        rows.same(name, (found.contradictions, bool(found.breaks or found.differences), found.is_whole), ({}, True, False))
+    text, said, status = run(TOP / "lab", ["join", room / "strangers", one, two])
+    rows.unless("the sources are of different units, or one was altered" in text and not said and status == 4, f"of two units: {text} {said} {status}")
+
+
+def gates(rows, room):
+    """A gate with a bit altered names no block, and what comes behind it is kept all the same."""
+    told, image, path = journal(), room / "gates", room / "gates-archive"
+    for bit in (0, 2, 5, 20, 39, 40, 62):
+        path.unlink(missing_ok=True)
+        write(image, 8, told, 6)
+        data = bytearray(image.read_bytes())
+        at = layout.slot_at(5) + 15 - bit // 8
+        data[at] ^= 1 << bit % 8
+        image.write_bytes(data)
+        with Archive(path) as kept:
+            kept.keep(image)
+            write(image, 8, told, 9)
+            kept.keep(image)
+        rows.same(f"bit {bit} of a gate", sorted(number for number in data_in(path) if number), [1, 2, 3, 4, 6, 7, 8, 9])
+
+
+def syncs(rows, room):
+    """A sync that fails is owed: the next call writes again what it was for and syncs, also where it has nothing new to keep."""
+    told, image, path, done = journal(), room / "syncs", room / "syncs-archive", []
+    fsync, pwrite = os.fsync, os.pwrite
+
+    def fails(descriptor):
+        raise OSError(errno.EIO, "no sync")
+
+    def noted_sync(descriptor):
+        done.append("sync")
+        fsync(descriptor)
+
+    def noted_write(descriptor, data, at):
+        done.append((at, len(data)))
+        return pwrite(descriptor, data, at)
+
+    write(image, 8, told, 6)
+    with Archive(path) as kept:
+        for name in ("the first", "a second"):
+            with patch("os.fsync", fails):
+                try:
+                    kept.keep(image)
+                    rows.tell(f"{name} sync that fails: all is well")
+                except OSError as error:
+                    rows.same(f"{name} sync that fails", error.errno, errno.EIO)
+        for name, wanted in (("what is owed", [(SECTOR, 6 * SLOT), "sync"]), ("nothing is owed", [])):
+            done.clear()
+            with patch("os.fsync", noted_sync), patch("os.pwrite", noted_write):
+                rows.same(f"{name}: blocks", kept.keep(image), 0)
+            rows.same(name, done, wanted)
+    rows.same("what is there", data_in(path), {n: data_of(told[n]) for n in range(1, 7)})
+    with Marks(room / "syncs.times") as marks:
+        with patch("os.fsync", fails):
+            try:
+                marks.mark(1, 0, 0, 5, "a")
+                rows.tell("a mark whose sync fails: all is well")
+            except OSError as error:
+                rows.same("a mark whose sync fails", error.errno, errno.EIO)
+        done.clear()
+        with patch("os.fsync", noted_sync), patch("os.pwrite", noted_write):
+            marks.mark(1, 5, 5, 5, "a")
+        rows.same("both marks are written and synced", (len(done), done[-1], sum(size for _, size in done[1:-1])), (3, "sync", marks.size - len(FIRST) - 1))
+
+
+def many_contradictions(rows, room):
+    """Of many blocks that differ etcs_lab is asked in a few runs, also where a third one can't be read and numbers lie far apart."""
+    runs, examine, numbers = [], archive.examine, [*range(1, 301), 1_000_000, 1_000_001]
+    parts = {name: bytearray(layout.archive_sector()) for name in ("bad", "one", "other")}
+    for number in numbers:
+        for name, moment in (("bad", 7), ("one", 8), ("other", 9)):
+            data = bytearray(data_of(block(3, number, number, 1, [entry(number - 1, ("clock", moment), moment=moment)])))
+            data[SECTOR + 500] ^= name == "bad"
+            parts[name] += data
+    paths = {name: room / f"many-{name}" for name in parts}
+    for name, path in paths.items():
+        path.write_bytes(parts[name])
+
+    def counted(path):
+        runs.append(path)
+        return examine(path)
+
+    with patch.object(archive, "examine", counted):
+        found = archive.Joined([archive.source(paths[name]) for name in ("bad", "one", "other")])
+        archive.choose_all(found)
+    rows.same("many blocks that differ", (sorted(found.contradictions), {place.path for place in found.chosen.values()}, len(runs)),
+              (numbers, {paths["one"]}, 6))
 
 
 def stays(rows, room):
@@ -191,6 +300,10 @@ def main(words):
         cut(rows, room)
         put_back(rows, room)
         contradictions(rows, room)
+        strangers(rows, room)
+        gates(rows, room)
+        syncs(rows, room)
+        many_contradictions(rows, room)
         stays(rows, room)
     few = rows.count < 110
     if few:

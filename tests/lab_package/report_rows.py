@@ -89,7 +89,10 @@ def examples(rows):
     rows.page("trip", "--from", "8", "--to", "11", charts=1, text=["from 8 to 11"])
     rows.page("trip", "--from", "200m", "--to", "315m", charts=1, text=["from 200m to 315m"])
     rows.page("on_sight", "--from", "20s", "--to", "40s", "--life", "1", charts=1, text=["of life 1"])
-    rows.page("trip", "--life", "7", charts=0, text=["No record commands a brake"])
+    has = "it has events 0 to 16, of life 1. Nothing was written."
+    rows.lab("report", "trip", "none.html", "--life", "7", status=1, said=f"lab: trip: the journal has no record of life 7; {has}")
+    rows.lab("report", "trip", "none.html", "--from", "5000", status=1, said=f"lab: trip: the journal has no record from 5000; {has}")
+    rows.same("a report of nothing isn't written", (rows.room / "none.html").exists(), False)
 
 
 def damaged(rows):

@@ -8,13 +8,19 @@
 - A byte of each file, a file less, more, renamed, cut off, in place of another one, a link in its place; lines of manifests;
   signatures and time stamps of others: each is told, by the name of the file. So is what was closed anew behind the
   alteration, where a signature or a time stamp is asked for.
+- What was closed anew and never signed: values that seal.json can't have, files that are no JSON, pipes, links to devices, files of 2^40 bytes,
+  names and texts that hide or fake a line. Each is told, and in time.
+- A seal that is killed leaves no folder of its name, and the next one takes away what it left, and nothing else.
 - The image that is sealed stays as it is, and is opened once, to be read alone. What is no image, is held by a unit, or has
   its folder already isn't sealed; images that are damaged or not formatted are, with all that can be told of them.
 """
+import errno
 import fcntl
 import json
 import os
+import re
 import shutil
+import signal
 import stat
 import subprocess
 import sys
@@ -26,13 +32,15 @@ TOP = Path(__file__).resolve().parents[2]
 sys.path[:0] = [str(TOP / part) for part in ("python", "tests", "tests/plain", "tests/lab")]
 
 from compared import Compared  # noqa: E402
-from gaknifur import bag, seal, signing  # noqa: E402
-from gaknifur.program import Failed  # noqa: E402
+from gaknifur import bag, evidence, files, program, seal, signing  # noqa: E402
+from gaknifur.program import DEVICE, REFUSED, Failed  # noqa: E402
 from gaknifur.signing import Key, Trust  # noqa: E402
 from replay_rows import examples  # noqa: E402
 
-LEAST = 100
-"""So many altered bags at least."""
+LEAST = 300
+SLOW = 3
+"""So many altered bags at least, and the seconds of a processor that an answer may take. One that never comes ends the test."""
+UNSIGNED = "the bag isn't signed by anybody who is named"
 AUTHORITY = """
 [req]
 distinguished_name = name
@@ -145,6 +153,7 @@ def others():
     yield "a link to a folder", link_folder, "data/linked"
     for name in ("bagit.txt", "data/seal.json", "manifest-sha512.txt", "tagmanifest-sha256.txt"):
         yield f"a pipe in place of {name}", lambda folder, name=name: [(folder / name).unlink(), os.mkfifo(folder / name)], name
+    yield "an empty folder", lambda folder: (folder / "data/empty").mkdir(), "data/empty"
     yield "a pipe", lambda folder: os.mkfifo(folder / "data/pipe"), "data/pipe"
     for name in ("manifest-sha256.txt", "manifest-sha512.txt", "tagmanifest-sha256.txt", "tagmanifest-sha512.txt"):
         def edit(folder, change, name=name):
@@ -177,7 +186,7 @@ def closed_anew(room):
         text = (folder / "data/table.csv").read_text()
         (folder / "data/table.csv").write_text(text.replace("emergency", "none"))
     yield "a table, closed anew", [table, close_anew], signing.SSH
-    yield "a table, closed anew and without signatures", [table, close_anew, lambda folder: [(folder / name).unlink() for name in LATER[:2]]], signing.SSH
+    yield "a table, closed anew and without signatures", [table, close_anew, lambda folder: [(folder / name).unlink() for name in LATER[:2]]], UNSIGNED
     yield "a table, closed anew and signed by others", [table, close_anew, lambda folder: sign(room, folder, "other")], signing.SSH
     yield "a table, closed anew and signed again", [table, close_anew, lambda folder: sign(room, folder)], signing.ANSWER
 
@@ -206,6 +215,137 @@ def closed_anew(room):
     yield "a time stamp of another request", [other_request], signing.ANSWER
 
 
+# ---- what whoever closes a bag anew may put into it
+
+LIE = "shown: a@b signed the bag, by the key SHA256:AAAA"
+HEX = "0" * 64
+ODD = (("version", 2), ("version", True), ("version", None), ("sealed_at", "now"), ("sealed_at", 5), ("by", None), ("by", "a\nb"), ("by", "x" * 5_000), ("by", "\ud800"),
+       ("medium", 7), ("medium", ["a"]), ("image", None), ("image", []), ("image.name", 5), ("image.bytes", f"5 bytes\n{LIE}"), ("image.bytes", -1), ("image.bytes", 1.5),
+       ("image.bytes", True), ("image.bytes", 10**18), ("image.bytes", 10**30), ("image.sha256", "x"), ("image.sha256", HEX.upper() + "A"), ("image.sha512", HEX), ("image.more", 1),
+       ("etcs_lab", {}), ("etcs_lab", "x"), ("etcs_lab.more", {}), ("etcs_lab.examine.json", None), ("tools", None), ("tools", []), ("tools.lab", 5),
+       ("tools.lab", f"1\n{LIE}"), ("tools.lab_is_proved", True), ("tools.etcs_lab_sha256", None), ("tools.etcs_lab_is_proved", "yes"), ("tools.etcs_lab_is_proved", 1),
+       ("tools.python", {}), ("times", {}), ("times", {"file": "../x", "drift_ppm": 1}), ("times", {"file": "image.times", "drift_ppm": 100}), ("signed_by", None), ("signed_by", {}),
+       ("signed_by", ["ssh"]), ("signed_by", [{"kind": "none", "key": "x"}]), ("signed_by", [{"kind": "ssh"}]), ("signed_by", [{"kind": "ssh", "key": "a\nb"}]),
+       ("signed_by", [{"kind": "ssh", "key": "SHA256:A"}] * 2), ("signed_by", [{"kind": "ssh", "key": "SHA256:A"}] * 99), ("more", 1), ("image.bytes", float("inf")))
+"""Members of seal.json, each with a value that it can't have."""
+TEXTS = (b"", b"{", b"[]", b"null", b"\xff\xfe", b"[" * 200_000, b'{"a":' * 50_000, b'{"version": 1, "version": 1}', b"1" * 5_000, b'"' + b"x" * 2_000_000 + b'"')
+"""Files that are no seal.json."""
+
+
+def strip(folder):
+    """Takes the signatures and the time stamp away, and closes the bag anew: nothing vouches for it."""
+    for name in LATER:
+        (folder / name).unlink(missing_ok=True)
+    close_anew(folder)
+
+
+def put(folder, member, value):
+    """Puts a value into seal.json."""
+    path = folder / "data/seal.json"
+    told = json.loads(path.read_text())
+    at, name = told, member
+    while "." in name and name not in at:
+        first, _, name = name.partition(".")
+        at = at[first]
+    at[name] = value
+    path.write_text(json.dumps(told))
+
+
+def forged():
+    """Bags that were closed anew and that nobody signed: a name, the steps, and the file that is to be told."""
+    for member, value in ODD:
+        yield f"{member} is {str(value)[:40]!r}", [lambda folder, member=member, value=value: put(folder, member, value), strip], "data/seal.json"
+    for text in TEXTS:
+        yield f"seal.json is {text[:20]!r}", [lambda folder, text=text: (folder / "data/seal.json").write_bytes(text), strip], "data/seal.json"
+    for member in ("version", "sealed_at", "by", "medium", "image", "etcs_lab", "tools", "times", "signed_by"):
+        def less(folder, member=member):
+            told = json.loads((folder / "data/seal.json").read_text())
+            del told[member]
+            (folder / "data/seal.json").write_text(json.dumps(told))
+        yield f"no {member}", [less, strip], "data/seal.json"
+    for name, text in (("examine.json", b"[" * 200_000), ("examine.json", b'{"image": {"slots": 6, "whole_slots": 1000000000000}, "slots": []}'), ("events.jsonl", b"\xff"),
+                       ("why.jsonl", b""), ("digests.csv", b"\0"), ("digests.csv", b"\xff")):
+        yield f"{name} is {text[:20]!r}", [lambda folder, name=name, text=text: (folder / "data" / name).write_bytes(text), strip], f"data/{name}"
+
+    def more(folder):
+        (folder / "data/run.sh").write_text("more")
+    yield "a file more, that manifests have", [more, strip], "data/run.sh"
+    yield "no size of the payload", [strip, lambda folder: (folder / bag.INFO).write_text("a: b\n"), lambda folder: retag(folder)], bag.INFO
+
+
+def retag(folder):
+    """Closes the tag files of a bag anew."""
+    for name in (bag.SIGNED, "tagmanifest-sha256.txt"):
+        (folder / name).unlink()
+    bag.close_tags(folder)
+
+
+def endless():
+    """Files that never end, or hardly ever: a name, what does it, the file that is to be told."""
+    def pipe(folder, name):
+        (folder / name).unlink(missing_ok=True)
+        os.mkfifo(folder / name)
+
+    def zeros(folder, name):
+        (folder / name).unlink(missing_ok=True)
+        (folder / name).symlink_to("/dev/zero")
+
+    def sparse(folder, name):
+        (folder / name).touch()
+        os.truncate(folder / name, 1 << 40)
+    for name in FILES:
+        for word, do in (("a pipe in place of", pipe), ("/dev/zero in place of", zeros), ("a file of 2^40 bytes in place of", sparse)):
+            yield f"{word} {name}", [lambda folder, name=name, do=do: do(folder, name)], name
+    yield "a signature of 50 MB", [lambda folder: (folder / signing.SSH).write_bytes(b"A" * 50_000_000)], signing.SSH
+
+    def many(folder):
+        for number in range(evidence.MOST_ENTRIES + 1):
+            (folder / f"more-{number}").touch()
+    yield "too many files", [many], "altered"
+    yield "folders too deep", [lambda folder: (folder / "/".join("a" * 20)).mkdir(parents=True)], "altered"
+
+
+def in_lines(count, room):
+    """What ./lab verify prints of forged bags: each line begins with one of its own words, and nothing can hide in it."""
+    def printed(step):
+        folder = room / "altered"
+        shutil.rmtree(folder, ignore_errors=True)
+        shutil.copytree(room / "bag", folder)
+        for at, _, names in os.walk(folder):
+            for one in names:
+                os.chmod(Path(at, one), 0o644)
+        step(folder)
+        done = subprocess.run([TOP / "lab", "verify", folder], capture_output=True, stdin=subprocess.DEVNULL)
+        return done.returncode, done.stdout.decode(), done.stderr.decode()
+
+    def forge(folder):
+        put(folder, "image.bytes", f"5 bytes\n{LIE}")
+        put(folder, "signed_by", [{"kind": "none", "key": "x"}])
+        (folder / "data/table.csv").write_text("altered")
+        strip(folder)
+    status, text, said = printed(forge)
+    count.same("a faked signature", (status, LIE in text.splitlines(), said), (1, False, ""))
+
+    def forge_tools(folder):
+        put(folder, "tools.lab", "1\x1b[2K\r\u202e")
+        (folder / "data/table.csv").write_text("altered")
+        strip(folder)
+    for name, step in (("escapes in seal.json", forge_tools), ("escapes in a name", lambda folder: (folder / "a\x1b[8m\u202e\n\udcffshown: b").touch())):
+        status, text, said = printed(step)
+        count.unless(not said and text.replace("\n", "").isprintable() and not any(line.startswith("shown: b") for line in text.splitlines()), f"{name}: {text!r} {said!r}")
+    status, text, said = printed(lambda folder: [put(folder, "signed_by", []), strip(folder)])
+    count.same("what isn't signed", (status, "not shown: who sealed it: the bag isn't signed, so whoever altered it could have closed it anew" in text.splitlines()), (0, True))
+
+
+def timed(folder, trusted):
+    """What isn't as it was sealed, and the seconds of a processor that the answer took, with those of the programs that were asked."""
+    begun = sum(os.times()[:4])
+    signal.alarm(120)
+    faults = seal.verify(folder, trusted).faults
+    signal.alarm(0)
+    return faults, sum(os.times()[:4]) - begun
+
+
 class Count(Compared):
     """What is compared, and how many bags were altered."""
 
@@ -213,8 +353,21 @@ class Count(Compared):
         super().__init__()
         self.room, self.altered = room, 0
 
+    def answered(self, name, steps, trusted):
+        """An altered bag is one, in time, whoever is trusted."""
+        faults, took = timed(self.made(steps), trusted)
+        self.unless(bool(faults) and took < SLOW, f"{name}: took {took:.1f} s: {faults}")
+
     def told(self, name, steps, file, trusted):
-        """An altered bag is told by the name of the file."""
+        """An altered bag is told by the name of the file, in time."""
+        folder = self.made(steps)
+        self.altered += 1
+        faults, took = timed(folder, trusted)
+        self.unless(any(line == file or line.startswith(f"{file}: ") for line in faults), f"{name}: {file} isn't told: {faults}")
+        self.unless(took < SLOW, f"{name}: took {took:.1f} s")
+
+    def made(self, steps):
+        """A bag that is altered."""
         folder = self.room / "altered"
         shutil.rmtree(folder, ignore_errors=True)
         (self.room / "elsewhere").unlink(missing_ok=True)
@@ -224,9 +377,7 @@ class Count(Compared):
                 os.chmod(Path(at, one), 0o644)
         for step in steps:
             step(folder)
-        self.altered += 1
-        faults = seal.verify(folder, trusted).faults
-        self.unless(any(line.startswith(f"{file}: ") for line in faults), f"{name}: {file} isn't told: {faults}")
+        return folder
 
 
 def whole_bag(count, room, image):
@@ -240,23 +391,26 @@ def whole_bag(count, room, image):
         return os_open(path, flags, *more, **named)
 
     with patch("os.open", noted):
-        found = seal.seal(image, room / "bag", seal.Sealing("one", "a medium", keys=keys(room)))
+        found, odd = seal.seal(image, room / "bag", seal.Sealing("one", "a medium", keys=keys(room)))
     count.same("the image was opened once, to be read", (opened, image.read_bytes()), ([os.O_RDONLY], data))
     count.same("the copy", (room / "bag/data/image").read_bytes(), data)
-    count.same("what it told", (found["by"], found["medium"], found["image"]["bytes"]), ("one", "a medium", len(data)))
+    count.same("what it told", (found["by"], found["medium"], found["image"]["bytes"], odd), ("one", "a medium", len(data), []))
     stamp(room, room / "bag")
-    count.same("its files", bag.names_in(room / "bag"), (sorted(FILES), []))
+    count.same("its files", evidence.names_in(room / "bag"), (sorted(FILES), []))
     count.same("their modes", {(room / "bag" / name).stat().st_mode & 0o222 for name in FILES if name != signing.ANSWER}, {0})
     for name, kind in (("manifest", "sha256"), ("manifest", "sha512"), ("tagmanifest", "sha256"), ("tagmanifest", "sha512")):
         lines = run(f"{kind}sum", "-c", f"{name}-{kind}.txt", cwd=room / "bag").decode().splitlines()
         count.same(f"{name}-{kind}.txt", len(lines), len(PAYLOAD) if name == "manifest" else 5)
+    is_proved = int(program.reader_is_proved() is True)
     seen = seal.verify(room / "bag", trust(room))
-    count.same("the bag", (seen.faults, len(seen.shown), len(seen.not_shown)), ([], 7, 1))
+    count.same("the bag", (seen.faults, len(seen.shown), len(seen.not_shown)), ([], 7 + is_proved, 2 - is_proved))
+    by = [line for line in seen.shown + seen.not_shown if f"sealed by lab {program.version()}" in line]
+    count.same("by which tools", [(program.PROOF[None] in line, "with a proved etcs_lab" in line) for line in by], [(not is_proved, bool(is_proved))])
     seen = seal.verify(room / "bag", Trust())
-    count.same("the bag, where nobody is trusted", (seen.faults, len(seen.shown), len(seen.not_shown)), ([], 4, 4))
+    count.same("the bag, where nobody is trusted", (seen.faults, len(seen.shown), len(seen.not_shown)), ([], 4 + is_proved, 5 - is_proved))
     seen = seal.verify(room / "bag", trust(room, "other"))
     count.same("the bag, where others are trusted", sorted(line.split(":")[0] for line in seen.faults),
-               sorted([*LATER, "the bag isn't signed by anybody who is named"]))
+               sorted([*LATER, UNSIGNED]))
     events = [json.loads(line) for line in (room / "bag/data/events.jsonl").open()]
     rows = [line.split(",") for line in (room / "bag/data/digests.csv").read_text().splitlines()]
     count.same("digests of parts", [row[0] for row in rows[1:]], ["image"] + ["slot"] * 16 + ["record"] * sum("event" in one for one in events))
@@ -286,16 +440,62 @@ def at_the_edges(count, room, image):
     data = image.read_bytes()
     for name, made, status in (("damaged", data[:2000] + b"\xff" + data[2001:], 4), ("cut", data[:5000], 4), ("none", b"text", 1), ("empty", b"", 1)):
         (room / name).write_bytes(made)
-        told = seal.seal(room / name, room / f"bag-{name}", seal.Sealing())
+        told, odd = seal.seal(room / name, room / f"bag-{name}", seal.Sealing())
         seen = seal.verify(room / f"bag-{name}", Trust())
         count.same(f"{name}: sealed", (told["etcs_lab"]["examine.json"]["status"], seen.faults), (status, []))
+        count.unless(bool(odd), f"{name}: nothing is said of it")
         count.same(f"{name}: a report", (room / f"bag-{name}/data/report.html").exists(), status == 4)
     unsigned = seal.verify(room / "bag-cut", trust(room))
-    count.same("not signed", [line.split(":")[0] for line in unsigned.faults], ["the bag isn't signed by anybody who is named", signing.ANSWER])
+    count.same("not signed", [line.split(":")[0] for line in unsigned.faults], [UNSIGNED, signing.ANSWER])
     seal.seal(image, room / "bag-ssh", seal.Sealing(keys=keys(room)[:1]))
     for name, trusted, wanted in (("signers", Trust(signers=room / "signers-one"), []), ("both", Trust(room / "signers-one", room / "one.gpg"), []),
-                                  ("keyring", Trust(keyring=room / "one.gpg"), ["the bag isn't signed by anybody who is named"])):
+                                  ("keyring", Trust(keyring=room / "one.gpg"), [UNSIGNED])):
         count.same(f"signed by OpenSSH alone, {name} named", seal.verify(room / "bag-ssh", trusted).faults, wanted)
+
+
+def killed(count, room, image):
+    """A seal that is killed, or whose last step fails, leaves no folder of the name; the next one seals, and takes away what was left."""
+    at = room / "killed"
+    at.mkdir()
+    (at / ".lab-1-0123456789abcdef").mkdir()
+    (at / ".lab-1-0123456789abcdef/mine").write_text("mine")
+    (at / ".lab-2-0123456789abcdef").mkdir()
+    (at / ".lab-3-0123456789abcdef").write_text("a file")
+    (at / ".lab-4-0123456789abcdef").symlink_to(room / "bag")
+    (at / ".lab-notes").mkdir()
+    strangers = sorted(os.listdir(at))
+    held = os.open(at / ".lab-2-0123456789abcdef", os.O_RDONLY)
+    fcntl.flock(held, fcntl.LOCK_EX)
+    for name in ("seal.copy_image", "seal.draw", "bag.close", "bag.close_tags", "files.sync_file", "files.rename_new"):
+        process = os.fork()
+        if not process:
+            with patch(f"gaknifur.{name}", lambda *_: os.kill(os.getpid(), signal.SIGKILL)):
+                seal.seal(image, at / "new", seal.Sealing())
+            os._exit(0)
+        status = os.waitstatus_to_exitcode(os.waitpid(process, 0)[1])
+        left = sorted(set(os.listdir(at)) - set(strangers))
+        count.same(f"killed at {name}", (status, [re.sub(r"[0-9a-f]+", "_", one) for one in left]), (-signal.SIGKILL, [".l_-_-_"]))
+        seal.seal(image, at / f"sealed-{name}", seal.Sealing())
+        count.same(f"sealed behind that at {name}", sorted(set(os.listdir(at)) - set(strangers)), [f"sealed-{name}"])
+        shutil.rmtree(at / f"sealed-{name}")
+    for number, said, status in ((errno.EIO, "Input/output error", DEVICE), (errno.EEXIST, "since a moment ago", REFUSED)):
+        def fails(*_, number=number):
+            raise OSError(number, os.strerror(number))
+        with patch("gaknifur.files.rename_new", fails):
+            try:
+                seal.seal(image, at / "new", seal.Sealing())
+                count.tell("a name that can't be given is given")
+            except Failed as failed:
+                count.unless(said in str(failed) and failed.status == status, f"no name: {failed}")
+        count.same("where no name is given", sorted(os.listdir(at)), strangers)
+    os.close(held)
+    (at / "there").mkdir()
+    (at / "one").mkdir()
+    try:
+        files.rename_new(at / "one", at / "there")
+        count.tell("a folder that is there is written over")
+    except FileExistsError:
+        pass
 
 
 def main(words):
@@ -313,8 +513,16 @@ def main(words):
             count.told(name, [do], file, trust(room) if file in LATER else Trust())
         for name, steps, file in closed_anew(room):
             count.told(name, steps, file, trust(room))
+        for name, steps, file in forged():
+            count.told(f"forged: {name}", steps, file, Trust())
+            count.told(f"forged: {name}, signers named", steps, UNSIGNED, Trust(room / "signers-one", room / "one.gpg"))
+        for name, steps, file in endless():
+            count.told(name, steps, file, trust(room) if file in LATER else Trust())
+            count.answered(name, steps, trust(room))
+        in_lines(count, room)
         count.told("signatures of others, where nobody is trusted", [lambda folder: sign(room, folder, "other")], signing.SSH, Trust())
         at_the_edges(count, room, image)
+        killed(count, room, image)
         subprocess.run(["gpgconf", "--kill", "gpg-agent"], capture_output=True)
     few = count.altered < LEAST
     if few:

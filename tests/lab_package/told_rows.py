@@ -153,7 +153,7 @@ def compare_table(count, name, journal, records):
     table = tables.frame(journal)
     rows = list(csv.DictReader(io.StringIO(tables.csv_text(table))))
     wanted = [wanted_row(record, {"speed_m_per_h": speed, "not_obeyed": not_obeyed(record)}) for record, speed, _ in with_speeds(records)]
-    got = [{key: row.get(key, "") for key in (wanted[0] if wanted else ())} for row in rows]
+    got = [{key: row.get(key, "").removeprefix("'") for key in (wanted[0] if wanted else ())} for row in rows]
     count.same(f"{name}, rows", len(got), len(wanted))
     for one, other in zip(got, wanted):
         if one != other:
@@ -174,7 +174,8 @@ def compare_strays(count, name, journal, image):
         count.same(f"{name}, records of damaged blocks", journal.strays, [])
         return
     wanted = [wanted_row(one, {"byte": str(one["byte"]), "slot": str((one["byte"] - 512) // 3072)}) for one in strays]
-    rows = list(csv.DictReader(io.StringIO(tables.csv_text(tables.strays(journal)))))
+    rows = [{key: value.removeprefix("'") for key, value in row.items()}
+            for row in csv.DictReader(io.StringIO(tables.csv_text(tables.strays(journal))))]
     count.same(f"{name}, records of damaged blocks", rows, wanted)
     count.strays.update(one["source"] for one in strays)
     if not strays:

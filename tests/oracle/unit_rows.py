@@ -19,7 +19,7 @@ from pathlib import Path
 
 TOP = Path(__file__).resolve().parents[2]
 sys.path.insert(0, str(TOP / "python"))
-from gaknifur import oracle, program  # noqa: E402
+from gaknifur import confined, oracle, program  # noqa: E402
 from gaknifur.other_unit import OtherUnit  # noqa: E402
 from gaknifur.reading import read  # noqa: E402
 
@@ -58,6 +58,8 @@ FOUND = {
     "last_word": "end: a line that nobody asked for: bye",
 }
 SLOW = ("missing_answer", "hangs", "silent", "goes_on", "closes")
+IN_SANDBOX = FOUND | {"closes": FOUND["hangs"]}
+# (the sandbox's own process holds the unit's standard output)
 STARTED = []
 
 
@@ -153,12 +155,14 @@ def main(etcs, lab, unit, stands):
         def tried(kind):
             return kind, told(proxy.format(kind), found["trip"], HANGS_S if kind in SLOW else WITHIN_S)
 
-        with ThreadPoolExecutor(4) as pool:
-            for kind, (said, agrees) in pool.map(tried, sorted(FOUND, key=lambda kind: kind not in SLOW)):
-                is_so(kind, not agrees and FOUND[kind] in said, said)
+        for where, wanted in ({"": FOUND} | ({"sandbox: ": IN_SANDBOX} if confined.bubblewrap() else {})).items():
+            os.environ[confined.SANDBOX] = "" if where else "none"
+            with ThreadPoolExecutor(4) as pool:
+                for kind, (said, agrees) in pool.map(tried, sorted(wanted, key=lambda kind: kind not in SLOW)):
+                    is_so(f"{where}{kind}", not agrees and wanted[kind] in said, said)
     is_so("processes", not left(), f"{left()} are left")
     print(f"tests/oracle/unit_rows.py: {len(found)} journals agree, {len(FOUND)} units that are wrong on purpose, "
-          f"{len(wrong)} wrong")
+          f"{'also' if confined.bubblewrap() else 'not'} in a sandbox, {len(wrong)} wrong")
     return 1 if wrong or len(FOUND) < LEAST or len(found) < 6 else 0
 
 

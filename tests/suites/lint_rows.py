@@ -19,7 +19,7 @@ TOP = Path(__file__).resolve().parents[2]
 sys.path.insert(0, str(TOP / "python"))
 from gaknifur import track_checks  # noqa: E402
 
-LEAST_ROWS, LEAST_ITEMS, LEAST_CASES = 48, 26, 240
+LEAST_ROWS, LEAST_ITEMS, LEAST_CASES = 74, 28, 247
 HEAD = """test_case: NAME
 feature: Lint
 sections: [3.13]
@@ -32,6 +32,7 @@ lives:
 PROFILE = "21: D_GRADIENT 0, Q_GDIR 1, G_A 0; 27: D_STATIC 0, V_STATIC 24, Q_FRONT 1"
 VALUES = ("3: D_VALIDNV 32767, V_NVSHUNT 6, V_NVSTFF 8, V_NVONSIGHT 6, V_NVUNFIT 20, V_NVREL 8, D_NVROLL 3, V_NVALLOWOVTRP 0, V_NVSUPOVTRP 6, "
           "D_NVOVTRP 200, T_NVOVTRP 60, D_NVSTFF 32767")
+RESTRICTION = "007F802001506023A0E04B0064427F80"
 INSTALLED = "90007F80200140E0583FFFC0184062820001400300C83C01907FBFFF90A00F83FF80"
 
 
@@ -55,6 +56,19 @@ def areas(first_length, second):
     return f"{{steps: [{full(f'; 80: D_MAMODE 100, M_MAMODE 0, V_MAMODE 6, L_MAMODE {first_length}, L_ACKMAMODE 0, D_MAMODE {second}, M_MAMODE 0, V_MAMODE 6, L_MAMODE 50, L_ACKMAMODE 0', 1500)}]}}"
 
 
+def loa(lasts, more):
+    """Full Supervision by an authority of 500 m with V_LOA 100 km/h, and more static speeds."""
+    return full("", 500).replace("V_MAIN 24", f"V_MAIN 24, V_LOA 20, T_LOA {lasts}").replace("V_STATIC 24, Q_FRONT 1", f"V_STATIC 24, Q_FRONT 1{more}")
+
+
+def skipped(number, told, text):
+    """A row of a packet that is skipped, read in Staff Responsible: with what a train of issue 2.3.0 does; none where it does nothing."""
+    where = "/steps/4/telegram"
+    found = [("advice", where, [f"packet {number} is skipped"])] + ([(45, where, ["group 1/7", f"packet {number} ", "read in SR", text])] if text else [])
+    name = re.sub("[^a-z0-9]+", "_", f"skipped {told}".lower())
+    return name, found, f'{{steps: [use: staff, {{telegram: "NID_BG 7; {told}"}}]}}', f"; {told}", ""
+
+
 def drive(train):
     return f"{{steps: [{full('')}], drive: {{train: {{acceleration: 0.5 m/s2, {train}}}, driver: {{heeds: limit}}, time_step: 1 s, lasts: 5 s}}}}"
 
@@ -68,7 +82,10 @@ ROWS = [
      "D_SECTIONTIMERSTOPLOC 100\"}, {drive: 14 m at 10 km/h}]}", "N_TOTAL 1, M_DUP 1, ", ""),
     ("timer_of_v_loa_starts_late", [(1, "/steps/4/telegram", ["closes 14 m behind"])],
      "{steps: [use: staff, {telegram: \"NID_BG 7, N_TOTAL 1, M_DUP 1, Q_LINK 0; 12: V_MAIN 24, V_LOA 4, T_LOA 60, L_ENDSECTION 300\"}, "
-     "{drive: 14 m at 10 km/h}]}", "T_LOA 60", "T_LOA 1023"),
+     "{drive: 14 m at 10 km/h}]}", "V_LOA 4", "V_LOA 0"),
+    ("v_loa_that_never_ends_of_such_a_group", [(44, "/steps/4/telegram", ["V_LOA 20 km/h with T_LOA 1023"])],
+     "{steps: [use: staff, {telegram: \"NID_BG 7, N_TOTAL 1, M_DUP 1, Q_LINK 0; 12: V_MAIN 24, V_LOA 4, T_LOA 1023, L_ENDSECTION 300\"}, "
+     "{drive: 14 m at 10 km/h}]}", "V_LOA 4", "V_LOA 0"),
     ("a_broken_group_is_lost", [(2, "/steps/4/telegram", ["group 1/7 of 2 balises", "packet 65;"])],
      "{steps: [use: staff, {telegram: \"NID_BG 7, N_TOTAL 1, Q_LINK 1; 65: NID_TSR 1, D_TSR 0, L_TSR 50, Q_FRONT 1, V_TSR 4\"}, {drive: 3 m at 10 km/h}, "
      "{telegram: \"NID_BG 7, N_PIG 1, N_TOTAL 1, Q_LINK 1\"}]}", "Q_LINK 1", "Q_LINK 0"),
@@ -197,8 +214,51 @@ ROWS = [
      f"{{steps: [{full(', D_DP 71, V_RELEASEDP 126').replace('V_MAIN 24', 'V_MAIN 12')}]}}", "D_DP 71", "D_DP 72"),
     ("an_authority_that_is_not_used", [(14, "/steps/4/telegram", ["lies 50 m behind"])],
      "{steps: [use: staff, {telegram: \"NID_BG 7; 12: V_MAIN 24, L_ENDSECTION 300, D_DP 50, V_RELEASEDP 126\"}]}", "use: staff", "use: shunting"),
-    ("a_v_loa_without_end", [(15, "/steps/0/telegram", ["V_LOA, 5 km/h"])],
-     f"{{steps: [{full(', D_DP 500, V_RELEASEDP 127').replace('V_MAIN 24', 'V_MAIN 24, V_LOA 1, T_LOA 60')}]}}", "T_LOA 60", "T_LOA 1023"),
+    # Where it never ends, no release speed takes its place.
+    ("a_v_loa_without_end", [(44, "/steps/0/telegram", ["V_LOA 5 km/h with T_LOA 1023", "300 m ahead"])],
+     f"{{steps: [{full(', D_DP 500, V_RELEASEDP 127').replace('V_MAIN 24', 'V_MAIN 24, V_LOA 1, T_LOA 1023')}]}}", "V_LOA 1,", "V_LOA 0,"),
+    # 100,000 * 36 / 36 = 100,000 cm, and 99,900 are known beyond the end; in 35 s it is 97,223 cm.
+    ("a_v_loa_beyond_the_known_track", [(44, "/steps/0/telegram", ["V_LOA 100 km/h for T_LOA 36 s", "runs 1000 m", "known for 999 m", "at most 35 s"])],
+     f"{{steps: [{loa(36, ', D_STATIC 1499, V_STATIC 127, Q_FRONT 1')}]}}", "D_STATIC 1499", "D_STATIC 1500"),
+    ("a_v_loa_that_lasts_too_long", [(44, "/steps/0/telegram", ["T_LOA 37 s", "runs 1027.78 m", "known for 1000 m", "at most 36 s"])],
+     f"{{steps: [{loa(37, ', D_STATIC 1500, V_STATIC 127, Q_FRONT 1')}]}}", "T_LOA 37", "T_LOA 36"),
+    ("a_v_loa_up_to_where_the_track_ends", [(44, "/steps/0/telegram", ["T_LOA 1 s", "runs 27.78 m", "known for 0 m", "at most 0 s"])],
+     f"{{steps: [{loa(1, ', D_STATIC 500, V_STATIC 127, Q_FRONT 1')}]}}", "T_LOA 1,", "T_LOA 0,"),
+    ("a_v_loa_before_a_stop", [(44, "/steps/0/telegram", ["known for 100 m"])],
+     f"{{steps: [{loa(60, ', D_STATIC 500, V_STATIC 2, Q_FRONT 1, D_STATIC 100, V_STATIC 127, Q_FRONT 1')}]}}", "V_STATIC 2,", "V_STATIC 0,"),
+    # A later list of static speeds that ends nearer.
+    ("a_known_track_that_is_cut_off", [(44, "/steps/0/telegram", ["known for 200 m"])],
+     f"{{steps: [{loa(60, '')}, {{telegram: \"NID_BG 7; 27: D_STATIC 0, V_STATIC 24, Q_FRONT 1, D_STATIC 700, V_STATIC 127, Q_FRONT 1\"}}]}}",
+     ", D_STATIC 700, V_STATIC 127, Q_FRONT 1", ""),
+    ("version_1_1", [("advice", "/steps/4/telegram", ["5 WrongVersion"]), (40, "/steps/4/telegram", ["M_VERSION 17, version 1.1", "2.3.0 uses it"])],
+     f'{{steps: [use: staff, {{telegram: "91{RESTRICTION}"}}]}}', f"91{RESTRICTION}", f"90{RESTRICTION}"),
+    ("version_2_0", [("advice", "/steps/4/telegram", ["5 WrongVersion"]), (40, "/steps/4/telegram", ["M_VERSION 32, version 2.0", "2.3.0 trips"])],
+     f'{{steps: [use: staff, {{telegram: "A0{RESTRICTION}"}}]}}', f"A0{RESTRICTION}", f"90{RESTRICTION}"),
+    ("a_group_of_unknown_identity", [(40, "/steps/0/telegram", ["group 1/2", "NID_BG 16383 at 100 m", "Q_LINKREACTION 1 comes"])],
+     f"{{steps: [{full(f'; 5: {link(16383, 100)}', 1500)}]}}", "NID_BG 16383", "NID_BG 3"),
+    *(skipped(number, told, text) for number, told, text in (
+        (16, "16: L_SECTION 50", "takes L_SECTION from this group on"),
+        (46, "46: M_LEVELTR 0", "changes to a level of the list"),
+        (49, "49: NID_BG 8, NID_C 2, NID_BG 9", "trips in Shunting at each group that isn't listed"),
+        (51, "51: D_AXLELOAD 0, L_AXLELOAD 200, Q_FRONT 0, M_AXLELOAD 40, V_AXLELOAD 4", "the speed for its axle load"),
+        (70, "70: D_SUITABILITY 50, Q_SUITABILITY 0, M_LOADINGGAUGE 1", "stops before the place"),
+        (71, "71: D_ADHESION 0, L_ADHESION 1000, M_ADHESION 0", "brakes by what slippery rails allow"),
+        (132, "132: Q_ASPECT 0", "trips in Shunting"),
+        (135, "135", "doesn't go on with Shunting"),
+        (137, "137: Q_SRSTOP 0", "trips in Staff Responsible"),
+        # what asks for nothing, and what isn't for this direction: only that it is skipped is found
+        (51, "51: Q_TRACKINIT 1, D_TRACKINIT 0", None),
+        (70, "70: Q_TRACKINIT 1, D_TRACKINIT 0", None),
+        (71, "71: D_ADHESION 0, L_ADHESION 1000, M_ADHESION 1", None),
+        (132, "132: Q_ASPECT 1", None),
+        (137, "137: Q_SRSTOP 1", None),
+        (137, "137: Q_DIR 0, Q_SRSTOP 0", None),
+        (90, "90: NID_C 3, NID_BG 9", None),
+    )),
+    # A group that is passed in the reverse direction: its second balise comes first.
+    ("a_stop_for_the_reverse_direction", [("advice", "/steps/6/telegram", ["packet 137"]), (45, "/steps/6/telegram", ["group 1/7", "137"])],
+     "{steps: [use: staff, {telegram: \"NID_BG 7, N_PIG 1, N_TOTAL 1\"}, {drive: 3 m at 10 km/h}, "
+     "{telegram: \"NID_BG 7, N_TOTAL 1; 137: Q_DIR 0, Q_SRSTOP 0\"}]}", "; 137: Q_DIR 0, Q_SRSTOP 0", ""),
 ]
 
 

@@ -1,2 +1,3 @@
-pub mod Begun
-pub mod Words
+pub mod Arguments
+pub mod EtcsArguments
+pub mod LabArguments

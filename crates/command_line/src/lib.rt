@@ -1,9 +1,14 @@
-//! What a program reads from its process before it does anything: its standard streams and its command line (this
-//! project's profile).
+//! What a program reads from its process before it opens a file: its standard streams, and its command line, parsed by
+//! `clap` (this project's profile).
 #![tactic(auto)]
 
-mod command;
-mod taking;
+mod etcs;
+mod lab;
+mod lab_app;
+mod matched;
+mod process;
+mod version;
 
-pub use command::{Words, told_apart, words_of};
-pub use taking::take_standard_streams;
+pub use etcs::{EtcsArgsError, EtcsCommand, parse_etcs};
+pub use lab::{LabArgsError, LabCommand, LabImage, parse_lab};
+pub use process::{args_of, take_standard_streams};

@@ -1,6 +1,6 @@
 //! The commands `decode`, `format`, `run` and `journal`.
 
-use command_line::told_apart;
+use command_line::{EtcsArgsError, EtcsCommand, parse_etcs};
 use decoding::decode_text;
 use sessions::{format_image, list_image, run_scenario};
 use std::fs::File;
@@ -9,48 +9,18 @@ use std::io::Write;
 use std::rt::Files;
 use text_output::{Status, tell};
 
-// What the words ask for.
-#[derive(Clone, Copy)]
-enum Asked<'a> {
-    // To decode digits.
-    Decode(&'a str),
-    // To make an image of so many blocks.
-    Format(&'a str, u32),
-    // To run a scenario on an image.
-    Run(&'a str, &'a str),
-    // To list the journal of an image.
-    Journal(&'a str),
-}
-
-// What the words behind the program's name ask for; None where they are none of the program's.
-fn understood<'a>(words: &'a [String]) -> Option<Asked<'a>> {
-    let [name, values @ ..] = words else {
-        return None;
-    };
-    let name = name.as_str();
-    let told = told_apart(values, "")?; // no command has an option
-    match (told.first, told.second) {
-        (Some(digits), None) if name == "decode" => Some(Asked::Decode(digits)),
-        (Some(image), None) if name == "journal" => Some(Asked::Journal(image)),
-        (Some(image), Some(blocks)) if name == "format" => {
-            Some(Asked::Format(image, blocks.parse().ok()?))
-        }
-        (Some(scenario), Some(image)) if name == "run" => Some(Asked::Run(scenario, image)),
-        _ => None,
-    }
-}
-
-fn done<R: Files<File = File> + AllocGlobal, W: Write>(
+fn execute<R: Files<File = File> + AllocGlobal, W: Write>(
     rt: &R,
-    words: &[String],
+    args: &[String],
     out: &mut W,
 ) -> io::Result<Status> {
-    match understood(words) {
-        Some(Asked::Decode(hex)) => decode_text(rt.alloc(), hex, out),
-        Some(Asked::Format(image, blocks)) => format_image(rt, image, blocks, out),
-        Some(Asked::Run(scenario, image)) => run_scenario(rt, scenario, image, out),
-        Some(Asked::Journal(image)) => list_image(rt, image, out),
-        None => tell(out, "usage", Status::Usage),
+    match parse_etcs(rt.alloc(), args) {
+        Ok(EtcsCommand::Decode { hex }) => decode_text(rt.alloc(), hex, out),
+        Ok(EtcsCommand::Format { image, blocks }) => format_image(rt, image, blocks, out),
+        Ok(EtcsCommand::Run { scenario, image }) => run_scenario(rt, scenario, image, out),
+        Ok(EtcsCommand::Journal { image }) => list_image(rt, image, out),
+        Err(EtcsArgsError::OutOfMemory) => tell(out, "refused memory", Status::Refused),
+        Err(EtcsArgsError::Refused) => tell(out, "usage", Status::Usage),
     }
 }
 
@@ -62,12 +32,12 @@ pub(crate) fn status_of(told: io::Result<Status>) -> u8 {
     }
 }
 
-/// Does what the words behind the program's name ask, writes what there is to tell, and answers the exit status: 0 done,
-/// 1 refused or not written, 2 for words that are none of the program's, 3 where a file or the device fails.
+/// Executes the command that the arguments name, and returns the exit status: 0 done, 1 refused or not written, 2 for
+/// arguments that are not those of a command, 3 where a file or the device fails.
 pub(crate) fn etcs_main<R: Files<File = File> + AllocGlobal, W: Write>(
     rt: &R,
-    words: &[String],
+    args: &[String],
     out: &mut W,
 ) -> u8 {
-    status_of(done(rt, words, out))
+    status_of(execute(rt, args, out))
 }

@@ -1,6 +1,6 @@
-//! The run of a process: its words, its standard output, and its exit status.
+//! The run of a process: its arguments, its standard output, and its exit status.
 use crate::program::{etcs_main, status_of};
-use command_line::{take_standard_streams, words_of};
+use command_line::{args_of, take_standard_streams};
 use std::fs::File;
 use std::io;
 use std::io::{BufWriter, Write};
@@ -8,18 +8,18 @@ use std::rt::{Env, Files};
 use text_output::{Status, tell};
 
 fn run_into<R: Env + Files<File = File> + AllocGlobal, W: Write>(rt: &R, out: &mut W) -> u8 {
-    match words_of(rt) {
-        Ok(words) => etcs_main(rt, words.as_slice(), out),
+    match args_of(rt) {
+        Ok(args) => etcs_main(rt, args.as_slice(), out),
         Err(error) if error.kind() == io::ErrorKind::OutOfMemory => {
             status_of(tell(out, "refused memory", Status::Refused))
         }
-        // A word that is no text is no word of the program.
+        // An argument that is not text is none of the program's.
         Err(_) => status_of(tell(out, "usage", Status::Usage)),
     }
 }
 
-/// Does what the words of the process behind the program's name ask, over standard output, and answers the exit status:
-/// 0 done, 1 refused or not written, 2 for words that are none of the program's, 3 where a file or the device fails.
+/// Executes the command that the arguments of the process name, over standard output, and returns the exit status: 0
+/// done, 1 refused or not written, 2 for arguments that are not those of a command, 3 where a file or the device fails.
 /// Before it opens a file it takes the standard streams that are closed. Where it can't, it writes nothing, and opens
 /// no file.
 pub(crate) fn run<R: Env + Files<File = File> + Print + AllocGlobal>(rt: &R) -> u8 {

@@ -1,9 +1,10 @@
 //! The command `check`.
 
 use crate::examined::verdict_of;
-use crate::images::{Image, Named, opened_whole};
+use crate::images::{Image, opened_whole};
 use crate::replayed::stopped;
 use crate::status::{Status, told};
+use command_line::LabImage;
 use lab_examine::Verdict;
 use lab_replay::{Outcome, WalkError, replay};
 use std::fs::File;
@@ -78,7 +79,7 @@ fn check<R: AllocGlobal + Eprint, W: Write>(
 /// Examines an image and replays its journal, tells both in one line, and answers the status.
 pub(crate) fn checked<R: Files<File = File> + AllocGlobal + Eprint, W: Write>(
     rt: &R,
-    image: Named,
+    image: LabImage,
     is_watched: bool,
     form: Form,
     out: &mut W,

@@ -1,9 +1,9 @@
 //! The size of a file, its first sector and its SHA-256.
 
-use crate::images::Named;
 use crate::progress::Progress;
 use crate::status::unformatted;
 use blocks::read_first_sector;
+use command_line::LabImage;
 use disk::DiskFault;
 use file_disk::{RawFile, read_all};
 use lab_examine::FileFacts;
@@ -23,7 +23,7 @@ fn first_of<F: RawFile>(file: &F) -> Result<Option<[u8; 512]>, DiskFault> {
 }
 
 // Whether a file that begins so can be read as an image.
-fn is_readable(first: &Option<[u8; 512]>, image: Named) -> bool {
+fn is_readable(first: &Option<[u8; 512]>, image: LabImage) -> bool {
     match first {
         Some(sector) => image.slots.is_some() || read_first_sector(sector).is_some(),
         None => false,
@@ -66,7 +66,7 @@ fn digits_of(digest: &[u8; 32]) -> [u8; 64] {
 pub(crate) fn facts_of<R: Eprint, F: RawFile>(
     rt: &R,
     file: &F,
-    image: Named,
+    image: LabImage,
     is_watched: bool,
 ) -> Result<FileFacts, DiskFault> {
     let first = first_of(file)?;

@@ -1,7 +1,8 @@
 //! The command `examine`.
 
-use crate::images::{Image, Named, opened_whole};
+use crate::images::{Image, opened_whole};
 use crate::status::{Status, unread, unwritten};
+use command_line::LabImage;
 use lab_examine::{ExamineError, Verdict, examine};
 use std::fs::File;
 use std::io::Write;
@@ -25,7 +26,7 @@ pub(crate) fn verdict_of<R: Eprint, W: Write>(
 /// Examines an image, and answers the status.
 pub(crate) fn examined<R: Files<File = File> + Eprint, W: Write>(
     rt: &R,
-    image: Named,
+    image: LabImage,
     is_watched: bool,
     form: Form,
     out: &mut W,

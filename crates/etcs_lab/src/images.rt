@@ -6,19 +6,11 @@ ghost use Rattle.blocks.specs.FirstSector.{least_slots, most_slots};
 use crate::digest::facts_of;
 use crate::given::GivenSlots;
 use crate::status::{Status, fail, unread};
+use command_line::LabImage;
 use file_disk::{FileDisk, ReadError, ReadOnlyFile};
 use lab_examine::FileFacts;
 use std::fs::File;
 use std::rt::Files;
-
-/// An image as the words name it.
-#[derive(Clone, Copy)]
-pub(crate) struct Named<'a> {
-    /// The file.
-    pub(crate) path: &'a str,
-    /// How many slots it is read to have, whatever its first sector tells.
-    pub(crate) slots: Option<u32>,
-}
 
 /// The disk of an image.
 pub(crate) type ImageDisk = GivenSlots<FileDisk<ReadOnlyFile>>;
@@ -40,7 +32,7 @@ fn file_of<R: Files<File = File> + Eprint>(rt: &R, path: &str) -> Result<ReadOnl
     ReadOnlyFile::open(rt, path).map_err(|error| fail(rt, sentence(error), path, Status::Device))
 }
 
-// The number of slots, where an image may have so many. The words have no other.
+// The number of slots, where an image may have so many. The parser takes no other.
 fn within_limits(slots: Option<u32>) -> Option<u32>
     ensures { ForSome result (λ n. (least_slots ≤ n) × (n ≤ most_slots)) }
 {
@@ -51,7 +43,7 @@ fn within_limits(slots: Option<u32>) -> Option<u32>
 }
 
 // The disk over a file; else says that it can't be read.
-fn disk_over<R: Eprint>(rt: &R, file: ReadOnlyFile, image: Named) -> Result<ImageDisk, Status> {
+fn disk_over<R: Eprint>(rt: &R, file: ReadOnlyFile, image: LabImage) -> Result<ImageDisk, Status> {
     match FileDisk::over(file) {
         Ok(disk) => Ok(GivenSlots::over(disk, within_limits(image.slots))),
         Err(_) => Err(unread(rt, image.path)),
@@ -61,7 +53,7 @@ fn disk_over<R: Eprint>(rt: &R, file: ReadOnlyFile, image: Named) -> Result<Imag
 /// Opens an image for reading alone; else says why not.
 pub(crate) fn opened<R: Files<File = File> + Eprint>(
     rt: &R,
-    image: Named,
+    image: LabImage,
 ) -> Result<ImageDisk, Status> {
     disk_over(rt, file_of(rt, image.path)?, image)
 }
@@ -81,7 +73,7 @@ pub(crate) struct Image<'a> {
 /// isn't formatted, it says so too. Where somebody watches it shows how far it is.
 pub(crate) fn opened_whole<'a, R: Files<File = File> + Eprint>(
     rt: &R,
-    image: Named<'a>,
+    image: LabImage<'a>,
     is_watched: bool,
 ) -> Result<Image<'a>, Status> {
     let open = file_of(rt, image.path)?;

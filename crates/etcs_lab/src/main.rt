@@ -7,7 +7,6 @@ mod digest;
 mod event_lines;
 mod examined;
 mod given;
-mod help;
 mod images;
 mod linted;
 mod packet_names;
@@ -19,7 +18,6 @@ mod running;
 mod status;
 mod telegrams;
 mod why;
-mod words;
 
 use std::io::IsTerminal;
 use std::process::ExitCode;

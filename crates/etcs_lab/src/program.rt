@@ -1,45 +1,70 @@
-//! What the words ask for is done.
+//! The command that the arguments name is executed.
 
 use crate::checked::checked;
 use crate::event_lines::events_told;
 use crate::examined::examined;
-use crate::help::HELP;
 use crate::linted::linted;
 use crate::packet_names::packets_told;
 use crate::replayed::replayed;
 use crate::run::played;
-use crate::status::{Status, text_told, usage};
+use crate::status::{Status, no_memory, refused_args, text_told};
 use crate::telegrams::{adapted_told, decode_told, telegram_told};
 use crate::why::why_told;
-use crate::words::{Asked, understood};
+use command_line::{LabArgsError, LabCommand, parse_lab};
 use std::fs::File;
 use std::io::Write;
 use std::rt::Files;
 use telegram_objects::SCHEMA;
+use text_output::Form;
 
-/// Does what the words behind the program's name ask, beside this number of slots, and answers the status.
+fn form_of(is_json: bool) -> Form {
+    if is_json { Form::Json } else { Form::People }
+}
+
+// Executes a command.
+fn execute<R: Files<File = File> + Input + AllocGlobal + Eprint, W: Write>(
+    rt: &R,
+    command: LabCommand<'_>,
+    is_watched: bool,
+    out: &mut W,
+) -> Result<Status, Status> {
+    match command {
+        LabCommand::Examine { image, is_json } => {
+            examined(rt, image, is_watched, form_of(is_json), out)
+        }
+        LabCommand::Events { image, all } => events_told(rt, image, all, out),
+        LabCommand::Replay { image, is_json } => replayed(rt, image, form_of(is_json), out),
+        LabCommand::Check { image, is_json } => {
+            checked(rt, image, is_watched, form_of(is_json), out)
+        }
+        LabCommand::Why {
+            image,
+            event,
+            is_json,
+        } => { why_told(rt, image, event, form_of(is_json), out) }
+        LabCommand::Decode { hex, is_json } => decode_told(rt, hex, is_json, out),
+        LabCommand::Packets { hex, is_json } => packets_told(rt, hex, form_of(is_json), out),
+        LabCommand::Telegram { file } => telegram_told(rt, file, out),
+        LabCommand::Installed { hex } => adapted_told(rt, hex, out),
+        LabCommand::Schema => text_told(rt, SCHEMA, "--schema", out),
+        LabCommand::Lint { scenario, is_json } => linted(rt, scenario, form_of(is_json), out),
+        LabCommand::Run { scenario } => played(rt, scenario, out),
+    }
+}
+
+/// Executes the command that the arguments name, and returns the status. Where they name none, it prints what the parser
+/// answers.
 pub(crate) fn answer<R: Files<File = File> + Input + AllocGlobal + Eprint, W: Write>(
     rt: &R,
-    words: &[String],
-    slots: Option<u32>,
+    args: &[String],
     is_watched: bool,
     out: &mut W,
 ) -> Status {
-    let done = match understood(words, slots) {
-        Some(Asked::Help) => text_told(rt, HELP, "--help", out),
-        Some(Asked::Examine(image, form)) => examined(rt, image, is_watched, form, out),
-        Some(Asked::Events(image, all)) => events_told(rt, image, all, out),
-        Some(Asked::Replay(image, form)) => replayed(rt, image, form, out),
-        Some(Asked::Check(image, form)) => checked(rt, image, is_watched, form, out),
-        Some(Asked::Why(image, only, form)) => why_told(rt, image, only, form, out),
-        Some(Asked::Telegram(file)) => telegram_told(rt, file, out),
-        Some(Asked::Adapt(digits)) => adapted_told(rt, digits, out),
-        Some(Asked::Schema) => text_told(rt, SCHEMA, "--schema", out),
-        Some(Asked::Decode(digits, is_json)) => decode_told(rt, digits, is_json, out),
-        Some(Asked::Packets(digits, form)) => packets_told(rt, digits, form, out),
-        Some(Asked::Lint(scenario, form)) => linted(rt, scenario, form, out),
-        Some(Asked::Run(scenario)) => played(rt, scenario, out),
-        None => Err(usage(rt)),
+    let done = match parse_lab(rt.alloc(), args) {
+        Ok(command) => execute(rt, command, is_watched, out),
+        Err(LabArgsError::Help(text)) => text_told(rt, text.as_str(), "help", out),
+        Err(LabArgsError::Refused(text)) => Err(refused_args(rt, text.as_str())),
+        Err(LabArgsError::OutOfMemory) => Err(no_memory(rt, "arguments")),
     };
     done.unwrap_or_else(|status| status)
 }

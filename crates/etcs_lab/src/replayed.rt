@@ -1,7 +1,8 @@
 //! The command `replay`.
 
-use crate::images::{Named, opened};
+use crate::images::opened;
 use crate::status::{Status, fail, unformatted, unread, unwritten};
+use command_line::LabImage;
 use lab_replay::{Outcome, WalkError, replay};
 use std::fs::File;
 use std::io::Write;
@@ -23,7 +24,7 @@ pub(crate) fn stopped<R: Eprint>(rt: &R, path: &str, error: WalkError) -> Status
 /// Replays the journal of an image, which is opened for reading alone, and answers the status.
 pub(crate) fn replayed<R: Files<File = File> + AllocGlobal + Eprint, W: Write>(
     rt: &R,
-    image: Named,
+    image: LabImage,
     form: Form,
     out: &mut W,
 ) -> Result<Status, Status> {

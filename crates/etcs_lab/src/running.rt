@@ -1,37 +1,35 @@
-//! The program over the words and the streams of its process.
+//! The program over the arguments and the streams of its process.
 
 use crate::program::answer;
-use crate::status::{Status, no_memory, unwritten, usage};
-use crate::words::slots_taken;
-use command_line::{take_standard_streams, words_of};
+use crate::status::{Status, no_memory, refused_args, unwritten};
+use command_line::{args_of, take_standard_streams};
 use std::fs::File;
 use std::io;
 use std::io::{BufWriter, ErrorKind, Write};
 use std::rt::{Env, Files};
 
-// Does what the words ask over a buffer before standard output, and says where it can't be written.
+// What is printed where an argument is not text.
+const NO_TEXT: &str = "error: an argument is not valid UTF-8\n";
+
+// Executes the command over a buffer before standard output, and says where that can't be written.
 fn run_into<R: Env + Files<File = File> + Input + Eprint + AllocGlobal, W: Write>(
     rt: &R,
     is_watched: bool,
     out: &mut W,
 ) -> Status {
-    let mut words = match words_of(rt) {
-        Ok(words) => words,
-        Err(error) if error.kind() == ErrorKind::OutOfMemory => return no_memory(rt, "words"),
-        Err(_) => return usage(rt),
+    let args = match args_of(rt) {
+        Ok(args) => args,
+        Err(error) if error.kind() == ErrorKind::OutOfMemory => return no_memory(rt, "arguments"),
+        Err(_) => return refused_args(rt, NO_TEXT),
     };
-    let Some(slots) = slots_taken(&mut words) else {
-        return usage(rt);
-    };
-    let status = answer(rt, words.as_slice(), slots, is_watched, out);
+    let status = answer(rt, args.as_slice(), is_watched, out);
     match (status, out.flush()) {
         (Status::Unwritten, _) | (_, Ok(())) => status,
         (_, Err(_)) => unwritten(rt, "standard output"),
     }
 }
 
-/// Does what the words of the process behind the program's name ask, over standard output, and answers the exit status.
-/// Before it opens a file it takes the standard streams that are closed. Where it can't, it writes nothing, and opens
+/// Executes the command that the arguments of the process name, over standard output, and returns the exit status. Before it opens a file it takes the standard streams that are closed. Where it can't, it writes nothing, and opens
 /// no file. Where somebody watches standard error it shows there how far a long file is read.
 pub(crate) fn run<R: Env + Files<File = File> + Input + Print + Eprint + AllocGlobal>(
     rt: &R,

@@ -10,7 +10,7 @@ pub(crate) enum Status {
     Whole = 0,
     /// What was named is refused, or the answer could not be written.
     Refused = 1,
-    /// The words are none of the program's.
+    /// The arguments are not those of a command.
     Usage = 2,
     /// A file could not be opened or read, or the device failed.
     Device = 3,
@@ -80,7 +80,7 @@ pub(crate) fn unread_for<R: Eprint>(rt: &R, path: &str, error: &io::Error) -> St
     }
 }
 
-/// Writes a text that a word asks for.
+/// Writes a text that an argument asks for.
 pub(crate) fn text_told<R: Eprint, W: Write>(
     rt: &R,
     text: &str,
@@ -91,12 +91,8 @@ pub(crate) fn text_told<R: Eprint, W: Write>(
     Ok(Status::Whole)
 }
 
-/// Says that the words are wrong.
-pub(crate) fn usage<R: Eprint>(rt: &R) -> Status {
-    fail(
-        rt,
-        "wrong words; etcs_lab --help tells them",
-        "usage",
-        Status::Usage,
-    )
+/// Prints on standard error what is wrong with the arguments.
+pub(crate) fn refused_args<R: Eprint>(rt: &R, text: &str) -> Status {
+    let _ = eprint!(rt; "{text}");
+    Status::Usage
 }

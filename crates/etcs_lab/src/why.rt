@@ -1,8 +1,9 @@
 //! The command `why`.
 
-use crate::images::{Named, opened};
+use crate::images::opened;
 use crate::replayed::stopped;
 use crate::status::{Status, fail};
+use command_line::LabImage;
 use lab_why::tell_why;
 use std::fs::File;
 use std::io::Write;
@@ -12,7 +13,7 @@ use text_output::Form;
 /// Tells why the brakes were commanded in an image, which is opened for reading alone, and answers the status.
 pub(crate) fn why_told<R: Files<File = File> + AllocGlobal + Eprint, W: Write>(
     rt: &R,
-    image: Named,
+    image: LabImage,
     only: Option<u64>,
     form: Form,
     out: &mut W,

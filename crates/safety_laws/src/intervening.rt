@@ -1,8 +1,8 @@
 //! Laws: when the unit brakes by itself, and the national speeds.
 ghost use Rattle.safety_laws.specs.Intervening.{PassingEndTrips, FarTooFastBrakes, FarTooFastNowBrakes, RollingBackBrakes, NationalSpeedsAreKept};
 
-/// A law: a train in Full Supervision, On Sight or Staff Responsible trips where it passes the end of authority, unless
-/// an override is active.
+/// A law: while no speed is allowed at the end of authority (V_LOA), a train in Full Supervision, On Sight or Staff
+/// Responsible trips where it passes that end, unless an override is active.
 pub fn passing_end_trips()
     ensures { PassingEndTrips }
 {}

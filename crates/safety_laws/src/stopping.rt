@@ -7,12 +7,14 @@ pub fn stops_at_location()
     ensures { StopsAtLocation }
 {}
 
-/// A law: there a train that brakes from a speed up to the limit stands at the supervised location at the latest.
+/// A law: in Full Supervision and On Sight, while no speed is allowed at the end of authority (V_LOA), a train that brakes
+/// from a speed up to the limit stands at the supervised location at the latest.
 pub fn halts_at_location()
     ensures { HaltsAtLocation }
 {}
 
-/// A law: where there is no release speed, it stands at the end of authority at the latest.
+/// A law: where no speed is allowed at the end of authority (V_LOA) and there is no release speed, such a train stands at
+/// that end at the latest.
 pub fn halts_at_end()
     ensures { HaltsAtEnd }
 {}

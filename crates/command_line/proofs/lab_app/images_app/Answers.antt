@@ -1,0 +1,11 @@
+use Rattle.std.proofs.lemmas.Result.{IfOk-weaker}
+use Rattle.command_line.proofs.Apps.{with_sub}
+use Rattle.command_line.proofs.lab_app.images_app.Goals as goal
+
+pub returns : goal.returns
+returns c =
+    let first = with_sub _ _ _ _ _ c.in_ok-bare.ensures c.in_ok-examine.ensures c.in_ok-first.ensures in
+    let second = with_sub _ _ _ _ _ first c.in_ok-events.ensures c.in_ok-second.ensures in
+    let third = with_sub _ _ _ _ _ second c.in_ok-replay.ensures c.in_ok-third.ensures in
+    let fourth = with_sub _ _ _ _ _ third c.in_ok-check.ensures c.in_ok-fourth.ensures in
+    IfOk-weaker c.subcommand-5.result _ _ (λ command added. with_sub _ _ _ _ command fourth c.in_ok-why.ensures added) c.subcommand-5.ensures

@@ -1,0 +1,152 @@
+-- The command line of `etcs_lab`: the command as `clap` reads it, and what its arguments ask for (this project's profile).
+use Rattle.std.specs.Prelude.{ℕ, Bool, true, false, Option, Some, None, option_map, option_and_then, List, if◌then◌else◌, codes, pos}
+use Rattle.std.specs.Str.{bytes_eq}
+use Rattle.clap.specs.Words.{App, Row, Rule, Text, fault_of, first_of, new_app, new_rule, subcommand_of, with_rule, with_subcommand}
+use Rattle.clap.specs.declared.builder.action.ArgAction.TheVariants.{SetTrue}
+use Rattle.clap.specs.declared.builder.value_parser.ValueParser.TheVariants as vp
+use Rattle.command_line.specs.Arguments.{has_no_fault, is_set, most_u32, most_u64, number_of, required}
+use Rattle.command_line.specs.declared.lab.LabCommand.{LabCommand}
+use Rattle.command_line.specs.declared.lab.LabCommand.TheVariants as command
+use Rattle.command_line.specs.declared.lab.LabImage.{LabImage}
+
+abbrev pub flag : Text → Rule
+flag name = record (new_rule name) { long = Some name; action = Some SetTrue }
+
+abbrev pub slots : Rule
+slots = record (new_rule (codes "slots")) { long = Some (codes "slots"); value_names = 1; parser = Some (vp.Signed (pos 2) (pos 1_048_576)) }
+
+abbrev pub event : Rule
+event = record (new_rule (codes "EVENT")) { parser = Some (vp.Unsigned 0 most_u64) }
+
+abbrev pub installed : Rule
+installed = record (new_rule (codes "installed")) { long = Some (codes "installed"); value_names = 1 }
+
+abbrev pub file : Rule
+file = new_rule (codes "FILE")
+
+-- a command that reads an image, with its flag
+abbrev pub image_app : Text → Text → App
+image_app name option = with_rule (with_rule (with_rule (new_app name) (flag option)) slots) (required (codes "IMAGE"))
+
+abbrev pub why_app : App
+why_app = with_rule (image_app (codes "why") (codes "json")) event
+
+-- a command with one value, and --json
+abbrev pub value_app : Text → Text → App
+value_app name value = with_rule (with_rule (new_app name) (flag (codes "json"))) (required value)
+
+abbrev pub telegram_app : App
+telegram_app = with_rule (with_rule (with_rule (new_app (codes "telegram")) (flag (codes "schema"))) installed) file
+
+abbrev pub run_app : App
+run_app = with_rule (new_app (codes "run")) (required (codes "SCENARIO"))
+
+-- the program with no command yet: help where no argument is given
+abbrev pub bare_app : App
+bare_app = record (new_app (codes "etcs_lab")) {
+  top = record ((new_app (codes "etcs_lab")).top) {
+    has_version = true;
+    no_binary_name = true;
+    subcommand_required = true;
+    arg_required_else_help = true;
+  };
+}
+
+-- with the commands that read an image
+abbrev pub images_app : App
+images_app = with_subcommand (with_subcommand (with_subcommand (with_subcommand (with_subcommand bare_app (image_app (codes "examine") (codes "json")).top)
+    (image_app (codes "events") (codes "all")).top) (image_app (codes "replay") (codes "json")).top) (image_app (codes "check") (codes "json")).top) why_app.top
+
+abbrev pub lab_app : App
+lab_app = with_subcommand (with_subcommand (with_subcommand (with_subcommand (with_subcommand images_app (value_app (codes "decode") (codes "HEX")).top)
+    (value_app (codes "packets") (codes "HEX")).top) telegram_app.top) (value_app (codes "lint") (codes "SCENARIO")).top) run_app.top
+
+-- an image, and as one of how many slots it is read
+abbrev pub ImageValues : Type 0
+ImageValues = Text × Option ℕ
+
+-- a command with its values
+pub data LabValues : Type 0 where
+  examine : ImageValues → Bool → LabValues
+  events : ImageValues → Bool → LabValues
+  replay : ImageValues → Bool → LabValues
+  check : ImageValues → Bool → LabValues
+  why : ImageValues → Option ℕ → Bool → LabValues
+  decode : Text → Bool → LabValues
+  packets : Text → Bool → LabValues
+  telegram : Text → LabValues
+  adapted : Text → LabValues
+  schema : LabValues
+  lint : Text → Bool → LabValues
+  run : Text → LabValues
+
+abbrev pub image_values_of : LabImage → ImageValues
+image_values_of image = (image.path.now, image.slots)
+
+abbrev pub values_of : LabCommand → LabValues
+values_of (command.Examine image json) = examine (image_values_of image) json
+values_of (command.Events image all) = events (image_values_of image) all
+values_of (command.Replay image json) = replay (image_values_of image) json
+values_of (command.Check image json) = check (image_values_of image) json
+values_of (command.Why image event json) = why (image_values_of image) event json
+values_of (command.Decode hex json) = decode hex.now json
+values_of (command.Packets hex json) = packets hex.now json
+values_of (command.Telegram file) = telegram file.now
+values_of (command.Installed hex) = adapted hex.now
+values_of command.Schema = schema
+values_of (command.Lint scenario json) = lint scenario.now json
+values_of (command.Run scenario) = run scenario.now
+
+-- what the matches of each command ask for
+
+-- a number that may be left out
+abbrev pub optional_number : ℕ → Option Text → Option (Option ℕ)
+optional_number most None = Some None
+optional_number most (Some text) = option_map (λ n. Some n) (number_of most text)
+
+abbrev pub image_values : List Row → Option ImageValues
+image_values rows = option_and_then (λ path. option_map (λ slots. (path, slots)) (optional_number most_u32 (first_of (codes "slots") rows)))
+    (first_of (codes "IMAGE") rows)
+
+abbrev pub why_values : List Row → Option LabValues
+why_values rows = option_and_then (λ image. option_map (λ event. why image event (is_set (codes "json") rows)) (optional_number most_u64 (first_of (codes "EVENT") rows)))
+    (image_values rows)
+
+-- exactly one of the three is given
+abbrev pub telegram_of : Option Text → Option Text → Bool → Option LabValues
+telegram_of (Some file) None false = Some (telegram file)
+telegram_of None (Some hex) false = Some (adapted hex)
+telegram_of None None true = Some schema
+telegram_of _ _ _ = None
+
+abbrev pub telegram_values : List Row → Option LabValues
+telegram_values rows = telegram_of (first_of (codes "FILE") rows) (first_of (codes "installed") rows) (is_set (codes "schema") rows)
+
+-- a command with one value, and --json
+abbrev pub value_values : (Text → Bool → LabValues) → Text → List Row → Option LabValues
+value_values make id rows = option_map (λ value. make value (is_set (codes "json") rows)) (first_of id rows)
+
+abbrev pub other_values : Text → List Row → Option LabValues
+other_values name rows = if bytes_eq name (codes "decode") then value_values decode (codes "HEX") rows
+    else (if bytes_eq name (codes "packets") then value_values packets (codes "HEX") rows
+    else (if bytes_eq name (codes "telegram") then telegram_values rows
+    else (if bytes_eq name (codes "lint") then value_values lint (codes "SCENARIO") rows
+    else (if bytes_eq name (codes "run") then option_map run (first_of (codes "SCENARIO") rows) else None))))
+
+-- a command that reads an image, with its flag
+abbrev pub flagged_values : (ImageValues → Bool → LabValues) → Text → List Row → Option LabValues
+flagged_values make option rows = option_map (λ image. make image (is_set option rows)) (image_values rows)
+
+abbrev pub named_values : Text → List Row → Option LabValues
+named_values name rows = if bytes_eq name (codes "examine") then flagged_values examine (codes "json") rows
+    else (if bytes_eq name (codes "events") then flagged_values events (codes "all") rows
+    else (if bytes_eq name (codes "replay") then flagged_values replay (codes "json") rows
+    else (if bytes_eq name (codes "check") then flagged_values check (codes "json") rows
+    else (if bytes_eq name (codes "why") then why_values rows else other_values name rows))))
+
+abbrev pub matched_values : Option (Text × List Row) → Option LabValues
+matched_values = option_and_then (λ found. named_values found.0 found.1)
+
+-- what the arguments ask for: something where the parser finds no fault in them, and `telegram` has exactly one input
+unfoldable pub lab_values : List Text → Option LabValues
+lab_values args = if has_no_fault (fault_of lab_app args) then matched_values (subcommand_of lab_app args) else None

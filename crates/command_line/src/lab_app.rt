@@ -1,0 +1,269 @@
+//! The command line of `etcs_lab` as `clap` has it. Each argument and each command has a function of its own, and each
+//! name is a literal there: a name that is a parameter makes its proof five times as long.
+ghost use Rattle.std.specs.Prelude.{IfOk, codes};
+ghost use Rattle.command_line.specs.Arguments.{IsApp, IsArg, required};
+ghost use Rattle.command_line.specs.LabArguments as spec;
+
+use crate::version::VERSION;
+use clap::builder::ValueParser;
+use clap::{Arg, ArgAction, Command};
+use std::alloc::{AllocError, Global};
+
+// What the help prints last.
+const AFTER_HELP: &str = "\
+Exit status:
+  0  everything is intact; the command did its work
+  1  refused: an image that is not formatted or whose first sector is damaged, a telegram or scenario that is not
+     valid, or a scenario that stops; or memory was refused or the output could not be written, as the message says
+  2  wrong arguments
+  3  a file or the device failed
+  4  something is lost, damaged, contradictory or different, or lint has findings; all that can be read was printed
+
+Errors go to standard error. After `--` an argument may begin with `-`.
+An image is a file or a block device. It is opened read-only.
+
+Take a digest of the image before anything reads it, and work on a copy. The journal has no checksum and no
+signature: this program finds damage, and does not show that nobody altered the image.
+";
+
+fn json_arg<'a>(alloc: Global) -> Arg<'a>
+    ensures { IsArg (spec.flag (codes "json")) result }
+{
+    Arg::new(alloc, "json")
+        .long("json")
+        .action(ArgAction::SetTrue)
+        .help("Print JSON in place of text")
+}
+
+fn all_arg<'a>(alloc: Global) -> Arg<'a>
+    ensures { IsArg (spec.flag (codes "all")) result }
+{
+    Arg::new(alloc, "all")
+        .long("all")
+        .action(ArgAction::SetTrue)
+        .help("Include events of other blocks and of damaged ones, each with its source")
+}
+
+fn slots_arg<'a>(alloc: Global) -> Arg<'a>
+    ensures { IsArg spec.slots result }
+{
+    Arg::new(alloc, "slots")
+        .long("slots")
+        .value_name("N")
+        .value_parser(ValueParser::signed(2, 1_048_576))
+        .help("Read the image as one of N slots, whatever its first sector says")
+}
+
+fn image_arg<'a>(alloc: Global) -> Arg<'a>
+    ensures { IsArg (required (codes "IMAGE")) result }
+{
+    Arg::new(alloc, "IMAGE")
+        .required(true)
+        .help("Journal image: a file or a block device")
+}
+
+fn event_arg<'a>(alloc: Global) -> Arg<'a>
+    ensures { IsArg spec.event result }
+{
+    Arg::new(alloc, "EVENT")
+        .value_parser(ValueParser::unsigned(0, u64::MAX))
+        .help("Number of one event (default: each event at which brake, limit or a cause changes)")
+}
+
+fn hex_arg<'a>(alloc: Global) -> Arg<'a>
+    ensures { IsArg (required (codes "HEX")) result }
+{
+    Arg::new(alloc, "HEX")
+        .required(true)
+        .help("Telegram in hexadecimal digits")
+}
+
+fn schema_arg<'a>(alloc: Global) -> Arg<'a>
+    ensures { IsArg (spec.flag (codes "schema")) result }
+{
+    Arg::new(alloc, "schema")
+        .long("schema")
+        .action(ArgAction::SetTrue)
+        .help("Print the JSON Schema of a telegram")
+}
+
+fn installed_arg<'a>(alloc: Global) -> Arg<'a>
+    ensures { IsArg spec.installed result }
+{
+    Arg::new(alloc, "installed")
+        .long("installed")
+        .value_name("HEX")
+        .help("Print what a unit must be handed in place of this telegram of an installed track")
+}
+
+fn file_arg<'a>(alloc: Global) -> Arg<'a>
+    ensures { IsArg spec.file result }
+{
+    Arg::new(alloc, "FILE").help(
+        "Telegram in the JSON that `decode --json` prints; - is standard input",
+    )
+}
+
+fn scenario_arg<'a>(alloc: Global) -> Arg<'a>
+    ensures { IsArg (required (codes "SCENARIO")) result }
+{
+    Arg::new(alloc, "SCENARIO")
+        .required(true)
+        .help("Scenario in the JSON that `etcs run` reads")
+}
+
+fn examine_app<'a>(alloc: Global) -> Result<Command<'a>, AllocError>
+    ensures { IfOk result (IsApp (spec.image_app (codes "examine") (codes "json"))) }
+{
+    let new = Command::new(alloc, "examine").about(
+        "Examine a journal image and list what each slot holds, what is lost and what contradicts",
+    );
+    let first = new.arg(json_arg(alloc))?;
+    let second = first.arg(slots_arg(alloc))?;
+    second.arg(image_arg(alloc))
+}
+
+fn events_app<'a>(alloc: Global) -> Result<Command<'a>, AllocError>
+    ensures { IfOk result (IsApp (spec.image_app (codes "events") (codes "all"))) }
+{
+    let new = Command::new(alloc, "events").about(
+        "Print each event of a journal as a JSON object on its own line, the oldest first",
+    );
+    let first = new.arg(all_arg(alloc))?;
+    let second = first.arg(slots_arg(alloc))?;
+    second.arg(image_arg(alloc))
+}
+
+fn replay_app<'a>(alloc: Global) -> Result<Command<'a>, AllocError>
+    ensures { IfOk result (IsApp (spec.image_app (codes "replay") (codes "json"))) }
+{
+    let new = Command::new(alloc, "replay").about(
+        "Run each power cycle through the kernel again and print the first record that differs",
+    );
+    let first = new.arg(json_arg(alloc))?;
+    let second = first.arg(slots_arg(alloc))?;
+    second.arg(image_arg(alloc))
+}
+
+fn check_app<'a>(alloc: Global) -> Result<Command<'a>, AllocError>
+    ensures { IfOk result (IsApp (spec.image_app (codes "check") (codes "json"))) }
+{
+    let new = Command::new(alloc, "check").about(
+        "Examine and replay a journal image, and end with one line for both",
+    );
+    let first = new.arg(json_arg(alloc))?;
+    let second = first.arg(slots_arg(alloc))?;
+    second.arg(image_arg(alloc))
+}
+
+fn why_app<'a>(alloc: Global) -> Result<Command<'a>, AllocError>
+    ensures { IfOk result (IsApp spec.why_app) }
+{
+    let new = Command::new(alloc, "why").about(
+        "Explain each brake command and speed limit of a journal",
+    );
+    let first = new.arg(json_arg(alloc))?;
+    let second = first.arg(slots_arg(alloc))?;
+    let third = second.arg(image_arg(alloc))?;
+    third.arg(event_arg(alloc))
+}
+
+fn decode_app<'a>(alloc: Global) -> Result<Command<'a>, AllocError>
+    ensures { IfOk result (IsApp (spec.value_app (codes "decode") (codes "HEX"))) }
+{
+    let new = Command::new(alloc, "decode").about(
+        "Decode a telegram, as `etcs decode` does or as JSON",
+    );
+    let first = new.arg(json_arg(alloc))?;
+    first.arg(hex_arg(alloc))
+}
+
+fn packets_app<'a>(alloc: Global) -> Result<Command<'a>, AllocError>
+    ensures { IfOk result (IsApp (spec.value_app (codes "packets") (codes "HEX"))) }
+{
+    let new = Command::new(alloc, "packets").about(
+        "List the packets of a telegram by their names in issue 2.3.0, with fields and use",
+    );
+    let first = new.arg(json_arg(alloc))?;
+    first.arg(hex_arg(alloc))
+}
+
+fn telegram_app<'a>(alloc: Global) -> Result<Command<'a>, AllocError>
+    ensures { IfOk result (IsApp spec.telegram_app) }
+{
+    let new = Command::new(alloc, "telegram").about(
+        "Encode a telegram from JSON into hexadecimal digits",
+    );
+    let first = new.arg(schema_arg(alloc))?;
+    let second = first.arg(installed_arg(alloc))?;
+    second.arg(file_arg(alloc))
+}
+
+fn lint_app<'a>(alloc: Global) -> Result<Command<'a>, AllocError>
+    ensures { IfOk result (IsApp (spec.value_app (codes "lint") (codes "SCENARIO"))) }
+{
+    let new = Command::new(alloc, "lint").about(
+        "List the faults of a scenario, and what was probably not meant",
+    );
+    let first = new.arg(json_arg(alloc))?;
+    first.arg(scenario_arg(alloc))
+}
+
+fn run_app<'a>(alloc: Global) -> Result<Command<'a>, AllocError>
+    ensures { IfOk result (IsApp spec.run_app) }
+{
+    let new = Command::new(alloc, "run").about(
+        "Run a scenario on an empty image in memory and print each output as JSON, with its causes",
+    );
+    new.arg(scenario_arg(alloc))
+}
+
+// The program with no command yet.
+fn bare_app<'a>(alloc: Global) -> Result<Command<'a>, AllocError>
+    ensures { IfOk result (IsApp spec.bare_app) }
+{
+    Command::new(alloc, "etcs_lab")
+        .version(VERSION)
+        .about(
+            "Examine the journal images of an onboard unit, and write and check its telegrams and scenarios",
+        )
+        .after_help(AFTER_HELP)
+        .no_binary_name(true)
+        .subcommand_required(true)
+        .arg_required_else_help(true)
+        .bin_name("etcs_lab")
+}
+
+// With the commands that read an image.
+fn images_app<'a>(alloc: Global) -> Result<Command<'a>, AllocError>
+    ensures { IfOk result (IsApp spec.images_app) }
+{
+    let bare = bare_app(alloc)?;
+    let examine = examine_app(alloc)?;
+    let events = events_app(alloc)?;
+    let replay = replay_app(alloc)?;
+    let check = check_app(alloc)?;
+    let why = why_app(alloc)?;
+    let first = bare.subcommand(examine)?;
+    let second = first.subcommand(events)?;
+    let third = second.subcommand(replay)?;
+    let fourth = third.subcommand(check)?;
+    fourth.subcommand(why)
+}
+
+/// The program with all its commands.
+pub(crate) fn lab_app<'a>(alloc: Global) -> Result<Command<'a>, AllocError>
+    ensures { IfOk result (IsApp spec.lab_app) }
+{
+    let images = images_app(alloc)?;
+    let decode = decode_app(alloc)?;
+    let packets = packets_app(alloc)?;
+    let telegram = telegram_app(alloc)?;
+    let lint = lint_app(alloc)?;
+    let run = run_app(alloc)?;
+    let first = images.subcommand(decode)?;
+    let second = first.subcommand(packets)?;
+    let third = second.subcommand(telegram)?;
+    let fourth = third.subcommand(lint)?;
+    fourth.subcommand(run)
+}

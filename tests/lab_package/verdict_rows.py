@@ -1,0 +1,103 @@
+#!/usr/bin/env python3
+"""What each command of ./lab says of a journal whose replay differs, and of one that is implausible: status 4, a sentence, and a sign in
+what it writes.
+
+    tests/lab_package/verdict_rows.py ETCS_LAB
+"""
+import contextlib
+import io
+import json
+import os
+import sqlite3
+import sys
+import tempfile
+from pathlib import Path
+
+TOP = Path(__file__).resolve().parents[2]
+sys.path[:0] = [str(TOP / part) for part in ("python", "tests", "tests/plain", "tests/lab")]
+
+from compared import Compared  # noqa: E402
+from gaknifur import program  # noqa: E402
+from gaknifur.__main__ import main as lab  # noqa: E402
+from image_cases import image_of, patched, ring  # noqa: E402
+from replay_rows import STARTED, blocks_of, examples  # noqa: E402
+
+BRAKE_OF_7 = 512 + 2 * 3072 + 1024 + 6 * 256 + 2
+"""The byte of the example trip in which event 7, the seventh record of block 2, has its brake."""
+DIFFERS = "the replay differs: life 1, event 7, in brake"
+MOVED = "implausible: life 1, events "
+
+
+def run(*words):
+    """Does what ./lab does, in this process: what it prints, what it says, and its status."""
+    printed, said = io.StringIO(), io.StringIO()
+    with contextlib.redirect_stdout(printed), contextlib.redirect_stderr(said):
+        status = lab([str(word) for word in words])
+    return printed.getvalue(), said.getvalue(), status
+
+
+def altered(rows, room):
+    """One byte of a brake is altered: a replay finds it."""
+    image = room / "altered"
+    data = dict(examples())["example trip"]
+    rows.same("the byte of the brake", data[BRAKE_OF_7], 0)
+    image.write_bytes(patched(data, BRAKE_OF_7, b"\1"))
+    for words, out in ((["timeline"], "a.jsonl"), (["capture"], "a.pcap"), (["report"], "a.html"), (["database"], "a.db"), (["table"], "a.csv"), (["seal"], "a.bag")):
+        _, said, status = run(*words, image, room / out)
+        rows.same(f"{words[0]} of an altered journal", (status, DIFFERS in said), (4, True))
+    lines = [json.loads(line) for line in (room / "a.jsonl").open()]
+    rows.same("its sign in a timeline", [line["event"] for line in lines if line["message"].endswith("; the replay differs in brake")], [7])
+    rows.unless(DIFFERS in (room / "a.html").read_text(), "no sign in the report")
+
+
+def implausible(rows, room):
+    """Readings say standstill, and the train moved: no replay finds it, and physics does."""
+    image = room / "implausible"
+    told = {block["number"]: block for block in blocks_of([("unknown", (*STARTED, *["move 2000 0"] * 4))], 3)}
+    image.write_bytes(image_of(max(told) + 2, ring(max(told) + 2, told)))
+    text, _, status = run("check", image)
+    rows.same("lab check", (status, MOVED in text), (4, True))
+    sentence = next(line for line in text.splitlines() if line.startswith(MOVED))
+    for words, out in ((["report"], "i.html"), (["database"], "i.db"), (["seal"], "i.bag")):
+        _, said, status = run(*words, image, room / out)
+        rows.same(f"{words[0]} of an implausible journal", (status, sentence in said), (4, True))
+    for path in (room / "i.html", room / "i.bag/data/report.html"):
+        rows.unless(sentence in path.read_text(), f"{path.name}: no sign of it")
+        rows.unless(program.reader() in path.read_text(), f"{path.name}: doesn't say by what it was read")
+    for path in (room / "i.db", room / "i.bag/data/journal.db"):
+        with sqlite3.connect(path) as connection:
+            rows.same(f"{path.name}: findings", connection.execute("SELECT what, life, says FROM implausible").fetchall(), [("standing", 1, sentence)])
+            proved = program.reader_is_proved()
+            rows.same(f"{path.name}: reader", connection.execute("SELECT reader, reader_is_proved FROM image").fetchone(),
+                      (program.reader(), None if proved is None else int(proved)))
+    text, said, status = run("verify", room / "i.bag")
+    rows.same("verify", (status, said, f"sealed by lab {program.version()}" in text, program.PROOF[program.reader_is_proved()] in text or "with a proved etcs_lab" in text),
+              (0, "", True, True))
+
+
+def honest(rows, room):
+    """A journal in which nothing is odd has status 0 everywhere."""
+    image = room / "honest"
+    image.write_bytes(dict(examples())["example trip"])
+    for words, out in ((["timeline"], "h.jsonl"), (["capture"], "h.pcap"), (["report"], "h.html"), (["database"], "h.db"), (["seal"], "h.bag"), (["table"], "h.xlsx")):
+        _, said, status = run(*words, image, room / out)
+        rows.same(f"{words[0]} of an honest journal", (status, said), (0, ""))
+    rows.unless("Implausible" not in (room / "h.html").read_text(), "the report finds something")
+    import openpyxl
+    notes = [row[0] for row in openpyxl.load_workbook(room / "h.xlsx")["notes"].iter_rows(values_only=True)]
+    rows.unless(f"read by {program.reader()}" in notes, f"the workbook doesn't say by what it was read: {notes}")
+
+
+def main(words):
+    os.environ["GAKNIFUR_ETCS_LAB"] = str(Path(words[0]).resolve())
+    rows = Compared()
+    with tempfile.TemporaryDirectory() as at:
+        room = Path(at)
+        altered(rows, room)
+        implausible(rows, room)
+        honest(rows, room)
+    return rows.end(f"verdicts of a journal: {rows.count} comparisons")
+
+
+if __name__ == "__main__":
+    sys.exit(main(sys.argv[1:]))

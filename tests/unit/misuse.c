@@ -270,11 +270,16 @@ static void wanting(void) {
         is("state", etcs_unit_state(&unit, &state), ETCS_UNIT_OK);
         is("the input is pending as before", state.pending, 1);
         is("there is no request", state.requests, 0);
+        is("release where there is no request", etcs_unit_release(&unit, outputs, ETCS_UNIT_OUTPUTS, &count), ETCS_UNIT_OK);
+        is("no output", count, 0);
+        is("wanted after it", etcs_unit_wanted(&unit, &sector), ETCS_UNIT_OK);
+        is("the same gate", sector, 1 + 6 * slot);
         PROVIDES_WRONGLY(unit, &unit, on.len / ETCS_UNIT_SECTOR, sector);
         is("provide", etcs_unit_provide(&unit, sector, sector_of(&on, sector), ETCS_UNIT_SECTOR), ETCS_UNIT_OK);
         is("nothing is wanted then", etcs_unit_wanted(&unit, &sector), ETCS_UNIT_NONE_WANTED);
         is("flush", flushed(&on, &unit, outputs, &count), ETCS_UNIT_OK);
         is("one", count, 1);
+        is("nothing is wanted after the release", etcs_unit_wanted(&unit, &sector), ETCS_UNIT_NONE_WANTED);
     }
     is("an input", etcs_unit_clock(&unit, 9), ETCS_UNIT_OK);
     is("prepare", etcs_unit_prepare(&unit), ETCS_UNIT_SECTOR_WANTED);

@@ -75,6 +75,10 @@ abbrev pub IsNextGate : Bool → Moored → Type 0
 IsNextGate is_shut it = flush_puts it ≡ true
     → is_shut ≡ next_is_closed it.unit.journal.slots it.unit.journal.newest (contents_of (request_state it.reading.disk))
 
+-- no sector is wanted
+abbrev pub WantsNothing : Moored → Type 0
+WantsNothing it = it.reading.disk.wanted ≡ None
+
 -- ---- why calls are refused
 
 -- what a flush onto the disk is refused with

@@ -124,6 +124,10 @@ with_sector s bytes d =
       wanted = None;
     }
 
--- the same disk, with the requests carried out on its medium
+-- the same disk; no sector is wanted
+abbrev pub wanting_nothing : Requesting → Requesting
+wanting_nothing d = record d { wanted = None }
+
+-- the same disk, with the requests carried out on its medium; no sector is wanted
 abbrev pub with_carried : Requesting → Requesting
-with_carried d = record d { medium = carried d.written d.medium d.requests; requests = []; written = [] }
+with_carried d = record d { medium = carried d.written d.medium d.requests; requests = []; written = []; wanted = None }

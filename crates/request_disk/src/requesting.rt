@@ -50,7 +50,7 @@ impl Model for RequestDisk {
 impl RequestDisk {
     ghost use Rattle.request_disk.specs.Held.{known_of, handed_in, AreHeld, IsRoomy};
     ghost use Rattle.request_disk.specs.Requests.{IsRequest, ends_in_sync};
-    ghost use Rattle.request_disk.specs.Requesting.{new_on, copy_of, nothing_of, request_state, request_reserve, has_room_for, knows, with_sector, with_carried, IsRequesting, KnowsAll, IsFirstUnknown, IsNoted};
+    ghost use Rattle.request_disk.specs.Requesting.{new_on, copy_of, nothing_of, request_state, request_reserve, has_room_for, knows, with_sector, with_carried, wanting_nothing, IsRequesting, KnowsAll, IsFirstUnknown, IsNoted};
 
     /// A copy of these sectors; bytes after the last whole one are left out. NoMemory where there is none for it.
     pub fn copy_of(alloc: Global, bytes: &[u8]) -> Result<RequestDisk, NoMemory>
@@ -232,10 +232,18 @@ impl RequestDisk {
         ensures contents { (s : ℕ) → contents_of (request_state self.new) s ≡ contents_of (request_state self.old) s }
         ensures synced { IsSynced (request_state self.new) }
     {
+        self.wanted = None;
         self.medium.carry(&self.written, &self.requests);
         self.held.carry(&self.written, &self.requests, self.sectors);
         self.requests.clear();
         self.written.clear();
+    }
+
+    /// No sector is wanted from now on.
+    pub fn want_nothing(&mut self)
+        ensures { self.new ≡ wanting_nothing self.old }
+    {
+        self.wanted = None;
     }
 
     // Whether there is room for a request that writes so many bytes.

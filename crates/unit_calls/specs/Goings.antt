@@ -6,6 +6,7 @@ use Rattle.unit_start.specs.declared.errors.OpenError.{OpenError}
 use Rattle.unit_start.specs.declared.errors.OpenError.TheVariants as an_open
 use Rattle.relayed_unit.specs.Goings.{OnWants, OnOpen}
 use Rattle.relayed_unit.specs.Openings.{Opening, medium_state, IsGoing, IsWanted}
+use Rattle.relayed_unit.specs.Relayed.{WantsNothing}
 use Rattle.relayed_unit.specs.declared.powering_up.Going.{Going}
 use Rattle.relayed_unit.specs.declared.powering_up.Going.TheVariants as a_going
 use Rattle.unit_calls.specs.Handles.{IsLeft}
@@ -24,6 +25,8 @@ pub record IsGoneOn (before : Opening) (told : Result Going OpenError) : Type 0 
   -- nothing is pending, there is no moment yet, and no flush failed
   pub fresh_unit : IfOk told (λ g. OnOpen g (λ u. IfSome u.moored (λ it. (it.unit.life.records ≡ [])
       × (it.unit.life.pairs ≡ []) × (it.unit.life.moment ≡ 0) × (it.unit.journal.failed ≡ false))))
+  -- a unit that came of it wants no sector
+  pub wants_nothing : IfOk told (λ g. OnOpen g (λ u. IfSome u.moored WantsNothing))
   -- the unit was powered up over a disk that holds what the medium held
   pub up : (medium : List ℕ) → IsGoing medium before →
       IfOk told (λ g. OnOpen g (IsUp (before_any medium before.disk.sectors) before.cold))

@@ -24,7 +24,7 @@ use Rattle.onboard.specs.declared.errors.AcceptError.TheVariants as an_accept
 use Rattle.unit_start.specs.declared.errors.OpenError.{OpenError}
 use Rattle.unit_start.specs.declared.errors.OpenError.TheVariants as an_open
 use Rattle.relayed_unit.specs.LifeNow.{TellsLife}
-use Rattle.relayed_unit.specs.Relayed.{Relayed, Turns, list_of, requests_of, release_refusal, prepare_refusal, prepare_failed, wants_gate, IsLeftBy}
+use Rattle.relayed_unit.specs.Relayed.{Relayed, Turns, list_of, requests_of, release_refusal, prepare_refusal, prepare_failed, wants_gate, IsLeftBy, WantsNothing}
 use Rattle.relayed_unit.specs.declared.errors.PrepareError.{PrepareError}
 use Rattle.relayed_unit.specs.declared.life_now.LifeNow.{LifeNow}
 use Rattle.ring.specs.Account.{Account}
@@ -151,6 +151,9 @@ Fails before after status = (status ≡ a_status.Done) × (after.unit.failed ≡
 pub record IsReleased (before after : Relayed) : Type 0 where
   -- nothing is held back any more, no request is left, and so none is done
   pub emptied : (after.outputs ≡ []) × (after.done ≡ 0) × (list_of after.moored ≡ [])
+  -- no sector is wanted, where there were requests; else the unit and its disk are as they were
+  pub wants_nothing : Turns before.moored after.moored (λ it next. 0 < length it.reading.disk.requests → WantsNothing next)
+  pub idle : Turns before.moored after.moored (λ it next. length it.reading.disk.requests ≡ 0 → next ≡ it)
   -- the medium failed no more than before
   pub failed : after.failed ≡ before.failed
   -- the unit is as it was: nothing was taken, and nothing was put on the disk
@@ -226,6 +229,8 @@ pub record IsPoweredUp (image : List ℕ) (cold : Cold) (told : Result Relayed O
   pub sectors : IfOk told (λ u. IfSome u.moored (λ it. it.reading.disk.sectors ≡ length image / 512))
   -- and holds all of them
   pub whole : IfOk told (λ u. IfSome u.moored (λ it. it.reading.disk.known ≡ None))
+  -- no sector is wanted
+  pub wants_nothing : IfOk told (λ u. IfSome u.moored WantsNothing)
   -- each refusal but NoMemory has its cause
   pub refused : IfErr told (λ e. (e ≡ an_open.NoMemory)
       ⊎ IsOpenRefusal (length image / 512) (contents_of (request_state (copy_of image))) e)

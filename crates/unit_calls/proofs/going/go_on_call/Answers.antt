@@ -14,6 +14,7 @@ returns c =
       going = e.going;
       same = e.same;
       fresh_unit = e.fresh_unit;
+      wants_nothing = e.wants_nothing;
       up = ups c.in-Some.it c.go_on-told.result e.fresh e.there e.sectors e.up;
       refused = e.refused;
       no_cause = e.no_cause;

@@ -60,21 +60,21 @@ pub(crate) fn telegram_told<R: Files<File = File> + Input + AllocGlobal + Eprint
 // Prints the countries that a packet 3 lists, by one of its layouts. The fields are those with N_ITER first: its five bits and the first
 // five of the country after it are the first country of the other layout.
 fn say_countries<R: Eprint>(rt: &R, fields: &Fields, has_country_first: bool) {
-    let (mut counter, mut comma) = (0, "");
+    let (mut counter, mut is_first) = (0, true);
     for field in &fields.fields {
         let name = field.variable.text();
         if name == "N_ITER" {
-            counter = field.number % 32;
+            counter = field.number;
         }
         if name == "NID_C" {
-            let is_other = has_country_first && comma.is_empty();
-            let number = if is_other {
-                32 * counter + field.number / 32
+            let comma = if is_first { "" } else { ", " };
+            let number = if is_first && has_country_first {
+                32 * (counter % 32) + field.number / 32 % 32
             } else {
                 field.number
             };
             let _ = eprint!(rt; "{comma}{number}");
-            comma = ", ";
+            is_first = false;
         }
     }
 }

@@ -90,7 +90,10 @@ export function faultAt(calls: Calls, reading: Reading): Field|null {
     let size = 1;
     while (calls.decode(bytes.slice(0, size))[0] !== fault) size++;
     const ends = ({ at, width }: Field): boolean => 8 * (size - 1) < at + width && at + width <= 8 * size;
-    const fields = [...reading.header, ...reading.packets.flatMap(one => [...one.head.slice(1), ...one.fields])];
+    // (a packet of its own the unit reads to its last variable, also beyond its L_PACKET: it reads no other one then)
+    const last = reading.packets.findIndex(({ number, end, rest }) => telegrams.reader.isKnown(number) && rest > end);
+    const packets = last < 0 ? reading.packets : reading.packets.slice(0, last + 1);
+    const fields = [...reading.header, ...packets.flatMap(one => [...one.head.slice(1), ...one.fields])];
     const bits = reading.bits.slice(0, 8 * size);
     return fields.filter(ends).reverse().find(one => decides(calls, bits, fault, one)) ?? null;
 }

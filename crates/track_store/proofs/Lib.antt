@@ -11,3 +11,4 @@ pub mod Forgetting
 pub mod Apart
 pub mod Throughout
 pub mod Known
+pub mod Passing

@@ -1,5 +1,5 @@
 //! Segments in a list: values are looked up, steps are taken in, and what lies before a mark is dropped.
-ghost use Rattle.std.specs.Prelude.{◌≡◌, ℕ, IsTrue, IsSome, IfSome, ◌+◌, ◌<◌, ◌≤◌, ℤ, ◌≤ℤ◌, ◌<ℤ◌, false, if◌then◌else◌, int_lt, is_none, Some, ◌||◌, ◌↔◌, None, length, filter, take, vec_len, vec_capacity};
+ghost use Rattle.std.specs.Prelude.{◌≡◌, ℕ, IsTrue, IsSome, IfSome, ◌+◌, ◌<◌, ◌≤◌, ℤ, ◌≤ℤ◌, ◌<ℤ◌, false, if◌then◌else◌, int_lt, is_none, Some, ◌||◌, ◌↔◌, None, length, filter, take, drop, vec_len, vec_capacity};
 ghost use Rattle.std.specs.List.{AllWithin, list_any};
 ghost use Rattle.track_store.specs.Facts.{from_mark, passed, replaced};
 ghost use Rattle.track_store.specs.Profiles.{HoldsOver, IsKnownThroughout};
@@ -320,7 +320,20 @@ fn is_first_passed<T: Copy>(segments: &[Segment<T>], mark: Cm) -> bool
     }
 }
 
-// Drops the segments that lie wholly before a mark. Where it follows the train these are mostly none or one.
+// Drops so many segments at the front. The others are moved once, however many go.
+fn drop_front<T: Copy>(segments: &mut Vec<Segment<T>>, count: usize)
+    requires { count ≤ vec_len segments.old }
+    ensures items { segments.new.items ≡ drop count segments.old.items }
+    ensures len { vec_len segments.new ≤ vec_len segments.old }
+    ensures capacity { vec_capacity segments.new ≡ vec_capacity segments.old }
+{
+    let left = segments.len() - count;
+    segments.copy_within(count.., 0);
+    segments.truncate(left);
+}
+
+// Drops the segments that lie wholly before a mark. Where the mark follows the train there are none or one mostly, so it
+// searches only where there is one.
 fn drop_passed<T: Copy>(segments: &mut Vec<Segment<T>>, mark: Cm)
     requires { IsKeptBehind segments.old.items }
     ensures value { (place : ℤ) → from_mark mark (value_of_segments segments.new.items) place
@@ -330,8 +343,9 @@ fn drop_passed<T: Copy>(segments: &mut Vec<Segment<T>>, mark: Cm)
     ensures capacity { vec_capacity segments.new ≡ vec_capacity segments.old }
     ensures none { is_first_passed mark segments.new.items ≡ false }
 {
-    while is_first_passed(segments, mark) {
-        segments.remove(0);
+    if is_first_passed(segments, mark) {
+        let passed = started(segments, mark).saturating_sub(1);
+        drop_front(segments, passed);
     }
 }
 

@@ -1,17 +1,23 @@
-use Rattle.std.proofs.Common.{◌≡◌, true, ap, sym, subst, ◌∙◌, arith}
+use Rattle.std.proofs.Common.{ap, sym, subst, ◌∙◌}
 use Rattle.track_store.specs.Facts.{from_mark}
-use Rattle.track_store.specs.Segments.{value_of_segments, IsKeptBehind, is_first_passed}
-use Rattle.track_store.proofs.Apart.{value_of_rest, kept_rest}
+use Rattle.track_store.specs.Segments.{value_of_segments, IsStarted, IsKeptBehind, is_first_passed}
+use Rattle.track_store.proofs.Passing.{value_of_left, kept_others, none_left}
 use Rattle.track_store.proofs.segments.drop_passed.Goals as goal
 
-pub loop-mark-preserved : goal.loop-mark-preserved
-loop-mark-preserved g c =
-    let segments = c.loop-mark.segments.items in
-    let passed : is_first_passed c.args.mark segments ≡ true =
-    ap (is_first_passed c.args.mark) (sym c.deref.ensures.value) ∙ sym c.is_first_passed.ensures ∙ c.loop-mark-test.true in (
-      λ place. ap (λ rest. from_mark c.args.mark (value_of_segments rest) place) c.remove.ensures.items
-          ∙ value_of_rest c.args.mark segments passed place ∙ c.loop-mark.invariant.0 place,
-      subst IsKeptBehind (sym c.remove.ensures.items) (kept_rest segments c.loop-mark.invariant.1),
-      omega arith,
-      c.remove.ensures.capacity ∙ c.loop-mark.invariant.3,
-    )
+pub returns-then-is_first_passed-clause-value : goal.returns-then-is_first_passed-clause-value
+returns-then-is_first_passed-clause-value g c place =
+    let mark = c.args.mark in
+    let started = subst (λ all. IsStarted mark all c.started.result) c.deref-then-is_first_passed.ensures.value c.started.ensures in
+    ap (λ left. from_mark mark (value_of_segments left) place) c.drop_front.ensures.items
+    ∙ value_of_left mark c.args.segments.now.items _ _ c.saturating_sub-passed.ensures started place
+
+pub returns-then-is_first_passed-clause-kept : goal.returns-then-is_first_passed-clause-kept
+returns-then-is_first_passed-clause-kept g c =
+    subst IsKeptBehind (sym c.drop_front.ensures.items) (kept_others c.args.segments.now.items c.saturating_sub-passed.result c.requires)
+
+pub returns-then-is_first_passed-clause-none : goal.returns-then-is_first_passed-clause-none
+returns-then-is_first_passed-clause-none g c =
+    let mark = c.args.mark in
+    let started = subst (λ all. IsStarted mark all c.started.result) c.deref-then-is_first_passed.ensures.value c.started.ensures in
+    ap (is_first_passed mark) c.drop_front.ensures.items
+    ∙ none_left mark c.args.segments.now.items _ _ c.saturating_sub-passed.ensures started

@@ -1,5 +1,6 @@
 #!/bin/bash
-# Whether tools/trace tells of each fault that is planted in what it reads, and whether what it prints has its form.
+# Whether tools/trace finds each fault that is planted in what it reads, whether what it prints has its form, and whether
+# browsers can show the pictures of the pages.
 #
 #     tests/trace.sh
 cd "$(dirname "$(readlink -f -- "$0")")/.." || exit 1
@@ -7,4 +8,5 @@ export PYTHONDONTWRITEBYTECODE=1
 status=0
 /usr/bin/python3 tests/trace/planted.py || status=1
 /usr/bin/python3 tests/trace/exports.py || status=1
+/usr/bin/python3 tests/trace/pictures.py || status=1
 exit $status

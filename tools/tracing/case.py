@@ -193,7 +193,7 @@ def draw(case):
         ["dot", "-Tsvg"], input="\n".join(dot(case)), capture_output=True, text=True, check=True
     ).stdout
     head, mark, rest = made.partition("<svg")
-    title = f"<!-- made by tools/trace --picture of a text with the digest {digest(case)} -->\n"
+    title = f"<!-- made by tools/trace of a text with the digest {digest(case)} -->\n"
     PICTURE.write_text(head + title + mark + rest, encoding="utf-8")
 
 

@@ -1,5 +1,5 @@
 //! The calls of `include/etcs_unit.h`.
-use image_calls::abi_call;
+use c_numbers::abi_call;
 use std::alloc::Global;
 use unit_calls::{
     EtcsOutput, EtcsRequest, EtcsState, EtcsTrainData, EtcsUnit, EtcsUnitWhy, action_call,

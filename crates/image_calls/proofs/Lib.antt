@@ -1,6 +1,5 @@
 pub mod Asked
 pub mod Asks
 pub mod Fewness
-pub mod Places
 pub mod Reading
 pub mod Refusing

@@ -1,5 +1,6 @@
 -- What calls answer, and its numbers (this project's profile).
 use Rattle.std.specs.Prelude.{◌≡◌, ℕ, ◌==◌, Bool, true, false}
+use Rattle.c_numbers.specs.Numbers.{this_abi}
 use Rattle.image_calls.specs.declared.answer.Answer.{Answer}
 use Rattle.image_calls.specs.declared.answer.Answer.TheVariants as an_answer
 
@@ -16,10 +17,6 @@ answer_number an_answer.NotReplayed = 39
 answer_number an_answer.NotOpen = 250
 answer_number an_answer.OtherAbi = 254
 answer_number an_answer.OutOfRange = 255
-
--- the number of the interface
-abbrev pub this_abi : ℕ
-this_abi = 5
 
 -- the first where this is so, else the second
 abbrev pub Where : Bool → Type 0 → Type 0 → Type 0

@@ -1,6 +1,7 @@
 -- What is told of what a block keeps (this project's profile). Lengths and distances are centimetres, speeds metres per
 -- hour, times milliseconds. What isn't known is told by zeros.
 use Rattle.std.specs.Prelude.{◌≡◌, ℕ, pos, Bool, if◌then◌else◌, List, ◌++◌, length, drop, replicate, Option, Some, None, is_some}
+use Rattle.c_numbers.specs.Numbers.{or_zero, flag_of}
 use Rattle.driver.specs.Limits.{Train}
 use Rattle.driver.specs.declared.datum.Datum.{Datum}
 use Rattle.driver.specs.declared.datum.Datum.TheVariants as a_datum
@@ -13,13 +14,6 @@ use Rattle.image_calls.specs.declared.kept_items.EtcsKept.{EtcsKept}
 use Rattle.image_calls.specs.declared.kept_items.EtcsTrain.{EtcsTrain}
 use Rattle.image_calls.specs.declared.kept_items.Group.{Group}
 use Rattle.image_calls.specs.declared.national_items.EtcsNational.{EtcsNational}
-
-abbrev pub flag_of : Bool → ℕ
-flag_of set = if set then 1 else 0
-
-abbrev pub or_zero : Option ℕ → ℕ
-or_zero None = 0
-or_zero (Some n) = n
 
 abbrev pub status_number : {A : Type 0} → Datum A → ℕ
 status_number a_datum.Unknown = 0

@@ -24,8 +24,8 @@ use Rattle.image_calls.specs.Images.{ring_in, OfRing, OfBlock}
 use Rattle.image_calls.specs.declared.answer.Answer.{Answer}
 use Rattle.image_calls.specs.declared.answer.Answer.TheVariants as an_answer
 use Rattle.image_calls.specs.declared.images.Ring.{Ring}
-use Rattle.image_calls.specs.KeptItems.{or_zero, flag_of}
-use Rattle.image_calls.specs.WhyNumbers.{place_or_zero, since_of, holds_of, trip_cause_told, trip_event_told, limit_number}
+use Rattle.c_numbers.specs.Numbers.{or_zero, flag_of, place_or_zero, limit_number}
+use Rattle.image_calls.specs.WhyNumbers.{since_of, holds_of, trip_cause_told, trip_event_told}
 use Rattle.image_calls.specs.Lived.{Lived, life_up_to, story_behind, IsLeft}
 use Rattle.image_calls.specs.declared.telling.EtcsWhy.{EtcsWhy}
 

@@ -4,7 +4,7 @@ ghost use Rattle.image_calls.specs.Facts.{AsksFacts, TellsFacts};
 
 use crate::answer::Answer;
 use crate::images::survey_in;
-use crate::version::ABI;
+use c_numbers::ABI;
 use examination::Survey;
 
 /// What an image has at first sight.

@@ -1,6 +1,7 @@
 //! What a block keeps, as C gets it.
 ghost use Rattle.std.specs.Prelude.{◌≡◌};
-ghost use Rattle.image_calls.specs.KeptItems.{status_number, level_told, train_told, group_told, identity_told, identity_bytes, or_zero, flag_of, TellsKept};
+ghost use Rattle.c_numbers.specs.Numbers.{or_zero, flag_of};
+ghost use Rattle.image_calls.specs.KeptItems.{status_number, level_told, train_told, group_told, identity_told, identity_bytes, TellsKept};
 
 use crate::national_items::{EtcsNational, national_told};
 use driver::{Datum, DriverIdentity, RunningNumber, TrainData};

@@ -1,12 +1,11 @@
 //! The numbers by which C is told what is one of several values.
 ghost use Rattle.std.specs.Prelude.{◌≡◌};
-ghost use Rattle.blocks.specs.Codes.{kind_number, output_level_number, brake_number};
+ghost use Rattle.blocks.specs.Codes.{kind_number};
 ghost use Rattle.blocks.specs.Records.{kind_name};
 ghost use Rattle.image_calls.specs.Numbers.{format_number};
 
 use blocks::Format;
-use events::{Brake, Event, Input};
-use mode_table::TrainLevel;
+use events::{Event, Input};
 
 /// The number of a format, 1 to 3.
 pub(crate) fn format_number(format: Format) -> u8
@@ -29,26 +28,5 @@ pub(crate) fn kind_number(event: &Event) -> u8
         Event::Input(Input::Odometer(_)) => 3,
         Event::Input(Input::Clock(_)) => 4,
         Event::Input(Input::Driver(_)) => 5,
-    }
-}
-
-/// The number of the level of an output, 255 where none is valid.
-pub fn level_number(level: Option<TrainLevel>) -> u8
-    ensures { result ≡ output_level_number level }
-{
-    match level {
-        Some(level) => level.number(),
-        None => 255,
-    }
-}
-
-/// The number of a command to the brakes.
-pub fn brake_number(brake: Brake) -> u8
-    ensures { result ≡ brake_number brake }
-{
-    match brake {
-        Brake::None => 0,
-        Brake::Service => 1,
-        Brake::Emergency => 2,
     }
 }

@@ -5,11 +5,8 @@ ghost use Rattle.kernel.specs.Output.{output_at};
 ghost use Rattle.reasons.specs.Told.{Reasons};
 ghost use Rattle.image_calls.specs.Whys.{TellsWhy, why_with};
 
-use crate::numbers::brake_number;
-use crate::why_numbers::{
-    flag, holds_of, limit_number, or_zero, place_or_zero, since_of, trip_cause_told,
-    trip_event_told,
-};
+use crate::why_numbers::{holds_of, since_of, trip_cause_told, trip_event_told};
+use c_numbers::{brake_number, flag, limit_number, or_zero, place_or_zero};
 use events::Output;
 use reasons::{LimitTold, Reasoning, Runs, TripTold, limit_told};
 use units::Mph;

@@ -1,30 +1,10 @@
 //! The numbers by which C is told why.
-ghost use Rattle.std.specs.Prelude.{◌≡◌, is_some};
-ghost use Rattle.image_calls.specs.KeptItems.{or_zero, flag_of};
-ghost use Rattle.image_calls.specs.WhyNumbers.{place_or_zero, since_of, holds_of, trip_number, trip_cause_told, trip_event_told, limit_number};
+ghost use Rattle.std.specs.Prelude.{◌≡◌};
+ghost use Rattle.image_calls.specs.WhyNumbers.{since_of, holds_of, trip_number, trip_cause_told, trip_event_told};
 
+use c_numbers::{flag, or_zero};
 use kernel::{BrakeCause, TripCause};
-use reasons::{LimitKind, Runs, TripTold};
-
-/// A number, 0 where there is none.
-pub fn or_zero(number: Option<u64>) -> u64
-    ensures { result ≡ or_zero number }
-{
-    match number {
-        None => 0,
-        Some(number) => number,
-    }
-}
-
-/// A place, 0 where there is none.
-pub fn place_or_zero(place: Option<i64>) -> i64
-    ensures { result ≡ place_or_zero place }
-{
-    match place {
-        None => 0,
-        Some(place) => place,
-    }
-}
+use reasons::{Runs, TripTold};
 
 /// From which event on each cause of the brake has held.
 pub(crate) fn since_of(runs: &Runs) -> [u64; 10]
@@ -43,16 +23,6 @@ pub(crate) fn since_of(runs: &Runs) -> [u64; 10]
         since(BrakeCause::MustStand),
         since(BrakeCause::OwesTooLong),
     ]
-}
-
-/// 1 where there is something, else 0.
-pub fn flag<T: Copy>(told: Option<T>) -> u8
-    ensures { result ≡ flag_of (is_some told) }
-{
-    match told {
-        Some(_) => 1,
-        None => 0,
-    }
 }
 
 /// Whether each holds.
@@ -103,33 +73,5 @@ pub(crate) fn trip_event_told(trip: Option<TripTold>) -> u64
     match trip {
         None => 0,
         Some(told) => told.event,
-    }
-}
-
-/// The number of what decides a limit.
-pub fn limit_number(kind: LimitKind) -> u8
-    ensures { result ≡ limit_number kind }
-{
-    match kind {
-        LimitKind::NoSpeed => 1,
-        LimitKind::NoTrainData => 2,
-        LimitKind::StaffResponsible => 3,
-        LimitKind::Override => 4,
-        LimitKind::Shunting => 5,
-        LimitKind::Unfitted => 6,
-        LimitKind::Maximum => 7,
-        LimitKind::Main => 8,
-        LimitKind::End => 9,
-        LimitKind::StaticSpeed => 10,
-        LimitKind::Restriction => 11,
-        LimitKind::Area => 12,
-        LimitKind::StaticSpeedAhead => 13,
-        LimitKind::UnknownSpeedAhead => 14,
-        LimitKind::RestrictionAhead => 15,
-        LimitKind::AreaAhead => 16,
-        LimitKind::EndOfAuthority => 17,
-        LimitKind::SupervisedLocation => 18,
-        LimitKind::Release => 19,
-        LimitKind::NationalRelease => 20,
     }
 }

@@ -14,6 +14,7 @@ mod national_lines;
 mod number_lines;
 mod opening;
 mod power_up;
+mod refusal;
 mod slot_lines;
 mod slots;
 mod words;

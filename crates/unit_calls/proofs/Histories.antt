@@ -9,7 +9,7 @@ use Rattle.disk.specs.declared.record.Call.{Call}
 use Rattle.events.specs.declared.input.Event.{Event}
 use Rattle.events.specs.declared.input.Event.TheVariants.{PowerUp}
 use Rattle.events.specs.declared.input.Input.{Input}
-use Rattle.image_calls.specs.Answers.{this_abi}
+use Rattle.c_numbers.specs.Numbers.{this_abi}
 use Rattle.journal.specs.Journals.{IsOpen}
 use Rattle.request_disk.specs.Requesting.{request_state}
 use Rattle.mode_table.specs.declared.statuses.Cold.{Cold}

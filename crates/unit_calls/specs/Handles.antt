@@ -7,7 +7,7 @@ use Rattle.events.specs.declared.input.Event.{Event}
 use Rattle.events.specs.declared.input.Event.TheVariants.{PowerUp, Input as an_input}
 use Rattle.events.specs.declared.input.Input.{Input}
 use Rattle.events.specs.declared.step.Step.TheVariants.{Accept, Flush}
-use Rattle.image_calls.specs.Answers.{this_abi}
+use Rattle.c_numbers.specs.Numbers.{this_abi}
 use Rattle.journal.specs.Journals.{IsOpen, IsWritten}
 use Rattle.kernel.specs.Lives.{kept_by}
 use Rattle.request_disk.specs.Requesting.{copy_of, request_state}

@@ -2,7 +2,7 @@
 -- have 512 bytes and are numbered from 0.
 use Rattle.std.specs.Prelude.{◌≡◌, ℕ, ◌==◌, ◌&&◌, nat_lt, true, List, length, Option, Some, None, MatchOption}
 use Rattle.disk.specs.State.{sector_of}
-use Rattle.image_calls.specs.Answers.{this_abi}
+use Rattle.c_numbers.specs.Numbers.{this_abi}
 use Rattle.mode_table.specs.declared.statuses.Cold.{Cold}
 use Rattle.request_disk.specs.Requesting.{knows, with_sector}
 use Rattle.relayed_unit.specs.Openings.{Opening, begun, IsGoing}

@@ -6,8 +6,8 @@ use Rattle.std.specs.Int.RustNames.{unsigned_abs}
 use Rattle.braking.specs.declared.target.Target.{Target}
 use Rattle.driver.specs.declared.override_left.OverrideLeft.{OverrideLeft}
 use Rattle.events.specs.declared.input.Event.{Event}
-use Rattle.image_calls.specs.KeptItems.{or_zero, flag_of}
-use Rattle.image_calls.specs.WhyNumbers.{place_or_zero, limit_number}
+use Rattle.c_numbers.specs.Numbers.{or_zero, flag_of}
+use Rattle.c_numbers.specs.Numbers.{place_or_zero, limit_number}
 use Rattle.kernel.specs.Brake.{causes_of}
 use Rattle.kernel.specs.Causes.{all_causes, is_among}
 use Rattle.kernel.specs.Lives.{life_of}

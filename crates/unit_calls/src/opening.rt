@@ -5,7 +5,7 @@ ghost use Rattle.unit_calls.specs.Handles.{IsLeft, OpensFrom, PowersUp, closing}
 use crate::handle::{EtcsUnit, Opened, handle_of, taken};
 use crate::status::{Status, of_open};
 use crate::words::word_of;
-use image_calls::ABI;
+use c_numbers::ABI;
 use mode_table::Cold;
 use onboard::{OpenError, Released};
 use relayed_unit::RelayedUnit;

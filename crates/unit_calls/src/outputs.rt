@@ -2,8 +2,8 @@
 ghost use Rattle.std.specs.Prelude.{◌≡◌, ◌≤◌, length};
 ghost use Rattle.unit_calls.specs.Outputs.{told_of, AreHanded};
 
+use c_numbers::{brake_number, level_number};
 use events::Output;
-use image_calls::{brake_number, level_number};
 use onboard::Released;
 
 /// An output that may reach the train.

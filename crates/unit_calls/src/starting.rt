@@ -6,7 +6,7 @@ ghost use Rattle.unit_calls.specs.Places.{under_way};
 use crate::place::{EtcsOpening, Place, handle_of, taken};
 use crate::status::Status;
 use crate::words::word_of;
-use image_calls::ABI;
+use c_numbers::ABI;
 use mode_table::Cold;
 use relayed_unit::UnitOpening;
 use std::alloc::Global;

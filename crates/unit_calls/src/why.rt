@@ -1,6 +1,6 @@
 //! Why the newest released output is what it is, as C gets it.
 ghost use Rattle.std.specs.Prelude.{◌≡◌};
-ghost use Rattle.image_calls.specs.KeptItems.{flag_of};
+ghost use Rattle.c_numbers.specs.Numbers.{flag_of};
 ghost use Rattle.kernel.specs.Causes.{is_among, marked};
 ghost use Rattle.kernel.specs.StandsFor.{StandsForLife};
 ghost use Rattle.mode_control.specs.Life.{Life};
@@ -9,8 +9,8 @@ ghost use Rattle.unit_calls.specs.Whys.{holds_in, target_of, releases, distance_
 
 use crate::outputs::{EtcsOutput, output_told};
 use braking::Target;
+use c_numbers::{flag, limit_number, or_zero, place_or_zero};
 use driver::OverrideLeft;
-use image_calls::{flag, limit_number, or_zero, place_or_zero};
 use kernel::{BrakeCause, BrakeCauses, Motion, Shown, State, Waiting};
 use reasons::{LimitTold, limit_told};
 use speed_supervision::{LimitCause, SpeedCause};

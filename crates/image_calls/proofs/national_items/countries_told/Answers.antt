@@ -1,7 +1,7 @@
 use Rattle.std.proofs.Common.{ℕ, List, ◌++◌, length, replicate, refl, ◌∙◌, ap, arith}
 use Rattle.std.proofs.lemmas.Grind.{common_steps}
 use Rattle.std.proofs.lemmas.List.{length-replicate, drop-replicate}
-use Rattle.image_calls.proofs.Places.{one_placed, all_placed}
+use Rattle.c_numbers.proofs.Places.{one_placed, all_placed}
 use Rattle.image_calls.proofs.national_items.countries_told.Goals as goal
 
 pub loop-i-preserved : goal.loop-i-preserved

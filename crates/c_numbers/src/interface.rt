@@ -1,6 +1,6 @@
 //! The interface.
 ghost use Rattle.std.specs.Prelude.{◌≡◌};
-ghost use Rattle.image_calls.specs.Answers.{this_abi};
+ghost use Rattle.c_numbers.specs.Numbers.{this_abi};
 
 /// The number of this interface, counted up with each change that a caller can see.
 pub const ABI: u32 = 5;

@@ -1,0 +1,17 @@
+"""Whether each picture of the pages is well-formed XML, which a browser shows nothing of else."""
+import sys
+import xml.etree.ElementTree as tree
+from pathlib import Path
+
+pictures = sorted(Path("docs/pictures").glob("*.svg"))
+if not pictures:
+    sys.exit("tests/trace/pictures.py: docs/pictures has no picture")
+status = 0
+for picture in pictures:
+    try:
+        tree.parse(picture)
+    except tree.ParseError as fault:
+        print(f"{picture} isn't well-formed, so that no browser shows it: {fault}")
+        status = 1
+print(f"pictures: {len(pictures)} of the pages read as XML")
+sys.exit(status)

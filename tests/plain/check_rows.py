@@ -5,9 +5,11 @@ those bytes.
 
     tests/plain/check_rows.py [FILE ..]
 
-The rows of tests/rows/test_kernel.row are taken where no file is named. The last line has the numbers of rows, of events, of
+Where no file is named, the rows are those of test_kernel.row in the folder that the variable ROWS names (make_rows.py); without it, those
+by hand (tests/rows). The last line has the numbers of rows, of events, of
 answers that are wanted and of differences. The exit status is 1 where there is a difference.
 """
+import os
 import re
 import sys
 from pathlib import Path
@@ -16,7 +18,7 @@ import rows
 import telegrams
 from named import written
 
-ROWS = Path(__file__).resolve().parents[1] / "rows/test_kernel.row"
+ROWS = Path(os.environ.get("ROWS") or Path(__file__).resolve().parents[1] / "rows") / "test_kernel.row"
 
 GENERATED = "\n# ==== Pseudo-random lists"
 # The name of a telegram and its bytes, and below them its fields.

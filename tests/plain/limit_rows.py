@@ -1,17 +1,9 @@
-#!/usr/bin/env python3
-"""Pseudo-random tracks for tests/rows/test_modes.row, the same in every run, with what the definitions say of them
-centimetre by centimetre.
-
-    tests/plain/limit_rows.py            writes them behind the worked rows there, with their answers
-    tests/plain/limit_rows.py --check    makes them anew; the exit status is 1 where others stand there
-"""
-import sys
+"""Pseudo-random tracks, with what the definitions say of them centimetre by centimetre: rows for test_modes
+(make_rows.py)."""
 from collections import namedtuple
-from pathlib import Path
 
 from random_lists import Numbers
 
-ROWS = Path(__file__).resolve().parents[1] / "rows/test_modes.row"
 HEADING = "random tracks: no row\n"
 
 TRACKS, OF_EACH = 12, 10
@@ -193,25 +185,14 @@ class Track:
             self.say("limit", *train, answer=[self.limit(*train)])
 
 
-def tracks():
-    numbers = Numbers(1878)
+def tracks(seed):
+    numbers = Numbers(1878 + seed)
     for _ in range(TRACKS):
         track = Track(numbers)
         track.ask(numbers)
         yield track
 
 
-def main(words):
-    made = "".join("\nnew:\n" + "".join(f"{row}\n" for row in track.said) for track in tracks())
-    worked, heading, written = ROWS.read_text().partition(HEADING)
-    if not heading:
-        raise SystemExit(f"{ROWS} has no heading of random tracks")
-    if words == ["--check"]:
-        print(f"the random tracks are {'the same' if written == made else 'others'}")
-        return 0 if written == made else 1
-    ROWS.write_text(worked + heading + made)
-    return 0
-
-
-if __name__ == "__main__":
-    sys.exit(main(sys.argv[1:]))
+def made(seed):
+    """Returns the rows."""
+    return HEADING + "".join("\nnew:\n" + "".join(f"{row}\n" for row in track.said) for track in tracks(seed))

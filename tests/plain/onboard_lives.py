@@ -1,16 +1,10 @@
-#!/usr/bin/env python3
-"""The rows of the onboard unit that are made here: old images, cuts and faults at each call, altered bytes, and pseudo-random lives.
-
-    tests/plain/onboard_lives.py            writes them behind the rows worked out by hand, with what each command is to answer
-    tests/plain/onboard_lives.py --check    makes all of them anew; the exit status is 1 where others stand there, or where a row
-                                            worked out by hand wants something else than the plain unit answers
+"""Rows for test_onboard (make_rows.py): old images, cuts and faults at each call, altered bytes, and pseudo-random lives, with what
+the plain unit answers.
 
 As they are made, each cut is held against the table: before the gate is written what is found is what was durable, while it is written
 or not synced that or the same with the whole batch, behind it the latter.
 """
-import sys
 from itertools import product
-from pathlib import Path
 
 import blocks
 from items import Kept
@@ -20,9 +14,8 @@ from onboard import Known
 from onboard_rows import Reader, Session
 from random_lists import Numbers, SUPERVISION, event
 
-ROWS = Path(__file__).resolve().parents[1] / "rows/test_onboard.row"
 HEADING = """
-# ==== All that follows is made by tests/plain/onboard_lives.py.
+# ==== Made by tests/plain/onboard_lives.py, with the answers of the reference models.
 """
 
 TELEGRAM = "hear 90007F802001506023A0E0190019427F80"  # a restriction, and country 1, group 2
@@ -384,9 +377,9 @@ class World:
         self.kept = [found]
 
 
-def random_lives(made):
+def random_lives(made, seed):
     """Each with power lost at some call, or at its end."""
-    numbers, lives = Numbers(1_123), 0
+    numbers, lives = Numbers(1_123 + seed), 0
     made.say("group pseudo-random lives")
     while lives < 200:
         slots = 2 + numbers.below(4)
@@ -400,33 +393,20 @@ def random_lives(made):
     made.say("end")
 
 
-def make(made):
-    numbers = Numbers(2_026)
+def make(made, seed):
+    numbers = Numbers(2_026 + seed)
     old_images(made)
     cuts(made, numbers)
     cuts_twice(made, numbers)
     faults(made)
     altered(made)
-    random_lives(made)
+    random_lives(made, seed)
 
 
-def main(words):
-    text = ROWS.read_text()
-    made = Made()
-    worked = text.partition(HEADING)[0].rstrip("\n") + "\n" + HEADING
-    for line in worked.rstrip("\n").split("\n"):
-        made.reader.take(line)
-    by_hand = len(made.reader.written)
-    make(made)
-    for difference in made.reader.differences:
-        print(difference)
-    if words != ["--check"]:
-        ROWS.write_text(worked + "\n".join(made.reader.written[by_hand:]) + "\n")
-        return 1 if made.reader.differences else 0
-    same = text == "\n".join(made.reader.written) + "\n"
-    print(f"the rows of the onboard unit are {'the same' if same else 'others'}")
-    return 0 if same and not made.reader.differences else 1
-
-
-if __name__ == "__main__":
-    sys.exit(main(sys.argv[1:]))
+def made(by_hand, seed):
+    """Returns the rows by hand with all others, and where a row by hand wants something else than the plain unit answers."""
+    rows = Made()
+    for line in (by_hand.rstrip("\n") + "\n" + HEADING).rstrip("\n").split("\n"):
+        rows.reader.take(line)
+    make(rows, seed)
+    return "\n".join(rows.reader.written) + "\n", rows.reader.differences

@@ -1,17 +1,9 @@
-#!/usr/bin/env python3
-"""Rows of tests/rows/test_parts.row that are too many for a hand: groups of balises of which one is missed or none, and
-permitted speeds, as the definition says, speed by speed and centimetre by centimetre.
-
-    tests/plain/part_rows.py            writes them behind the rows by hand
-    tests/plain/part_rows.py --check    makes them anew; the exit status is 1 where others stand there
-"""
-import sys
+"""Rows for test_parts that are too many for a hand (make_rows.py): groups of balises of which one is missed or none, and
+permitted speeds, as the definition says, speed by speed and centimetre by centimetre."""
 from collections import namedtuple
 from functools import lru_cache
-from pathlib import Path
 
-ROWS = Path(__file__).resolve().parents[1] / "rows" / "test_parts.row"
-HEADING = "# ---- Written by tests/plain/part_rows.py.\n"
+HEADING = "# ---- Made by tests/plain/part_rows.py.\n"
 
 Gradient = namedtuple("Gradient", "begins changes ends before behind")
 Train = namedtuple("Train", "deceleration reaction")
@@ -111,23 +103,13 @@ def speeds():
                     yield " ".join(map(str, words)), permitted(train, gradient, front, targets)
 
 
-def made():
+def lines():
     yield "\n# balise_groups: groups of one to eight balises, one of them missed or none (SUBSET-026, 3.4.1, 3.16.2)"
     yield from (f"{question}: {answer}" for question, answer in groups())
     yield "\n# braking, brakes: a stop at each distance, and slower track at half of it (this project's profile)"
     yield from (f"{question}: {answer}" for question, answer in speeds())
 
 
-def main(words):
-    rows = list(made())
-    text = "".join(f"{row}\n" for row in rows)
-    by_hand, _, written = ROWS.read_text().partition(HEADING)
-    if words == ["--check"]:
-        print(f"{len(rows) - 2} rows of parts are {'the same' if written == text else 'others'}")
-        return 0 if written == text else 1
-    ROWS.write_text(by_hand + HEADING + text)
-    return 0
-
-
-if __name__ == "__main__":
-    sys.exit(main(sys.argv[1:]))
+def made():
+    """Returns the rows."""
+    return HEADING + "".join(f"{line}\n" for line in lines())

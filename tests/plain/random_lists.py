@@ -1,26 +1,20 @@
-#!/usr/bin/env python3
-"""Pseudo-random lists of events of several lives, the same in every run, with the answers that the plain program gives.
-
-    tests/plain/random_lists.py            writes them behind the rows of tests/rows/test_kernel.row
-    tests/plain/random_lists.py --check    makes them anew; the exit status is 1 where others stand there, or where a mode, a
-                                           row of the mode table or a cause to brake does not come up
-"""
-import sys
+"""Pseudo-random lists of events of several lives, with the answers of the reference model: rows for test_kernel
+(make_rows.py)."""
 from collections import Counter
 
 import modes
 import output
 import pools
 import rows
-from check_rows import ROWS
 from items import VALID
 from life import Life
 from named import written
 from rows import Line, Row
 
 HEADING = """\
-# ==== Pseudo-random lists, with the answers that tests/plain gives. tests/plain/random_lists.py writes all that follows.
+# ==== Pseudo-random lists, with the answers of the reference model, made by tests/plain/random_lists.py.
 """
+LISTS = 400
 
 RESTRICTIONS, GROUPS, TRACK, SUPERVISION = (
     tuple(map(written, pool)) for pool in (pools.RESTRICTIONS, pools.GROUPS, pools.TRACK, pools.SUPERVISION))
@@ -161,28 +155,19 @@ WANTED = (
 )
 
 
-def lists():
-    numbers = Numbers(2026)
+def lists(seed):
+    numbers = Numbers(2026 + seed)
     for name, telegrams, count, length in KINDS:
         for number in range(count):
             yield Made(f"random {name} {number + 1}", numbers, telegrams, length)
 
 
-def main(words):
-    worked, heading, written = ROWS.read_text().partition(HEADING)
-    made = list(lists())
-    text = "".join("\n" + one.text() for one in made)
-    counted = sum((one.counted for one in made), Counter())
-    if words != ["--check"]:
-        ROWS.write_text(worked + HEADING + text)
-        return 0
-    print(f"the random lists are {'the same' if text == written else 'others'}")
-    print("of these came up: " + ", ".join(f"{name} {counted[name]}" for name in WANTED))
-    absent = [name for name in WANTED if not counted[name]]
-    if absent:
-        print("did not come up: " + ", ".join(absent))
-    return 0 if text == written and not absent else 1
-
-
-if __name__ == "__main__":
-    sys.exit(main(sys.argv[1:]))
+def made(seed):
+    """Returns the rows, and what they lack: with the seed 0 each mode, row of the mode table and cause to brake comes up."""
+    found = list(lists(seed))
+    counted = sum((one.counted for one in found), Counter())
+    print("of the random lists came up: " + ", ".join(f"{name} {counted[name]}" for name in WANTED))
+    faults = [f"in the random lists did not come up: {name}" for name in WANTED if not counted[name] and seed == 0]
+    if len(found) != LISTS:
+        faults.append(f"there are {len(found)} random lists in place of {LISTS}")
+    return HEADING + "".join("\n" + one.text() for one in found), faults

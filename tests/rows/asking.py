@@ -9,10 +9,14 @@ Each module `test_..` takes these words:
     test_disk.py --ask FOLDER     writes the questions into FOLDER alone, as cases of the program
     test_disk.py --told FOLDER    compares the answers that FOLDER has to these cases
 
+The rows are those of the folder that the variable ROWS names, which `tests/plain/make_rows.py` makes; without it, those
+by hand alone, which stand here.
+
 tests/rows.sh has all of them ask first, so that the program is compiled once (tests/rows/tried). A case is a file of
 questions, of which the program answers each on what those before it left. Since a case has bounds, a module's questions
 are split: a `Block` can be asked behind the one before, or begin a case behind questions that make what it needs.
 """
+import os
 import subprocess
 import sys
 import tempfile
@@ -23,8 +27,18 @@ HERE = Path(__file__).resolve().parent
 MOST = 512  # numbers that the program takes in a row (number_rows::MOST); it drops those behind them
 MOST_QUESTIONS = 8_000  # of a case, so that its answers stay below the 1 MiB that is taken of a run
 
+ROWS = Path(os.environ.get("ROWS") or HERE)
+
 Block = namedtuple("Block", "before questions")
 Case = namedtuple("Case", "name before questions")  # so many answers stand before those that are asked for
+
+
+def text_in(name):
+    """The text of a module's rows."""
+    try:
+        return (ROWS / f"{name}.row").read_text()
+    except FileNotFoundError:
+        raise SystemExit(f"{ROWS}/{name}.row isn't there: make all rows by tests/plain/make_rows.py FOLDER, and set ROWS to FOLDER") from None
 
 
 def rows_of(text):
@@ -155,7 +169,7 @@ def compare(name, rows, answers, answer_of):
 
 def main(name, question_of, answer_of):
     """Runs a file of rows. `question_of` makes numbers of a question, `answer_of` makes lines of a question and `Told`."""
-    rows = rows_of((HERE / f"{name}.row").read_text())
+    rows = rows_of(text_in(name))
     questions = [question_of(question) for _, question, _ in rows]
     return run(name, [Block([], questions)], lambda answers: compare(name, rows, answers, answer_of))
 
@@ -187,7 +201,7 @@ def compare_asked(name, rows, askings, questions, answers):
 def main_by_words(name, asked_by):
     """Runs a file of rows whose first words are functions: each takes the other words, yields its questions, is sent what they were told,
     and returns the lines."""
-    rows, askings = rows_of((HERE / f"{name}.row").read_text()), []
+    rows, askings = rows_of(text_in(name)), []
     for _, question, _ in rows:
         word, *others = ["" if it == "''" else it for it in question.split(" ")]
         askings.append(asked_by[word](others))

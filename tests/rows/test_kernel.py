@@ -14,7 +14,7 @@ refused memory, and each whose answer says nothing. What is asked and told, in n
 program/src/test_kernel.rt.txt; tests/plain/check_rows.py works out the wanted answers by the plain program."""
 import sys
 
-from asking import HERE, Block, run
+from asking import HERE, Block, run, text_in
 from kernel_words import NEW, answers, question
 
 sys.path.insert(0, str(HERE.parent / "plain"))
@@ -73,7 +73,7 @@ def compare(lists, answers):
 
 
 def main():
-    lists = rows.read((HERE / f"{NAME}.row").read_text())
+    lists = rows.read(text_in(NAME))
     return run(NAME, [Block([], list(questions(row))) for row in lists], lambda answers: compare(lists, answers))
 
 

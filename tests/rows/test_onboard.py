@@ -7,7 +7,7 @@ A row is one or several commands with `;` between them, which are done in turn. 
 in program/src/test_onboard.rt.txt."""
 import sys
 
-from asking import HERE, Block, run
+from asking import HERE, Block, run, text_in
 from onboard_words import answer, questions
 
 sys.path.insert(0, str(HERE.parent / "plain"))
@@ -110,7 +110,7 @@ def compare(rows, answers):
 
 
 def main():
-    rows = list(rows_of((HERE / f"{NAME}.row").read_text()))
+    rows = list(rows_of(text_in(NAME)))
     return run(NAME, blocks_of(rows), lambda answers: compare(rows, Answers(answers)))
 
 

@@ -12,10 +12,11 @@ ROWS = {
     "programs": "tests/programs",
     **{
         name: f"tests/rows/test_{name}.row"
-        for name in ("parts", "decode", "modes", "onboard", "blocks", "journal", "disk", "track")
+        for name in ("parts", "decode", "modes", "onboard", "journal", "disk", "track")
     },
+    "blocks": "tests/plain/blocks.py",  # makes these rows, each group under a comment
 }
-TITLE = re.compile(r"^(?:row |case |# )?(.*)$")
+TITLE = re.compile(r"^(?:row |case |# | *rows\.comment\(f?\")?(.*?)(?:\"\))?$")
 
 
 @dataclass

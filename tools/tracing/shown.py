@@ -130,7 +130,7 @@ def page(reader, gaps):
         counts(reader),
     )
     yield ""
-    by_hand = sum(1 for title, _ in reader.titles[""] if not title.startswith("random"))
+    by_hand = len(reader.titles[""])
     yield from table(
         ("Of all", "", "of a requirement"),
         (

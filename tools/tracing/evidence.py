@@ -7,16 +7,18 @@ from gaknifur import cases, coverage
 from gaknifur.located import documents
 from tracing.sources import Place
 
+# Where rows stand, or the sentences under which a script makes them.
 ROWS = {
-    "": "tests/rows/test_kernel.row",
-    "programs": "tests/programs",
+    "": ["tests/rows/test_kernel.row"],
+    "programs": ["tests/programs"],
     **{
-        name: f"tests/rows/test_{name}.row"
-        for name in ("parts", "decode", "modes", "onboard", "journal", "disk", "track")
+        name: [f"tests/rows/test_{name}.row"]
+        for name in ("parts", "decode", "modes", "journal", "disk", "track")
     },
-    "blocks": "tests/plain/blocks.py",  # makes these rows, each group under a comment
+    "onboard": ["tests/rows/test_onboard.row", "tests/plain/onboard_lives.py"],
+    "blocks": ["tests/plain/blocks.py"],
 }
-TITLE = re.compile(r"^(?:row |case |# | *rows\.comment\(f?\")?(.*?)(?:\"\))?$")
+TITLE = re.compile(r"^(?:row |case |# | *rows\.comment\(f?\"| *made\.say\(\"# )?(.*?)(?:\"\))?$")
 
 
 @dataclass
@@ -33,8 +35,12 @@ class TestCase:
 def titles():
     """Of each file of rows its lines, without what marks a title, and where each stands."""
     found = {}
-    for prefix, path in ROWS.items():
-        files = sorted(Path(path).glob("*.row")) if Path(path).is_dir() else [Path(path)]
+    for prefix, paths in ROWS.items():
+        files = [
+            file
+            for path in map(Path, paths)
+            for file in (sorted(path.glob("*.row")) if path.is_dir() else [path])
+        ]
         found[prefix] = [
             (TITLE.match(line)[1], Place(str(file), number))
             for file in files

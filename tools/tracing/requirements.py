@@ -124,7 +124,7 @@ class Reader:
                 self.fault(
                     one,
                     f'there is no row "{one.text()}" in '
-                    f"{evidence.ROWS.get(one.text().partition(': ')[0], evidence.ROWS[''])}"
+                    f"{' and '.join(evidence.ROWS.get(one.text().partition(': ')[0], evidence.ROWS['']))}"
                     ": name the one that shows it now",
                 )
             else:

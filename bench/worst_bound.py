@@ -1,9 +1,9 @@
 #!/usr/bin/env python3
 """What docs/PERFORMANCE.md argues that a call takes at most, beside what was counted: of each kept scenario (bench/worst.scenarios), each row of the
-doubling and of the stairs, and each crowd of gradients. WHAT, COUNTED, BOUND, and the numbers that the bound goes by, a line each, tab between. It
+doubling and of the stairs, each crowd of gradients, and each reading that takes the forgetting mark past such a crowd. WHAT, COUNTED, BOUND, and the numbers that the bound goes by, a line each, tab between. It
 ends with status 1 where more was counted.
 
-    bench/worst_bound.py [kept] [grown] [stairs] [anew] [crowds]     all of them, or some
+    bench/worst_bound.py [kept] [grown] [stairs] [anew] [crowds] [forgotten]     all of them, or some
 
 What lies ahead is told by the plain program of tests/plain, which lives each scenario. `bench/worst.sh --build` builds what counts.
 """
@@ -15,13 +15,14 @@ sys.dont_write_bytecode = True
 sys.path[:0] = [str(TOP / "bench"), str(TOP / "tests" / "plain")]
 import life as lives  # noqa: E402
 from mixed import in_plain_words  # noqa: E402
-from worst_search import ANEW, CROWDS, GROWN, STAIRS, TWICE, anew, backwards, counted, crowded, kept, stairs, text_of  # noqa: E402
+from worst_search import ANEW, CROWDS, FORGOTTEN, GROWN, STAIRS, TWICE, anew, backwards, counted, crowded, forgetting, kept, stairs, text_of  # noqa: E402
 
 CALL = 10_000  # what a call takes that goes along nothing
 PIECE, SUMS = 44, 2  # of a sum for each gradient, and how many sums there are
 BACK, WALKS = 80, 2  # of a way back for each gradient before the brakes act, and how often each is passed, beside once for each target
 TARGET = 800  # for each restriction, mode area and static speed, and for both last targets: it lowers the speed
 TURNS, TURN = 20, 40  # with a reaction time: how often a lowering halves, and what each time takes
+MOVED = 9  # for each gradient and static speed that is left, where the forgetting mark passes one
 KNOWN = 5  # of a start for each gradient and static speed: whether it is known
 lives.output_of = lambda life: None  # (no output is asked for, and each takes a second)
 
@@ -47,10 +48,18 @@ def passed(starts, front, way, targets):
     return WALKS * there + targets
 
 
+def pieces_of(life):
+    """How many gradients and static speeds are known, from the forgetting mark on."""
+    it = life.situation()
+    return len(starts_of(it.gradients)) + len(starts_of(it.speeds))
+
+
 def bound_of(lines, is_start):
     """The bound of the last of these lines, and the numbers that it goes by: gradients, targets, and gradients that are passed on the way back."""
-    life = lives.Life()
-    for word, value in in_plain_words([line for line in lines if not line.startswith(("cold", "flush"))]):
+    life, pieces = lives.Life(), 0
+    words = list(in_plain_words([line for line in lines if not line.startswith(("cold", "flush"))]))
+    for at, (word, value) in enumerate(words, 1):
+        pieces = pieces_of(life) if at == len(words) and life.mode() else pieces
         life.take(word, value)
     it = life.situation()
     if life.mode() not in ("FS", "OS") or not it.train:
@@ -62,7 +71,8 @@ def bound_of(lines, is_start):
     targets = len(it.restrictions) + len(it.areas) + statics + 2
     way = -(-it.limit() * it.train.reaction_ms // 36_000)
     back = passed(starts, front, way, targets) if way else 0
-    most = CALL + PIECE * SUMS * gradients + BACK * back + targets * (TARGET + (TURNS * TURN if way else 0))
+    left = pieces_of(life)
+    most = CALL + (MOVED * left if pieces > left else 0) + PIECE * SUMS * gradients + BACK * back + targets * (TARGET + (TURNS * TURN if way else 0))
     return most + (KNOWN * (gradients + statics) if is_start else 0), (gradients, targets, back)
 
 
@@ -85,13 +95,18 @@ def told(words):
         for crowd in CROWDS:
             yield f"reading: a crowd of {crowd['grades']} gradients, {crowd['reaction'] / 1000:g} s", [text_of(line) for line in crowded(**crowd)]
         yield f"reading: {TWICE['grades']} gradients, two sums and two ways back, {TWICE['reaction'] / 1000:g} s", [text_of(line) for line in crowded(**TWICE)]
+    if "forgotten" in words:
+        for grades in FORGOTTEN:
+            lines = [text_of(line) for line in forgetting(grades)]
+            for more in range(4):  # one of the last readings takes the mark past them
+                yield f"reading: {grades} gradients are forgotten, {more + 1} of the last readings", lines[:len(lines) - 3 + more]
     if "anew" in words:
         for grades, reaction in ANEW:
             yield f"reading: {grades} gradients, each sum anew, {reaction / 1000:g} s", [text_of(line) for line in anew(grades, reaction)]
 
 
 def main(words):
-    cases = list(told(words or ["kept", "grown", "stairs", "anew", "crowds"]))
+    cases = list(told(words or ["kept", "grown", "stairs", "anew", "crowds", "forgotten"]))
     took = counted([(4, [*lines[:-1], "count", lines[-1]]) for _, lines in cases])
     broken = 0
     for at, (what, lines) in enumerate(cases, 1):

@@ -691,6 +691,13 @@ def crowded(grades, statics, restricted, end, location, deceleration=300, reacti
     return [*lines, "action 7", "odometer 0 50000"]
 
 
+def forgetting(grades, metres=100):
+    """Full Supervision on a track with so many gradients, one every 10 cm, and readings of so many metres. One of the last of them takes the mark
+    before which track is forgotten, a kilometre behind the train, past all of these gradients."""
+    *lines, action, _ = crowded(grades, [], [], 32_000, 32_001, reaction=0)
+    return [*lines, action, *[f"odometer {100 * metres} 50000"] * (1_400 // metres)]
+
+
 def heard_in(lines):
     return [line for line in lines if not isinstance(line, str)]
 
@@ -760,6 +767,7 @@ STAIRS = [(grades, reaction, near_end, many) for near_end in (False, True) for r
 STOPS = {"statics": [(16_263, 1), (16_264, 127)], "restricted": [(5_381, 0), (2_046, 0)], "end": 875, "location": 875}
 CROWDS = [{"grades": grades, **STOPS, "reaction": reaction} for grades, reaction in ((172, 10_000), (345, 10_000), (690, 10_000), (690, 5_000), (690, 1_000))]
 ANEW = ((345, 0), (690, 0), (690, 1_000), (690, 10_000))
+FORGOTTEN = (345, 690, 1_380)
 # 690 gradients that two sums go along, and both ways back from the speed that holds: what took most of 7,000 at random and by small steps.
 TWICE = {"grades": 690, "statics": [(4_374, 23), (4_375, 127)], "restricted": [(4_983, 0), (4_331, 40)], "end": 1_885, "location": 1_886,
          "deceleration": 50, "reaction": 6_226, "first": 1_133, "steep": 22, "beyond": 92}

@@ -11,6 +11,7 @@ import fcntl
 import json
 import os
 import pty
+import signal
 import socket
 import subprocess
 import sys
@@ -160,6 +161,23 @@ def compare_files(program, etcs, room, compared):
             words = [*words, str(room / path), *(["16"] if words == ["format"] else [])]
             compared.same(f"etcs {words}", run(etcs, words), ("device\n", "", 3))
     compared.same("the FIFO after all", (room / "fifo").is_fifo(), True)
+
+
+def compare_cut_off(program, room, compared):
+    """A file that ends earlier while it is read: no digest of another file is printed. It is stopped in the middle of its reading."""
+    path = room / "cut off"
+    with open(path, "wb") as out:
+        out.write(first_sector(65_536))
+        out.truncate(SECTOR * (1 + 6 * 65_536))
+    with subprocess.Popen([program, "examine", str(path)], stdout=subprocess.PIPE, stderr=subprocess.PIPE, text=True) as process:
+        while int(Path(f"/proc/{process.pid}/io").read_text().split()[1]) < 2**20:
+            time.sleep(0.001)
+        process.send_signal(signal.SIGSTOP)
+        os.truncate(path, 2**20)
+        process.send_signal(signal.SIGCONT)
+        printed, said = process.communicate()
+    compared.same("a file that is cut off while it is read", (printed, said, process.returncode), ("", f"etcs_lab: {path}: can't be read\n", 3))
+    path.unlink()
 
 
 def compare_given(program, etcs, room, compared):
@@ -320,6 +338,7 @@ def main(words):
         compare_images(program, Path(room), compared)
         compare_words(program, Path(room), compared)
         compare_files(program, others[0] if others else None, Path(room), compared)
+        compare_cut_off(program, Path(room), compared)
         compare_swapped(program, Path(room), compared)
         compare_huge(program, Path(room), compared)
         if others:

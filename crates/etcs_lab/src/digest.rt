@@ -62,7 +62,8 @@ fn digits_of(digest: &[u8; 32]) -> [u8; 64] {
 }
 
 /// What is told of a file as a whole. That it isn't formatted, where no number of slots is given, is said before all of
-/// it is read; and of such a file that has more bytes than any image no digest is taken. The error is that of a read.
+/// it is read; and of such a file that has more bytes than any image no digest is taken. The error is that of a read, or of
+/// a file that gives more or fewer bytes than it has: a digest of those would be of another file.
 pub(crate) fn facts_of<R: Eprint, F: RawFile>(
     rt: &R,
     file: &F,
@@ -83,6 +84,9 @@ pub(crate) fn facts_of<R: Eprint, F: RawFile>(
         });
     }
     let (bytes, digest) = taken(rt, file, Progress::of(length, is_watched))?;
+    if bytes != length {
+        return Err(DiskFault);
+    }
     Ok(FileFacts {
         bytes,
         digest: Some(digest),

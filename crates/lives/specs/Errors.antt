@@ -1,7 +1,11 @@
 -- Why a walk over an image did not come to its end (this project's profile).
 use Rattle.std.specs.Prelude.{◌≡◌, ◌≢◌, ◌⊎◌, ℕ, ◌+◌, ◌*◌, List, Bool, true, false, Result, Ok, Err, Some, None}
+use Rattle.std.specs.declared.io.ErrorKind.{ErrorKind}
+use Rattle.std.specs.declared.io.ErrorKind.TheVariants.{OutOfMemory}
 use Rattle.blocks.specs.FirstSector.{slots_told}
 use Rattle.ring.specs.Slots.{IsFormatted}
+use Rattle.lives.specs.declared.errors.LateError.{LateError}
+use Rattle.lives.specs.declared.errors.LateError.TheVariants as a_late
 use Rattle.lives.specs.declared.errors.WalkError.{WalkError}
 use Rattle.lives.specs.declared.errors.WalkError.TheVariants as an_error
 
@@ -34,3 +38,8 @@ IsLate _ = Unit {0}
 -- why a walk stopped: for the first sector, or later, on an image
 abbrev pub IsCause : ℕ → List ℕ → WalkError → Type 0
 IsCause sectors first e = IsRefusal sectors first e ⊎ (IsLate e × IsImageOf sectors first)
+
+-- what an error of the writer is to a visitor
+abbrev pub writing_stopped : ErrorKind → LateError
+writing_stopped OutOfMemory = a_late.NoMemory
+writing_stopped _ = a_late.Write

@@ -1,6 +1,7 @@
 //! Errors.
 ghost use Rattle.std.specs.Prelude.{◌≡◌, false};
-ghost use Rattle.lives.specs.Errors.{is_device, IsLate};
+ghost use Rattle.std.specs.IoError.{error_kind};
+ghost use Rattle.lives.specs.Errors.{is_device, writing_stopped, IsLate};
 
 use std::io;
 use std::io::ErrorKind;
@@ -30,6 +31,8 @@ pub enum LateError {
 }
 
 impl From<io::Error> for LateError {
+    ghost from_gives = { λ error late. late ≡ writing_stopped (error_kind error) };
+
     fn from(error: io::Error) -> LateError {
         match error.kind() {
             ErrorKind::OutOfMemory => LateError::NoMemory,

@@ -26,3 +26,9 @@ FaultOf bytes fault =
 -- Of each step of the scenario, how many steps its life has up to the end of it.
 abbrev pub TellsEnds : List ℕ → List ℕ → Type 0
 TellsEnds bytes ends = (d : Data) × IsReading bytes d × (ends_in d ≡ Ok ends)
+
+-- Why they tell none: they are no JSON value, or their value has this first fault among its groups and steps.
+abbrev pub EndsFault : List ℕ → ScenarioFault → Type 0
+EndsFault bytes fault =
+    ((fault ≡ NotJson) × ((d : Data) → ¬ IsReading bytes d))
+    ⊎ ((d : Data) × IsReading bytes d × (ends_in d ≡ Err fault))

@@ -1,7 +1,7 @@
 use Rattle.std.proofs.Common.{arith, map, refl}
 use Rattle.std.proofs.lemmas.Grind.{common_steps}
 use Rattle.std.proofs.lemmas.List.{length-map}
-use Rattle.image_calls.proofs.Places.{one_placed}
+use Rattle.c_numbers.proofs.Places.{one_placed}
 use Rattle.unit_start.specs.Releases.{nothing_released}
 use Rattle.unit_calls.specs.Outputs.{told_of}
 use Rattle.unit_calls.proofs.outputs.hand_out.Goals as goal

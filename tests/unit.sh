@@ -185,6 +185,7 @@ gcc -std=gnu11 -O2 -fPIC -shared "$top/tests/hostile/refuse.c" -o "$made/refuse.
 # ---- a life longer than the ring, whose blocks are kept
 
 "$python" "$top/tests/unit/kept.py" "$lab" "$made"/kept.gcc "$made"/kept.checked "$made"/kept.cpp || status=1
+"$python" "$top/tests/unit/kept_cuts.py" "$made/kept.gcc" || status=1
 
 # ---- lives beside the program
 

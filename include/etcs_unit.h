@@ -10,7 +10,7 @@
  * gets outputs:
  *
  *     etcs_unit unit = {0};
- *     etcs_unit_output outputs[ETCS_UNIT_OUTPUTS];
+ *     etcs_unit_output outputs[ETCS_UNIT_OUTPUTS], command = {0};
  *     uint32_t count;
  *
  *     if (etcs_unit_open(&unit, image, size, ETCS_COLD_UNKNOWN) != ETCS_UNIT_OK || !carry_out(&unit)
@@ -21,12 +21,12 @@
  *     for (;;) {
  *         if (etcs_unit_odometer(&unit, movement_cm(), speed_m_per_h()) != ETCS_UNIT_OK
  *             || etcs_unit_prepare(&unit) != ETCS_UNIT_OK || !carry_out(&unit)
- *             || etcs_unit_release(&unit, outputs, ETCS_UNIT_OUTPUTS, &count) != ETCS_UNIT_OK) {
+ *             || etcs_unit_release(&unit, outputs, ETCS_UNIT_OUTPUTS, &count) != ETCS_UNIT_OK
+ *             || etcs_unit_command(outputs, count, &command) != ETCS_UNIT_OK) {
  *             brake();
  *             break;
  *         }
- *         for (uint32_t i = 0; i < count; i++)
- *             obey(&outputs[i]);
+ *         obey(&command);
  *     }
  *     etcs_unit_close(&unit);
  *
@@ -705,6 +705,29 @@ static inline uint32_t etcs_unit_release(etcs_unit *unit, etcs_unit_output *outp
         status = etcs_unit_release_(unit, outputs, room, &released);
         if (status == (uint32_t)ETCS_UNIT_OK) {
             *count = released;
+        }
+    }
+    return status;
+}
+
+/** Merges the outputs of one release into what the equipment obeys until the next one: the newest output, with the most
+ * restrictive brake of them all (docs/INTEGRATION.md, 12). Call it after each release, with what that wrote. Answers OK, or
+ * OUT_OF_RANGE where `count` is above ETCS_UNIT_OUTPUTS or a brake is none of enum etcs_brake; then, and where `count` is 0,
+ * `command` stays as it was. */
+static inline uint32_t etcs_unit_command(const etcs_unit_output *outputs, uint32_t count, etcs_unit_output *command) {
+    uint32_t status = (uint32_t)ETCS_UNIT_NULL_POINTER;
+    if ((outputs != NULL) && (command != NULL)) {
+        uint8_t brake = (uint8_t)ETCS_BRAKE_NONE;
+        status = (count <= (uint32_t)ETCS_UNIT_OUTPUTS) ? (uint32_t)ETCS_UNIT_OK : (uint32_t)ETCS_UNIT_OUT_OF_RANGE;
+        for (uint32_t i = 0; (status == (uint32_t)ETCS_UNIT_OK) && (i < count); i++) {
+            brake = (outputs[i].brake > brake) ? outputs[i].brake : brake;
+        }
+        if (brake > (uint8_t)ETCS_BRAKE_EMERGENCY) {
+            status = (uint32_t)ETCS_UNIT_OUT_OF_RANGE;
+        }
+        if ((status == (uint32_t)ETCS_UNIT_OK) && (count > 0u)) {
+            *command = outputs[count - 1u];
+            command->brake = brake;
         }
     }
     return status;

@@ -79,11 +79,9 @@ static void flush(void) {
         fail(our.file.status != ETCS_UNIT_OK ? our.file.status : (uint32_t)ETCS_UNIT_FAILED);
         return;
     }
-    for (uint32_t i = 0; i < count; i++) {
-        const uint8_t brake = i > 0 && our.command.brake > outputs[i].brake ? our.command.brake : outputs[i].brake;
-        our.command = outputs[i];
-        our.command.brake = our.fault != ETCS_UNIT_OK ? (uint8_t)ETCS_BRAKE_EMERGENCY : brake;
-    }
+    (void)did(etcs_unit_command(outputs, count, &our.command));
+    if (our.fault != ETCS_UNIT_OK)
+        our.command.brake = ETCS_BRAKE_EMERGENCY;
 }
 
 /* The cyclic task: the train stands, and the driver enters his identity in the third cycle. */

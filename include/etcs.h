@@ -27,6 +27,15 @@
 extern "C" {
 #endif
 
+/** Before a call whose answer may mean the brake: a compiler warns where a program drops it. */
+#if (defined(__cplusplus) && (__cplusplus >= 201703L)) || (defined(__STDC_VERSION__) && (__STDC_VERSION__ >= 202311L))
+#define ETCS_MUST_USE [[nodiscard]]
+#elif defined(__GNUC__)
+#define ETCS_MUST_USE __attribute__((__warn_unused_result__))
+#else
+#define ETCS_MUST_USE
+#endif
+
 /** The bytes of a telegram, at most. */
 #define ETCS_TELEGRAM_BYTES 104
 
@@ -47,6 +56,7 @@ enum etcs_fault {
 
 /** Whether the bytes carry a telegram (SUBSET-026, 8.4.2): ETCS_OK, or the number of the fault (enum etcs_fault).
  * The bits of each byte count from its highest one. What follows the end mark is free. */
+ETCS_MUST_USE
 uint32_t etcs_decode(const uint8_t *bytes, size_t len);
 
 /** How many packets stand before the end mark, from 0 to 33. It is 0 where the bytes carry no telegram, and also

@@ -361,6 +361,7 @@ static inline uint32_t etcs_file_is_open_(etcs_file *file) {
  * and both stay so. Where it answers something else than OK, the file isn't open and as it was, and the unit is as
  * before. It takes memory for the bytes of the file while it runs; of a file whose first sector isn't that of a journal
  * of its size it reads no more than that. */
+ETCS_MUST_USE
 static inline uint32_t etcs_file_open(etcs_file *file, const char *path, etcs_unit *unit, uint32_t cold) {
     etcs_unit_state_told state;
     if (etcs_file_at_(file) >= 0 || etcs_unit_state(unit, &state) == ETCS_UNIT_OK)
@@ -373,6 +374,7 @@ static inline uint32_t etcs_file_open(etcs_file *file, const char *path, etcs_un
 
 /** The same with no copy of the file: it reads the sectors alone that the power-up wants, one after the other, and takes no
  * memory for others. */
+ETCS_MUST_USE
 static inline uint32_t etcs_file_open_by_sectors(etcs_file *file, const char *path, etcs_unit *unit, uint32_t cold) {
     etcs_unit_state_told state;
     if (etcs_file_at_(file) >= 0 || etcs_unit_state(unit, &state) == ETCS_UNIT_OK)
@@ -385,6 +387,7 @@ static inline uint32_t etcs_file_open_by_sectors(etcs_file *file, const char *pa
 
 /** Prepares what is pending. Where the unit holds no copy of the file it reads the sector that the unit wants for it, and where
  * that fails it says so to the unit (etcs_unit_fail). */
+ETCS_MUST_USE
 static inline uint32_t etcs_file_prepare(etcs_file *file, etcs_unit *unit) {
     uint32_t answer = etcs_file_told_(file, etcs_unit_prepare(unit));
     while (file->status == ETCS_UNIT_SECTOR_WANTED) {
@@ -400,6 +403,7 @@ static inline uint32_t etcs_file_prepare(etcs_file *file, etcs_unit *unit) {
 
 /** Carries out the unit's requests that aren't done, one after the other, and says of each that it is done. Where the
  * file fails it says so to the unit (etcs_unit_fail), so that nothing is released any more. */
+ETCS_MUST_USE
 static inline uint32_t etcs_file_carry_out(etcs_file *file, etcs_unit *unit) {
     uint8_t bytes[ETCS_UNIT_REQUEST_BYTES];
     etcs_unit_request_told request;
@@ -431,6 +435,7 @@ static inline uint32_t etcs_file_release_(etcs_file *file, etcs_unit *unit, etcs
  * ETCS_UNIT_OUTPUTS. Behind etcs_file_open it carries out the power-up too. Where requests of an earlier
  * etcs_unit_prepare are owed that hold outputs back, it releases those alone, and what is pending waits for the next
  * flush. Where it answers something else than OK, `count` is 0. */
+ETCS_MUST_USE
 static inline uint32_t etcs_file_flush(etcs_file *file, etcs_unit *unit, etcs_unit_output *outputs, uint32_t *count) {
     *count = 0;
     uint32_t answer = etcs_file_prepare(file, unit);
@@ -454,6 +459,7 @@ static inline uint32_t etcs_file_close(etcs_file *file, etcs_unit *unit) {
 /** Makes the file, or empties the one that is there, and makes it an empty journal of so many slots, as `etcs format`
  * does. What is there is locked before it is emptied, and its folder is synced, so that the name of a new file
  * survives a loss of power. The file isn't open behind it. One that is open already stays so: UNIT (IS_OPEN). */
+ETCS_MUST_USE
 static inline uint32_t etcs_file_format(etcs_file *file, const char *path, uint32_t slots) {
     if (etcs_file_at_(file) >= 0)
         return etcs_file_is_open_(file);

@@ -67,6 +67,7 @@ ETCS_UNIT_ASSERT(sizeof(etcs_memory_told) == 40u && offsetof(etcs_memory_told, m
 /** From now on memory comes from this buffer, which may lie anywhere. Answers OK; OUT_OF_RANGE where it has fewer bytes
  * than ETCS_MEMORY_LEAST or more than ETCS_MEMORY_MOST; IS_OPEN where a piece of the one before is out (a unit is open);
  * NULL_POINTER. But for OK nothing changes. Before the first one every request is refused. */
+ETCS_MUST_USE
 uint32_t etcs_memory_use(void *buffer, uint64_t size);
 
 /** Tells what is used. Answers OK; NOT_OPEN where no buffer is used; NULL_POINTER. */

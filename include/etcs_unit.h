@@ -54,7 +54,8 @@
  * handed in by etcs_unit_provide, and etcs_unit_prepare is called again. All else is as over a copy.
  *
  * ANY ANSWER BUT ETCS_UNIT_OK MEANS THE EMERGENCY BRAKE, unless it is a mistake that is put right before the next output is
- * due: etcs_status_kind parts what an answer may be. An output reaches the train from etcs_unit_release alone.
+ * due: etcs_status_kind parts what an answer may be. A compiler warns where such an answer is dropped (ETCS_MUST_USE); gcc
+ * does so behind a cast to void too. An output reaches the train from etcs_unit_release alone.
  *
  * Every call returns, whatever numbers it is handed, and answers a number of enum etcs_unit_status. A null pointer is
  * answered with ETCS_UNIT_NULL_POINTER. What no call can test, the caller owes:
@@ -547,6 +548,7 @@ static inline const char *etcs_status_text(uint32_t status) {
  * number, train data or an action from the driver, all else from the equipment. Out of range is a mistake of the driver,
  * and a fault of a sensor, the clock or a reader of balises. A mistake of the program, such as PENDING_FULL, is one as long
  * as it is put right at once; a reading that is never handed in is as good as a sensor that failed. */
+ETCS_MUST_USE
 static inline uint32_t etcs_status_kind(uint32_t status, uint32_t source) {
     uint32_t kind = (uint32_t)ETCS_KIND_FAULT;
     switch (status) {
@@ -579,6 +581,7 @@ static inline uint32_t etcs_status_kind(uint32_t status, uint32_t source) {
  * the power-up are in the list, and no output is held back: carry them out, say that they are done, and release.
  * Answers OK, IS_OPEN, OTHER_ABI, OUT_OF_RANGE (the word), or one of the statuses of opening; then the unit is as
  * before. Takes memory: the copy, some 9 kB of room for requests, and the unit. */
+ETCS_MUST_USE
 static inline uint32_t etcs_unit_open(etcs_unit *unit, const uint8_t *image, size_t len, uint32_t cold) {
     return ((unit != NULL) && (image != NULL)) ? etcs_unit_open_(unit, image, len, cold, ETCS_UNIT_ABI) : (uint32_t)ETCS_UNIT_NULL_POINTER;
 }
@@ -589,6 +592,7 @@ static inline uint32_t etcs_unit_open(etcs_unit *unit, const uint8_t *image, siz
 
 /** Begins a power-up on a medium of so many sectors, of which none is known yet. Answers OK, IS_OPEN, OTHER_ABI,
  * OUT_OF_RANGE (the word) or OPEN_NO_MEMORY; but for OK nothing changed. */
+ETCS_MUST_USE
 static inline uint32_t etcs_opening_begin(etcs_opening *opening, uint64_t sectors, uint32_t cold) {
     return (opening != NULL) ? etcs_opening_begin_(opening, sectors, cold, ETCS_UNIT_ABI) : (uint32_t)ETCS_UNIT_NULL_POINTER;
 }
@@ -597,18 +601,21 @@ static inline uint32_t etcs_opening_begin(etcs_opening *opening, uint64_t sector
  * requests of the power-up in the list. SECTOR_WANTED: hand in the sector that etcs_opening_wanted tells, and call again.
  * A status of opening: the opening is closed, no unit is open, and the medium is to be left as it is. IS_OPEN, where the unit
  * is open already, and NOT_OPEN, where no opening is: nothing changed. */
+ETCS_MUST_USE
 static inline uint32_t etcs_opening_go_on(etcs_opening *opening, etcs_unit *unit) {
     return ((opening != NULL) && (unit != NULL)) ? etcs_opening_go_on_(opening, unit) : (uint32_t)ETCS_UNIT_NULL_POINTER;
 }
 
 /** Tells the sector that the opening wants, from 0 on, until it is handed in. Answers OK, NONE_WANTED or NOT_OPEN; but for OK
  * `sector` isn't written. */
+ETCS_MUST_USE
 static inline uint32_t etcs_opening_wanted(etcs_opening *opening, uint64_t *sector) {
     return ((opening != NULL) && (sector != NULL)) ? etcs_opening_wanted_(opening, sector) : (uint32_t)ETCS_UNIT_NULL_POINTER;
 }
 
 /** Hands in what the medium holds of a sector, ETCS_UNIT_SECTOR bytes. Answers OK, NOT_OPEN, or OUT_OF_RANGE where the medium
  * has no such sector or `size` is another; but for OK nothing changed. */
+ETCS_MUST_USE
 static inline uint32_t etcs_opening_provide(etcs_opening *opening, uint64_t sector, const uint8_t *bytes, size_t size) {
     return ((opening != NULL) && (bytes != NULL)) ? etcs_opening_provide_(opening, sector, bytes, size) : (uint32_t)ETCS_UNIT_NULL_POINTER;
 }
@@ -620,12 +627,14 @@ static inline uint32_t etcs_opening_close(etcs_opening *opening) {
 
 /** Tells the sector that the unit wants, from 0 on, until it is handed in: where etcs_unit_prepare answered SECTOR_WANTED.
  * Answers OK, NONE_WANTED or NOT_OPEN; but for OK `sector` isn't written. */
+ETCS_MUST_USE
 static inline uint32_t etcs_unit_wanted(etcs_unit *unit, uint64_t *sector) {
     return ((unit != NULL) && (sector != NULL)) ? etcs_unit_wanted_(unit, sector) : (uint32_t)ETCS_UNIT_NULL_POINTER;
 }
 
 /** Hands in what the medium holds of a sector, ETCS_UNIT_SECTOR bytes. Answers OK, NOT_OPEN, or OUT_OF_RANGE where the medium
  * has no such sector or `size` is another; but for OK nothing changed. */
+ETCS_MUST_USE
 static inline uint32_t etcs_unit_provide(etcs_unit *unit, uint64_t sector, const uint8_t *bytes, size_t size) {
     return ((unit != NULL) && (bytes != NULL)) ? etcs_unit_provide_(unit, sector, bytes, size) : (uint32_t)ETCS_UNIT_NULL_POINTER;
 }
@@ -634,37 +643,44 @@ static inline uint32_t etcs_unit_provide(etcs_unit *unit, uint64_t sector, const
  * OK, NOT_OPEN, OUT_OF_RANGE, or a status of taking an input, tested in this order; but for OK nothing changed. */
 
 /** The bytes that a balise sent, from 1 to ETCS_TELEGRAM_BYTES; they need not carry a telegram. */
+ETCS_MUST_USE
 static inline uint32_t etcs_unit_telegram(etcs_unit *unit, const uint8_t *bytes, size_t len) {
     return ((unit != NULL) && (bytes != NULL)) ? etcs_unit_telegram_(unit, bytes, len) : (uint32_t)ETCS_UNIT_NULL_POINTER;
 }
 
 /** A reading of the odometer: the movement since the last one, forward or backward, and the speed now, 0 only at
  * standstill. */
+ETCS_MUST_USE
 static inline uint32_t etcs_unit_odometer(etcs_unit *unit, int64_t movement_cm, uint32_t speed_m_per_h) {
     return (unit != NULL) ? etcs_unit_odometer_(unit, movement_cm, speed_m_per_h) : (uint32_t)ETCS_UNIT_NULL_POINTER;
 }
 
 /** A moment of this life. Moments don't fall. */
+ETCS_MUST_USE
 static inline uint32_t etcs_unit_clock(etcs_unit *unit, uint64_t moment_ms) {
     return (unit != NULL) ? etcs_unit_clock_(unit, moment_ms) : (uint32_t)ETCS_UNIT_NULL_POINTER;
 }
 
 /** An action of the driver (enum etcs_action). */
+ETCS_MUST_USE
 static inline uint32_t etcs_unit_action(etcs_unit *unit, uint32_t action) {
     return (unit != NULL) ? etcs_unit_action_(unit, action) : (uint32_t)ETCS_UNIT_NULL_POINTER;
 }
 
 /** The driver enters an identity, of 1 to 16 bytes. */
+ETCS_MUST_USE
 static inline uint32_t etcs_unit_identity(etcs_unit *unit, const uint8_t *bytes, size_t len) {
     return ((unit != NULL) && (bytes != NULL)) ? etcs_unit_identity_(unit, bytes, len) : (uint32_t)ETCS_UNIT_NULL_POINTER;
 }
 
 /** The driver enters the running number. */
+ETCS_MUST_USE
 static inline uint32_t etcs_unit_running_number(etcs_unit *unit, uint32_t number) {
     return (unit != NULL) ? etcs_unit_running_number_(unit, number) : (uint32_t)ETCS_UNIT_NULL_POINTER;
 }
 
 /** The driver enters train data. */
+ETCS_MUST_USE
 static inline uint32_t etcs_unit_train_data(etcs_unit *unit, const etcs_train_data *data) {
     return ((unit != NULL) && (data != NULL)) ? etcs_unit_train_data_(unit, data) : (uint32_t)ETCS_UNIT_NULL_POINTER;
 }
@@ -674,17 +690,20 @@ static inline uint32_t etcs_unit_train_data(etcs_unit *unit, const etcs_train_da
 /** Puts what is pending into requests: they are then in the list, and its outputs held back. Where nothing is pending the list
  * stays empty. Answers OK, NOT_OPEN, or a status of preparing; SECTOR_WANTED only where the unit holds no copy of its
  * medium: hand in the sector that etcs_unit_wanted tells, and call again. */
+ETCS_MUST_USE
 static inline uint32_t etcs_unit_prepare(etcs_unit *unit) {
     return (unit != NULL) ? etcs_unit_prepare_(unit) : (uint32_t)ETCS_UNIT_NULL_POINTER;
 }
 
 /** Tells a request of the list, from 0 on, and the bytes that it writes. Answers OK, NOT_OPEN, NO_SUCH_REQUEST, or NO_ROOM
  * where it writes more than `room` bytes; but for OK nothing is written. ETCS_UNIT_REQUEST_BYTES are always enough. */
+ETCS_MUST_USE
 static inline uint32_t etcs_unit_request(etcs_unit *unit, uint32_t index, etcs_unit_request_told *request, uint8_t *bytes, size_t room) {
     return ((unit != NULL) && (request != NULL) && (bytes != NULL)) ? etcs_unit_request_(unit, index, request, bytes, room) : (uint32_t)ETCS_UNIT_NULL_POINTER;
 }
 
 /** Says that so many requests, from the first on, are done. Answers OK, NOT_OPEN or WRONG_COUNT. */
+ETCS_MUST_USE
 static inline uint32_t etcs_unit_done(etcs_unit *unit, uint32_t count) {
     return (unit != NULL) ? etcs_unit_done_(unit, count) : (uint32_t)ETCS_UNIT_NULL_POINTER;
 }
@@ -698,6 +717,7 @@ static inline uint32_t etcs_unit_fail(etcs_unit *unit) {
 /** Releases what was held back, all of it, into room for ETCS_UNIT_OUTPUTS, and empties the list; `count` says how many
  * there are, the oldest first. Answers OK, NOT_OPEN, NO_ROOM (fewer than ETCS_UNIT_OUTPUTS), FAILED, or REQUESTS_OWED
  * where not all requests are done; but for OK nothing changes, and neither an output nor `count` is written. */
+ETCS_MUST_USE
 static inline uint32_t etcs_unit_release(etcs_unit *unit, etcs_unit_output *outputs, size_t room, uint32_t *count) {
     uint32_t released = 0;
     uint32_t status = (uint32_t)ETCS_UNIT_NULL_POINTER;
@@ -714,6 +734,7 @@ static inline uint32_t etcs_unit_release(etcs_unit *unit, etcs_unit_output *outp
  * restrictive brake of them all (docs/INTEGRATION.md, 12). Call it after each release, with what that wrote. Answers OK, or
  * OUT_OF_RANGE where `count` is above ETCS_UNIT_OUTPUTS or a brake is none of enum etcs_brake; then, and where `count` is 0,
  * `command` stays as it was. */
+ETCS_MUST_USE
 static inline uint32_t etcs_unit_command(const etcs_unit_output *outputs, uint32_t count, etcs_unit_output *command) {
     uint32_t status = (uint32_t)ETCS_UNIT_NULL_POINTER;
     if ((outputs != NULL) && (command != NULL)) {
@@ -755,6 +776,7 @@ static inline uint32_t etcs_unit_close(etcs_unit *unit) {
 
 /** Tells what is to be done, from 0 on, to make a medium of 1 + 6 * slots sectors an empty journal. It needs no unit.
  * Answers OK, BAD_SLOTS, NO_SUCH_REQUEST behind the last one, or NO_ROOM (fewer than ETCS_UNIT_SECTOR bytes). */
+ETCS_MUST_USE
 static inline uint32_t etcs_unit_format_request(uint32_t slots, uint32_t index, etcs_unit_request_told *request, uint8_t *bytes, size_t room) {
     return ((request != NULL) && (bytes != NULL)) ? etcs_unit_format_request_(slots, index, request, bytes, room) : (uint32_t)ETCS_UNIT_NULL_POINTER;
 }
@@ -767,6 +789,7 @@ static inline uint32_t etcs_unit_format_request(uint32_t slots, uint32_t index, 
  * only where the packet fits one of its two possible layouts and not the other (docs/PACKETS.md). `told` says what came of it, and
  * where the packet stands in the telegram that was sent; that one is what the track said, and the journal holds the other:
  * keep it outside. Answers OK, or NO_ROOM where `room` is below ETCS_TELEGRAM_BYTES; then nothing is written. */
+ETCS_MUST_USE
 static inline uint32_t etcs_telegram_adapt(const uint8_t *bytes, size_t len, uint8_t *out, size_t room, etcs_adapted *told) {
     return ((bytes != NULL) && (out != NULL) && (told != NULL)) ? etcs_telegram_adapt_(bytes, len, out, room, told) : (uint32_t)ETCS_UNIT_NULL_POINTER;
 }
@@ -774,6 +797,7 @@ static inline uint32_t etcs_telegram_adapt(const uint8_t *bytes, size_t len, uin
 /** Tells the values that etcs_telegram_adapt leaves out of a telegram, from 0 on in the order of its packet 3: `bytes` is what
  * the track sent. Answers OK, or END behind the last one, and where etcs_telegram_adapt writes nothing; then nothing is
  * written. */
+ETCS_MUST_USE
 static inline uint32_t etcs_telegram_dropped(const uint8_t *bytes, size_t len, uint32_t index, etcs_value_dropped *told) {
     return ((bytes != NULL) && (told != NULL)) ? etcs_telegram_dropped_(bytes, len, index, told) : (uint32_t)ETCS_UNIT_NULL_POINTER;
 }
@@ -800,6 +824,7 @@ static inline const char *etcs_dropped_text(uint32_t variable) {
  * track sends and the unit doesn't obey, as a packet 132, 135 or 137, by the bits of the telegram. The packets that aren't
  * told are those that the unit uses. Answers OK, END behind the last one, or OUT_OF_RANGE where no mode or direction has the
  * number; but for OK nothing is written. */
+ETCS_MUST_USE
 static inline uint32_t etcs_telegram_unused(const uint8_t *bytes, size_t len, uint32_t mode, uint32_t direction, uint32_t index, etcs_packet_unused *told) {
     return ((bytes != NULL) && (told != NULL)) ? etcs_telegram_unused_(bytes, len, mode, direction, index, told) : (uint32_t)ETCS_UNIT_NULL_POINTER;
 }

@@ -76,8 +76,10 @@ static uint32_t power_up(etcs_unit *unit) {
         return status;
     }
     while ((status = etcs_opening_go_on(&opening, unit)) == ETCS_UNIT_SECTOR_WANTED) {
-        (void)etcs_opening_wanted(&opening, &sector);
-        status = etcs_opening_provide(&opening, sector, medium[sector], ETCS_UNIT_SECTOR);
+        status = etcs_opening_wanted(&opening, &sector);
+        if (status == ETCS_UNIT_OK) {
+            status = etcs_opening_provide(&opening, sector, medium[sector], ETCS_UNIT_SECTOR);
+        }
         if (status != ETCS_UNIT_OK) {
             (void)etcs_opening_close(&opening);
             break;
@@ -91,8 +93,10 @@ static uint32_t prepare(etcs_unit *unit) {
     uint64_t sector = 0;
     uint32_t status;
     while ((status = etcs_unit_prepare(unit)) == ETCS_UNIT_SECTOR_WANTED) {
-        (void)etcs_unit_wanted(unit, &sector);
-        status = etcs_unit_provide(unit, sector, medium[sector], ETCS_UNIT_SECTOR);
+        status = etcs_unit_wanted(unit, &sector);
+        if (status == ETCS_UNIT_OK) {
+            status = etcs_unit_provide(unit, sector, medium[sector], ETCS_UNIT_SECTOR);
+        }
         if (status != ETCS_UNIT_OK) {
             break;
         }

@@ -138,8 +138,8 @@ static void answers(const char *folder) {
     uint64_t count = 9;
     wants("an image that isn't open is kept", etcs_archive_keep(&archive, &file, &count) == ETCS_FILE_CANT_READ && count == 0);
     wants("a mark without a file", etcs_times_mark(&times, 0, 0, 0, "a") != ETCS_FILE_OK);
-    etcs_file_format(&file, path_in(folder, "image"), 4);
-    etcs_file_open(&file, path_in(folder, "image"), &unit, ETCS_COLD_UNKNOWN);
+    wants("no image", etcs_file_format(&file, path_in(folder, "image"), 4) == ETCS_FILE_OK
+                      && etcs_file_open(&file, path_in(folder, "image"), &unit, ETCS_COLD_UNKNOWN) == ETCS_FILE_OK);
     begin(&file, &unit, &last);
     put(path_in(folder, "text"), "text of another kind");
     wants("a text is taken for an archive", etcs_archive_open(&archive, path_in(folder, "text")) == ETCS_FILE_NO_ARCHIVE);
@@ -152,12 +152,12 @@ static void answers(const char *folder) {
     wants("nothing is kept", etcs_archive_keep(&archive, &file, &count) == ETCS_FILE_OK && count == 2);
     wants("it is kept twice", etcs_archive_keep(&archive, &file, &count) == ETCS_FILE_OK && count == 0);
     for (uint64_t at = 1; at <= 3; at++) {
-        etcs_unit_clock(&unit, at);
+        wants("a moment isn\'t taken", etcs_unit_clock(&unit, at) == ETCS_UNIT_OK);
         flush(&file, &unit, &last);
     }
     wants("three aren't kept", etcs_archive_keep(&archive, &file, &count) == ETCS_FILE_OK && count == 3);
     for (uint64_t at = 4; at <= 9; at++) {
-        etcs_unit_clock(&unit, at);
+        wants("a moment isn\'t taken", etcs_unit_clock(&unit, at) == ETCS_UNIT_OK);
         flush(&file, &unit, &last);
     }
     wants("those that are there aren't kept", etcs_archive_keep(&archive, &file, &count) == ETCS_FILE_OK && count == 4 && archive.entries == 9);
@@ -295,15 +295,15 @@ static void damaged(const char *folder) {
     etcs_unit unit = {0};
     etcs_file file = {0};
     etcs_unit_output last = {0};
-    etcs_file_format(&file, path_in(folder, "ring"), RING);
-    etcs_file_open(&file, path_in(folder, "ring"), &unit, ETCS_COLD_UNKNOWN);
+    wants("no image", etcs_file_format(&file, path_in(folder, "ring"), RING) == ETCS_FILE_OK
+                      && etcs_file_open(&file, path_in(folder, "ring"), &unit, ETCS_COLD_UNKNOWN) == ETCS_FILE_OK);
     begin(&file, &unit, &last);
     etcs_file_close(&file, &unit);
-    etcs_file_open(&file, path_in(folder, "ring"), &unit, ETCS_COLD_UNKNOWN);
+    wants("no second life", etcs_file_open(&file, path_in(folder, "ring"), &unit, ETCS_COLD_UNKNOWN) == ETCS_FILE_OK);
     flush(&file, &unit, &last);
     read_all(path_in(folder, "ring"), begun); /* blocks 1 and 2 of life 1, 3 of life 2 */
     for (uint64_t at = 4; at <= 10; at++) {
-        etcs_unit_clock(&unit, at);
+        wants("a moment isn\'t taken", etcs_unit_clock(&unit, at) == ETCS_UNIT_OK);
         flush(&file, &unit, &last);
         if (at == 7)
             read_all(path_in(folder, "ring"), early);
@@ -370,8 +370,8 @@ static void owed(const char *folder) {
     etcs_unit unit = {0};
     etcs_file file = {0};
     etcs_unit_output last = {0};
-    etcs_file_format(&file, path_in(folder, "image"), 4);
-    etcs_file_open(&file, path_in(folder, "image"), &unit, ETCS_COLD_UNKNOWN);
+    wants("no image", etcs_file_format(&file, path_in(folder, "image"), 4) == ETCS_FILE_OK
+                      && etcs_file_open(&file, path_in(folder, "image"), &unit, ETCS_COLD_UNKNOWN) == ETCS_FILE_OK);
     begin(&file, &unit, &last);
     owed_by_archive(folder, &file);
     owed_by_marks(folder, &file);

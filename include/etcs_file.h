@@ -86,6 +86,16 @@ typedef struct {
 /** What `held` of an etcs_file is where a file is open. */
 #define ETCS_FILE_HELD 0x68656c64u
 
+/** Returns the name of a number of enum etcs_file_answer or enum etcs_archive_answer, without ETCS_FILE_; "unknown" for other
+ * numbers. */
+static inline const char *etcs_file_answer_name(uint32_t number) {
+    static const char *const names[] = {
+        "OK", "CANT_OPEN", "LOCKED", "CANT_LOCK", "CANT_READ", "CANT_WRITE", "CANT_SYNC", "NO_MEMORY", "WRONG_SIZE",
+        "UNIT", "NO_ARCHIVE", "NO_MARKS", "BAD_MARK"
+    };
+    return etcs_name_(names, (uint32_t)(sizeof names / sizeof names[0]), number);
+}
+
 /* ---- the parts of the calls below; nobody else needs them */
 
 static inline uint32_t etcs_file_failed_(etcs_file *file, uint32_t answer) {

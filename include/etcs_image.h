@@ -17,7 +17,7 @@
  *     while (answer == ETCS_UNIT_OK && (answer = etcs_journal_next(image, size, &journal, &record)) == ETCS_UNIT_OK)
  *         tell(&record);
  *     if (answer != ETCS_UNIT_END)
- *         complain(etcs_status_text(answer));
+ *         complain(etcs_status_name(answer));
  *
  * Every call returns, whatever the bytes and the numbers are, and answers a number of enum etcs_unit_status. What a call
  * writes to, it writes to where it answers ETCS_UNIT_OK alone, but for etcs_journal_next behind a block that can't be
@@ -268,6 +268,61 @@ uint32_t etcs_journal_open_(const uint8_t *image, size_t size, uint32_t abi, etc
 uint32_t etcs_journal_next_(const uint8_t *image, size_t size, etcs_journal *journal, etcs_record *record);
 uint32_t etcs_image_replay_(const uint8_t *image, size_t size, uint32_t abi, etcs_journal *journal, etcs_replay *replay);
 uint32_t etcs_image_why_(const uint8_t *image, size_t size, uint32_t abi, uint64_t number, uint64_t event, etcs_why *why);
+
+/* ---- names of numbers, as etcs_lab prints them (docs/JSON.md) */
+
+/** Returns the name of a number of enum etcs_kind; "unknown" for other numbers. */
+static inline const char *etcs_kind_name(uint32_t number) {
+    static const char *const names[] = {NULL, "powerup", "telegram", "odometer", "clock", "driver"};
+    return etcs_name_(names, (uint32_t)(sizeof names / sizeof names[0]), number);
+}
+
+/** Returns the name of a number of enum etcs_datum; "unknown" for other numbers. */
+static inline const char *etcs_datum_name(uint32_t number) {
+    static const char *const names[] = {"unknown", "valid", "invalid"};
+    return etcs_name_(names, (uint32_t)(sizeof names / sizeof names[0]), number);
+}
+
+/** Returns the name of a number of enum etcs_slot_state; "unknown" for other numbers. */
+static inline const char *etcs_slot_state_name(uint32_t number) {
+    static const char *const names[] = {
+        "empty", "block", "unreadable", "misplaced", "foreign", "unwritten", "replaced", "remains"
+    };
+    return etcs_name_(names, (uint32_t)(sizeof names / sizeof names[0]), number);
+}
+
+/** Returns the name of a number of enum etcs_verdict; of events that aren't replayed, that is the reason. It is "unknown" for other numbers. */
+static inline const char *etcs_verdict_name(uint32_t number) {
+    static const char *const names[] = {
+        NULL, "agrees", "record_differs", "head_differs", "before_oldest_block", "gap", "within_block",
+        "behind_difference"
+    };
+    return etcs_name_(names, (uint32_t)(sizeof names / sizeof names[0]), number);
+}
+
+/** Returns the name of a number of enum etcs_record_field; "unknown" for other numbers. */
+static inline const char *etcs_record_field_name(uint32_t number) {
+    static const char *const names[] = {
+        NULL, "event", "word", "time_ms", "mode", "level", "brake", "indications", "place", "place_cm", "uncertainty_cm",
+        "limit_m_per_h"
+    };
+    return etcs_name_(names, (uint32_t)(sizeof names / sizeof names[0]), number);
+}
+
+/** Returns the name of a number of enum etcs_kept_field; "unknown" for other numbers. */
+static inline const char *etcs_kept_field_name(uint32_t number) {
+    static const char *const names[] = {
+        NULL, "events", "lives", "trip_outstanding", "identity", "running_number", "train", "level", "position",
+        "national_values", "countries"
+    };
+    return etcs_name_(names, (uint32_t)(sizeof names / sizeof names[0]), number);
+}
+
+/** Returns the name of a number of enum etcs_trip_cause; "unknown" for other numbers. */
+static inline const char *etcs_trip_cause_name(uint32_t number) {
+    static const char *const names[] = {"unknown", "end_passed", "linking", "stop", "staff_distance", "level"};
+    return etcs_name_(names, (uint32_t)(sizeof names / sizeof names[0]), number);
+}
 
 /* ---- the calls */
 

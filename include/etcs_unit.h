@@ -502,9 +502,124 @@ static inline uint32_t etcs_version(uint8_t *out, size_t room, uint32_t *len) {
     return ((out != NULL) && (len != NULL)) ? etcs_version_(out, room, len) : (uint32_t)ETCS_UNIT_NULL_POINTER;
 }
 
-/** The name of a status, as enum etcs_unit_status has it behind ETCS_UNIT_; "unknown" for a number that it doesn't have.
- * The text is the program's own, and never ends. */
-static inline const char *etcs_status_text(uint32_t status) {
+/* ---- names of numbers, as etcs_lab prints them (docs/JSON.md): each text is the program's own, and never ends */
+
+/* The text of a number; "unknown" where the table has none. */
+static inline const char *etcs_name_(const char *const *names, uint32_t count, uint32_t number) {
+    return ((number < count) && (names[number] != NULL)) ? names[number] : "unknown";
+}
+
+/** Returns the name of a number of enum etcs_mode, in two letters; "unknown" for other numbers. */
+static inline const char *etcs_mode_name(uint32_t number) {
+    static const char *const names[] = {"FS", "OS", "SR", "SH", "UN", NULL, "SB", "TR", "PT", "SF"};
+    return etcs_name_(names, (uint32_t)(sizeof names / sizeof names[0]), number);
+}
+
+/** Returns the name of a number of enum etcs_level: "0", "1", or "-" where the level isn't valid; "unknown" for other numbers. */
+static inline const char *etcs_level_name(uint32_t number) {
+    static const char *const names[] = {"0", "1"};
+    return (number == (uint32_t)ETCS_LEVEL_INVALID) ? "-" : etcs_name_(names, 2, number);
+}
+
+/** Returns the name of a number of enum etcs_brake; "unknown" for other numbers. */
+static inline const char *etcs_brake_name(uint32_t number) {
+    static const char *const names[] = {"none", "service", "emergency"};
+    return etcs_name_(names, (uint32_t)(sizeof names / sizeof names[0]), number);
+}
+
+/** Returns the name of one indication (enum etcs_indication), not of a sum; "unknown" for other numbers. */
+static inline const char *etcs_indication_name(uint32_t number) {
+    static const char *const names[] = {"on_sight", "shunting", "level_0", "trip", "overridden", "not_revalidated", "overspeed"};
+    uint32_t bit = 0;
+    while ((bit < 7u) && (number != (UINT32_C(1) << bit))) {
+        bit++;
+    }
+    return etcs_name_(names, 7, bit);
+}
+
+/** Returns the name of a number of enum etcs_brake_cause; "unknown" for other numbers. */
+static inline const char *etcs_brake_cause_name(uint32_t number) {
+    static const char *const names[] = {
+        "not_revalidated", "in_trip", "in_system_failure", "owes_trip", "far_too_fast", "rolled_too_far",
+        "asked_for_service", "too_fast", "must_stand", "owes_too_long"
+    };
+    return etcs_name_(names, (uint32_t)(sizeof names / sizeof names[0]), number);
+}
+
+/** Returns the name of a number of enum etcs_limit_cause; "unknown" for other numbers. */
+static inline const char *etcs_limit_cause_name(uint32_t number) {
+    static const char *const names[] = {
+        NULL, "no_speed", "no_train_data", "national_staff_responsible", "national_override", "national_shunting",
+        "national_unfitted", "train_maximum", "main_speed", "end_speed", "static_speed", "restriction", "mode_area",
+        "static_speed_ahead", "unknown_speed_ahead", "restriction_ahead", "mode_area_ahead", "end_of_authority",
+        "supervised_location", "release_speed", "national_release_speed"
+    };
+    return etcs_name_(names, (uint32_t)(sizeof names / sizeof names[0]), number);
+}
+
+/** Returns the name of a number of enum etcs_acknowledgement; "unknown" for other numbers. */
+static inline const char *etcs_acknowledgement_name(uint32_t number) {
+    static const char *const names[] = {"none", "asked", "owed"};
+    return etcs_name_(names, (uint32_t)(sizeof names / sizeof names[0]), number);
+}
+
+/** Returns the name of a number of enum etcs_action; "unknown" for other numbers. */
+static inline const char *etcs_action_name(uint32_t number) {
+    static const char *const names[] = {
+        NULL, "choose_level_0", "choose_level_1", "confirm_identity", "confirm_running_number", "confirm_train_data",
+        "confirm_level", "start", "choose_shunting", "leave_shunting", "override", "acknowledge_trip",
+        "acknowledge_on_sight", "acknowledge_shunting", "acknowledge_level_0", "close_desk"
+    };
+    return etcs_name_(names, (uint32_t)(sizeof names / sizeof names[0]), number);
+}
+
+/** Returns the name of a number of enum etcs_cold; "unknown" for other numbers. */
+static inline const char *etcs_cold_name(uint32_t number) {
+    static const char *const names[] = {"unknown", "moved", "not_moved"};
+    return etcs_name_(names, (uint32_t)(sizeof names / sizeof names[0]), number);
+}
+
+/** Returns the name of a number of enum etcs_status_kind; "unknown" for other numbers. */
+static inline const char *etcs_status_kind_name(uint32_t number) {
+    static const char *const names[] = {"ok", "mistake", "fault"};
+    return etcs_name_(names, (uint32_t)(sizeof names / sizeof names[0]), number);
+}
+
+/** Returns the name of a number of enum etcs_request_kind; "unknown" for other numbers. */
+static inline const char *etcs_request_kind_name(uint32_t number) {
+    static const char *const names[] = {NULL, "write", "sync"};
+    return etcs_name_(names, (uint32_t)(sizeof names / sizeof names[0]), number);
+}
+
+/** Returns the name of a number of enum etcs_fault, as docs/REFUSALS.md has it; "unknown" for other numbers. */
+static inline const char *etcs_fault_name(uint32_t number) {
+    static const char *const names[] = {
+        "OK", "Truncated", "WrongLength", "Spare", "OutOfRange", "WrongVersion", "NotUplink", "NotBalise", "NoEnd",
+        "TooLong"
+    };
+    return etcs_name_(names, (uint32_t)(sizeof names / sizeof names[0]), number);
+}
+
+/** Returns the name of a number of enum etcs_adaptation; "unknown" for other numbers. */
+static inline const char *etcs_adaptation_name(uint32_t number) {
+    static const char *const names[] = {"none", "written", "several", "no_layout", "ambiguous"};
+    return etcs_name_(names, (uint32_t)(sizeof names / sizeof names[0]), number);
+}
+
+/** Returns the name of a number of enum etcs_direction; "unknown" for other numbers. */
+static inline const char *etcs_direction_name(uint32_t number) {
+    static const char *const names[] = {"reverse", "nominal", "not_known"};
+    return etcs_name_(names, (uint32_t)(sizeof names / sizeof names[0]), number);
+}
+
+/** Returns the name of a number of enum etcs_unused_reason; "unknown" for other numbers. */
+static inline const char *etcs_unused_reason_name(uint32_t number) {
+    static const char *const names[] = {NULL, "not_known", "infill", "not_in_mode", "other_direction", "refused"};
+    return etcs_name_(names, (uint32_t)(sizeof names / sizeof names[0]), number);
+}
+
+/** Returns the name of a number of enum etcs_unit_status, without ETCS_UNIT_; "unknown" for other numbers. */
+static inline const char *etcs_status_name(uint32_t status) {
     const char *text = "unknown";
     switch (status) {
     case (uint32_t)ETCS_UNIT_OK: text = "OK"; break;
@@ -802,9 +917,8 @@ static inline uint32_t etcs_telegram_dropped(const uint8_t *bytes, size_t len, u
     return ((bytes != NULL) && (told != NULL)) ? etcs_telegram_dropped_(bytes, len, index, told) : (uint32_t)ETCS_UNIT_NULL_POINTER;
 }
 
-/** The name of a variable, as SUBSET-026 has it; "unknown" for a number that enum etcs_dropped_variable doesn't have. The
- * text is the program's own, and never ends. */
-static inline const char *etcs_dropped_text(uint32_t variable) {
+/** Returns the name of a variable of enum etcs_dropped_variable, as SUBSET-026 has it; "unknown" for other numbers. */
+static inline const char *etcs_dropped_name(uint32_t variable) {
     const char *text = "unknown";
     switch (variable) {
     case (uint32_t)ETCS_DROPPED_Q_NVSRBKTRG: text = "Q_NVSRBKTRG"; break;

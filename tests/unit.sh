@@ -91,8 +91,9 @@ nm --defined-only --extern-only "$static" | sed -n 's/^[0-9a-f]* . //p' | LC_ALL
 diff "$made/names" "$made/in_archive" || fails "the library without malloc shows other names than the headers declare"
 asked=$(nm -u "$static" | sed -n 's/^ *U //p' | LC_ALL=C sort -u | tr '\n' ' ')
 [ "$asked" = "memcpy memmove memset " ] || fails "the library without malloc asks for $asked"
-counted "names of the library" "$(wc -l <"$made/shown")" 78
+counted "names of the library" "$(wc -l <"$made/shown")" 102
 "$python" "$top/tests/unit/symbols.py" "$shared" $(cat "$made/shown") || fails "the calls as symbols"
+"$python" "$top/tests/unit/names.py" "$shared" $(cat "$made/shown") || fails "names of numbers"
 needed=$(objdump -p "$shared" | sed -n 's/^ *NEEDED *//p' | tr '\n' ' ')
 soname=$(objdump -p "$shared" | sed -n 's/^ *SONAME *//p')
 [ "$needed" = "libc.so.6 " ] || fails "the shared library needs $needed"

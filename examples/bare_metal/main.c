@@ -145,7 +145,6 @@ static int64_t moved(train *our) {
 
 /* The most restrictive brake of a release holds until the next one. The watchdog is fed once it is obeyed. */
 static uint32_t obey(train *our, const etcs_unit_output *outputs, uint32_t count) {
-    static const char *const brakes[] = {"none", "service", "emergency"};
     const uint8_t before = our->command.brake;
     const uint32_t status = etcs_unit_command(outputs, count, &our->command);
     if (status != ETCS_UNIT_OK) {
@@ -155,7 +154,7 @@ static uint32_t obey(train *our, const etcs_unit_output *outputs, uint32_t count
         say("event ");
         say_number(our->command.event);
         say(": brake ");
-        say(brakes[our->command.brake]);
+        say(etcs_brake_name(our->command.brake));
         say(", limit ");
         say_number(our->command.limit_m_per_h);
         say(" m/h\n");
@@ -252,7 +251,7 @@ int main(void) {
         status = etcs_memory_state(&told);
     }
     say((status == ETCS_UNIT_OK) ? "memory: " : "emergency brake: ");
-    say((status == ETCS_UNIT_OK) ? "" : etcs_status_text(status));
+    say((status == ETCS_UNIT_OK) ? "" : etcs_status_name(status));
     say((status == ETCS_UNIT_OK) ? "" : ", ");
     say_number(told.most_used);
     say(" of ");

@@ -64,7 +64,7 @@ static int did(uint32_t status) {
 static uint32_t enter(const char *identity) {
     const uint32_t status = etcs_unit_identity(&our.unit, (const uint8_t *)identity, strlen(identity));
     if (etcs_status_kind(status, ETCS_OF_DRIVER) == ETCS_KIND_MISTAKE)
-        printf("the driver enters \"%s\": %s, once more\n", identity, etcs_status_text(status));
+        printf("the driver enters \"%s\": %s, once more\n", identity, etcs_status_name(status));
     else
         (void)did(status);
     return status;
@@ -146,7 +146,7 @@ int main(int count, char **words) {
     pthread_join(task, NULL);
     pthread_mutex_lock(&our.lock);
     (void)etcs_memory_state(&told);
-    printf("%" PRIu64 " cycles, event %" PRIu64 ": brake %u; %s\n", our.cycles, our.command.event, (unsigned)our.command.brake, etcs_status_text(our.fault));
+    printf("%" PRIu64 " cycles, event %" PRIu64 ": brake %u; %s\n", our.cycles, our.command.event, (unsigned)our.command.brake, etcs_status_name(our.fault));
     printf("memory: %" PRIu64 " of %" PRIu64 " bytes\n", told.most_used, told.size);
     if (our.is_late)
         puts("emergency brake: a cycle ended too late");

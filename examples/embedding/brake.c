@@ -33,11 +33,9 @@ static void go_on(train *our) {
 }
 
 static void obey(train *our, const etcs_unit_output *command) {
-    static const char *const brakes[] = {"none", "service", "emergency"};
-    static const char *const modes[] = {"FS", "OS", "SR", "SH", "UN", "", "SB", "TR", "PT", "SF"};
     if (command->brake != our->command.brake || command->mode != our->command.mode)
-        printf("event %" PRIu64 ": mode %s, brake %s, limit %" PRIu32 " m/h, speed %" PRIu32 " m/h\n", command->event, modes[command->mode],
-               brakes[command->brake], command->limit_m_per_h, our->speed_m_per_h);
+        printf("event %" PRIu64 ": mode %s, brake %s, limit %" PRIu32 " m/h, speed %" PRIu32 " m/h\n", command->event,
+               etcs_mode_name(command->mode), etcs_brake_name(command->brake), command->limit_m_per_h, our->speed_m_per_h);
     our->command = *command;
 }
 

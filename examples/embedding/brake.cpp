@@ -87,7 +87,7 @@ std::vector<etcs_record> journal(const std::string &path) {
     while (answer == ETCS_UNIT_OK && (answer = etcs_journal_next(image, bytes.size(), &at, &record)) == ETCS_UNIT_OK)
         records.push_back(record);
     if (answer != ETCS_UNIT_END)
-        throw Refused(std::string("the journal: ") + etcs_status_text(answer), answer, answer, 0);
+        throw Refused(std::string("the journal: ") + etcs_status_name(answer), answer, answer, 0);
     return records;
 }
 
@@ -113,11 +113,9 @@ struct Train {
     }
 
     void obey(const etcs_unit_output &next) {
-        constexpr std::array<const char *, 3> brakes{"none", "service", "emergency"};
-        constexpr std::array<const char *, 10> modes{"FS", "OS", "SR", "SH", "UN", "", "SB", "TR", "PT", "SF"};
         if (next.brake != command.brake || next.mode != command.mode)
             std::printf("event %llu: mode %s, brake %s, limit %u m/h, speed %lld m/h\n", static_cast<unsigned long long>(next.event),
-                        modes.at(next.mode), brakes.at(next.brake), static_cast<unsigned>(next.limit_m_per_h),
+                        etcs_mode_name(next.mode), etcs_brake_name(next.brake), static_cast<unsigned>(next.limit_m_per_h),
                         static_cast<long long>(speed_m_per_h));
         command = next;
     }

@@ -366,11 +366,11 @@ static inline uint32_t etcs_file_is_open_(etcs_file *file) {
 
 /* ---- the calls */
 
-/** Opens and locks the file, settles and reads it, and powers the unit up on it. Behind it the requests of the power-up
- * are in the list: carry them out, and release. Where the file or the unit is open already, it answers UNIT (IS_OPEN),
- * and both stay so. Where it answers something else than OK, the file isn't open and as it was, and the unit is as
- * before. It takes memory for the bytes of the file while it runs; of a file whose first sector isn't that of a journal
- * of its size it reads no more than that. */
+/** Opens and locks the file, settles and reads it, and powers the unit up on it. Call it after each power-up; then
+ * etcs_file_flush carries out the requests of the power-up. Where the file or the unit is open already, it answers UNIT
+ * (IS_OPEN), and both stay so. After any other answer than OK the file isn't open and is as it was, and the unit is as
+ * before. It takes memory for the bytes of the file while it runs; of a file whose first sector isn't that of a journal of
+ * its size it reads no more than that. */
 ETCS_MUST_USE
 static inline uint32_t etcs_file_open(etcs_file *file, const char *path, etcs_unit *unit, uint32_t cold) {
     etcs_unit_state_told state;
@@ -382,8 +382,8 @@ static inline uint32_t etcs_file_open(etcs_file *file, const char *path, etcs_un
     return answer;
 }
 
-/** The same with no copy of the file: it reads the sectors alone that the power-up wants, one after the other, and takes no
- * memory for others. */
+/** Does the same without a copy of the file. Call it in place of etcs_file_open: it reads only the sectors that the power-up
+ * needs, one after the other, and takes no memory for others. */
 ETCS_MUST_USE
 static inline uint32_t etcs_file_open_by_sectors(etcs_file *file, const char *path, etcs_unit *unit, uint32_t cold) {
     etcs_unit_state_told state;
@@ -395,8 +395,8 @@ static inline uint32_t etcs_file_open_by_sectors(etcs_file *file, const char *pa
     return answer;
 }
 
-/** Prepares what is pending. Where the unit holds no copy of the file it reads the sector that the unit wants for it, and where
- * that fails it says so to the unit (etcs_unit_fail). */
+/** Turns the accepted inputs into requests. etcs_file_flush calls it. Where the unit holds no copy of the file it reads the
+ * sector that the unit needs; where that fails it reports that to the unit (etcs_unit_fail). */
 ETCS_MUST_USE
 static inline uint32_t etcs_file_prepare(etcs_file *file, etcs_unit *unit) {
     uint32_t answer = etcs_file_told_(file, etcs_unit_prepare(unit));
@@ -411,8 +411,8 @@ static inline uint32_t etcs_file_prepare(etcs_file *file, etcs_unit *unit) {
     return answer;
 }
 
-/** Carries out the unit's requests that aren't done, one after the other, and says of each that it is done. Where the
- * file fails it says so to the unit (etcs_unit_fail), so that nothing is released any more. */
+/** Carries out the unit's requests that aren't done, one after the other, and reports each as done. etcs_file_flush calls
+ * it. Where the file fails it reports that to the unit (etcs_unit_fail), so that nothing is released any more. */
 ETCS_MUST_USE
 static inline uint32_t etcs_file_carry_out(etcs_file *file, etcs_unit *unit) {
     uint8_t bytes[ETCS_UNIT_REQUEST_BYTES];
@@ -441,10 +441,10 @@ static inline uint32_t etcs_file_release_(etcs_file *file, etcs_unit *unit, etcs
     return etcs_file_told_(file, etcs_unit_release(unit, outputs, ETCS_UNIT_OUTPUTS, count));
 }
 
-/** Prepares what is pending (etcs_file_prepare), carries it out, and releases it: `count` outputs, the oldest first, in room for
- * ETCS_UNIT_OUTPUTS. Behind etcs_file_open it carries out the power-up too. Where requests of an earlier
- * etcs_unit_prepare are owed that hold outputs back, it releases those alone, and what is pending waits for the next
- * flush. Where it answers something else than OK, `count` is 0. */
+/** Writes the accepted inputs to the file, and releases their outputs: `count` of them, the oldest first, in room for
+ * ETCS_UNIT_OUTPUTS. Call it once a cycle, after the inputs, and then etcs_unit_command. After etcs_file_open it carries
+ * out the power-up too. Where requests of an earlier etcs_unit_prepare are owed that hold outputs back, it releases only
+ * those, and what is pending waits for the next flush. After any other answer than OK `count` is 0. */
 ETCS_MUST_USE
 static inline uint32_t etcs_file_flush(etcs_file *file, etcs_unit *unit, etcs_unit_output *outputs, uint32_t *count) {
     *count = 0;
@@ -458,17 +458,18 @@ static inline uint32_t etcs_file_flush(etcs_file *file, etcs_unit *unit, etcs_un
     return answer == ETCS_FILE_OK ? etcs_file_release_(file, unit, outputs, count) : answer;
 }
 
-/** Closes the unit, and then the file, which gives its lock back. What isn't released is lost to this life. It may be
- * called on a file and a unit that aren't open, also of zeros, and answers OK or UNIT (the unit wasn't open). */
+/** Closes the unit and then the file, which gives its lock back. Call it at the end, and after a failure before the file is
+ * opened again. What isn't released is lost to this life. It may be called on a file and a unit that aren't open, also of
+ * zeros. Returns OK, or UNIT (the unit wasn't open). */
 static inline uint32_t etcs_file_close(etcs_file *file, etcs_unit *unit) {
     const uint32_t answer = etcs_file_told_(file, etcs_unit_close(unit));
     etcs_file_shut_(file);
     return answer;
 }
 
-/** Makes the file, or empties the one that is there, and makes it an empty journal of so many slots, as `etcs format`
- * does. What is there is locked before it is emptied, and its folder is synced, so that the name of a new file
- * survives a loss of power. The file isn't open behind it. One that is open already stays so: UNIT (IS_OPEN). */
+/** Makes the file an empty journal of this many slots, as `etcs format` does; what was in it is lost. Call it once, before
+ * the first power-up. What is there is locked before it is emptied, and its folder is synced, so that the name of a new
+ * file survives a loss of power. The file isn't open then. One that is open already stays so: UNIT (IS_OPEN). */
 ETCS_MUST_USE
 static inline uint32_t etcs_file_format(etcs_file *file, const char *path, uint32_t slots) {
     if (etcs_file_at_(file) >= 0)

@@ -276,6 +276,11 @@ static void wanting(void) {
         is("no output", count, 0);
         is("wanted after it", etcs_unit_wanted(&unit, &sector), ETCS_UNIT_OK);
         is("the same gate", sector, 1 + 6 * slot);
+        is("provide another sector", etcs_unit_provide(&unit, sector + 1, sector_of(&on, sector + 1), ETCS_UNIT_SECTOR), ETCS_UNIT_OK);
+        is("nothing is wanted behind any sector", etcs_unit_wanted(&unit, &sector), ETCS_UNIT_NONE_WANTED);
+        is("prepare behind it", etcs_unit_prepare(&unit), ETCS_UNIT_SECTOR_WANTED);
+        is("wanted behind it", etcs_unit_wanted(&unit, &sector), ETCS_UNIT_OK);
+        is("the same gate behind it", sector, 1 + 6 * slot);
         PROVIDES_WRONGLY(unit, &unit, on.len / ETCS_UNIT_SECTOR, sector);
         is("provide", etcs_unit_provide(&unit, sector, sector_of(&on, sector), ETCS_UNIT_SECTOR), ETCS_UNIT_OK);
         is("nothing is wanted then", etcs_unit_wanted(&unit, &sector), ETCS_UNIT_NONE_WANTED);

@@ -291,7 +291,8 @@ static inline const char *etcs_slot_state_name(uint32_t number) {
     return etcs_name_(names, (uint32_t)(sizeof names / sizeof names[0]), number);
 }
 
-/** Returns the name of a number of enum etcs_verdict; of events that aren't replayed, that is the reason. It is "unknown" for other numbers. */
+/** Returns the name of a number of enum etcs_verdict: of events that aren't replayed the reason; "unknown" for other
+ * numbers. */
 static inline const char *etcs_verdict_name(uint32_t number) {
     static const char *const names[] = {
         NULL, "agrees", "record_differs", "head_differs", "before_oldest_block", "gap", "within_block",

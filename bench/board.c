@@ -89,9 +89,8 @@ static void release(void) {
         carries_out(&request, bytes);
         count++;
     }
-    (void)etcs_unit_done(&unit, count);
-    (void)etcs_unit_release(&unit, outputs, ETCS_UNIT_OUTPUTS, &count);
-    pending = 0;
+    if (etcs_unit_done(&unit, count) == ETCS_UNIT_OK && etcs_unit_release(&unit, outputs, ETCS_UNIT_OUTPUTS, &count) == ETCS_UNIT_OK)
+        pending = 0;
 }
 
 static void settle(void) {
@@ -108,7 +107,8 @@ static void begin(uint32_t slots) {
     static uint8_t bytes[ETCS_UNIT_SECTOR];
     etcs_unit_request_told request;
     end_life();
-    (void)etcs_memory_use(buffer, sizeof buffer);
+    if (etcs_memory_use(buffer, sizeof buffer) != ETCS_UNIT_OK)
+        return;
     length = (1 + 6 * (size_t)slots) * ETCS_UNIT_SECTOR;
     for (size_t i = 0; i < sizeof medium; i++)
         medium[i] = 0;

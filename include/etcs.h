@@ -27,6 +27,15 @@
 extern "C" {
 #endif
 
+/** Before a call whose answer may mean the brake: a compiler warns where a program drops it. */
+#if (defined(__cplusplus) && (__cplusplus >= 201703L)) || (defined(__STDC_VERSION__) && (__STDC_VERSION__ >= 202311L))
+#define ETCS_MUST_USE [[nodiscard]]
+#elif defined(__GNUC__)
+#define ETCS_MUST_USE __attribute__((__warn_unused_result__))
+#else
+#define ETCS_MUST_USE
+#endif
+
 /** The bytes of a telegram, at most. */
 #define ETCS_TELEGRAM_BYTES 104
 
@@ -45,12 +54,14 @@ enum etcs_fault {
     ETCS_TOO_LONG = 9       /**< there are more than ETCS_TELEGRAM_BYTES bytes */
 };
 
-/** Whether the bytes carry a telegram (SUBSET-026, 8.4.2): ETCS_OK, or the number of the fault (enum etcs_fault).
- * The bits of each byte count from its highest one. What follows the end mark is free. */
+/** Tests whether bytes carry a telegram (SUBSET-026, 8.4.2). Call it to check a telegram outside a unit; etcs_unit_telegram
+ * needs no such check. Returns ETCS_OK, or the number of the fault (enum etcs_fault). The bits of each byte count from its
+ * highest one. What follows the end mark is free. */
+ETCS_MUST_USE
 uint32_t etcs_decode(const uint8_t *bytes, size_t len);
 
-/** How many packets stand before the end mark, from 0 to 33. It is 0 where the bytes carry no telegram, and also
- * where they carry one with no packet: etcs_decode tells which. */
+/** Counts the packets before the end mark: 0 to 33. Returns 0 where the bytes carry no telegram, and also where they carry
+ * one with no packet; etcs_decode distinguishes the two. */
 uint32_t etcs_packet_count(const uint8_t *bytes, size_t len);
 
 #ifdef __cplusplus

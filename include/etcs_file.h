@@ -86,6 +86,16 @@ typedef struct {
 /** What `held` of an etcs_file is where a file is open. */
 #define ETCS_FILE_HELD 0x68656c64u
 
+/** Returns the name of a number of enum etcs_file_answer or enum etcs_archive_answer, without ETCS_FILE_; "unknown" for other
+ * numbers. */
+static inline const char *etcs_file_answer_name(uint32_t number) {
+    static const char *const names[] = {
+        "OK", "CANT_OPEN", "LOCKED", "CANT_LOCK", "CANT_READ", "CANT_WRITE", "CANT_SYNC", "NO_MEMORY", "WRONG_SIZE",
+        "UNIT", "NO_ARCHIVE", "NO_MARKS", "BAD_MARK"
+    };
+    return etcs_name_(names, (uint32_t)(sizeof names / sizeof names[0]), number);
+}
+
 /* ---- the parts of the calls below; nobody else needs them */
 
 static inline uint32_t etcs_file_failed_(etcs_file *file, uint32_t answer) {
@@ -356,11 +366,12 @@ static inline uint32_t etcs_file_is_open_(etcs_file *file) {
 
 /* ---- the calls */
 
-/** Opens and locks the file, settles and reads it, and powers the unit up on it. Behind it the requests of the power-up
- * are in the list: carry them out, and release. Where the file or the unit is open already, it answers UNIT (IS_OPEN),
- * and both stay so. Where it answers something else than OK, the file isn't open and as it was, and the unit is as
- * before. It takes memory for the bytes of the file while it runs; of a file whose first sector isn't that of a journal
- * of its size it reads no more than that. */
+/** Opens and locks the file, settles and reads it, and powers the unit up on it. Call it after each power-up; then
+ * etcs_file_flush carries out the requests of the power-up. Where the file or the unit is open already, it answers UNIT
+ * (IS_OPEN), and both stay so. After any other answer than OK the file isn't open and is as it was, and the unit is as
+ * before. It takes memory for the bytes of the file while it runs; of a file whose first sector isn't that of a journal of
+ * its size it reads no more than that. */
+ETCS_MUST_USE
 static inline uint32_t etcs_file_open(etcs_file *file, const char *path, etcs_unit *unit, uint32_t cold) {
     etcs_unit_state_told state;
     if (etcs_file_at_(file) >= 0 || etcs_unit_state(unit, &state) == ETCS_UNIT_OK)
@@ -371,8 +382,9 @@ static inline uint32_t etcs_file_open(etcs_file *file, const char *path, etcs_un
     return answer;
 }
 
-/** The same with no copy of the file: it reads the sectors alone that the power-up wants, one after the other, and takes no
- * memory for others. */
+/** Does the same without a copy of the file. Call it in place of etcs_file_open: it reads only the sectors that the power-up
+ * needs, one after the other, and takes no memory for others. */
+ETCS_MUST_USE
 static inline uint32_t etcs_file_open_by_sectors(etcs_file *file, const char *path, etcs_unit *unit, uint32_t cold) {
     etcs_unit_state_told state;
     if (etcs_file_at_(file) >= 0 || etcs_unit_state(unit, &state) == ETCS_UNIT_OK)
@@ -383,8 +395,9 @@ static inline uint32_t etcs_file_open_by_sectors(etcs_file *file, const char *pa
     return answer;
 }
 
-/** Prepares what is pending. Where the unit holds no copy of the file it reads the sector that the unit wants for it, and where
- * that fails it says so to the unit (etcs_unit_fail). */
+/** Turns the accepted inputs into requests. etcs_file_flush calls it. Where the unit holds no copy of the file it reads the
+ * sector that the unit needs; where that fails it reports that to the unit (etcs_unit_fail). */
+ETCS_MUST_USE
 static inline uint32_t etcs_file_prepare(etcs_file *file, etcs_unit *unit) {
     uint32_t answer = etcs_file_told_(file, etcs_unit_prepare(unit));
     while (file->status == ETCS_UNIT_SECTOR_WANTED) {
@@ -398,8 +411,9 @@ static inline uint32_t etcs_file_prepare(etcs_file *file, etcs_unit *unit) {
     return answer;
 }
 
-/** Carries out the unit's requests that aren't done, one after the other, and says of each that it is done. Where the
- * file fails it says so to the unit (etcs_unit_fail), so that nothing is released any more. */
+/** Carries out the unit's requests that aren't done, one after the other, and reports each as done. etcs_file_flush calls
+ * it. Where the file fails it reports that to the unit (etcs_unit_fail), so that nothing is released any more. */
+ETCS_MUST_USE
 static inline uint32_t etcs_file_carry_out(etcs_file *file, etcs_unit *unit) {
     uint8_t bytes[ETCS_UNIT_REQUEST_BYTES];
     etcs_unit_request_told request;
@@ -427,10 +441,11 @@ static inline uint32_t etcs_file_release_(etcs_file *file, etcs_unit *unit, etcs
     return etcs_file_told_(file, etcs_unit_release(unit, outputs, ETCS_UNIT_OUTPUTS, count));
 }
 
-/** Prepares what is pending (etcs_file_prepare), carries it out, and releases it: `count` outputs, the oldest first, in room for
- * ETCS_UNIT_OUTPUTS. Behind etcs_file_open it carries out the power-up too. Where requests of an earlier
- * etcs_unit_prepare are owed that hold outputs back, it releases those alone, and what is pending waits for the next
- * flush. Where it answers something else than OK, `count` is 0. */
+/** Writes the accepted inputs to the file, and releases their outputs: `count` of them, the oldest first, in room for
+ * ETCS_UNIT_OUTPUTS. Call it once a cycle, after the inputs, and then etcs_unit_command. After etcs_file_open it carries
+ * out the power-up too. Where requests of an earlier etcs_unit_prepare are owed that hold outputs back, it releases only
+ * those, and what is pending waits for the next flush. After any other answer than OK `count` is 0. */
+ETCS_MUST_USE
 static inline uint32_t etcs_file_flush(etcs_file *file, etcs_unit *unit, etcs_unit_output *outputs, uint32_t *count) {
     *count = 0;
     uint32_t answer = etcs_file_prepare(file, unit);
@@ -443,17 +458,19 @@ static inline uint32_t etcs_file_flush(etcs_file *file, etcs_unit *unit, etcs_un
     return answer == ETCS_FILE_OK ? etcs_file_release_(file, unit, outputs, count) : answer;
 }
 
-/** Closes the unit, and then the file, which gives its lock back. What isn't released is lost to this life. It may be
- * called on a file and a unit that aren't open, also of zeros, and answers OK or UNIT (the unit wasn't open). */
+/** Closes the unit and then the file, which gives its lock back. Call it at the end, and after a failure before the file is
+ * opened again. What isn't released is lost to this life. It may be called on a file and a unit that aren't open, also of
+ * zeros. Returns OK, or UNIT (the unit wasn't open). */
 static inline uint32_t etcs_file_close(etcs_file *file, etcs_unit *unit) {
     const uint32_t answer = etcs_file_told_(file, etcs_unit_close(unit));
     etcs_file_shut_(file);
     return answer;
 }
 
-/** Makes the file, or empties the one that is there, and makes it an empty journal of so many slots, as `etcs format`
- * does. What is there is locked before it is emptied, and its folder is synced, so that the name of a new file
- * survives a loss of power. The file isn't open behind it. One that is open already stays so: UNIT (IS_OPEN). */
+/** Makes the file an empty journal of this many slots, as `etcs format` does; what was in it is lost. Call it once, before
+ * the first power-up. What is there is locked before it is emptied, and its folder is synced, so that the name of a new
+ * file survives a loss of power. The file isn't open then. One that is open already stays so: UNIT (IS_OPEN). */
+ETCS_MUST_USE
 static inline uint32_t etcs_file_format(etcs_file *file, const char *path, uint32_t slots) {
     if (etcs_file_at_(file) >= 0)
         return etcs_file_is_open_(file);
@@ -468,14 +485,14 @@ static inline uint32_t etcs_file_format(etcs_file *file, const char *path, uint3
 }
 #endif
 
-/* ---- beside the journal, for makers who want it: an archive of blocks, and marks of the time of day
+/* ---- next to the journal, for makers who want it: an archive of blocks, and marks of the time of day
  *
  * Both are files of their own. Nothing here writes to the journal, and no call of the unit waits for one of these: call
- * them between two cycles. ANOTHER ANSWER THAN ETCS_FILE_OK SAYS THAT THE ARCHIVE OR THE MARKS ARE NOT GOING ON, and
- * nothing of the unit, which still protects the train.
+ * them between two cycles. AN ANSWER OTHER THAN ETCS_FILE_OK MEANS THAT THE ARCHIVE OR THE MARKS ARE NOT COMPLETE. It says
+ * nothing about the unit, which still protects the train.
  *
- * A ring of 64 slots that is flushed each 100 ms holds 6.4 s. What went before is written over, and with it the power-up
- * of the life, without which nobody can run it again. An archive keeps each block before its slot is taken:
+ * A ring of 64 slots that is flushed each 100 ms holds 6.4 s. Older blocks are overwritten, and with them the power-up
+ * of the life, without which nobody can replay it. An archive keeps each block before its slot is written again:
  *
  *     etcs_archive archive = {0};
  *     etcs_archive_open(&archive, "image.archive");
@@ -486,6 +503,12 @@ static inline uint32_t etcs_file_format(etcs_file *file, const char *path, uint3
  *
  * `./lab join` makes one image of a larger ring of the archive and the image (docs/INVESTIGATING.md). An archive grows
  * by 3,072 bytes a block; docs/EMBEDDING.md has a table.
+ *
+ * Both files are settled when they are opened, as a journal is: what an earlier process left half written is dropped, and
+ * what is read then is what the medium has. A sync that failed is owed from then on: each later call writes again what it
+ * was for, and answers OK only after a sync that succeeded.
+ *
+ * Each loop ends after as many turns as its comment says; reads, writes and syncs that a signal interrupts are repeated.
  */
 #include <stdio.h>
 #include <time.h>
@@ -497,103 +520,214 @@ extern "C" {
 /** The bytes of a block in an archive. */
 #define ETCS_ARCHIVE_ENTRY (6 * ETCS_UNIT_SECTOR)
 
-/** What failed beside enum etcs_file_answer. */
+/** The greatest number of a block (docs/FORMAT.md). */
+#define ETCS_ARCHIVE_NUMBERS (UINT64_C(1) << 40)
+
+/** A mark's moment is below this one, as a unit's clock is. */
+#define ETCS_TIMES_MOMENTS (UINT64_C(1) << 40)
+
+/** What failed, in addition to enum etcs_file_answer. */
 enum etcs_archive_answer {
-    ETCS_FILE_NO_ARCHIVE = 10, /**< what is there is no archive of blocks; it stays as it is */
-    ETCS_FILE_NO_MARKS = 11,   /**< what is there holds no marks of the time of day; it stays as it is */
-    ETCS_FILE_BAD_MARK = 12    /**< a time beyond the years 1970 to 9999, or a source that isn't 1 to 64 letters, digits, or of " ._-" */
+    ETCS_FILE_NO_ARCHIVE = 10, /**< the file is not an archive of blocks; it stays as it is */
+    ETCS_FILE_NO_MARKS = 11,   /**< the file is not one of marks with checksums; it stays as it is */
+    ETCS_FILE_BAD_MARK = 12    /**< not a mark: see etcs_times_mark. Nothing was written */
 };
 
 /** An archive that is open, or was; all zeros before its first call. */
 typedef struct {
-    etcs_file file;    /**< its file; `error` says why what failed */
-    uint64_t entries;  /**< how many blocks it has */
-    uint64_t behind;   /**< behind which block those of the image are new */
+    etcs_file file;    /**< its file; `error` says why a call failed */
+    uint64_t entries;  /**< how many entries it has */
+    uint64_t synced;   /**< how many of them a sync that succeeded has covered */
+    uint64_t newest;   /**< the number of the newest block of the image that was looked at */
     uint32_t slots;    /**< how many slots the image has; 0 before the first look at it */
-    uint32_t reserved; /**< zero */
+    uint32_t in_doubt; /**< 1 where a sync failed or a part was dropped, and no sync has succeeded since */
 } etcs_archive;
 
 /** Marks that are open, or were; all zeros before their first call. */
 typedef struct {
-    etcs_file file;    /**< their file; `error` says why what failed */
-    uint32_t life;     /**< in which life the unit is */
-    uint32_t reserved; /**< zero */
+    etcs_file file;    /**< their file; `error` says why a call failed */
+    uint64_t end;      /**< where the next line begins */
+    uint64_t synced;   /**< up to where a sync that succeeded has covered the file */
+    uint32_t life;     /**< the number of the unit's life */
+    uint32_t in_doubt; /**< 1 where a sync failed or a part was dropped, and no sync has succeeded since */
 } etcs_times;
 
-static inline uint64_t etcs_archive_big_(const uint8_t *bytes) {
+/* ---- a file that is only appended to */
+
+/* Whether these bytes begin as `first` does and are zeros from there on: a file that was being made when power was lost.
+ * At most 2 * len turns. */
+static inline int etcs_file_is_begun_(const uint8_t *there, const uint8_t *first, size_t len) {
+    size_t at = 0;
+    while (at < len && there[at] == first[at])
+        at++;
+    while (at < len && there[at] == 0)
+        at++;
+    return at == len;
+}
+
+/* Opens, locks and settles a file that begins with `first`, of `len` bytes, at most a sector; `size` is its size. Makes it
+ * where there is none; answers `other` where the file begins with something else. The folder is synced each time: the
+ * process that made the file may have ended before it did so. */
+static inline uint32_t etcs_file_open_to_append_(etcs_file *file, const char *path, const uint8_t *first, size_t len, uint64_t *size, uint32_t other) {
+    uint8_t there[ETCS_UNIT_SECTOR];
+    uint32_t answer = etcs_file_lock_(file, path, O_CREAT);
+    if (answer == ETCS_FILE_OK)
+        answer = etcs_file_settle_(file);
+    if (answer != ETCS_FILE_OK)
+        return answer;
+    const off_t end = lseek(file->descriptor, 0, SEEK_END);
+    if (end < 0)
+        return etcs_file_failed_(file, ETCS_FILE_CANT_READ);
+    const size_t some = (uint64_t)end < len ? (size_t)end : len;
+    answer = etcs_file_read_(file, there, some, 0);
+    if (answer != ETCS_FILE_OK)
+        return answer;
+    if (some < len || memcmp(there, first, len) != 0) {
+        if ((uint64_t)end > len || !etcs_file_is_begun_(there, first, some))
+            return other;
+        answer = etcs_file_write_(file, first, len, 0);
+        if (answer == ETCS_FILE_OK)
+            answer = etcs_file_sync_(file, file->descriptor);
+    }
+    *size = (uint64_t)end < len ? len : (uint64_t)end;
+    return answer == ETCS_FILE_OK ? etcs_file_sync_folder_(file, path) : answer;
+}
+
+/* Writes the bytes up to `to` again that are in the file from `from` on: a sector a turn. */
+static inline uint32_t etcs_file_write_again_(etcs_file *file, uint64_t from, uint64_t to) {
+    uint8_t bytes[ETCS_UNIT_SECTOR];
+    uint32_t answer = ETCS_FILE_OK;
+    for (uint64_t at = from; answer == ETCS_FILE_OK && at < to; at += sizeof bytes) {
+        const size_t len = to - at < sizeof bytes ? (size_t)(to - at) : sizeof bytes;
+        answer = etcs_file_read_(file, bytes, len, at);
+        if (answer == ETCS_FILE_OK)
+            answer = etcs_file_write_(file, bytes, len, at);
+    }
+    return answer;
+}
+
+/* Syncs what was appended from `from` to `to`. After a sync that failed the system takes for written what may not be on the
+ * medium, so all of it is written again first. */
+static inline uint32_t etcs_file_sync_appended_(etcs_file *file, uint64_t from, uint64_t to, uint32_t *in_doubt) {
+    uint32_t answer = *in_doubt ? etcs_file_write_again_(file, from, to) : (uint32_t)ETCS_FILE_OK;
+    *in_doubt = 1;
+    if (answer == ETCS_FILE_OK)
+        answer = etcs_file_sync_(file, file->descriptor);
+    if (answer == ETCS_FILE_OK)
+        *in_doubt = 0;
+    return answer;
+}
+
+/* Drops the bytes after `end`, where there are any: a part of what was being appended. The next sync covers it. */
+static inline uint32_t etcs_file_drop_(etcs_file *file, uint64_t end, uint32_t *in_doubt) {
+    const off_t size = lseek(file->descriptor, 0, SEEK_END);
+    if (size < 0)
+        return etcs_file_failed_(file, ETCS_FILE_CANT_READ);
+    if ((uint64_t)size <= end)
+        return ETCS_FILE_OK;
+    *in_doubt = 1;
+    return ftruncate(file->descriptor, (off_t)end) == 0 ? (uint32_t)ETCS_FILE_OK : etcs_file_failed_(file, ETCS_FILE_CANT_WRITE);
+}
+
+/* ---- which block a slot holds */
+
+/* A number of `len` bytes, the highest byte first: `len` turns. */
+static inline uint64_t etcs_archive_big_(const uint8_t *bytes, int len) {
     uint64_t number = 0;
-    for (int at = 0; at < 8; at++)
+    for (int at = 0; at < len; at++)
         number = number << 8 | bytes[at];
     return number;
 }
 
-/* The number of a gate as a unit writes it; 0 where it is closed or another one. */
-static inline uint64_t etcs_archive_gate_(const uint8_t *sector) {
-    if (memcmp(sector, "ETCSGATE", 8) != 0)
-        return 0;
-    for (int at = 16; at < ETCS_UNIT_SECTOR; at++)
-        if (sector[at] != 0)
-            return 0;
-    return etcs_archive_big_(sector + 8);
+/* Whether a gate is closed: all its bytes are zero. At most a sector's turns. */
+static inline int etcs_archive_is_closed_(const uint8_t *gate) {
+    int at = 0;
+    while (at < ETCS_UNIT_SECTOR && gate[at] == 0)
+        at++;
+    return at == ETCS_UNIT_SECTOR;
 }
 
-/* The number of the block behind its own gate in the bytes of a slot; 0 where there is none. */
+/* Whether a head begins with the mark of one of the three formats. */
+static inline int etcs_archive_is_head_(const uint8_t *head) {
+    return memcmp(head, "ETCSHEAD", 8) == 0 || memcmp(head, "ETCSHED2", 8) == 0 || memcmp(head, "ETCSHED3", 8) == 0;
+}
+
+/* The number of the block whose gate and head these are; 0 where they aren't those of one block: a gate just as a unit
+ * writes it, with a number from 1 to 2^40, and a head of a known format with the same number. One bit altered in either
+ * number, or in the gate, names no block. At most a sector's turns. */
 static inline uint64_t etcs_archive_block_(const uint8_t *slot) {
-    const uint64_t number = etcs_archive_gate_(slot);
-    return etcs_archive_big_(slot + ETCS_UNIT_SECTOR + 8) == number ? number : 0;
+    const uint64_t number = etcs_archive_big_(slot + 8, 8);
+    if (memcmp(slot, "ETCSGATE", 8) != 0 || number > ETCS_ARCHIVE_NUMBERS)
+        return 0;
+    for (int at = 16; at < ETCS_UNIT_SECTOR; at++)
+        if (slot[at] != 0)
+            return 0;
+    const uint8_t *const head = slot + ETCS_UNIT_SECTOR;
+    return etcs_archive_is_head_(head) && etcs_archive_big_(head + 8, 8) == number ? number : 0;
 }
 
 static inline uint64_t etcs_archive_place_(uint64_t slot) {
     return ETCS_UNIT_SECTOR + ETCS_ARCHIVE_ENTRY * slot;
 }
 
-/* What an archive begins with. */
-static inline void etcs_archive_first_(uint8_t *sector) {
-    memset(sector, 0, ETCS_UNIT_SECTOR);
-    memcpy(sector, "ETCSKEPT", 8);
-    sector[11] = 1;
+/* Reads the slot of a block, and says which block it holds; 0 where it holds none that belongs there. */
+static inline uint32_t etcs_archive_look_(etcs_file *file, uint64_t slots, uint64_t number, uint8_t *slot, uint64_t *found) {
+    const uint32_t answer = etcs_file_read_(file, slot, ETCS_ARCHIVE_ENTRY, etcs_archive_place_(number % slots));
+    *found = answer == ETCS_FILE_OK ? etcs_archive_block_(slot) : 0;
+    if (*found % slots != number % slots)
+        *found = 0;
+    return answer;
 }
 
-/* Looks at what is there, and begins a new archive where nothing is, or less than a first sector of one. */
-static inline uint32_t etcs_archive_begin_(etcs_archive *archive, const char *path) {
-    uint8_t first[ETCS_UNIT_SECTOR], there[ETCS_UNIT_SECTOR];
-    const off_t end = lseek(archive->file.descriptor, 0, SEEK_END);
-    if (end < 0)
-        return etcs_file_failed_(&archive->file, ETCS_FILE_CANT_READ);
-    const size_t some = end < ETCS_UNIT_SECTOR ? (size_t)end : (size_t)ETCS_UNIT_SECTOR;
-    etcs_archive_first_(first);
-    uint32_t answer = etcs_file_read_(&archive->file, there, some, 0);
-    if (answer != ETCS_FILE_OK)
-        return answer;
-    if (memcmp(first, there, some) != 0)
-        return ETCS_FILE_NO_ARCHIVE;
-    archive->entries = some < ETCS_UNIT_SECTOR ? 0 : ((uint64_t)end - ETCS_UNIT_SECTOR) / ETCS_ARCHIVE_ENTRY;
-    if (some < ETCS_UNIT_SECTOR) {
-        answer = etcs_file_write_(&archive->file, first, sizeof first, 0);
-        if (answer == ETCS_FILE_OK)
-            answer = etcs_file_sync_(&archive->file, archive->file.descriptor);
-        return answer == ETCS_FILE_OK ? etcs_file_sync_folder_(&archive->file, path) : answer;
+/* The number of the newest block of the image; 0 where it has none. `slots` turns. */
+static inline uint32_t etcs_archive_newest_(etcs_file *file, uint64_t slots, uint64_t *newest) {
+    uint8_t start[2 * ETCS_UNIT_SECTOR];
+    *newest = 0;
+    for (uint64_t slot = 0; slot < slots; slot++) {
+        const uint32_t answer = etcs_file_read_(file, start, sizeof start, etcs_archive_place_(slot));
+        const uint64_t number = answer == ETCS_FILE_OK ? etcs_archive_block_(start) : 0;
+        if (answer != ETCS_FILE_OK)
+            return answer;
+        if (number % slots == slot && number > *newest)
+            *newest = number;
     }
-    /* a part of a block, of which power was lost; its slot still has it */
-    if (ftruncate(archive->file.descriptor, (off_t)etcs_archive_place_(archive->entries)) != 0)
-        return etcs_file_failed_(&archive->file, ETCS_FILE_CANT_WRITE);
     return ETCS_FILE_OK;
 }
 
-/** Opens an archive under a lock of its own, or begins one. Where it answers something else than OK, it isn't open. */
+/* How many slots the image has. */
+static inline uint32_t etcs_archive_slots_(etcs_file *own, etcs_file *file, uint32_t *slots) {
+    uint8_t first[ETCS_UNIT_SECTOR];
+    etcs_image facts;
+    uint32_t answer = etcs_file_read_(file, first, sizeof first, 0);
+    if (answer == ETCS_FILE_OK)
+        answer = etcs_file_told_(own, etcs_image_facts(first, sizeof first, &facts));
+    if (answer == ETCS_FILE_OK)
+        *slots = (uint32_t)facts.slots;
+    return answer;
+}
+
+/* ---- the archive */
+
+/** Opens an archive under a lock of its own, or makes it. Call it once, after etcs_file_open. It settles what an earlier
+ * process left; an incomplete last entry is dropped, since its slot still has it. An answer other than OK means that it
+ * isn't open. */
 static inline uint32_t etcs_archive_open(etcs_archive *archive, const char *path) {
+    uint8_t first[ETCS_UNIT_SECTOR] = {'E', 'T', 'C', 'S', 'K', 'E', 'P', 'T', 0, 0, 0, 1};
+    uint64_t size = 0;
     if (etcs_file_at_(&archive->file) >= 0)
         return etcs_file_is_open_(&archive->file);
-    archive->slots = 0;
-    uint32_t answer = etcs_file_lock_(&archive->file, path, O_CREAT);
-    if (answer == ETCS_FILE_OK)
-        answer = etcs_archive_begin_(archive, path);
+    archive->slots = archive->in_doubt = 0;
+    uint32_t answer = etcs_file_open_to_append_(&archive->file, path, first, sizeof first, &size, ETCS_FILE_NO_ARCHIVE);
+    if (answer == ETCS_FILE_OK) {
+        archive->entries = archive->synced = (size - ETCS_UNIT_SECTOR) / ETCS_ARCHIVE_ENTRY;
+        answer = etcs_file_drop_(&archive->file, etcs_archive_place_(archive->entries), &archive->in_doubt);
+    }
     if (answer != ETCS_FILE_OK)
         etcs_file_shut_(&archive->file);
     return answer;
 }
 
-/** Closes an archive; one that isn't open stays so. */
+/** Closes an archive and gives its lock back. It may be called on one that isn't open. */
 static inline void etcs_archive_close(etcs_archive *archive) {
     etcs_file_shut_(&archive->file);
 }
@@ -604,179 +738,174 @@ static inline uint32_t etcs_archive_append_(etcs_archive *archive, const uint8_t
     return answer;
 }
 
-/* The bytes of the block of this number, where the image has it: then `found` is its number, else 0. */
-static inline uint32_t etcs_archive_look_(etcs_archive *archive, etcs_file *file, uint64_t number, uint8_t *slot, uint64_t *found) {
-    const uint32_t answer = etcs_file_read_(file, slot, ETCS_ARCHIVE_ENTRY, etcs_archive_place_(number % archive->slots));
-    *found = answer == ETCS_FILE_OK && etcs_archive_block_(slot) == number ? number : 0;
+/* Appends a block, unless the archive has these bytes as its entry `place`; one beyond `entries` is none. */
+static inline uint32_t etcs_archive_append_new_(etcs_archive *archive, const uint8_t *slot, uint64_t place, uint64_t entries) {
+    uint8_t entry[ETCS_ARCHIVE_ENTRY];
+    if (place < entries) {
+        const uint32_t answer = etcs_file_read_(&archive->file, entry, sizeof entry, etcs_archive_place_(place));
+        if (answer != ETCS_FILE_OK || memcmp(entry, slot, sizeof entry) == 0)
+            return answer;
+    }
+    return etcs_archive_append_(archive, slot);
+}
+
+/* Appends all blocks of the image after `archive->newest`, unless the end of the archive has them just so: a loss of power
+ * may have left other bytes there, or somebody may have put an older image back. A ring holds no number that is `slots` or
+ * more below its newest, so there are at most `slots` turns. */
+static inline uint32_t etcs_archive_catch_up_(etcs_archive *archive, etcs_file *file) {
+    uint8_t slot[ETCS_ARCHIVE_ENTRY];
+    const uint64_t before = archive->entries, slots = archive->slots;
+    uint64_t last = 0, newest = 0, found = 0;
+    uint32_t answer = etcs_archive_newest_(file, slots, &newest);
+    if (answer == ETCS_FILE_OK && before > 0) {
+        answer = etcs_file_read_(&archive->file, slot, sizeof slot, etcs_archive_place_(before - 1));
+        last = answer == ETCS_FILE_OK ? etcs_archive_block_(slot) : 0;
+    }
+    const uint64_t oldest = newest > slots ? newest - slots : 0;
+    for (uint64_t number = (oldest > archive->newest ? oldest : archive->newest) + 1; answer == ETCS_FILE_OK && number <= newest; number++) {
+        answer = etcs_archive_look_(file, slots, number, slot, &found);
+        if (answer == ETCS_FILE_OK && found == number)
+            answer = etcs_archive_append_new_(archive, slot, before + number - last - 1, before); /* (wraps below 0, and is no entry then) */
+    }
+    if (answer == ETCS_FILE_OK)
+        archive->newest = newest;
     return answer;
 }
 
-/* The least number and the greatest one of the gates of the image that are above a number; 0 where none is. */
-static inline uint32_t etcs_archive_range_(etcs_archive *archive, etcs_file *file, uint64_t behind, uint64_t *least, uint64_t *greatest) {
-    uint8_t gate[ETCS_UNIT_SECTOR];
-    *least = *greatest = 0;
-    for (uint64_t slot = 0; slot < archive->slots; slot++) {
-        const uint32_t answer = etcs_file_read_(file, gate, sizeof gate, etcs_archive_place_(slot));
-        const uint64_t number = answer == ETCS_FILE_OK ? etcs_archive_gate_(gate) : 0;
+/* Appends the blocks after `archive->newest`, in the order of the slots, which is that of their numbers. A slot with an
+ * older block ends it, and so do two closed gates in a row, since a unit closes one gate at a time; a damaged slot is passed
+ * over. A greater number means that some blocks were overwritten. At most `slots` turns. */
+static inline uint32_t etcs_archive_follow_(etcs_archive *archive, etcs_file *file) {
+    uint8_t slot[ETCS_ARCHIVE_ENTRY];
+    const uint64_t first = archive->newest + 1;
+    uint64_t found = 0;
+    int closed = 0;
+    for (uint64_t turn = 0; turn < archive->slots && closed < 2; turn++) {
+        uint32_t answer = etcs_archive_look_(file, archive->slots, first + turn, slot, &found);
+        if (answer == ETCS_FILE_OK && found > first + turn)
+            return etcs_archive_catch_up_(archive, file);
+        if (answer == ETCS_FILE_OK && found == first + turn) {
+            answer = etcs_archive_append_(archive, slot);
+            archive->newest = answer == ETCS_FILE_OK ? found : archive->newest;
+        } else if (found != 0) {
+            break;
+        }
         if (answer != ETCS_FILE_OK)
             return answer;
-        if (number <= behind || number % archive->slots != slot)
-            continue;
-        *least = *least == 0 || number < *least ? number : *least;
-        *greatest = number > *greatest ? number : *greatest;
+        closed = etcs_archive_is_closed_(slot) ? closed + 1 : 0;
     }
     return ETCS_FILE_OK;
 }
 
-/* The first look at the image: each of its blocks is appended that the end of the archive hasn't just so. A loss of power
- * may have left other bytes there, or an older image have been put back. */
-static inline uint32_t etcs_archive_catch_up_(etcs_archive *archive, etcs_file *file) {
-    uint8_t slot[ETCS_ARCHIVE_ENTRY], entry[ETCS_ARCHIVE_ENTRY];
-    const uint64_t before = archive->entries;
-    uint64_t last = 0, least = 0, newest = 0, found = 0;
-    uint32_t answer = ETCS_FILE_OK;
-    for (uint64_t place = before; answer == ETCS_FILE_OK && last == 0 && place > 0; place--) {
-        answer = etcs_file_read_(&archive->file, entry, sizeof entry, etcs_archive_place_(place - 1));
-        last = answer == ETCS_FILE_OK ? etcs_archive_block_(entry) : 0;
-    }
+/* The first look at the image. Where it fails, the next call begins again. */
+static inline uint32_t etcs_archive_look_first_(etcs_archive *archive, etcs_file *file) {
+    uint32_t answer = etcs_archive_slots_(&archive->file, file, &archive->slots);
+    archive->newest = 0;
     if (answer == ETCS_FILE_OK)
-        answer = etcs_archive_range_(archive, file, 0, &least, &newest);
-    for (uint64_t number = least; answer == ETCS_FILE_OK && number != 0 && number <= newest; number++) {
-        answer = etcs_archive_look_(archive, file, number, slot, &found);
-        if (answer != ETCS_FILE_OK || found == 0)
-            continue;
-        const uint64_t place = before + number - last - 1; /* (wraps below 0, and is no place then) */
-        int is_there = place < before;
-        if (is_there) {
-            answer = etcs_file_read_(&archive->file, entry, sizeof entry, etcs_archive_place_(place));
-            is_there = answer == ETCS_FILE_OK && memcmp(entry, slot, sizeof entry) == 0;
-        }
-        if (answer == ETCS_FILE_OK && !is_there)
-            answer = etcs_archive_append_(archive, slot);
-    }
-    archive->behind = newest;
+        answer = etcs_archive_catch_up_(archive, file);
+    if (answer != ETCS_FILE_OK)
+        archive->slots = 0;
     return answer;
 }
 
-/* Appends the next block behind those that are there; `found` is 0 where the image has none. */
-static inline uint32_t etcs_archive_next_(etcs_archive *archive, etcs_file *file, uint64_t *found) {
-    uint8_t slot[ETCS_ARCHIVE_ENTRY];
-    uint64_t least = 0, greatest = 0;
-    uint32_t answer = etcs_archive_look_(archive, file, archive->behind + 1, slot, found);
-    if (answer == ETCS_FILE_OK && *found == 0) {
-        /* a slot that is written over, or was: then the next one has a later block, since one gate is closed at a time */
-        uint8_t gate[ETCS_UNIT_SECTOR];
-        answer = etcs_file_read_(file, gate, sizeof gate, etcs_archive_place_((archive->behind + 2) % archive->slots));
-        if (answer == ETCS_FILE_OK && (etcs_archive_gate_(gate) > archive->behind || etcs_archive_gate_(slot) > archive->behind))
-            answer = etcs_archive_range_(archive, file, archive->behind, &least, &greatest);
-        if (answer == ETCS_FILE_OK && least != 0)
-            answer = etcs_archive_look_(archive, file, least, slot, found);
-    }
-    if (answer == ETCS_FILE_OK && *found != 0)
-        answer = etcs_archive_append_(archive, slot);
-    if (answer == ETCS_FILE_OK && *found != 0)
-        archive->behind = *found;
-    return answer;
-}
-
-/** Appends what the image holds that is newer than the archive, and syncs; `count` is how many blocks that were. Call it
- * at least once in as many flushes as the ring has slots, less two: a block that is written over before is missing, and
- * `./lab join` tells that. The file has to be open (etcs_file_open), and no thread may flush meanwhile. The first call
- * reads all slots, each other one what is new and two sectors. Where it answers something else than OK, the archive may
- * have a part of what is new, and `error` of the archive's file, or of the image's, says why. */
+/** Appends the blocks of the image that are newer than the archive, and syncs; `count` is the number of blocks appended.
+ * Call it at least once in as many flushes as the ring has slots, less two: a block that is overwritten before is missing,
+ * and `./lab join` reports that. The file has to be open (etcs_file_open), and no thread may flush meanwhile. OK means that
+ * the archive has all of these blocks on its medium; any other answer, that some may be missing: `error` of the archive's
+ * file, or of the image's, says why. Then call it again: a sync that is owed is made good first.
+ *
+ * A block is kept where its gate and its head are those of one block, of a known format, with one number from 1 to 2^40 that
+ * belongs to its slot; a damaged slot is passed over. The first call reads two sectors of each slot and then at most all
+ * slots, each other one what is new and at most two slots more, unless slots are damaged. */
 static inline uint32_t etcs_archive_keep(etcs_archive *archive, etcs_file *file, uint64_t *count) {
-    uint8_t first[ETCS_UNIT_SECTOR];
-    etcs_image facts;
-    uint64_t found = 1;
     const uint64_t before = archive->entries;
-    uint32_t answer = ETCS_FILE_OK;
     *count = 0;
     if (etcs_file_at_(file) < 0 || etcs_file_at_(&archive->file) < 0) {
         errno = EBADF;
         return etcs_file_failed_(&archive->file, ETCS_FILE_CANT_READ);
     }
-    if (archive->slots == 0) {
-        answer = etcs_file_read_(file, first, sizeof first, 0);
-        if (answer == ETCS_FILE_OK)
-            answer = etcs_file_told_(&archive->file, etcs_image_facts(first, sizeof first, &facts));
-        if (answer == ETCS_FILE_OK)
-            archive->slots = (uint32_t)facts.slots;
-        if (answer == ETCS_FILE_OK)
-            answer = etcs_archive_catch_up_(archive, file);
-        if (answer != ETCS_FILE_OK)
-            archive->slots = 0;
-    }
-    while (answer == ETCS_FILE_OK && found != 0)
-        answer = etcs_archive_next_(archive, file, &found);
+    uint32_t answer = archive->slots == 0 ? etcs_archive_look_first_(archive, file) : etcs_archive_follow_(archive, file);
     *count = archive->entries - before;
-    if (answer == ETCS_FILE_OK && *count > 0)
-        answer = etcs_file_sync_(&archive->file, archive->file.descriptor);
+    if (archive->in_doubt || archive->synced < archive->entries) {
+        const uint32_t synced = etcs_file_sync_appended_(&archive->file, etcs_archive_place_(archive->synced),
+                                                         etcs_archive_place_(archive->entries), &archive->in_doubt);
+        archive->synced = synced == ETCS_FILE_OK ? archive->entries : archive->synced;
+        answer = answer == ETCS_FILE_OK ? synced : answer;
+    }
     return answer;
 }
 
-/* ---- marks of the time of day: a line each, in CSV, which ./lab reads beside the journal (docs/FORMAT.md). The journal has
- * no time of day, and nothing proves what a mark says. */
+/* ---- marks of the time of day: one line each, in CSV with a checksum, which ./lab reads next to the journal
+ * (docs/FORMAT.md). The journal has no time of day, and nothing proves what a mark says. */
 
 /** The first line of marks. */
-#define ETCS_TIMES_FIRST "life,moment_ms,event,utc,uncertainty_ms,source\n"
+#define ETCS_TIMES_FIRST "life,moment_ms,event,utc,uncertainty_ms,source,crc32\n"
 
-/* In which life the journal is: what the head of its newest block tells. */
+/** The bytes of a line, at most. */
+#define ETCS_TIMES_LINE 160
+
+/* How many lives there were, as the head of this slot has it. */
+static inline uint32_t etcs_times_lives_(const uint8_t *slot) {
+    return (uint32_t)etcs_archive_big_(slot + ETCS_UNIT_SECTOR + 24, 4);
+}
+
+/* Whether a slot holds the block of this number, though its gate or its head may have a bit altered. */
+static inline int etcs_times_is_block_(const uint8_t *slot, uint64_t number) {
+    return !etcs_archive_is_closed_(slot)
+           && (etcs_archive_big_(slot + 8, 8) == number || etcs_archive_big_(slot + ETCS_UNIT_SECTOR + 8, 8) == number);
+}
+
+/* The life of the newest block: what its head has. The blocks after the newest whole one count too, as a unit counts them,
+ * where only their gate or head is damaged. Lives never fall, so the greater number holds. At most `slots` turns. */
 static inline uint32_t etcs_times_life_(etcs_times *times, etcs_file *file) {
-    uint8_t bytes[ETCS_UNIT_SECTOR];
-    etcs_image facts;
-    etcs_archive look;
-    uint64_t least = 0, newest = 0;
-    memset(&look, 0, sizeof look);
-    uint32_t answer = etcs_file_read_(file, bytes, sizeof bytes, 0);
+    uint8_t start[2 * ETCS_UNIT_SECTOR];
+    uint32_t slots = 0;
+    uint64_t newest = 0;
+    uint32_t answer = etcs_archive_slots_(&times->file, file, &slots);
     if (answer == ETCS_FILE_OK)
-        answer = etcs_file_told_(&times->file, etcs_image_facts(bytes, sizeof bytes, &facts));
-    if (answer != ETCS_FILE_OK)
-        return answer;
-    look.slots = (uint32_t)facts.slots;
-    answer = etcs_archive_range_(&look, file, 0, &least, &newest);
-    if (answer == ETCS_FILE_OK && newest != 0)
-        answer = etcs_file_read_(file, bytes, sizeof bytes, etcs_archive_place_(newest % look.slots) + ETCS_UNIT_SECTOR);
-    if (answer == ETCS_FILE_OK)
-        times->life = newest == 0 ? 0 : (uint32_t)bytes[24] << 24 | (uint32_t)bytes[25] << 16 | (uint32_t)bytes[26] << 8 | bytes[27];
+        answer = etcs_archive_newest_(file, slots, &newest);
+    times->life = 0;
+    for (uint64_t turn = 0; answer == ETCS_FILE_OK && turn <= slots; turn++) {
+        answer = etcs_file_read_(file, start, sizeof start, etcs_archive_place_((newest + turn) % slots));
+        if (answer != ETCS_FILE_OK || (newest + turn > 0 && !etcs_times_is_block_(start, newest + turn)))
+            break;
+        if (newest + turn > 0 && etcs_times_lives_(start) > times->life)
+            times->life = etcs_times_lives_(start);
+    }
     return answer;
 }
 
-/* Begins a new file by its first line, or drops the part of a line that a loss of power left at the end of what is there. */
-static inline uint32_t etcs_times_begin_(etcs_times *times, const char *path) {
-    const size_t len = sizeof ETCS_TIMES_FIRST - 1;
-    uint8_t there[sizeof ETCS_TIMES_FIRST];
-    off_t end = lseek(times->file.descriptor, 0, SEEK_END);
-    if (end < 0)
-        return etcs_file_failed_(&times->file, ETCS_FILE_CANT_READ);
-    const size_t some = (size_t)end < len ? (size_t)end : len;
-    uint32_t answer = etcs_file_read_(&times->file, there, some, 0);
-    if (answer == ETCS_FILE_OK && memcmp(there, ETCS_TIMES_FIRST, some) != 0)
-        return ETCS_FILE_NO_MARKS;
-    while (answer == ETCS_FILE_OK && some == len && end > (off_t)len) {
-        answer = etcs_file_read_(&times->file, there, 1, (uint64_t)end - 1);
-        if (answer == ETCS_FILE_OK && there[0] == '\n')
-            break;
-        end--;
+/* Drops the part of a line that an earlier process left at the end; where the last bytes have no line feed at all, it ends
+ * them with one, and they are a line that no reader takes. At most ETCS_TIMES_LINE turns. */
+static inline uint32_t etcs_times_drop_part_(etcs_times *times) {
+    uint8_t end[ETCS_TIMES_LINE];
+    const size_t len = times->end < sizeof end ? (size_t)times->end : sizeof end;
+    uint32_t answer = etcs_file_read_(&times->file, end, len, times->end - len);
+    size_t whole = len;
+    while (whole > 0 && end[whole - 1] != '\n')
+        whole--;
+    if (answer != ETCS_FILE_OK || whole > 0) {
+        times->end -= len - whole;
+        times->synced = times->end;
+        return answer == ETCS_FILE_OK ? etcs_file_drop_(&times->file, times->end, &times->in_doubt) : answer;
     }
-    if (answer == ETCS_FILE_OK && some == len && ftruncate(times->file.descriptor, end) != 0)
-        return etcs_file_failed_(&times->file, ETCS_FILE_CANT_WRITE);
-    if (answer != ETCS_FILE_OK || some == len)
-        return answer;
-    answer = etcs_file_write_(&times->file, (const uint8_t *)ETCS_TIMES_FIRST, len, 0);
-    if (answer == ETCS_FILE_OK)
-        answer = etcs_file_sync_(&times->file, times->file.descriptor);
-    return answer == ETCS_FILE_OK ? etcs_file_sync_folder_(&times->file, path) : answer;
+    times->synced = times->end;
+    answer = etcs_file_write_(&times->file, (const uint8_t *)"\n", 1, times->end);
+    times->end += answer == ETCS_FILE_OK;
+    return answer;
 }
 
-/** Opens the marks of a journal under a lock of their own, or begins them. The file is that of the journal; it has to be
- * open, and the power-up flushed, since the marks are of the life of the newest block. Where it answers something else
- * than OK, the marks aren't open. */
+/** Opens the marks of a journal under a lock of their own, or makes the file. Call it after the first flush of a life: the
+ * marks are of the life of the journal's newest block. The journal's file has to be open. It settles what an earlier process
+ * left; a part of a line is dropped. An answer other than OK means that the marks aren't open. */
 static inline uint32_t etcs_times_open(etcs_times *times, const char *path, etcs_file *file) {
     if (etcs_file_at_(&times->file) >= 0)
         return etcs_file_is_open_(&times->file);
-    uint32_t answer = etcs_file_lock_(&times->file, path, O_CREAT);
+    times->in_doubt = 0;
+    uint32_t answer = etcs_file_open_to_append_(&times->file, path, (const uint8_t *)ETCS_TIMES_FIRST, sizeof ETCS_TIMES_FIRST - 1,
+                                                &times->end, ETCS_FILE_NO_MARKS);
     if (answer == ETCS_FILE_OK)
-        answer = etcs_times_begin_(times, path);
+        answer = etcs_times_drop_part_(times);
     if (answer == ETCS_FILE_OK)
         answer = etcs_times_life_(times, file);
     if (answer != ETCS_FILE_OK)
@@ -784,37 +913,76 @@ static inline uint32_t etcs_times_open(etcs_times *times, const char *path, etcs
     return answer;
 }
 
-/** Closes marks; such that aren't open stay so. */
+/** Closes marks and gives their lock back. It may be called on marks that aren't open. */
 static inline void etcs_times_close(etcs_times *times) {
     etcs_file_shut_(&times->file);
 }
 
+/* Whether a clock may have this name: 1 to 64 characters, no blank first or last. At most 65 turns. */
 static inline int etcs_times_is_source_(const char *source) {
-    const size_t len = strlen(source);
-    return len >= 1 && len <= 64 && strspn(source, "abcdefghijklmnopqrstuvwxyzABCDEFGHIJKLMNOPQRSTUVWXYZ0123456789 ._-") == len;
+    size_t len = 0;
+    while (len <= 64 && source[len] != 0
+           && strchr("abcdefghijklmnopqrstuvwxyzABCDEFGHIJKLMNOPQRSTUVWXYZ0123456789 ._-", source[len]) != NULL)
+        len++;
+    return len >= 1 && len <= 64 && source[len] == 0 && source[0] != ' ' && source[len - 1] != ' ';
 }
 
-/** Appends a mark and syncs: at this moment of the life, as the unit's clock told it last, a clock told this time of day, in
- * milliseconds since 1970-01-01 UTC without leap seconds, right to so many milliseconds. `source` is a word for that clock,
- * as "GNSS". Two marks of a life bound how far the unit's clock runs off; one each ten minutes is plenty. */
-static inline uint32_t etcs_times_mark(etcs_times *times, uint64_t moment_ms, int64_t utc_ms, uint32_t uncertainty_ms, const char *source) {
-    char line[160];
-    struct tm told;
-    if (utc_ms < 0 || utc_ms > INT64_C(253402300799999) || !etcs_times_is_source_(source))
-        return ETCS_FILE_BAD_MARK;
+/* CRC-32 as zlib and PNG have it: eight turns a byte. */
+static inline uint32_t etcs_times_crc_(const char *text, size_t len) {
+    uint32_t crc = UINT32_C(0xFFFFFFFF);
+    for (size_t at = 0; at < len; at++) {
+        crc ^= (uint8_t)text[at];
+        for (int bit = 0; bit < 8; bit++)
+            crc = (crc & 1u) ? crc >> 1 ^ UINT32_C(0xEDB88320) : crc >> 1;
+    }
+    return crc ^ UINT32_C(0xFFFFFFFF);
+}
+
+/* Writes the line of a mark, with its checksum, and says how many bytes it has; 0 where it isn't one. */
+static inline size_t etcs_times_line_(char *line, uint32_t life, uint64_t moment_ms, int64_t utc_ms, uint32_t uncertainty_ms, const char *source) {
+    struct tm date;
     const time_t seconds = (time_t)(utc_ms / 1000);
-    if (gmtime_r(&seconds, &told) == NULL)
-        return ETCS_FILE_BAD_MARK;
-    const int len = snprintf(line, sizeof line, "%lu,%llu,,%04d-%02d-%02dT%02d:%02d:%02d.%03dZ,%lu,%s\n", (unsigned long)times->life,
-                             (unsigned long long)moment_ms, told.tm_year + 1900, told.tm_mon + 1, told.tm_mday, told.tm_hour, told.tm_min,
-                             told.tm_sec, (int)(utc_ms % 1000), (unsigned long)uncertainty_ms, source);
-    const off_t end = lseek(etcs_file_at_(&times->file), 0, SEEK_END);
-    if (len < 0 || (size_t)len >= sizeof line)
-        return ETCS_FILE_BAD_MARK;
-    if (end < 0)
+    if (gmtime_r(&seconds, &date) == NULL)
+        return 0;
+    const int len = snprintf(line, ETCS_TIMES_LINE, "%lu,%llu,,%04d-%02d-%02dT%02d:%02d:%02d.%03dZ,%lu,%s", (unsigned long)life,
+                             (unsigned long long)moment_ms, date.tm_year + 1900, date.tm_mon + 1, date.tm_mday, date.tm_hour, date.tm_min,
+                             date.tm_sec, (int)(utc_ms % 1000), (unsigned long)uncertainty_ms, source);
+    if (len <= 0 || len + 10 >= ETCS_TIMES_LINE)
+        return 0;
+    const uint32_t crc = etcs_times_crc_(line, (size_t)len);
+    (void)snprintf(line + len, (size_t)(ETCS_TIMES_LINE - len), ",%08lx\n", (unsigned long)crc);
+    return (size_t)len + 10;
+}
+
+/** Appends a mark and syncs: at `moment_ms` of the life, the last moment that the unit's clock was given, another clock
+ * showed the time of day `utc_ms`, in milliseconds since 1970-01-01 UTC without leap seconds, right to `uncertainty_ms`.
+ * `source` names that clock, as "GNSS". Call it after the power-up, and then each ten minutes or so: two marks of a life
+ * bound how far the unit's clock runs off. OK means that the mark, and each one before it, is on the medium. BAD_MARK: the
+ * moment is 2^40 or more, the time is outside of the years 1970 to 9999, `source` isn't 1 to 64 letters, digits, or of
+ * " ._-" without a blank first or last, or the journal had no life when the marks were opened. After any other answer the
+ * mark may be missing; a sync that is owed is made good by the next call. */
+static inline uint32_t etcs_times_mark(etcs_times *times, uint64_t moment_ms, int64_t utc_ms, uint32_t uncertainty_ms, const char *source) {
+    char line[ETCS_TIMES_LINE];
+    if (etcs_file_at_(&times->file) < 0) {
+        errno = EBADF;
         return etcs_file_failed_(&times->file, ETCS_FILE_CANT_WRITE);
-    const uint32_t answer = etcs_file_write_(&times->file, (const uint8_t *)line, (size_t)len, (uint64_t)end);
-    return answer == ETCS_FILE_OK ? etcs_file_sync_(&times->file, etcs_file_at_(&times->file)) : answer;
+    }
+    if (times->life == 0 || moment_ms >= ETCS_TIMES_MOMENTS || utc_ms < 0 || utc_ms > INT64_C(253402300799999) || !etcs_times_is_source_(source))
+        return ETCS_FILE_BAD_MARK;
+    const size_t len = etcs_times_line_(line, times->life, moment_ms, utc_ms, uncertainty_ms, source);
+    if (len == 0)
+        return ETCS_FILE_BAD_MARK;
+    /* (a write that failed may have left a part of a line) */
+    uint32_t answer = etcs_file_drop_(&times->file, times->end, &times->in_doubt);
+    if (answer == ETCS_FILE_OK)
+        answer = etcs_file_write_(&times->file, (const uint8_t *)line, len, times->end);
+    if (answer != ETCS_FILE_OK)
+        return answer;
+    times->end += len;
+    answer = etcs_file_sync_appended_(&times->file, times->synced, times->end, &times->in_doubt);
+    if (answer == ETCS_FILE_OK)
+        times->synced = times->end;
+    return answer;
 }
 
 #ifdef __cplusplus

@@ -17,7 +17,7 @@
  *     while (answer == ETCS_UNIT_OK && (answer = etcs_journal_next(image, size, &journal, &record)) == ETCS_UNIT_OK)
  *         tell(&record);
  *     if (answer != ETCS_UNIT_END)
- *         complain(etcs_status_text(answer));
+ *         complain(etcs_status_name(answer));
  *
  * Every call returns, whatever the bytes and the numbers are, and answers a number of enum etcs_unit_status. What a call
  * writes to, it writes to where it answers ETCS_UNIT_OK alone, but for etcs_journal_next behind a block that can't be
@@ -269,64 +269,120 @@ uint32_t etcs_journal_next_(const uint8_t *image, size_t size, etcs_journal *jou
 uint32_t etcs_image_replay_(const uint8_t *image, size_t size, uint32_t abi, etcs_journal *journal, etcs_replay *replay);
 uint32_t etcs_image_why_(const uint8_t *image, size_t size, uint32_t abi, uint64_t number, uint64_t event, etcs_why *why);
 
+/* ---- names of numbers, as etcs_lab prints them (docs/JSON.md) */
+
+/** Returns the name of a number of enum etcs_kind; "unknown" for other numbers. */
+static inline const char *etcs_kind_name(uint32_t number) {
+    static const char *const names[] = {NULL, "powerup", "telegram", "odometer", "clock", "driver"};
+    return etcs_name_(names, (uint32_t)(sizeof names / sizeof names[0]), number);
+}
+
+/** Returns the name of a number of enum etcs_datum; "unknown" for other numbers. */
+static inline const char *etcs_datum_name(uint32_t number) {
+    static const char *const names[] = {"unknown", "valid", "invalid"};
+    return etcs_name_(names, (uint32_t)(sizeof names / sizeof names[0]), number);
+}
+
+/** Returns the name of a number of enum etcs_slot_state; "unknown" for other numbers. */
+static inline const char *etcs_slot_state_name(uint32_t number) {
+    static const char *const names[] = {
+        "empty", "block", "unreadable", "misplaced", "foreign", "unwritten", "replaced", "remains"
+    };
+    return etcs_name_(names, (uint32_t)(sizeof names / sizeof names[0]), number);
+}
+
+/** Returns the name of a number of enum etcs_verdict: of events that aren't replayed the reason; "unknown" for other
+ * numbers. */
+static inline const char *etcs_verdict_name(uint32_t number) {
+    static const char *const names[] = {
+        NULL, "agrees", "record_differs", "head_differs", "before_oldest_block", "gap", "within_block",
+        "behind_difference"
+    };
+    return etcs_name_(names, (uint32_t)(sizeof names / sizeof names[0]), number);
+}
+
+/** Returns the name of a number of enum etcs_record_field; "unknown" for other numbers. */
+static inline const char *etcs_record_field_name(uint32_t number) {
+    static const char *const names[] = {
+        NULL, "event", "word", "time_ms", "mode", "level", "brake", "indications", "place", "place_cm", "uncertainty_cm",
+        "limit_m_per_h"
+    };
+    return etcs_name_(names, (uint32_t)(sizeof names / sizeof names[0]), number);
+}
+
+/** Returns the name of a number of enum etcs_kept_field; "unknown" for other numbers. */
+static inline const char *etcs_kept_field_name(uint32_t number) {
+    static const char *const names[] = {
+        NULL, "events", "lives", "trip_outstanding", "identity", "running_number", "train", "level", "position",
+        "national_values", "countries"
+    };
+    return etcs_name_(names, (uint32_t)(sizeof names / sizeof names[0]), number);
+}
+
+/** Returns the name of a number of enum etcs_trip_cause; "unknown" for other numbers. */
+static inline const char *etcs_trip_cause_name(uint32_t number) {
+    static const char *const names[] = {"unknown", "end_passed", "linking", "stop", "staff_distance", "level"};
+    return etcs_name_(names, (uint32_t)(sizeof names / sizeof names[0]), number);
+}
+
 /* ---- the calls */
 
-/** What an image has at first sight. It reads the first sector, each gate, and the head behind each open one. Answers OK,
- * OTHER_ABI, or IMAGE_NOT_FORMATTED. */
+/** Reads how many sectors and slots an image has, and the number of its newest block. Call it first. It reads the first
+ * sector, each gate, and the head after each open one. Returns OK, OTHER_ABI, or IMAGE_NOT_FORMATTED. */
 static inline uint32_t etcs_image_facts(const uint8_t *image, size_t size, etcs_image *facts) {
     return ((image != NULL) && (facts != NULL)) ? etcs_image_facts_(image, size, ETCS_UNIT_ABI, facts) : (uint32_t)ETCS_UNIT_NULL_POINTER;
 }
 
-/** What a slot holds, where the newest block has this number, as etcs_image_facts tells it. Answers OK, OTHER_ABI,
+/** Reads what a slot holds; `newest` is the number of the newest block, from etcs_image_facts. Returns OK, OTHER_ABI,
  * IMAGE_NOT_FORMATTED, OUT_OF_RANGE (a newest number above 2^40), or NO_SUCH_SLOT. */
 static inline uint32_t etcs_image_slot(const uint8_t *image, size_t size, uint64_t newest, uint64_t slot, etcs_slot *told) {
     return ((image != NULL) && (told != NULL)) ? etcs_image_slot_(image, size, ETCS_UNIT_ABI, newest, slot, told) : (uint32_t)ETCS_UNIT_NULL_POINTER;
 }
 
-/** What the head of the block of this number tells. Answers OK, OTHER_ABI, IMAGE_NOT_FORMATTED, or NO_SUCH_BLOCK where its
- * slot doesn't hold it behind an open gate. */
+/** Reads the head of the block of this number. Returns OK, OTHER_ABI, IMAGE_NOT_FORMATTED, or NO_SUCH_BLOCK where its slot
+ * doesn't hold it with an open gate. */
 static inline uint32_t etcs_image_block(const uint8_t *image, size_t size, uint64_t number, etcs_block *block) {
     return ((image != NULL) && (block != NULL)) ? etcs_image_block_(image, size, ETCS_UNIT_ABI, number, block) : (uint32_t)ETCS_UNIT_NULL_POINTER;
 }
 
-/** A record of the block of this number. Answers OK, OTHER_ABI, IMAGE_NOT_FORMATTED, NO_SUCH_BLOCK, or NO_SUCH_RECORD. */
+/** Reads a record of the block of this number. Returns OK, OTHER_ABI, IMAGE_NOT_FORMATTED, NO_SUCH_BLOCK, or NO_SUCH_RECORD. */
 static inline uint32_t etcs_image_record(const uint8_t *image, size_t size, uint64_t number, uint32_t index, etcs_record *record) {
     return ((image != NULL) && (record != NULL)) ? etcs_image_record_(image, size, ETCS_UNIT_ABI, number, index, record) : (uint32_t)ETCS_UNIT_NULL_POINTER;
 }
 
-/** Begins at the oldest record of the journal: of the longest unbroken run of blocks up to the newest, which `etcs journal`
- * lists. It reads what etcs_image_facts reads. Answers OK, OTHER_ABI, IMAGE_NOT_FORMATTED, or IMAGE_DAMAGED where the
- * image hasn't just 1 + 6 * slots sectors. */
+/** Starts at the oldest record of the journal: of the longest unbroken run of blocks up to the newest, which `etcs journal`
+ * lists. Call it before etcs_journal_next or etcs_image_replay. It reads what etcs_image_facts reads. Returns OK,
+ * OTHER_ABI, IMAGE_NOT_FORMATTED, or IMAGE_DAMAGED where the image hasn't exactly 1 + 6 * slots sectors. */
 static inline uint32_t etcs_journal_open(const uint8_t *image, size_t size, etcs_journal *journal) {
     return ((image != NULL) && (journal != NULL)) ? etcs_journal_open_(image, size, ETCS_UNIT_ABI, journal) : (uint32_t)ETCS_UNIT_NULL_POINTER;
 }
 
-/** The next record of the journal. It reads one slot, and takes as long whatever size the image has. Answers OK, END,
- * NOT_OPEN (a journal of zeros), OUT_OF_RANGE (one that no call left), IMAGE_NOT_FORMATTED, NO_SUCH_RECORD (one of another
- * image), or IMAGE_DAMAGED where a block of the journal can't be read: then the journal is behind that block, and the next
- * call goes on there. */
+/** Reads the next record of the journal. Call it until it answers END. It reads one slot, and takes the same time whatever
+ * size the image has. Returns OK, END, NOT_OPEN (a journal of zeros), OUT_OF_RANGE (one that no call left),
+ * IMAGE_NOT_FORMATTED, NO_SUCH_RECORD (one of another image), or IMAGE_DAMAGED where a block of the journal can't be read:
+ * then the journal is after that block, and the next call goes on there. */
 static inline uint32_t etcs_journal_next(const uint8_t *image, size_t size, etcs_journal *journal, etcs_record *record) {
     return ((image != NULL) && (journal != NULL) && (record != NULL)) ? etcs_journal_next_(image, size, journal, record) : (uint32_t)ETCS_UNIT_NULL_POINTER;
 }
 
-/** The next line of a replay: the life of the record at which the journal is is run through the kernel again, from its
- * power-up on, and what comes from this record on is told: events that agree, or why they aren't run, as many as follow
- * one another in one life with one verdict; or the record that differs; or the head of a block that does. Then the
- * journal is behind what was told. So from etcs_journal_open on it tells line by line what `etcs_lab replay` prints,
- * until END. An index behind the last record of a block is the place of its head: only etcs_image_replay leaves a journal
- * there. AGREES says that the journal is consistent with this kernel, and not that it is authentic
- * (crates/replaying/README.md). Each call takes as long as the life is up to the end of the line. It takes memory. Answers
- * OK, END, NOT_OPEN, OTHER_ABI, OUT_OF_RANGE, IMAGE_NOT_FORMATTED, IMAGE_DAMAGED where the next block can't be read: then
- * the journal is at the block after that one; or NO_MEMORY. With END and NO_MEMORY the journal stays. */
+/** Replays the life of the record at which the journal is, from its power-up, and writes the next line of the replay: events
+ * that agree, or why they aren't replayed, as many as follow one another in one life with one verdict; or the record that
+ * differs; or the head of a block that does. Call it after etcs_journal_open, until it answers END: it gives line by line
+ * what `etcs_lab replay` prints. The journal is then after what the line covers. An index after the last record of a block
+ * is the place of its head; only this call leaves a journal there. AGREES means that the journal is consistent with this
+ * kernel, not that it is authentic (crates/replaying/README.md). Each call takes as long as the life is up to the end of
+ * the line. It takes memory. Returns OK, END, NOT_OPEN, OTHER_ABI, OUT_OF_RANGE, IMAGE_NOT_FORMATTED, IMAGE_DAMAGED where
+ * the next block can't be read: then the journal is at the block after that one; or NO_MEMORY. With END and NO_MEMORY the
+ * journal stays. */
 static inline uint32_t etcs_image_replay(const uint8_t *image, size_t size, etcs_journal *journal, etcs_replay *replay) {
     return ((image != NULL) && (journal != NULL) && (replay != NULL)) ? etcs_image_replay_(image, size, ETCS_UNIT_ABI, journal, replay) : (uint32_t)ETCS_UNIT_NULL_POINTER;
 }
 
-/** Why the event of this number in the block of this number was answered so: its life is run through the kernel again, from
- * its power-up up to the event, also from a power-up within a block where the life before it in the block can be run.
- * etcs_journal_next tells both numbers of each record. It takes memory. Answers OK,
- * OTHER_ABI, IMAGE_NOT_FORMATTED, NO_SUCH_BLOCK, NO_SUCH_RECORD where the block has no such event, NOT_REPLAYED where what
- * was kept before the life isn't known (etcs_image_replay tells why), or NO_MEMORY. */
+/** Explains why the event of this number in the block of this number was answered as it was: its life is replayed from its
+ * power-up to the event, also from a power-up within a block where the life before it in the block can be replayed.
+ * etcs_journal_next gives both numbers of each record. It takes memory. Returns OK, OTHER_ABI, IMAGE_NOT_FORMATTED,
+ * NO_SUCH_BLOCK, NO_SUCH_RECORD where the block has no such event, NOT_REPLAYED where what was kept before the life isn't
+ * known (etcs_image_replay says why), or NO_MEMORY. */
 static inline uint32_t etcs_image_why(const uint8_t *image, size_t size, uint64_t number, uint64_t event, etcs_why *why) {
     return ((image != NULL) && (why != NULL)) ? etcs_image_why_(image, size, ETCS_UNIT_ABI, number, event, why) : (uint32_t)ETCS_UNIT_NULL_POINTER;
 }

@@ -64,12 +64,15 @@ typedef struct {
 
 ETCS_UNIT_ASSERT(sizeof(etcs_memory_told) == 40u && offsetof(etcs_memory_told, most_used) == 16u && offsetof(etcs_memory_told, refused) == 32u);
 
-/** From now on memory comes from this buffer, which may lie anywhere. Answers OK; OUT_OF_RANGE where it has fewer bytes
- * than ETCS_MEMORY_LEAST or more than ETCS_MEMORY_MOST; IS_OPEN where a piece of the one before is out (a unit is open);
- * NULL_POINTER. But for OK nothing changes. Before the first one every request is refused. */
+/** Makes the library take all memory from this buffer, which may lie anywhere. Call it once, before the first unit is
+ * opened: before that every request is refused. Returns OK; OUT_OF_RANGE where the buffer has fewer bytes than
+ * ETCS_MEMORY_LEAST or more than ETCS_MEMORY_MOST; IS_OPEN where memory of an earlier buffer is still in use (a unit is
+ * open); NULL_POINTER. After any answer but OK nothing has changed. */
+ETCS_MUST_USE
 uint32_t etcs_memory_use(void *buffer, uint64_t size);
 
-/** Tells what is used. Answers OK; NOT_OPEN where no buffer is used; NULL_POINTER. */
+/** Reports how much of the buffer is used. Call it to choose the buffer's size, or to watch it. Returns OK; NOT_OPEN where
+ * no buffer is used; NULL_POINTER. */
 uint32_t etcs_memory_state(etcs_memory_told *told);
 
 #ifdef __cplusplus

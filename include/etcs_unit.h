@@ -10,7 +10,7 @@
  * gets outputs:
  *
  *     etcs_unit unit = {0};
- *     etcs_unit_output outputs[ETCS_UNIT_OUTPUTS];
+ *     etcs_unit_output outputs[ETCS_UNIT_OUTPUTS], command = {0};
  *     uint32_t count;
  *
  *     if (etcs_unit_open(&unit, image, size, ETCS_COLD_UNKNOWN) != ETCS_UNIT_OK || !carry_out(&unit)
@@ -21,12 +21,12 @@
  *     for (;;) {
  *         if (etcs_unit_odometer(&unit, movement_cm(), speed_m_per_h()) != ETCS_UNIT_OK
  *             || etcs_unit_prepare(&unit) != ETCS_UNIT_OK || !carry_out(&unit)
- *             || etcs_unit_release(&unit, outputs, ETCS_UNIT_OUTPUTS, &count) != ETCS_UNIT_OK) {
+ *             || etcs_unit_release(&unit, outputs, ETCS_UNIT_OUTPUTS, &count) != ETCS_UNIT_OK
+ *             || etcs_unit_command(outputs, count, &command) != ETCS_UNIT_OK) {
  *             brake();
  *             break;
  *         }
- *         for (uint32_t i = 0; i < count; i++)
- *             obey(&outputs[i]);
+ *         obey(&command);
  *     }
  *     etcs_unit_close(&unit);
  *
@@ -54,7 +54,8 @@
  * handed in by etcs_unit_provide, and etcs_unit_prepare is called again. All else is as over a copy.
  *
  * ANY ANSWER BUT ETCS_UNIT_OK MEANS THE EMERGENCY BRAKE, unless it is a mistake that is put right before the next output is
- * due: etcs_status_kind parts what an answer may be. An output reaches the train from etcs_unit_release alone.
+ * due: etcs_status_kind parts what an answer may be. A compiler warns where such an answer is dropped (ETCS_MUST_USE); gcc
+ * does so behind a cast to void too. An output reaches the train from etcs_unit_release alone.
  *
  * Every call returns, whatever numbers it is handed, and answers a number of enum etcs_unit_status. A null pointer is
  * answered with ETCS_UNIT_NULL_POINTER. What no call can test, the caller owes:
@@ -492,18 +493,133 @@ uint32_t etcs_telegram_unused_(const uint8_t *bytes, size_t len, uint32_t mode, 
 
 /* ---- the calls */
 
-/** The number of the library's interface: that of a header beside it is ETCS_UNIT_ABI. */
+/** Returns the number of the library's interface. It equals ETCS_UNIT_ABI of the header that belongs to the library. */
 uint32_t etcs_abi(void);
 
-/** Writes the version of the product, as "0.1.0", with no zero behind it, and to `len` how many bytes it has. Answers OK,
+/** Writes the version of the product, as "0.1.0", without a zero at its end, and to `len` how many bytes it has. Returns OK,
  * or NO_ROOM; then nothing is written. ETCS_VERSION_BYTES are always enough. */
 static inline uint32_t etcs_version(uint8_t *out, size_t room, uint32_t *len) {
     return ((out != NULL) && (len != NULL)) ? etcs_version_(out, room, len) : (uint32_t)ETCS_UNIT_NULL_POINTER;
 }
 
-/** The name of a status, as enum etcs_unit_status has it behind ETCS_UNIT_; "unknown" for a number that it doesn't have.
- * The text is the program's own, and never ends. */
-static inline const char *etcs_status_text(uint32_t status) {
+/* ---- names of numbers, as etcs_lab prints them (docs/JSON.md): each text is the program's own, and never ends */
+
+/* The text of a number; "unknown" where the table has none. */
+static inline const char *etcs_name_(const char *const *names, uint32_t count, uint32_t number) {
+    return ((number < count) && (names[number] != NULL)) ? names[number] : "unknown";
+}
+
+/** Returns the name of a number of enum etcs_mode, in two letters; "unknown" for other numbers. */
+static inline const char *etcs_mode_name(uint32_t number) {
+    static const char *const names[] = {"FS", "OS", "SR", "SH", "UN", NULL, "SB", "TR", "PT", "SF"};
+    return etcs_name_(names, (uint32_t)(sizeof names / sizeof names[0]), number);
+}
+
+/** Returns the name of a number of enum etcs_level: "0", "1", or "-" where the level isn't valid; "unknown" for other numbers. */
+static inline const char *etcs_level_name(uint32_t number) {
+    static const char *const names[] = {"0", "1"};
+    return (number == (uint32_t)ETCS_LEVEL_INVALID) ? "-" : etcs_name_(names, 2, number);
+}
+
+/** Returns the name of a number of enum etcs_brake; "unknown" for other numbers. */
+static inline const char *etcs_brake_name(uint32_t number) {
+    static const char *const names[] = {"none", "service", "emergency"};
+    return etcs_name_(names, (uint32_t)(sizeof names / sizeof names[0]), number);
+}
+
+/** Returns the name of one indication (enum etcs_indication), not of a sum; "unknown" for other numbers. */
+static inline const char *etcs_indication_name(uint32_t number) {
+    static const char *const names[] = {"on_sight", "shunting", "level_0", "trip", "overridden", "not_revalidated", "overspeed"};
+    uint32_t bit = 0;
+    while ((bit < 7u) && (number != (UINT32_C(1) << bit))) {
+        bit++;
+    }
+    return etcs_name_(names, 7, bit);
+}
+
+/** Returns the name of a number of enum etcs_brake_cause; "unknown" for other numbers. */
+static inline const char *etcs_brake_cause_name(uint32_t number) {
+    static const char *const names[] = {
+        "not_revalidated", "in_trip", "in_system_failure", "owes_trip", "far_too_fast", "rolled_too_far",
+        "asked_for_service", "too_fast", "must_stand", "owes_too_long"
+    };
+    return etcs_name_(names, (uint32_t)(sizeof names / sizeof names[0]), number);
+}
+
+/** Returns the name of a number of enum etcs_limit_cause; "unknown" for other numbers. */
+static inline const char *etcs_limit_cause_name(uint32_t number) {
+    static const char *const names[] = {
+        NULL, "no_speed", "no_train_data", "national_staff_responsible", "national_override", "national_shunting",
+        "national_unfitted", "train_maximum", "main_speed", "end_speed", "static_speed", "restriction", "mode_area",
+        "static_speed_ahead", "unknown_speed_ahead", "restriction_ahead", "mode_area_ahead", "end_of_authority",
+        "supervised_location", "release_speed", "national_release_speed"
+    };
+    return etcs_name_(names, (uint32_t)(sizeof names / sizeof names[0]), number);
+}
+
+/** Returns the name of a number of enum etcs_acknowledgement; "unknown" for other numbers. */
+static inline const char *etcs_acknowledgement_name(uint32_t number) {
+    static const char *const names[] = {"none", "asked", "owed"};
+    return etcs_name_(names, (uint32_t)(sizeof names / sizeof names[0]), number);
+}
+
+/** Returns the name of a number of enum etcs_action; "unknown" for other numbers. */
+static inline const char *etcs_action_name(uint32_t number) {
+    static const char *const names[] = {
+        NULL, "choose_level_0", "choose_level_1", "confirm_identity", "confirm_running_number", "confirm_train_data",
+        "confirm_level", "start", "choose_shunting", "leave_shunting", "override", "acknowledge_trip",
+        "acknowledge_on_sight", "acknowledge_shunting", "acknowledge_level_0", "close_desk"
+    };
+    return etcs_name_(names, (uint32_t)(sizeof names / sizeof names[0]), number);
+}
+
+/** Returns the name of a number of enum etcs_cold; "unknown" for other numbers. */
+static inline const char *etcs_cold_name(uint32_t number) {
+    static const char *const names[] = {"unknown", "moved", "not_moved"};
+    return etcs_name_(names, (uint32_t)(sizeof names / sizeof names[0]), number);
+}
+
+/** Returns the name of a number of enum etcs_status_kind; "unknown" for other numbers. */
+static inline const char *etcs_status_kind_name(uint32_t number) {
+    static const char *const names[] = {"ok", "mistake", "fault"};
+    return etcs_name_(names, (uint32_t)(sizeof names / sizeof names[0]), number);
+}
+
+/** Returns the name of a number of enum etcs_request_kind; "unknown" for other numbers. */
+static inline const char *etcs_request_kind_name(uint32_t number) {
+    static const char *const names[] = {NULL, "write", "sync"};
+    return etcs_name_(names, (uint32_t)(sizeof names / sizeof names[0]), number);
+}
+
+/** Returns the name of a number of enum etcs_fault, as docs/REFUSALS.md has it; "unknown" for other numbers. */
+static inline const char *etcs_fault_name(uint32_t number) {
+    static const char *const names[] = {
+        "OK", "Truncated", "WrongLength", "Spare", "OutOfRange", "WrongVersion", "NotUplink", "NotBalise", "NoEnd",
+        "TooLong"
+    };
+    return etcs_name_(names, (uint32_t)(sizeof names / sizeof names[0]), number);
+}
+
+/** Returns the name of a number of enum etcs_adaptation; "unknown" for other numbers. */
+static inline const char *etcs_adaptation_name(uint32_t number) {
+    static const char *const names[] = {"none", "written", "several", "no_layout", "ambiguous"};
+    return etcs_name_(names, (uint32_t)(sizeof names / sizeof names[0]), number);
+}
+
+/** Returns the name of a number of enum etcs_direction; "unknown" for other numbers. */
+static inline const char *etcs_direction_name(uint32_t number) {
+    static const char *const names[] = {"reverse", "nominal", "not_known"};
+    return etcs_name_(names, (uint32_t)(sizeof names / sizeof names[0]), number);
+}
+
+/** Returns the name of a number of enum etcs_unused_reason; "unknown" for other numbers. */
+static inline const char *etcs_unused_reason_name(uint32_t number) {
+    static const char *const names[] = {NULL, "not_known", "infill", "not_in_mode", "other_direction", "refused"};
+    return etcs_name_(names, (uint32_t)(sizeof names / sizeof names[0]), number);
+}
+
+/** Returns the name of a number of enum etcs_unit_status, without ETCS_UNIT_; "unknown" for other numbers. */
+static inline const char *etcs_status_name(uint32_t status) {
     const char *text = "unknown";
     switch (status) {
     case (uint32_t)ETCS_UNIT_OK: text = "OK"; break;
@@ -543,10 +659,12 @@ static inline const char *etcs_status_text(uint32_t status) {
     return text;
 }
 
-/** What an answer is (enum etcs_status_kind), of a call whose values come from there (enum etcs_source): an identity, a
+/** Says what an answer means: all is well, a mistake, or a fault that needs the emergency brake (enum etcs_status_kind).
+ * Call it with any answer that isn't OK. `source` is where the call's values come from (enum etcs_source): an identity, a
  * number, train data or an action from the driver, all else from the equipment. Out of range is a mistake of the driver,
  * and a fault of a sensor, the clock or a reader of balises. A mistake of the program, such as PENDING_FULL, is one as long
- * as it is put right at once; a reading that is never handed in is as good as a sensor that failed. */
+ * as it is put right at once; a reading that is never handed in counts as a sensor that failed. */
+ETCS_MUST_USE
 static inline uint32_t etcs_status_kind(uint32_t status, uint32_t source) {
     uint32_t kind = (uint32_t)ETCS_KIND_FAULT;
     switch (status) {
@@ -575,10 +693,11 @@ static inline uint32_t etcs_status_kind(uint32_t status, uint32_t source) {
     return kind;
 }
 
-/** Powers up on these sectors: `len` bytes, the whole medium, of which the unit keeps a copy. Behind it the requests of
- * the power-up are in the list, and no output is held back: carry them out, say that they are done, and release.
- * Answers OK, IS_OPEN, OTHER_ABI, OUT_OF_RANGE (the word), or one of the statuses of opening; then the unit is as
- * before. Takes memory: the copy, some 9 kB of room for requests, and the unit. */
+/** Powers up a unit on the bytes of its medium: `len` bytes, all of it, of which the unit keeps a copy. Call it after each
+ * power-up. Then carry out the requests in the list, say that they are done, and release; no output is held back. Returns
+ * OK, IS_OPEN, OTHER_ABI, OUT_OF_RANGE (`cold`), or a status of opening. After any answer but OK the unit is as before. It
+ * takes memory for the copy, some 9 kB of requests, and the unit. */
+ETCS_MUST_USE
 static inline uint32_t etcs_unit_open(etcs_unit *unit, const uint8_t *image, size_t len, uint32_t cold) {
     return ((unit != NULL) && (image != NULL)) ? etcs_unit_open_(unit, image, len, cold, ETCS_UNIT_ABI) : (uint32_t)ETCS_UNIT_NULL_POINTER;
 }
@@ -587,45 +706,58 @@ static inline uint32_t etcs_unit_open(etcs_unit *unit, const uint8_t *image, siz
  * medium's size. It wants the first sector, of each slot the gate, and the head where the gate is open, then the six sectors
  * of the newest block's slot, and the gate of the next one. */
 
-/** Begins a power-up on a medium of so many sectors, of which none is known yet. Answers OK, IS_OPEN, OTHER_ABI,
- * OUT_OF_RANGE (the word) or OPEN_NO_MEMORY; but for OK nothing changed. */
+/** Begins a power-up on a medium of this many sectors, without a copy of it. Call it in place of etcs_unit_open, and then
+ * etcs_opening_go_on. Returns OK, IS_OPEN, OTHER_ABI, OUT_OF_RANGE (`cold`) or OPEN_NO_MEMORY. After any answer but OK
+ * nothing has changed. */
+ETCS_MUST_USE
 static inline uint32_t etcs_opening_begin(etcs_opening *opening, uint64_t sectors, uint32_t cold) {
     return (opening != NULL) ? etcs_opening_begin_(opening, sectors, cold, ETCS_UNIT_ABI) : (uint32_t)ETCS_UNIT_NULL_POINTER;
 }
 
-/** Goes on as far as sectors are known. OK: the opening is closed and the unit open, as etcs_unit_open leaves one, with the
- * requests of the power-up in the list. SECTOR_WANTED: hand in the sector that etcs_opening_wanted tells, and call again.
- * A status of opening: the opening is closed, no unit is open, and the medium is to be left as it is. IS_OPEN, where the unit
- * is open already, and NOT_OPEN, where no opening is: nothing changed. */
+/** Goes on with a power-up as far as sectors are known. Call it after etcs_opening_begin, and after each sector that was
+ * handed in. OK: the opening is closed and the unit is open, as etcs_unit_open leaves one, with the requests of the
+ * power-up in the list. SECTOR_WANTED: hand in the sector that etcs_opening_wanted returns, and call again. A status of
+ * opening: the opening is closed, no unit is open, and the medium is to be left as it is. IS_OPEN (the unit is open
+ * already) and NOT_OPEN (no opening is): nothing has changed. */
+ETCS_MUST_USE
 static inline uint32_t etcs_opening_go_on(etcs_opening *opening, etcs_unit *unit) {
     return ((opening != NULL) && (unit != NULL)) ? etcs_opening_go_on_(opening, unit) : (uint32_t)ETCS_UNIT_NULL_POINTER;
 }
 
-/** Tells the sector that the opening wants, from 0 on, until it is handed in. Answers OK, NONE_WANTED or NOT_OPEN; but for OK
- * `sector` isn't written. */
+/** Writes to `sector` which sector the opening needs next, from 0 on. Call it where etcs_opening_go_on answered
+ * SECTOR_WANTED. Once any sector is handed in it answers NONE_WANTED, until etcs_opening_go_on answers SECTOR_WANTED again.
+ * Returns OK, NONE_WANTED or NOT_OPEN; `sector` is written only with OK. */
+ETCS_MUST_USE
 static inline uint32_t etcs_opening_wanted(etcs_opening *opening, uint64_t *sector) {
     return ((opening != NULL) && (sector != NULL)) ? etcs_opening_wanted_(opening, sector) : (uint32_t)ETCS_UNIT_NULL_POINTER;
 }
 
-/** Hands in what the medium holds of a sector, ETCS_UNIT_SECTOR bytes. Answers OK, NOT_OPEN, or OUT_OF_RANGE where the medium
- * has no such sector or `size` is another; but for OK nothing changed. */
+/** Hands in the bytes of a sector of the medium: ETCS_UNIT_SECTOR bytes. Call it with the sector that etcs_opening_wanted
+ * returned. Returns OK, NOT_OPEN, or OUT_OF_RANGE where the medium has no such sector or `size` is another one. After any
+ * answer but OK nothing has changed. */
+ETCS_MUST_USE
 static inline uint32_t etcs_opening_provide(etcs_opening *opening, uint64_t sector, const uint8_t *bytes, size_t size) {
     return ((opening != NULL) && (bytes != NULL)) ? etcs_opening_provide_(opening, sector, bytes, size) : (uint32_t)ETCS_UNIT_NULL_POINTER;
 }
 
-/** Gives a power-up up, and its memory back; nothing was written to the medium. Answers OK, or NOT_OPEN, which is allowed. */
+/** Abandons a power-up and gives its memory back. Call it where a sector can't be read. Nothing was written to the medium.
+ * Returns OK, or NOT_OPEN, which is allowed. */
 static inline uint32_t etcs_opening_close(etcs_opening *opening) {
     return (opening != NULL) ? etcs_opening_close_(opening) : (uint32_t)ETCS_UNIT_NULL_POINTER;
 }
 
-/** Tells the sector that the unit wants, from 0 on, until it is handed in: where etcs_unit_prepare answered SECTOR_WANTED.
- * Answers OK, NONE_WANTED or NOT_OPEN; but for OK `sector` isn't written. */
+/** Writes to `sector` which sector the unit needs next, from 0 on. Call it where etcs_unit_prepare answered SECTOR_WANTED.
+ * Once any sector is handed in it answers NONE_WANTED, until etcs_unit_prepare answers SECTOR_WANTED again. Returns OK,
+ * NONE_WANTED or NOT_OPEN; `sector` is written only with OK. */
+ETCS_MUST_USE
 static inline uint32_t etcs_unit_wanted(etcs_unit *unit, uint64_t *sector) {
     return ((unit != NULL) && (sector != NULL)) ? etcs_unit_wanted_(unit, sector) : (uint32_t)ETCS_UNIT_NULL_POINTER;
 }
 
-/** Hands in what the medium holds of a sector, ETCS_UNIT_SECTOR bytes. Answers OK, NOT_OPEN, or OUT_OF_RANGE where the medium
- * has no such sector or `size` is another; but for OK nothing changed. */
+/** Hands in the bytes of a sector of the medium: ETCS_UNIT_SECTOR bytes. Call it with the sector that etcs_unit_wanted
+ * returned. Returns OK, NOT_OPEN, or OUT_OF_RANGE where the medium has no such sector or `size` is another one. After any
+ * answer but OK nothing has changed. */
+ETCS_MUST_USE
 static inline uint32_t etcs_unit_provide(etcs_unit *unit, uint64_t sector, const uint8_t *bytes, size_t size) {
     return ((unit != NULL) && (bytes != NULL)) ? etcs_unit_provide_(unit, sector, bytes, size) : (uint32_t)ETCS_UNIT_NULL_POINTER;
 }
@@ -633,71 +765,87 @@ static inline uint32_t etcs_unit_provide(etcs_unit *unit, uint64_t sector, const
 /* ---- inputs: each takes one input into memory, also while requests are carried out. Nothing is released. They answer
  * OK, NOT_OPEN, OUT_OF_RANGE, or a status of taking an input, tested in this order; but for OK nothing changed. */
 
-/** The bytes that a balise sent, from 1 to ETCS_TELEGRAM_BYTES; they need not carry a telegram. */
+/** Accepts the bytes that a balise sent, 1 to ETCS_TELEGRAM_BYTES of them. Call it while the movement up to that balise is
+ * the last one that was accepted. The bytes need not carry a telegram. */
+ETCS_MUST_USE
 static inline uint32_t etcs_unit_telegram(etcs_unit *unit, const uint8_t *bytes, size_t len) {
     return ((unit != NULL) && (bytes != NULL)) ? etcs_unit_telegram_(unit, bytes, len) : (uint32_t)ETCS_UNIT_NULL_POINTER;
 }
 
-/** A reading of the odometer: the movement since the last one, forward or backward, and the speed now, 0 only at
- * standstill. */
+/** Accepts a reading of the odometer: the movement since the last one, forward or backward, and the speed now. Call it in
+ * each cycle. The speed is 0 only at standstill. */
+ETCS_MUST_USE
 static inline uint32_t etcs_unit_odometer(etcs_unit *unit, int64_t movement_cm, uint32_t speed_m_per_h) {
     return (unit != NULL) ? etcs_unit_odometer_(unit, movement_cm, speed_m_per_h) : (uint32_t)ETCS_UNIT_NULL_POINTER;
 }
 
-/** A moment of this life. Moments don't fall. */
+/** Accepts a moment of this life, in milliseconds. Call it in each cycle. Moments never go back. */
+ETCS_MUST_USE
 static inline uint32_t etcs_unit_clock(etcs_unit *unit, uint64_t moment_ms) {
     return (unit != NULL) ? etcs_unit_clock_(unit, moment_ms) : (uint32_t)ETCS_UNIT_NULL_POINTER;
 }
 
-/** An action of the driver (enum etcs_action). */
+/** Accepts an action of the driver (enum etcs_action). Call it when the driver acts. */
+ETCS_MUST_USE
 static inline uint32_t etcs_unit_action(etcs_unit *unit, uint32_t action) {
     return (unit != NULL) ? etcs_unit_action_(unit, action) : (uint32_t)ETCS_UNIT_NULL_POINTER;
 }
 
-/** The driver enters an identity, of 1 to 16 bytes. */
+/** Accepts the driver's identity, of 1 to 16 bytes. Call it when the driver has entered it. */
+ETCS_MUST_USE
 static inline uint32_t etcs_unit_identity(etcs_unit *unit, const uint8_t *bytes, size_t len) {
     return ((unit != NULL) && (bytes != NULL)) ? etcs_unit_identity_(unit, bytes, len) : (uint32_t)ETCS_UNIT_NULL_POINTER;
 }
 
-/** The driver enters the running number. */
+/** Accepts the running number. Call it when the driver has entered it. */
+ETCS_MUST_USE
 static inline uint32_t etcs_unit_running_number(etcs_unit *unit, uint32_t number) {
     return (unit != NULL) ? etcs_unit_running_number_(unit, number) : (uint32_t)ETCS_UNIT_NULL_POINTER;
 }
 
-/** The driver enters train data. */
+/** Accepts train data. Call it when the driver has entered them, or the vehicle has sent them. */
+ETCS_MUST_USE
 static inline uint32_t etcs_unit_train_data(etcs_unit *unit, const etcs_train_data *data) {
     return ((unit != NULL) && (data != NULL)) ? etcs_unit_train_data_(unit, data) : (uint32_t)ETCS_UNIT_NULL_POINTER;
 }
 
 /* ---- from inputs to outputs */
 
-/** Puts what is pending into requests: they are then in the list, and its outputs held back. Where nothing is pending the list
- * stays empty. Answers OK, NOT_OPEN, or a status of preparing; SECTOR_WANTED only where the unit holds no copy of its
- * medium: hand in the sector that etcs_unit_wanted tells, and call again. */
+/** Turns the accepted inputs into requests for the medium, and holds their outputs back. Call it once a cycle, after the
+ * inputs; without inputs the list stays empty. Then carry out the requests. Returns OK, NOT_OPEN, or a status of preparing.
+ * SECTOR_WANTED comes only where the unit holds no copy of its medium: hand in the sector that etcs_unit_wanted returns,
+ * and call again. */
+ETCS_MUST_USE
 static inline uint32_t etcs_unit_prepare(etcs_unit *unit) {
     return (unit != NULL) ? etcs_unit_prepare_(unit) : (uint32_t)ETCS_UNIT_NULL_POINTER;
 }
 
-/** Tells a request of the list, from 0 on, and the bytes that it writes. Answers OK, NOT_OPEN, NO_SUCH_REQUEST, or NO_ROOM
- * where it writes more than `room` bytes; but for OK nothing is written. ETCS_UNIT_REQUEST_BYTES are always enough. */
+/** Writes a request of the list, from 0 on, and the bytes that it writes. Call it for each request in turn, until it answers
+ * NO_SUCH_REQUEST, and carry each out before the next one. Returns OK, NOT_OPEN, NO_SUCH_REQUEST, or NO_ROOM where the
+ * request writes more than `room` bytes; nothing is written but with OK. ETCS_UNIT_REQUEST_BYTES are always enough. */
+ETCS_MUST_USE
 static inline uint32_t etcs_unit_request(etcs_unit *unit, uint32_t index, etcs_unit_request_told *request, uint8_t *bytes, size_t room) {
     return ((unit != NULL) && (request != NULL) && (bytes != NULL)) ? etcs_unit_request_(unit, index, request, bytes, room) : (uint32_t)ETCS_UNIT_NULL_POINTER;
 }
 
-/** Says that so many requests, from the first on, are done. Answers OK, NOT_OPEN or WRONG_COUNT. */
+/** Reports that this many requests, from the first on, are carried out. Call it after the last one, or after each. Returns
+ * OK, NOT_OPEN or WRONG_COUNT. */
+ETCS_MUST_USE
 static inline uint32_t etcs_unit_done(etcs_unit *unit, uint32_t count) {
     return (unit != NULL) ? etcs_unit_done_(unit, count) : (uint32_t)ETCS_UNIT_NULL_POINTER;
 }
 
-/** Says that the medium failed: from then on inputs answer INPUT_FAILED, and prepare and release FAILED. Answers OK or
- * NOT_OPEN. */
+/** Reports that the medium failed. Call it where a request can't be carried out, or a sector can't be read. From then on
+ * inputs answer INPUT_FAILED, and prepare and release FAILED: close the unit, and open it again. Returns OK or NOT_OPEN. */
 static inline uint32_t etcs_unit_fail(etcs_unit *unit) {
     return (unit != NULL) ? etcs_unit_fail_(unit) : (uint32_t)ETCS_UNIT_NULL_POINTER;
 }
 
-/** Releases what was held back, all of it, into room for ETCS_UNIT_OUTPUTS, and empties the list; `count` says how many
- * there are, the oldest first. Answers OK, NOT_OPEN, NO_ROOM (fewer than ETCS_UNIT_OUTPUTS), FAILED, or REQUESTS_OWED
- * where not all requests are done; but for OK nothing changes, and neither an output nor `count` is written. */
+/** Hands out the outputs that were held back, all of them, into room for ETCS_UNIT_OUTPUTS, and empties the list. Call it
+ * once all requests are done, and then etcs_unit_command. `count` is the number of outputs, the oldest first. Returns OK,
+ * NOT_OPEN, NO_ROOM (fewer than ETCS_UNIT_OUTPUTS), FAILED, or REQUESTS_OWED where not all requests are done. After any
+ * answer but OK nothing has changed, and neither an output nor `count` is written. */
+ETCS_MUST_USE
 static inline uint32_t etcs_unit_release(etcs_unit *unit, etcs_unit_output *outputs, size_t room, uint32_t *count) {
     uint32_t released = 0;
     uint32_t status = (uint32_t)ETCS_UNIT_NULL_POINTER;
@@ -710,54 +858,83 @@ static inline uint32_t etcs_unit_release(etcs_unit *unit, etcs_unit_output *outp
     return status;
 }
 
-/** Tells how far the unit is, and what is known of its life. Answers OK, or NOT_OPEN; then `state` isn't written. */
+/** Merges the outputs of one release into what the equipment obeys until the next one: the newest output, with the most
+ * restrictive brake of them all (docs/INTEGRATION.md, 12). Call it after each release, with what that wrote. Answers OK, or
+ * OUT_OF_RANGE where `count` is above ETCS_UNIT_OUTPUTS or a brake is none of enum etcs_brake; then, and where `count` is 0,
+ * `command` stays as it was. */
+ETCS_MUST_USE
+static inline uint32_t etcs_unit_command(const etcs_unit_output *outputs, uint32_t count, etcs_unit_output *command) {
+    uint32_t status = (uint32_t)ETCS_UNIT_NULL_POINTER;
+    if ((outputs != NULL) && (command != NULL)) {
+        uint8_t brake = (uint8_t)ETCS_BRAKE_NONE;
+        status = (count <= (uint32_t)ETCS_UNIT_OUTPUTS) ? (uint32_t)ETCS_UNIT_OK : (uint32_t)ETCS_UNIT_OUT_OF_RANGE;
+        for (uint32_t i = 0; (status == (uint32_t)ETCS_UNIT_OK) && (i < count); i++) {
+            brake = (outputs[i].brake > brake) ? outputs[i].brake : brake;
+        }
+        if (brake > (uint8_t)ETCS_BRAKE_EMERGENCY) {
+            status = (uint32_t)ETCS_UNIT_OUT_OF_RANGE;
+        }
+        if ((status == (uint32_t)ETCS_UNIT_OK) && (count > 0u)) {
+            *command = outputs[count - 1u];
+            command->brake = brake;
+        }
+    }
+    return status;
+}
+
+/** Reports how far the unit is, and what is known of its life. Call it at any time. Returns OK, or NOT_OPEN; then `state`
+ * isn't written. */
 static inline uint32_t etcs_unit_state(etcs_unit *unit, etcs_unit_state_told *state) {
     return ((unit != NULL) && (state != NULL)) ? etcs_unit_state_(unit, state) : (uint32_t)ETCS_UNIT_NULL_POINTER;
 }
 
-/** Why the newest released output is what it is, and what a display shows of it. It takes no memory, nothing of it is worked
- * out before it is asked, and nothing changes. Behind a release it tells of the last output; behind that of the opening, of
- * the power-up, whose output no release hands out. Since when a cause holds, and why a trip was entered, etcs_image_why tells
- * of the medium's bytes. Answers OK, NOT_OPEN, or NOT_RELEASED, exactly while an input is pending or requests aren't
- * released; but for OK `why` isn't written. */
+/** Explains the newest released output, and gives what a display shows with it. Call it after a release; it takes no memory
+ * and changes nothing. After the release of the opening it explains the power-up, whose output no release hands out. Since
+ * when a cause holds, and why a trip was entered, etcs_image_why finds in the bytes of the medium. Returns OK, NOT_OPEN, or
+ * NOT_RELEASED, exactly while an input is pending or requests aren't released; `why` is written only with OK. */
 static inline uint32_t etcs_unit_why(etcs_unit *unit, etcs_unit_why_told *why) {
     return ((unit != NULL) && (why != NULL)) ? etcs_unit_why_(unit, why) : (uint32_t)ETCS_UNIT_NULL_POINTER;
 }
 
-/** Closes it, and gives its memory back. What is pending, and what is held back, is lost to this life; what was prepared
- * may be found by the next one. Answers OK, or NOT_OPEN, which is allowed. */
+/** Closes the unit, and gives its memory back. Call it at the end, and after a failure before the unit is opened again.
+ * Inputs that are pending and outputs that are held back are lost to this life; what was prepared may be found by the next
+ * one. Returns OK, or NOT_OPEN, which is allowed. */
 static inline uint32_t etcs_unit_close(etcs_unit *unit) {
     return (unit != NULL) ? etcs_unit_close_(unit) : (uint32_t)ETCS_UNIT_NULL_POINTER;
 }
 
-/** Tells what is to be done, from 0 on, to make a medium of 1 + 6 * slots sectors an empty journal. It needs no unit.
- * Answers OK, BAD_SLOTS, NO_SUCH_REQUEST behind the last one, or NO_ROOM (fewer than ETCS_UNIT_SECTOR bytes). */
+/** Writes a request, from 0 on, of those that make a medium of 1 + 6 * slots sectors an empty journal. Call it for each
+ * request in turn, until it answers NO_SUCH_REQUEST; it needs no unit. Returns OK, BAD_SLOTS, NO_SUCH_REQUEST after the
+ * last one, or NO_ROOM (fewer than ETCS_UNIT_SECTOR bytes). */
+ETCS_MUST_USE
 static inline uint32_t etcs_unit_format_request(uint32_t slots, uint32_t index, etcs_unit_request_told *request, uint8_t *bytes, size_t room) {
     return ((request != NULL) && (bytes != NULL)) ? etcs_unit_format_request_(slots, index, request, bytes, room) : (uint32_t)ETCS_UNIT_NULL_POINTER;
 }
 
 /* ---- telegrams of installed tracks: these calls need no unit, take no memory but some of the stack, and keep nothing */
 
-/** Makes of a telegram with a packet 3 as a track of issue 2.3.0 sends it one that a unit reads, before it is handed to
- * etcs_unit_telegram: Q_NVSRBKTRG, Q_NVEMRRLS, D_NVPOTRP, M_NVCONTACT, T_NVCONTACT, M_NVDERUN and Q_NVDRIVER_ADHES of that
- * packet are left out, its L_PACKET is 29 less, N_ITER comes before the first country, and all other bits stay. It is done
- * only where the packet fits one of its two possible layouts and not the other (docs/PACKETS.md). `told` says what came of it, and
- * where the packet stands in the telegram that was sent; that one is what the track said, and the journal holds the other:
- * keep it outside. Answers OK, or NO_ROOM where `room` is below ETCS_TELEGRAM_BYTES; then nothing is written. */
+/** Converts a telegram whose packet 3 is as a track of issue 2.3.0 sends it into one that a unit reads. Call it on each
+ * telegram of such a track, before etcs_unit_telegram. Q_NVSRBKTRG, Q_NVEMRRLS, D_NVPOTRP, M_NVCONTACT, T_NVCONTACT,
+ * M_NVDERUN and Q_NVDRIVER_ADHES of that packet are left out, its L_PACKET is 29 less, N_ITER comes before the first
+ * country, and all other bits stay. It converts only where the packet fits one of its two possible layouts and not the
+ * other (docs/PACKETS.md). `told` has the outcome, and where the packet stands in the telegram that was sent. That one is
+ * what the track said, and the journal holds the other: keep it outside. Returns OK, or NO_ROOM where `room` is below
+ * ETCS_TELEGRAM_BYTES; then nothing is written. */
+ETCS_MUST_USE
 static inline uint32_t etcs_telegram_adapt(const uint8_t *bytes, size_t len, uint8_t *out, size_t room, etcs_adapted *told) {
     return ((bytes != NULL) && (out != NULL) && (told != NULL)) ? etcs_telegram_adapt_(bytes, len, out, room, told) : (uint32_t)ETCS_UNIT_NULL_POINTER;
 }
 
-/** Tells the values that etcs_telegram_adapt leaves out of a telegram, from 0 on in the order of its packet 3: `bytes` is what
- * the track sent. Answers OK, or END behind the last one, and where etcs_telegram_adapt writes nothing; then nothing is
- * written. */
+/** Writes a value, from 0 on, of those that etcs_telegram_adapt leaves out of a telegram, in the order of its packet 3. Call
+ * it with the bytes that the track sent. Returns OK, or END after the last one, and where etcs_telegram_adapt writes
+ * nothing; then nothing is written. */
+ETCS_MUST_USE
 static inline uint32_t etcs_telegram_dropped(const uint8_t *bytes, size_t len, uint32_t index, etcs_value_dropped *told) {
     return ((bytes != NULL) && (told != NULL)) ? etcs_telegram_dropped_(bytes, len, index, told) : (uint32_t)ETCS_UNIT_NULL_POINTER;
 }
 
-/** The name of a variable, as SUBSET-026 has it; "unknown" for a number that enum etcs_dropped_variable doesn't have. The
- * text is the program's own, and never ends. */
-static inline const char *etcs_dropped_text(uint32_t variable) {
+/** Returns the name of a variable of enum etcs_dropped_variable, as SUBSET-026 has it; "unknown" for other numbers. */
+static inline const char *etcs_dropped_name(uint32_t variable) {
     const char *text = "unknown";
     switch (variable) {
     case (uint32_t)ETCS_DROPPED_Q_NVSRBKTRG: text = "Q_NVSRBKTRG"; break;
@@ -772,11 +949,11 @@ static inline const char *etcs_dropped_text(uint32_t variable) {
     return text;
 }
 
-/** Tells the packets of a telegram that a unit doesn't use, from 0 on in their order, and why: in this mode (enum etcs_mode),
- * where the telegram's group is accepted, and passed in this direction (enum etcs_direction). So a maker may act on what a
- * track sends and the unit doesn't obey, as a packet 132, 135 or 137, by the bits of the telegram. The packets that aren't
- * told are those that the unit uses. Answers OK, END behind the last one, or OUT_OF_RANGE where no mode or direction has the
- * number; but for OK nothing is written. */
+/** Writes a packet of a telegram, from 0 on, of those that a unit doesn't use, and why: in this mode (enum etcs_mode), where
+ * the telegram's group is accepted, and passed in this direction (enum etcs_direction). Call it to act on what a track
+ * sends and the unit doesn't obey, as a packet 132, 135 or 137; all other packets are used. Returns OK, END after the last
+ * one, or OUT_OF_RANGE where no mode or direction has the number; nothing is written but with OK. */
+ETCS_MUST_USE
 static inline uint32_t etcs_telegram_unused(const uint8_t *bytes, size_t len, uint32_t mode, uint32_t direction, uint32_t index, etcs_packet_unused *told) {
     return ((bytes != NULL) && (told != NULL)) ? etcs_telegram_unused_(bytes, len, mode, direction, index, told) : (uint32_t)ETCS_UNIT_NULL_POINTER;
 }

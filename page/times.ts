@@ -25,9 +25,12 @@ export interface Utc {
     uncertainty: number
 }
 
-const FIRST = "life,moment_ms,event,utc,uncertainty_ms,source", COLUMNS = 6;
+/** The first lines of marks by hand, and of those of a unit's host, each of which ends with its CRC-32. */
+const FIRST = "life,moment_ms,event,utc,uncertainty_ms,source", CHECKED = `${FIRST},crc32`, COLUMNS = 6;
 export const DRIFT_PPM = 100, MOST_DRIFT_PPM = 1_000_000;
 const MILLION = 1_000_000n, GREATEST = 2 ** 40, MOST_DIGITS = 4300, MOST_FIELD = 131_072, CLOCK = 4;
+const WANTED =
+    "life and moment_ms, or event; utc as 2026-03-01T10:02:11.000Z; uncertainty_ms; source";
 /** The times of day that can be written: of the years 1 to 9999. */
 const EARLIEST = Date.parse("0001-01-01T00:00:00Z"), LATEST = Date.parse("9999-12-31T23:59:59.999Z");
 const HIDDEN = /[\p{Cc}\p{Cf}\p{Cs}\p{Co}\p{Cn}\p{Zl}\p{Zp}]/gu;
@@ -99,6 +102,22 @@ function numberOf(text: string): number|null {
     return number <= GREATEST ? number : NaN;
 }
 
+/** The CRC-32 of a text's bytes, as zlib has it, in eight digits. */
+function checksum(text: string): string {
+    let crc = 0xFFFF_FFFF;
+    for (const byte of new TextEncoder().encode(text)) {
+        crc ^= byte;
+        for (let bit = 0; bit < 8; bit++) crc = crc & 1 ? crc >>> 1 ^ 0xEDB8_8320 : crc >>> 1;
+    }
+    return ((crc ^ 0xFFFF_FFFF) >>> 0).toString(16).padStart(8, "0");
+}
+
+/** A line without its checksum; null where that is wrong. */
+function unchecked(text: string): string|null {
+    const comma = text.lastIndexOf(","), mark = text.slice(0, Math.max(comma, 0));
+    return comma >= 0 && text.slice(comma + 1) === checksum(mark) ? mark : null;
+}
+
 /** The mark of a line; null where it is none. */
 function markOf(line: number, text: string): Mark|null {
     const row = fieldsOf(text);
@@ -107,25 +126,28 @@ function markOf(line: number, text: string): Mark|null {
     const utc = utcOf(row[3] ?? ""), source = (row[5] ?? "").replace(STRIP, "");
     if (life === undefined || moment === undefined || event === undefined || uncertainty === null || utc === null)
         return null;
-    if ([life, moment, event, uncertainty].some(Number.isNaN) || !source) return null;
+    if ([life, moment, event, uncertainty].some(Number.isNaN) || moment === GREATEST || !source) return null;
     if ((event === null) === (life === null) || (life === null) !== (moment === null)) return null;
     return { line, life, moment, event, utc, uncertainty, source: spelled(source) };
 }
 
-/** The marks of a file, and the part of a line that a loss of power left at its end. */
-export function readMarks(bytes: Uint8Array): {marks: Mark[]; cut: string} {
+/** The marks of a file, what is said of lines that are none, and the part of a line that a loss of power left at its
+ * end. Where there are no checksums, empty lines and lines that begin with # are passed over. A wrong line loses
+ * itself only. */
+export function readMarks(bytes: Uint8Array): {marks: Mark[]; wrong: string[]; cut: string} {
     const lines = new TextDecoder("utf-8", { ignoreBOM: true }).decode(bytes).split("\n"), marks: Mark[] = [];
-    if ((lines[0] ?? "").replace(/\r+$/, "") !== FIRST) throw new NoMarks(`line 1 isn't ${FIRST}`);
+    const first = (lines[0] ?? "").replace(/\r+$/, ""), wrong: string[] = [];
+    if (first !== FIRST && first !== CHECKED)
+        throw new NoMarks(`line 1 isn't ${FIRST}, nor that with ,crc32 at its end`);
     lines.slice(1, -1).forEach((line, n) => {
-        if (!line.replace(STRIP, "") || line.startsWith("#")) return;
-        const mark = markOf(n + 2, line.replace(/\r+$/, ""));
-        if (!mark) {
-            throw new NoMarks(`line ${n + 2} is no mark: life and moment_ms, or event; ` +
-                "utc as 2026-03-01T10:02:11.000Z; uncertainty_ms; source");
-        }
-        marks.push(mark);
+        if (first === FIRST && (!line.replace(STRIP, "") || line.startsWith("#"))) return;
+        const text = line.replace(/\r+$/, ""), told = first === FIRST ? text : unchecked(text);
+        const mark = told === null ? null : markOf(n + 2, told.replace(/\r+$/, ""));
+        if (mark) marks.push(mark);
+        else if (told === null) wrong.push(`line ${n + 2} isn't used: its checksum is wrong`);
+        else wrong.push(`line ${n + 2} isn't used: it isn't a mark (${WANTED})`);
     });
-    return { marks, cut: lines[lines.length - 1] ?? "" };
+    return { marks, wrong, cut: lines[lines.length - 1] ?? "" };
 }
 
 /** Whether bytes begin as a file of marks does. */
@@ -220,11 +242,12 @@ class Life {
 export class Times {
     readonly marks: Mark[];
     private readonly lives = new Map<number, Life>();
-    private readonly leftOut: string[] = [];
+    private readonly leftOut: string[];
 
     constructor(readonly name: string, bytes: Uint8Array, records: Records, readonly drift: number) {
-        const { marks, cut } = readMarks(bytes), bounds = new Map<number, Bound[]>();
+        const { marks, wrong, cut } = readMarks(bytes), bounds = new Map<number, Bound[]>();
         this.marks = marks;
+        this.leftOut = wrong;
         const events = marks.some(mark => mark.event !== null) ? placesOf(records) : new Map<number, number>();
         for (const mark of marks) {
             const found = this.bound(records, events, mark);

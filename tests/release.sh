@@ -149,7 +149,7 @@ cat >"$room/build" <<END
 eval gcc -std=c99 -Wall -Werror \$(pkg-config --cflags etcs_unit) '"\$1"' \$(pkg-config --libs etcs_unit) -o brake
 END
 inside env "PKG_CONFIG_PATH=$lib/pkgconfig" sh "$room/build" "$root/usr/share/gaknifur/examples/embedding/brake.c" || fails "a program in C can't be built"
-wants "a program in C" "the train stands behind 76500 ms" inside ./brake image.c
+wants "a program in C" "the train stands after 77000 ms" inside ./brake image.c
 readelf -d "$room/work/brake" | grep -q "libetcs_unit.so.$number" || fails "the program in C doesn't use the shared library"
 
 # a program in C, by CMake, where the library has a file for it
@@ -163,7 +163,7 @@ target_link_libraries(brake etcs_unit::etcs_unit)
 END
     inside cmake -S cmake -B built "-DCMAKE_PREFIX_PATH=$root/usr" >"$room/printed" 2>&1 && inside cmake --build built >>"$room/printed" 2>&1 ||
         { fails "a program in C can't be built by CMake:"; tail -n 10 "$room/printed"; }
-    wants "a program in C by CMake" "the train stands behind 76500 ms" inside built/brake image.cmake
+    wants "a program in C by CMake" "the train stands after 77000 ms" inside built/brake image.cmake
 fi
 
 # ---- manual pages and completion have each word

@@ -85,6 +85,12 @@ done
 "$cross" -std=c11 -O2 "${strict[@]}" "${bare_words[@]}" "$top/examples/bare_metal/main.c" "$bare/lib/libetcs_unit_static.a" -o "$made/example.elf" || fails "the example for a bare board doesn't compile"
 board "$made/example.elf" >"$made/said"
 "$python" "$here/examples.py" board "$made/said" || { cat "$made/said"; fails "the example on the board"; }
+for fault in hangs crashes overflows; do
+    "$cross" -std=c11 -O2 "${strict[@]}" "${bare_words[@]}" "-D${fault^^}" -include "$here/board_faults.h" "$top/examples/bare_metal/main.c" "$bare/lib/libetcs_unit_static.a" \
+        -o "$made/example.elf" || fails "the example for a bare board doesn't compile with a fault"
+    board "$made/example.elf" >"$made/said"
+    "$python" "$here/examples.py" "$fault" "$made/said" || { cat "$made/said"; fails "the example on the board $fault, and doesn't brake"; }
+done
 gcc -std=c99 -O2 "${strict[@]}" -I "$here_prefix/include" "$top/examples/cortex_a/cyclic.c" "$here_prefix/lib/libetcs_unit_static.a" -pthread -o "$made/cyclic" &&
     "$cross" -std=c99 -O2 "${strict[@]}" -static -I "$arm/include" "$top/examples/cortex_a/cyclic.c" "$arm/lib/libetcs_unit_static.a" -pthread -o "$made/cyclic.aarch64" ||
     fails "the cyclic task doesn't compile"

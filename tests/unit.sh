@@ -59,6 +59,16 @@ for header in etcs etcs_unit etcs_file etcs_image etcs_memory; do
     done
 done
 counted "headers alone" $tried 25
+# a dropped answer that may mean the brake is a warning
+dropped=$top/tests/unit/dropped.c
+sed -n '/from here on/,/up to here/=' "$dropped" | sed '1d;$d' >"$made/drops"
+for words in "gcc -x c -std=c99" "gcc -x c -std=c11" "g++ -x c++ -std=c++17" "g++ -x c++ -std=c++11" "clang -x c -std=c99"; do
+    command -v "${words%% *}" >/dev/null || continue
+    # shellcheck disable=SC2086
+    LC_ALL=C $words -Wunused-result -I "$include" -c "$dropped" -o /dev/null 2>&1 | sed -n 's/^.*dropped\.c:\([0-9]*\):.* warning: ignoring return value.*/\1/p' >"$made/warned"
+    diff "$made/drops" "$made/warned" >"$made/said" || { cat "$made/said"; fails "$words doesn't warn just of each answer that may mean the brake"; }
+done
+counted "answers that aren't dropped" "$(wc -l <"$made/drops")" 32
 # a machine of 32 bits is told so in one sentence
 told=$(gcc -m32 -ffreestanding -I "$include" -fsyntax-only "$made/all.c" 2>&1 | grep -c 'error:')
 said=$(gcc -m32 -ffreestanding -I "$include" -fsyntax-only "$made/all.c" 2>&1 | grep -c 'error: #error "the library is for machines with pointers of 64 bits')
@@ -81,8 +91,9 @@ nm --defined-only --extern-only "$static" | sed -n 's/^[0-9a-f]* . //p' | LC_ALL
 diff "$made/names" "$made/in_archive" || fails "the library without malloc shows other names than the headers declare"
 asked=$(nm -u "$static" | sed -n 's/^ *U //p' | LC_ALL=C sort -u | tr '\n' ' ')
 [ "$asked" = "memcpy memmove memset " ] || fails "the library without malloc asks for $asked"
-counted "names of the library" "$(wc -l <"$made/shown")" 78
+counted "names of the library" "$(wc -l <"$made/shown")" 102
 "$python" "$top/tests/unit/symbols.py" "$shared" $(cat "$made/shown") || fails "the calls as symbols"
+"$python" "$top/tests/unit/names.py" "$shared" $(cat "$made/shown") || fails "names of numbers"
 needed=$(objdump -p "$shared" | sed -n 's/^ *NEEDED *//p' | tr '\n' ' ')
 soname=$(objdump -p "$shared" | sed -n 's/^ *SONAME *//p')
 [ "$needed" = "libc.so.6 " ] || fails "the shared library needs $needed"
@@ -185,6 +196,7 @@ gcc -std=gnu11 -O2 -fPIC -shared "$top/tests/hostile/refuse.c" -o "$made/refuse.
 # ---- a life longer than the ring, whose blocks are kept
 
 "$python" "$top/tests/unit/kept.py" "$lab" "$made"/kept.gcc "$made"/kept.checked "$made"/kept.cpp || status=1
+"$python" "$top/tests/unit/kept_cuts.py" "$made/kept.gcc" || status=1
 
 # ---- lives beside the program
 

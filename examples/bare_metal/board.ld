@@ -11,8 +11,12 @@ SECTIONS
     .bss : { *(.bss .bss.*) *(COMMON) }
     . = ALIGN(16);
     bss_to = .;
+    stack_guard = .;
+    . = . + 0x1000;
     stack_end = .;
     . = . + 0x20000;
     stack_top = .;
+    . = . + 0x1000;
+    brake_stack_top = .;
     /DISCARD/ : { *(.comment) *(.note .note.*) *(.eh_frame*) }
 }

@@ -3,12 +3,15 @@
  * the journal: it is handed the sectors that it wants.
  *
  * A cycle of 100 ms, as a timer would call it: the odometer, the clock, and where there is one a telegram; then all of it
- * goes onto the medium, and what is released is obeyed. The train is simulated: it gets an authority of 1,000 m, and
- * doesn't heed it. Where it stands, the board is reset, and the next life goes on from the medium. */
+ * goes onto the medium, and the most restrictive brake of what is released holds until the next release. Only then the
+ * watchdog is fed; a program that stops, an exception and a stack that went beyond its end mean the emergency brake. The
+ * train is simulated: it gets an authority of 1,000 m, and doesn't heed it. Where it stands, the board is reset, and the
+ * next life goes on from the medium. */
 #include "board.h"
 #include "etcs_memory.h"
 
-enum { CYCLE_MS = 100, MOST_CYCLES = 2000, SLOTS = 64, SECTORS = 1 + 6 * SLOTS };
+/* (WATCHDOG_MS: an emulated board runs as fast as its host lets it. Equipment takes two cycles.) */
+enum { CYCLE_MS = 100, MOST_CYCLES = 2000, SLOTS = 64, SECTORS = 1 + 6 * SLOTS, WATCHDOG_MS = 10000 };
 
 /* What the unit may take: groups of at most 16 packets, 32 restrictions, 100 gradients, 100 static speeds at once. Whatever
  * the slots, it holds 16 sectors. */
@@ -22,7 +25,7 @@ typedef struct {
     uint64_t moment_ms;
     int64_t rest; /* what of a movement is no whole centimetre, in 1/36,000 cm: it goes into the next reading */
     uint32_t speed_m_per_h;
-    uint8_t brake;
+    etcs_unit_output command;
 } train;
 
 /* ---- the serial line */
@@ -43,6 +46,11 @@ static void say_number(uint64_t number) {
     while (count > 0u) {
         board_put(digits[--count]);
     }
+}
+
+/* What the watchdog and each exception end in. */
+void board_brake(void) {
+    say(board_was_late() ? "emergency brake: the watchdog wasn't fed\n" : "emergency brake: an exception\n");
 }
 
 /* ---- the medium */
@@ -68,8 +76,10 @@ static uint32_t power_up(etcs_unit *unit) {
         return status;
     }
     while ((status = etcs_opening_go_on(&opening, unit)) == ETCS_UNIT_SECTOR_WANTED) {
-        (void)etcs_opening_wanted(&opening, &sector);
-        status = etcs_opening_provide(&opening, sector, medium[sector], ETCS_UNIT_SECTOR);
+        status = etcs_opening_wanted(&opening, &sector);
+        if (status == ETCS_UNIT_OK) {
+            status = etcs_opening_provide(&opening, sector, medium[sector], ETCS_UNIT_SECTOR);
+        }
         if (status != ETCS_UNIT_OK) {
             (void)etcs_opening_close(&opening);
             break;
@@ -83,8 +93,10 @@ static uint32_t prepare(etcs_unit *unit) {
     uint64_t sector = 0;
     uint32_t status;
     while ((status = etcs_unit_prepare(unit)) == ETCS_UNIT_SECTOR_WANTED) {
-        (void)etcs_unit_wanted(unit, &sector);
-        status = etcs_unit_provide(unit, sector, medium[sector], ETCS_UNIT_SECTOR);
+        status = etcs_unit_wanted(unit, &sector);
+        if (status == ETCS_UNIT_OK) {
+            status = etcs_unit_provide(unit, sector, medium[sector], ETCS_UNIT_SECTOR);
+        }
         if (status != ETCS_UNIT_OK) {
             break;
         }
@@ -124,25 +136,31 @@ static uint32_t format(void) {
 /* Its movement in one cycle, in whole centimetres: it pulls with 0.5 m/s^2, and slows with 0.7 and 1. */
 static int64_t moved(train *our) {
     static const int64_t gained[] = {180, -252, -360}; /* m/h in 100 ms */
-    const int64_t speed = (int64_t)our->speed_m_per_h + gained[our->brake];
+    const int64_t speed = (int64_t)our->speed_m_per_h + gained[our->command.brake];
     our->speed_m_per_h = (speed < 0) ? 0u : ((speed > 100000) ? 100000u : (uint32_t)speed);
     const int64_t way = ((int64_t)our->speed_m_per_h * CYCLE_MS) + our->rest;
     our->rest = way % 36000;
     return way / 36000;
 }
 
-static void obey(train *our, const etcs_unit_output *output) {
-    static const char *const brakes[] = {"none", "service", "emergency"};
-    if (output->brake != our->brake) {
+/* The most restrictive brake of a release holds until the next one. The watchdog is fed once it is obeyed. */
+static uint32_t obey(train *our, const etcs_unit_output *outputs, uint32_t count) {
+    const uint8_t before = our->command.brake;
+    const uint32_t status = etcs_unit_command(outputs, count, &our->command);
+    if (status != ETCS_UNIT_OK) {
+        return status;
+    }
+    if (our->command.brake != before) {
         say("event ");
-        say_number(output->event);
+        say_number(our->command.event);
         say(": brake ");
-        say(brakes[output->brake]);
+        say(etcs_brake_name(our->command.brake));
         say(", limit ");
-        say_number(output->limit_m_per_h);
+        say_number(our->command.limit_m_per_h);
         say(" m/h\n");
     }
-    our->brake = output->brake;
+    board_feed(WATCHDOG_MS);
+    return ETCS_UNIT_OK;
 }
 
 /* The driver makes the train ready, and a group gives the authority. */
@@ -179,31 +197,38 @@ static uint32_t cycle(etcs_unit *unit, train *our) {
     if (status == ETCS_UNIT_OK) {
         status = release(unit, outputs, &count);
     }
-    for (uint32_t i = 0; (status == ETCS_UNIT_OK) && (i < count); i++) {
-        obey(our, &outputs[i]);
+    if (board_guard_is_whole() == 0) {
+        say("the stack went beyond its end\n");
+        status = ETCS_UNIT_FAILED;
     }
-    return status;
+    return (status == ETCS_UNIT_OK) ? obey(our, outputs, count) : status;
 }
 
 /* A life: from the power-up until the train stands, or for so many cycles. */
 static uint32_t live(int is_ready, int cycles) {
-    train our = {0, 0, 0, ETCS_BRAKE_EMERGENCY};
+    train our = {0, 0, 0, {0, 0, ETCS_STAND_BY, ETCS_LEVEL_INVALID, ETCS_BRAKE_EMERGENCY, ETCS_SHOWS_NOT_REVALIDATED}};
     etcs_unit unit = {0};
     etcs_unit_output outputs[ETCS_UNIT_OUTPUTS];
     uint32_t count = 0, status = power_up(&unit);
     if (status == ETCS_UNIT_OK) {
         status = release(&unit, outputs, &count);
     }
+    if (status == ETCS_UNIT_OK) {
+        status = obey(&our, outputs, count);
+    }
     if ((status == ETCS_UNIT_OK) && (is_ready != 0)) {
         status = make_ready(&unit);
     }
-    for (int at = 0; (status == ETCS_UNIT_OK) && (at < cycles) && ((at < 2) || (our.speed_m_per_h > 0u)); at++) {
+    for (int at = 0; (status == ETCS_UNIT_OK) && (at < cycles) && ((at < 3) || (our.speed_m_per_h > 0u)); at++) {
         status = cycle(&unit, &our);
+    }
+    if (status != ETCS_UNIT_OK) {
+        our.command.brake = ETCS_BRAKE_EMERGENCY;
     }
     say("the train stands after ");
     say_number(our.moment_ms);
     say(" ms, ");
-    say((our.brake == ETCS_BRAKE_EMERGENCY) ? "emergency brake\n" : "no emergency brake\n");
+    say((our.command.brake == ETCS_BRAKE_EMERGENCY) ? "emergency brake\n" : "no emergency brake\n");
     (void)etcs_unit_close(&unit);
     return status;
 }
@@ -211,6 +236,7 @@ static uint32_t live(int is_ready, int cycles) {
 int main(void) {
     etcs_memory_told told = {0, 0, 0, 0, 0};
     board_paint();
+    board_watch(WATCHDOG_MS);
     uint32_t status = etcs_memory_use(memory, sizeof memory);
     if (status == ETCS_UNIT_OK) {
         status = format();
@@ -225,7 +251,8 @@ int main(void) {
         status = etcs_memory_state(&told);
     }
     say((status == ETCS_UNIT_OK) ? "memory: " : "emergency brake: ");
-    say((status == ETCS_UNIT_OK) ? "" : etcs_status_text(status));
+    say((status == ETCS_UNIT_OK) ? "" : etcs_status_name(status));
+    say((status == ETCS_UNIT_OK) ? "" : ", ");
     say_number(told.most_used);
     say(" of ");
     say_number(told.size);

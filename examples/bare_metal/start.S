@@ -6,6 +6,8 @@
 _start:
     ldr     x0, =stack_top
     mov     sp, x0
+    ldr     x0, =vectors
+    msr     vbar_el1, x0
 
     /* floating point and vectors */
     mov     x0, #(3 << 20)
@@ -37,10 +39,29 @@ _start:
 2:  bl      main
 
     /* the board is switched off (PSCI) */
+off:
     ldr     w0, =0x84000008
     hvc     #0
 3:  wfi
     b       3b
+
+    /* Each exception and the watchdog's interrupt end in the brake, on a stack of its own. A program without board_brake
+     * is switched off. */
+    .weak   board_brake
+braked:
+    ldr     x0, =brake_stack_top
+    mov     sp, x0
+    ldr     x0, =board_brake
+    cbz     x0, off
+    blr     x0
+    b       off
+
+    .balign 2048
+vectors:
+    .rept   16
+    .balign 128
+    b       braked
+    .endr
 
     .section .data.spaces, "aw"
     .balign 4096

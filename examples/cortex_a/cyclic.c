@@ -64,7 +64,7 @@ static int did(uint32_t status) {
 static uint32_t enter(const char *identity) {
     const uint32_t status = etcs_unit_identity(&our.unit, (const uint8_t *)identity, strlen(identity));
     if (etcs_status_kind(status, ETCS_OF_DRIVER) == ETCS_KIND_MISTAKE)
-        printf("the driver enters \"%s\": %s, once more\n", identity, etcs_status_text(status));
+        printf("the driver enters \"%s\": %s, once more\n", identity, etcs_status_name(status));
     else
         (void)did(status);
     return status;
@@ -79,11 +79,9 @@ static void flush(void) {
         fail(our.file.status != ETCS_UNIT_OK ? our.file.status : (uint32_t)ETCS_UNIT_FAILED);
         return;
     }
-    for (uint32_t i = 0; i < count; i++) {
-        const uint8_t brake = i > 0 && our.command.brake > outputs[i].brake ? our.command.brake : outputs[i].brake;
-        our.command = outputs[i];
-        our.command.brake = our.fault != ETCS_UNIT_OK ? (uint8_t)ETCS_BRAKE_EMERGENCY : brake;
-    }
+    (void)did(etcs_unit_command(outputs, count, &our.command));
+    if (our.fault != ETCS_UNIT_OK)
+        our.command.brake = ETCS_BRAKE_EMERGENCY;
 }
 
 /* The cyclic task: the train stands, and the driver enters his identity in the third cycle. */
@@ -148,7 +146,7 @@ int main(int count, char **words) {
     pthread_join(task, NULL);
     pthread_mutex_lock(&our.lock);
     (void)etcs_memory_state(&told);
-    printf("%" PRIu64 " cycles, event %" PRIu64 ": brake %u; %s\n", our.cycles, our.command.event, (unsigned)our.command.brake, etcs_status_text(our.fault));
+    printf("%" PRIu64 " cycles, event %" PRIu64 ": brake %u; %s\n", our.cycles, our.command.event, (unsigned)our.command.brake, etcs_status_name(our.fault));
     printf("memory: %" PRIu64 " of %" PRIu64 " bytes\n", told.most_used, told.size);
     if (our.is_late)
         puts("emergency brake: a cycle ended too late");

@@ -2,7 +2,7 @@
  *
  *     brake IMAGE    a journal that `etcs format` or etcs_file_format made; where there is no such file it is made
  *
- * It prints each output that commands something else than the one before. */
+ * It prints each command that differs from the one before. */
 #include "etcs_file.h"
 
 #include <inttypes.h>
@@ -18,14 +18,13 @@ typedef struct {
     int64_t movement_cm;
     int64_t rest; /* in 1/36,000 cm, as a way is m/h * ms */
     uint32_t speed_m_per_h;
-    uint8_t brake;
-    uint8_t mode;
+    etcs_unit_output command;
 } train;
 
 static void go_on(train *our) {
     /* m/h in half a second: 0.5 m/s^2 forward, 0.7 and 1 m/s^2 against it */
     static const int64_t gained[] = {900, -1260, -1800};
-    const int64_t speed = (int64_t)our->speed_m_per_h + gained[our->brake];
+    const int64_t speed = (int64_t)our->speed_m_per_h + gained[our->command.brake];
     our->speed_m_per_h = speed < 0 ? 0 : speed > 100000 ? 100000 : (uint32_t)speed;
     const int64_t way = (int64_t)our->speed_m_per_h * CYCLE_MS + our->rest;
     our->movement_cm = way / 36000;
@@ -33,14 +32,11 @@ static void go_on(train *our) {
     our->moment_ms += CYCLE_MS;
 }
 
-static void obey(train *our, const etcs_unit_output *output) {
-    static const char *const brakes[] = {"none", "service", "emergency"};
-    static const char *const modes[] = {"FS", "OS", "SR", "SH", "UN", "", "SB", "TR", "PT", "SF"};
-    if (output->brake != our->brake || output->mode != our->mode)
-        printf("event %" PRIu64 ": mode %s, brake %s, limit %" PRIu32 " m/h, speed %" PRIu32 " m/h\n", output->event, modes[output->mode],
-               brakes[output->brake], output->limit_m_per_h, our->speed_m_per_h);
-    our->brake = output->brake;
-    our->mode = output->mode;
+static void obey(train *our, const etcs_unit_output *command) {
+    if (command->brake != our->command.brake || command->mode != our->command.mode)
+        printf("event %" PRIu64 ": mode %s, brake %s, limit %" PRIu32 " m/h, speed %" PRIu32 " m/h\n", command->event,
+               etcs_mode_name(command->mode), etcs_brake_name(command->brake), command->limit_m_per_h, our->speed_m_per_h);
+    our->command = *command;
 }
 
 /* Any answer but OK ends here. The next power-up begins from what is on the file. */
@@ -49,14 +45,16 @@ static int brake(const char *where, uint32_t answer, const etcs_file *file) {
     return 1;
 }
 
-/* Puts what was accepted onto the file, and obeys what is released. */
+/* Puts what was accepted onto the file. The most restrictive brake of what is released holds until the next release. */
 static uint32_t flush(train *our, etcs_file *file, etcs_unit *unit) {
-    etcs_unit_output outputs[ETCS_UNIT_OUTPUTS];
+    etcs_unit_output outputs[ETCS_UNIT_OUTPUTS], command = our->command;
     uint32_t count;
     const uint32_t answer = etcs_file_flush(file, unit, outputs, &count);
-    for (uint32_t i = 0; answer == ETCS_FILE_OK && i < count; i++)
-        obey(our, &outputs[i]);
-    return answer;
+    if (answer != ETCS_FILE_OK)
+        return answer;
+    file->status = etcs_unit_command(outputs, count, &command);
+    obey(our, &command);
+    return file->status == ETCS_UNIT_OK ? ETCS_FILE_OK : ETCS_FILE_UNIT;
 }
 
 /* The driver makes the train ready, and a group gives an authority of 1,000 m. */
@@ -96,19 +94,19 @@ static int run(train *our, etcs_file *file, etcs_unit *unit) {
         if (answer != ETCS_FILE_OK)
             return brake("a flush", answer, file);
         go_on(our);
-        if (our->speed_m_per_h == 0)
+        if (our->speed_m_per_h == 0 && cycle > 0)
             break;
         status = accept(our, unit);
         if (status != ETCS_UNIT_OK)
             return brake("an input", status, file);
     }
-    printf("the train stands behind %" PRIu64 " ms\n", our->moment_ms);
+    printf("the train stands after %" PRIu64 " ms\n", our->moment_ms);
     return 0;
 }
 
 int main(int count, char **words) {
     /* Before the first output the emergency brake is on. */
-    train our = {0, 0, 0, 0, ETCS_BRAKE_EMERGENCY, ETCS_STAND_BY};
+    train our = {0, 0, 0, 0, {0, 0, ETCS_STAND_BY, ETCS_LEVEL_INVALID, ETCS_BRAKE_EMERGENCY, ETCS_SHOWS_NOT_REVALIDATED}};
     etcs_unit unit = {0};
     etcs_file file = {0};
     if (count != 2)

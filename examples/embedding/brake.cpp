@@ -87,7 +87,7 @@ std::vector<etcs_record> journal(const std::string &path) {
     while (answer == ETCS_UNIT_OK && (answer = etcs_journal_next(image, bytes.size(), &at, &record)) == ETCS_UNIT_OK)
         records.push_back(record);
     if (answer != ETCS_UNIT_END)
-        throw Refused(std::string("the journal: ") + etcs_status_text(answer), answer, answer, 0);
+        throw Refused(std::string("the journal: ") + etcs_status_name(answer), answer, answer, 0);
     return records;
 }
 
@@ -100,13 +100,11 @@ struct Train {
     std::int64_t movement_cm = 0;
     std::int64_t rest = 0; // of a movement, in 1/36,000 cm: it is carried over to the next one
     std::int64_t speed_m_per_h = 0;
-    std::uint8_t brake = ETCS_BRAKE_EMERGENCY;
-    std::uint8_t mode = ETCS_STAND_BY;
-    std::uint64_t last_event = 0;
+    etcs_unit_output command{0, 0, ETCS_STAND_BY, ETCS_LEVEL_INVALID, ETCS_BRAKE_EMERGENCY, ETCS_SHOWS_NOT_REVALIDATED};
 
     void go_on() {
         constexpr std::array<std::int64_t, 3> gained{900, -1260, -1800};
-        speed_m_per_h += gained.at(brake);
+        speed_m_per_h += gained.at(command.brake);
         speed_m_per_h = speed_m_per_h < 0 ? 0 : speed_m_per_h > 100000 ? 100000 : speed_m_per_h;
         const std::int64_t way = speed_m_per_h * cycle_ms + rest;
         movement_cm = way / 36000;
@@ -114,22 +112,22 @@ struct Train {
         moment_ms += cycle_ms;
     }
 
-    void obey(const etcs_unit_output &output) {
-        constexpr std::array<const char *, 3> brakes{"none", "service", "emergency"};
-        constexpr std::array<const char *, 10> modes{"FS", "OS", "SR", "SH", "UN", "", "SB", "TR", "PT", "SF"};
-        if (output.brake != brake || output.mode != mode)
-            std::printf("event %llu: mode %s, brake %s, limit %u m/h, speed %lld m/h\n", static_cast<unsigned long long>(output.event),
-                        modes.at(output.mode), brakes.at(output.brake), static_cast<unsigned>(output.limit_m_per_h),
+    void obey(const etcs_unit_output &next) {
+        if (next.brake != command.brake || next.mode != command.mode)
+            std::printf("event %llu: mode %s, brake %s, limit %u m/h, speed %lld m/h\n", static_cast<unsigned long long>(next.event),
+                        etcs_mode_name(next.mode), etcs_brake_name(next.brake), static_cast<unsigned>(next.limit_m_per_h),
                         static_cast<long long>(speed_m_per_h));
-        brake = output.brake;
-        mode = output.mode;
-        last_event = output.event;
+        command = next;
     }
 };
 
+// The most restrictive brake of what is released holds until the next release.
 void flush(Train &train, Unit &unit) {
-    for (const etcs_unit_output &output : unit.flush())
-        train.obey(output);
+    const std::vector<etcs_unit_output> outputs = unit.flush();
+    etcs_unit_output command = train.command;
+    if (!outputs.empty() && etcs_unit_command(outputs.data(), static_cast<std::uint32_t>(outputs.size()), &command) != ETCS_UNIT_OK)
+        throw Refused("a command", ETCS_UNIT_OUT_OF_RANGE, ETCS_UNIT_OUT_OF_RANGE, 0);
+    train.obey(command);
 }
 
 void make_ready(Unit &unit) {
@@ -149,15 +147,15 @@ void run(const std::string &path) {
     for (int cycle = 0; cycle < most_cycles; cycle++) {
         flush(train, unit);
         train.go_on();
-        if (train.speed_m_per_h == 0)
+        if (train.speed_m_per_h == 0 && cycle > 0)
             break;
         unit.odometer(train.movement_cm, static_cast<std::uint32_t>(train.speed_m_per_h));
         unit.clock(train.moment_ms);
     }
     const std::vector<etcs_record> records = journal(path);
-    if (records.empty() || records.back().event != train.last_event)
+    if (records.empty() || records.back().event != train.command.event)
         throw Refused("the journal ends with another event", 0, 0, 0);
-    std::printf("the train stands behind %llu ms\n", static_cast<unsigned long long>(train.moment_ms));
+    std::printf("the train stands after %llu ms\n", static_cast<unsigned long long>(train.moment_ms));
 }
 
 void make_where_missing(const std::string &path) {

@@ -89,10 +89,16 @@ static uint32_t open_by_sectors(etcs_unit *unit) {
     if (status != ETCS_UNIT_OK)
         return status;
     while ((status = etcs_opening_go_on(&opening, unit)) == ETCS_UNIT_SECTOR_WANTED) {
-        etcs_opening_wanted(&opening, &sector);
-        flash_read(sector, bytes);
-        etcs_opening_provide(&opening, sector, bytes, sizeof bytes);
+        status = etcs_opening_wanted(&opening, &sector);
+        if (status == ETCS_UNIT_OK) {
+            flash_read(sector, bytes);
+            status = etcs_opening_provide(&opening, sector, bytes, sizeof bytes);
+        }
+        if (status != ETCS_UNIT_OK)
+            break;
     }
+    if (status != ETCS_UNIT_OK)
+        etcs_opening_close(&opening);
     return status;
 }
 
@@ -102,9 +108,13 @@ static uint32_t prepare(etcs_unit *unit) {
     uint64_t sector;
     uint32_t status;
     while ((status = etcs_unit_prepare(unit)) == ETCS_UNIT_SECTOR_WANTED) {
-        etcs_unit_wanted(unit, &sector);
-        flash_read(sector, bytes);
-        etcs_unit_provide(unit, sector, bytes, sizeof bytes);
+        status = etcs_unit_wanted(unit, &sector);
+        if (status == ETCS_UNIT_OK) {
+            flash_read(sector, bytes);
+            status = etcs_unit_provide(unit, sector, bytes, sizeof bytes);
+        }
+        if (status != ETCS_UNIT_OK)
+            break;
     }
     return status;
 }

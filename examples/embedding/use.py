@@ -4,6 +4,7 @@
     PYTHONPATH=python GAKNIFUR_ETCS_UNIT=PREFIX/lib/libetcs_unit.so examples/embedding/use.py IMAGE
 """
 import sys
+from dataclasses import replace
 from pathlib import Path
 
 from gaknifur.unit import Action, Brake, FileMedium, Mode, Output, TrainData, Unit, journal
@@ -39,6 +40,11 @@ class Train:
         self.brake, self.mode, self.last_event = output.brake, output.mode, output.event
 
 
+def command_of(outputs: list[Output]) -> Output:
+    """What is obeyed until the next release: the newest output, with the most restrictive brake of all."""
+    return replace(outputs[-1], brake=max(output.brake for output in outputs))
+
+
 def make_ready(unit: Unit) -> None:
     """The driver makes the train ready, and a group gives an authority of 1,000 m."""
     unit.telegram(AUTHORITY)
@@ -52,18 +58,17 @@ def run(path: Path) -> None:
     train = Train()
     with FileMedium(path) if path.exists() else FileMedium.formatted(path, SLOTS) as medium, Unit(medium) as unit:
         make_ready(unit)
-        for _ in range(MOST_CYCLES):
-            for output in unit.flush():
-                train.obey(output)
+        for cycle in range(MOST_CYCLES):
+            train.obey(command_of(unit.flush()))
             moved = train.go_on()
-            if train.speed == 0:
+            if train.speed == 0 and cycle > 0:
                 break
             unit.odometer(moved, train.speed)
             unit.clock(train.moment_ms)
     *_, last = journal(path)
     if last.event != train.last_event:
         raise ValueError(f"the journal ends at event {last.event}")
-    print(f"the train stands behind {train.moment_ms} ms")
+    print(f"the train stands after {train.moment_ms} ms")
 
 
 def main(words: list[str]) -> int:

@@ -81,7 +81,7 @@ int main(int count, char **words) {
     if (answer == ETCS_UNIT_END)
         answer = brakings(image, (size_t)size, count > 2, count > 2 ? strtoull(words[2], NULL, 10) : 0);
     if (answer != ETCS_UNIT_END)
-        printf("%s\n", etcs_status_text(answer));
+        printf("%s\n", etcs_status_name(answer));
     fclose(file);
     free(image);
     return answer != ETCS_UNIT_END;

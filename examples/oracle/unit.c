@@ -151,7 +151,7 @@ int main(void) {
     while (fgets(line, sizeof line, stdin)) {
         const uint32_t status = take(line);
         if (status != ETCS_UNIT_OK) {
-            fprintf(stderr, "%s: %s", etcs_status_text(status), line);
+            fprintf(stderr, "%s: %s", etcs_status_name(status), line);
             return 1;
         }
         answer();

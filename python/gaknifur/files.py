@@ -410,6 +410,7 @@ class Appended:
             raise Failed(f"{path}: {error.strerror}", DEVICE) from error
         try:
             lock(self.descriptor)
+            self.settle()
             self.size = self.kept = os.lseek(self.descriptor, 0, os.SEEK_END)
             self.is_in_doubt = False
             """Whether a sync failed since the last good one. What was appended since is at `kept`."""
@@ -430,6 +431,15 @@ class Appended:
     def close(self) -> None:
         """Gives the lock back."""
         os.close(self.descriptor)
+
+    def settle(self) -> None:
+        """Syncs what an earlier process left, and drops the system's copies, so that what is read is what the medium has."""
+        try:
+            os.fsync(self.descriptor)
+            if hasattr(os, "posix_fadvise"):
+                os.posix_fadvise(self.descriptor, 0, 0, os.POSIX_FADV_DONTNEED)
+        except OSError as error:
+            raise Failed(f"{self.path}: can't be settled: {error.strerror}", DEVICE) from error
 
     def read(self, at: int, size: int) -> bytes:
         """Bytes that are there."""

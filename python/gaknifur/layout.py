@@ -3,6 +3,8 @@ which `etcs_lab` tells."""
 SECTOR, SLOT_SECTORS = 512, 6
 SLOT = SECTOR * SLOT_SECTORS
 MARK, GATE_MARK, ARCHIVE_MARK = b"ETCSJRU1", b"ETCSGATE", b"ETCSKEPT"
+HEAD_MARKS = b"ETCSHEAD", b"ETCSHED2", b"ETCSHED3"
+"""What heads begin with, of formats 1 to 3."""
 VERSION, ARCHIVE_VERSION, LEAST_SLOTS, MOST_SLOTS, MOST_NUMBER = 2, 1, 2, 1_048_576, 2**40
 CLOSED = bytes(SECTOR)
 """A gate that is closed."""
@@ -42,8 +44,8 @@ def number_of_gate(sector: bytes) -> int | None:
 
 
 def number_of_head(slot: bytes) -> int:
-    """The number that the head of a slot tells, whatever else is there."""
-    return int.from_bytes(slot[SECTOR + 8:SECTOR + 16], "big")
+    """The number in the head of a slot; 0 where that begins with the mark of no format."""
+    return int.from_bytes(slot[SECTOR + 8:SECTOR + 16], "big") if slot[SECTOR:SECTOR + 8] in HEAD_MARKS else 0
 
 
 def block_in(slot: bytes) -> int | None:

@@ -9,6 +9,7 @@ import csv
 import datetime
 import itertools
 import re
+import zlib
 from bisect import bisect_right
 from collections.abc import Iterable, Iterator
 from dataclasses import dataclass, field
@@ -22,6 +23,10 @@ from .shown import shown
 
 COLUMNS = ("life", "moment_ms", "event", "utc", "uncertainty_ms", "source")
 FIRST = ",".join(COLUMNS)
+"""The first line of marks that somebody writes by hand."""
+CHECKED = f"{FIRST},crc32"
+"""The first line of marks that a unit's host writes: each line ends with the CRC-32 of what is before its last comma."""
+CHECKSUM = re.compile("[0-9a-f]{8}")
 ENDING = ".times"
 DRIFT_PPM = 100
 """By how many millionths the unit's clock runs off at most, where nothing else is said: 360 ms an hour."""
@@ -32,6 +37,8 @@ EARLIEST, LATEST = -62_135_596_800_000, 253_402_300_799_999
 WRITTEN = re.compile(r"[0-9]{4}-[0-9]{2}-[0-9]{2}T[0-9]{2}:[0-9]{2}:[0-9]{2}(\.[0-9]+)?Z")
 MILLION = 1_000_000
 GREATEST = 2**40
+"""The greatest number of a mark; moments are below it."""
+WANTED = "life and moment_ms, or event; utc as 2026-03-01T10:02:11.000Z; uncertainty_ms; source"
 
 
 @dataclass(frozen=True)
@@ -82,6 +89,17 @@ def number(text: str) -> int | None:
     return int(text) if text else None
 
 
+def checksum(text: str) -> str:
+    """The checksum of a line."""
+    return f"{zlib.crc32(text.encode()):08x}"
+
+
+def unchecked(text: str) -> str | None:
+    """A line without its checksum; None where that is wrong."""
+    mark, _, told = text.rpartition(",")
+    return mark if CHECKSUM.fullmatch(told) and told == checksum(mark) else None
+
+
 def mark_of(line: int, text: str) -> Mark:
     """The mark of a line; ValueError where it is none."""
     try:
@@ -92,28 +110,32 @@ def mark_of(line: int, text: str) -> Mark:
         raise ValueError
     life, moment, event = map(number, row[:3])
     uncertainty, source = number(row[4]), row[5].strip()
-    if uncertainty is None or not source or (event is None) == (life is None) or (life is None) != (moment is None):
+    if uncertainty is None or not source or (event is None) == (life is None) or (life is None) != (moment is None) or moment == GREATEST:
         raise ValueError
     return Mark(line, life, moment, event, utc_of(row[3]), uncertainty, shown(source))
 
 
-def read_marks(path: Path) -> tuple[list[Mark], str | None]:
-    """The marks of a file, and the part of a line that a loss of power left at its end. Lines of nothing, and such that begin with #,
-    are passed over."""
+def read_marks(path: Path) -> tuple[list[Mark], list[str], str | None]:
+    """The marks of a file, what is said of lines that are none, and the part of a line that a loss of power left at its end. Where there
+    are no checksums, empty lines and lines that begin with # are passed over. A wrong line loses itself only."""
     text = files.bytes_of(path).decode("utf-8", errors="replace")
     lines = text.split("\n")
-    if lines[0].rstrip("\r") != FIRST:
-        raise Failed(f"{path}: line 1 isn't {FIRST}", REFUSED)
-    found = []
+    first = lines[0].rstrip("\r")
+    if first not in (FIRST, CHECKED):
+        raise Failed(f"{path}: line 1 isn't {FIRST}, nor that with ,crc32 at its end", REFUSED)
+    found, wrong = [], []
     for at, line in enumerate(lines[1:-1], 2):
-        if not line.strip() or line.startswith("#"):
+        if first == FIRST and (not line.strip() or line.startswith("#")):
             continue
+        mark = line.rstrip("\r") if first == FIRST else unchecked(line.rstrip("\r"))
         try:
-            found.append(mark_of(at, line.rstrip("\r")))
-        except ValueError as error:
-            raise Failed(f"{path}: line {at} is no mark: life and moment_ms, or event; utc as 2026-03-01T10:02:11.000Z; uncertainty_ms; "
-                         "source", REFUSED) from error
-    return found, lines[-1] or None
+            if mark is None:
+                wrong.append(f"line {at} isn't used: its checksum is wrong")
+            else:
+                found.append(mark_of(at, mark.rstrip("\r")))
+        except ValueError:
+            wrong.append(f"line {at} isn't used: it isn't a mark ({WANTED})")
+    return found, wrong, lines[-1] or None
 
 
 def greatest(numbers: Iterable[int]) -> list[int]:
@@ -173,7 +195,7 @@ class Marks(files.Appended):
     """A file of marks that a unit's host appends to, as `etcs_times_mark` of `etcs_file.h` does."""
 
     def __init__(self, path: str | Path) -> None:
-        super().__init__(Path(path), f"{FIRST}\n".encode(), "a file of marks of the time of day")
+        super().__init__(Path(path), f"{CHECKED}\n".encode(), "a file of marks with checksums")
         told = self.read(0, self.size)
         self.drop(told.rfind(b"\n") + 1)
 
@@ -183,7 +205,7 @@ class Marks(files.Appended):
         told = mark_of(0, line)
         if (told.life, told.moment_ms, told.utc_ms, told.uncertainty_ms, told.source) != (life, moment_ms, utc_ms, uncertainty_ms, source):
             raise ValueError(line)
-        self.append(f"{line}\n".encode())
+        self.append(f"{line},{checksum(line)}\n".encode())
         self.sync()
 
 
@@ -201,8 +223,8 @@ class Times:
     @classmethod
     def of(cls, journal: Journal, path: Path, drift_ppm: int = DRIFT_PPM) -> Self:
         """The marks in a file, for a journal."""
-        marks, cut = read_marks(path)
-        found = cls(path, drift_ppm, marks)
+        marks, wrong, cut = read_marks(path)
+        found = cls(path, drift_ppm, marks, left_out=wrong)
         bounds: dict[int, list[Bound]] = {}
         for mark in marks:
             life, bound = found.bound(journal, mark)

@@ -557,7 +557,7 @@ class _Wanting(_Handle):
     """What holds only some sectors of its medium."""
 
     def wanted(self) -> int:
-        """The sector that is wanted, until it is handed in. NONE_WANTED where none is."""
+        """The sector that is wanted, until one is handed in. NONE_WANTED where none is."""
         sector = ctypes.c_uint64()
         self._call("wanted", ctypes.byref(sector))
         return sector.value

@@ -20,6 +20,12 @@ LINES = f"""\
 1,600000,,2026-03-01T10:10:00.000Z,50,GNSS
 
 """
+HOST = f"""\
+{times.CHECKED}
+1,0,,{TEN},50,GNSS,21d7d1e5
+1,600000,,2026-03-01T10:10:00.000Z,50,GNSS,ff63b098
+"""
+"""Each line's checksum is that which gzip writes of the text before its last comma."""
 
 
 def lives() -> Journal:
@@ -146,23 +152,23 @@ class Events(Room):
 class Files(Room):
     """Files of marks."""
 
-    def test_what_is_no_mark(self) -> None:
+    def test_what_is_no_mark_loses_itself_only(self) -> None:
         good = ["1", "0", "", TEN, "50", "GNSS"]
         tried = 0
-        for place, values in enumerate((("", "x", "-1", "1.5"), ("", "x", "-1", str(2**41)), ("3", "x"), ("", "10:00", TEN[:-1], TEN[:-1] + "+01:00",
+        for place, values in enumerate((("", "x", "-1", "1.5"), ("", "x", "-1", str(2**40)), ("3", "x"), ("", "10:00", TEN[:-1], TEN[:-1] + "+01:00",
                                         "2026-02-30T10:00:00.000Z", "2026-03-01Z", "2026-03-01T10:00Z", "2026-03-01 10:00:00Z",
                                         "20260301T100000Z", "2026-03-01T10:00:00,5Z"), ("", "-1", "x"), ("", " "))):
             for value in values:
                 row = [*good[:place], value, *good[place + 1:]]
-                with self.assertRaisesRegex(Failed, "image.times: line 2 is no mark") as caught:
-                    self.times(f"{times.FIRST}\n{','.join(row)}\n")
-                self.assertEqual(caught.exception.status, REFUSED)
+                told = self.times(f"{times.FIRST}\n{','.join(row)}\n{','.join(good)}\n")
+                self.assertEqual(told.faults(), [f"line 2 isn't used: it isn't a mark ({times.WANTED})"])
+                self.assertEqual(told.utc(1, 0), (TEN_MS, 50))
                 tried += 1
         for text in ("", "life,moment\n", f"{times.FIRST}x\n"):
-            with self.assertRaisesRegex(Failed, "line 1 isn't life,moment_ms"):
+            with self.assertRaisesRegex(Failed, "line 1 isn't life,moment_ms") as caught:
                 self.times(text)
-        with self.assertRaisesRegex(Failed, "line 2"):
-            self.times(f"{times.FIRST}\n1,0,,{TEN},50\n")
+            self.assertEqual(caught.exception.status, REFUSED)
+        self.assertEqual(len(self.times(f"{times.FIRST}\n1,0,,{TEN},50\n").faults()), 1)
         self.assertEqual(tried, 25)
 
     def test_a_host_writes_marks(self) -> None:
@@ -176,9 +182,27 @@ class Files(Room):
             file.write("1,600000,,2026")
         with Marks(path) as marks:
             marks.mark(1, 600_000, TEN_MS + 600_000, 50, "GNSS")
-        self.assertEqual(path.read_text(), LINES.replace("# a word of the investigator\n", "").rstrip("\n") + "\n")
+        self.assertEqual(path.read_text(), HOST)
         (self.room / "text").write_text("text")
         self.assertRaisesRegex(Failed, "is there, and is not a file of marks", Marks, self.room / "text")
+
+    def test_a_wrong_checksum_loses_its_line_only(self) -> None:
+        first, line, other, _ = HOST.replace("\n1,0,", "\n3,0,").replace("21d7d1e5", "fb46f99a").split("\n")  # (a bit of "3" makes it "#")
+        self.assertEqual((self.times(HOST).faults(), self.times(f"{first}\n{line}\n").utc(3, 0)), ([], (TEN_MS, 50)))
+        tried = 0
+        for bit in range(8 * len(line)):
+            data = bytearray(line.encode())
+            data[bit // 8] ^= 1 << bit % 8
+            path = self.room / "image.times"
+            path.write_bytes(f"{first}\n".encode() + data + f"\n{other}\n".encode())
+            told = Times.of(lives(), path)
+            self.assertEqual((told.faults(), told.utc(1, 600_000)), (["line 2 isn't used: its checksum is wrong"], (TEN_MS + 600_000, 50)))
+            tried += 1
+        for cut in range(1, len(line)):  # a part of a line, which the next one follows: both are one line, and the one after it isn't lost
+            told = self.times(f"{first}\n{line[:cut]}{line}\n{other}\n")
+            self.assertEqual((told.faults(), told.utc(1, 600_000)), (["line 2 isn't used: its checksum is wrong"], (TEN_MS + 600_000, 50)))
+            tried += 1
+        self.assertEqual(tried, 46 * 8 + 45)
 
 
 class Outputs(Room):

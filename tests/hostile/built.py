@@ -70,14 +70,14 @@ def settled(record, image, **environment):
 
 
 def calls_of(to):
-    """The calls that were recorded in a file."""
+    """The calls that were recorded in a file; of a length that was set, that is the place."""
     data, at, calls = to.read_bytes() if to.exists() else b"", 0, []
     while at < len(data):
         kind, place, length = struct.unpack_from("<cQQ", data, at)
         at += 17
         body = data[at:at + length] if kind in b"wo" else b""
         at += len(body)
-        calls.append((kind.decode(), place, body))
+        calls.append((kind.decode(), length if kind == b"l" else place, body))
     return calls
 
 

@@ -8,7 +8,7 @@
 - An archive is cut within its last block, or has zeros there: no block is lost, what a cut left is told, and what is kept then goes
   on behind it. Gaps stay gaps, blocks that contradict are named, and what can't be read is taken from where it can.
 - Blocks of two units are told, and so is a block that can't be read in one source. A gate with a bit altered stops no archive.
-- A sync that fails is owed, and made good by the next call.
+- A sync that fails is owed, and made good by the next call. An archive is settled when it is opened.
 - Files that are there, no archives, and archives that another program holds, stay as they are.
 """
 import errno
@@ -27,7 +27,7 @@ from compared import Compared, run  # noqa: E402
 from gaknifur import archive, layout  # noqa: E402
 from gaknifur.archive import Archive, Ring  # noqa: E402
 from gaknifur.program import Failed  # noqa: E402
-from gaknifur.times import FIRST, Marks  # noqa: E402
+from gaknifur.times import CHECKED, Marks  # noqa: E402
 from image_cases import image_of, patched, ring  # noqa: E402
 from replay_rows import STARTED, TWO, blocks_of  # noqa: E402
 
@@ -229,6 +229,15 @@ def syncs(rows, room):
                 rows.same(f"{name}: blocks", kept.keep(image), 0)
             rows.same(name, done, wanted)
     rows.same("what is there", data_in(path), {n: data_of(told[n]) for n in range(1, 7)})
+    with patch("os.fsync", fails):
+        try:
+            Archive(path).close()
+            rows.tell("an archive that can't be settled is opened")
+        except Failed as failed:
+            rows.unless("can't be settled: no sync" in str(failed), str(failed))
+    done.clear()
+    with patch("os.fsync", noted_sync), Archive(path):
+        rows.same("an archive that is opened is settled", done, ["sync"])
     with Marks(room / "syncs.times") as marks:
         with patch("os.fsync", fails):
             try:
@@ -239,7 +248,7 @@ def syncs(rows, room):
         done.clear()
         with patch("os.fsync", noted_sync), patch("os.pwrite", noted_write):
             marks.mark(1, 5, 5, 5, "a")
-        rows.same("both marks are written and synced", (len(done), done[-1], sum(size for _, size in done[1:-1])), (3, "sync", marks.size - len(FIRST) - 1))
+        rows.same("both marks are written and synced", (len(done), done[-1], sum(size for _, size in done[1:-1])), (3, "sync", marks.size - len(CHECKED) - 1))
 
 
 def many_contradictions(rows, room):

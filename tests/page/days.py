@@ -2,6 +2,7 @@
 import base64
 import json
 import random
+import zlib
 from pathlib import Path
 from typing import Any
 
@@ -63,6 +64,12 @@ def odd(dice: random.Random) -> str:
     return ",".join(row)
 
 
+def checked(dice: random.Random, line: str) -> str:
+    """A line with its checksum, which is wrong now and then."""
+    told = f"{zlib.crc32(line.encode('utf-8', errors='surrogatepass')):08x}"
+    return f"{line},{told if dice.random() < 0.93 else dice.choice((told.upper() + '0', told[1:], '', f'{told}0', '00000000'))}"
+
+
 def of_marks(dice: random.Random, journal: reading.Journal, drift: int) -> bytes:
     """A file of marks; now and then two that just don't contradict, or just do."""
     lines = [mark(dice, journal, drift) for _ in range(dice.randrange(12))]
@@ -71,7 +78,11 @@ def of_marks(dice: random.Random, journal: reading.Journal, drift: int) -> bytes
         lines = [f"{at},,{times.iso(TEN_MS)},{off},a", f"{at},,{times.iso(TEN_MS + dice.choice((-1, 1)) * (off + 7 + dice.randrange(2)))},7,b"]
     while dice.random() < 0.35:
         lines.insert(dice.randrange(len(lines) + 1), odd(dice))
-    first = times.FIRST if dice.random() < 0.97 else dice.choice(("", "\ufeff" + times.FIRST, times.FIRST + " ", "life,moment"))
+    first = times.FIRST
+    if dice.random() < 0.4:
+        first, lines = times.CHECKED, [checked(dice, line) for line in lines]
+    if dice.random() < 0.08:
+        first = dice.choice(("", "\ufeff" + times.FIRST, times.FIRST + " ", "life,moment", times.CHECKED + "x", times.FIRST, times.CHECKED))
     end = dice.choice(("\n", "\n", "\n", "\r\n"))
     text = end.join([first, *lines]) + (end if dice.random() < 0.9 else dice.choice(("", "\n1,0,,2026-03", "\n\x07")))
     return text.encode("utf-8", errors="surrogatepass") + (b"\xff\xc3(\n" if dice.random() < 0.03 else b"")
@@ -104,7 +115,7 @@ def set_drift(browser: Browser, drift: int) -> None:
 
 def random_marks(browser: Browser, _page: Path, folder: Path) -> int:
     """Random files of marks of random images: each time of day, each bound, each fault and each refusal."""
-    dice, count, known, refused, contradicted, unused = random.Random(70), 0, 0, 0, 0, 0
+    dice, count, known, refused, contradicted, unused, wrong = random.Random(70), 0, 0, 0, 0, 0, [0, 0]
     for number in range(IMAGES):
         path = folder / f"image{number}"
         path.write_bytes(image(folder, lives_of(dice), dice.choice((4, 9, 40))))
@@ -125,7 +136,8 @@ def random_marks(browser: Browser, _page: Path, folder: Path) -> int:
                 known += sum(one is not None for one in wanted["utc"])
                 contradicted += any("contradict" in one for one in wanted["faults"])
                 unused += any("contradict" not in one for one in wanted["faults"])
-    assert known > 1_500 and refused > 25 and contradicted > 15 and unused > 15, (count, known, refused, contradicted, unused)
+                wrong = [so_far + any(why in one for one in wanted["faults"]) for so_far, why in zip(wrong, ("isn't a mark", "its checksum is wrong"))]
+    assert known > 1_500 and refused > 5 and contradicted > 15 and unused > 15 and min(wrong) > 15, (count, known, refused, contradicted, unused, wrong)
     return count
 
 
@@ -165,7 +177,11 @@ def by_hand(browser: Browser, _page: Path, folder: Path) -> int:
     assert shown(browser, 5) == f"No UTC is told of this moment of life 1 by these marks{outside}"
     marks.write_text(f"{times.FIRST}\n1,0,,10:00,50,GNSS\n", encoding="utf-8")
     browser.hand(marks, "marks-file")
-    browser.until("return document.getElementById('day-error').textContent.startsWith('timed.times: line 2 is no mark')")
+    browser.until('return document.getElementById("day-faults").textContent.startsWith("line 2 isn\'t used: it isn\'t a mark (life and moment_ms")')
+    assert shown(browser, 5) == f"No UTC is told of this moment of life 1 by these marks{outside}"
+    marks.write_text("life,moment_ms\n", encoding="utf-8")
+    browser.hand(marks, "marks-file")
+    browser.until("return document.getElementById('day-error').textContent.startsWith('timed.times: line 1 isn')")
     assert shown(browser, 5) == "" and "UTC" not in browser.text("lives")
     browser.ask(path)
     assert browser.text("day-error") == "" and "no time of day" in browser.text("day-said")

@@ -11,32 +11,19 @@
 
 #include "etcs_image.h"
 
-static const char *const reasons[] = {"", "", "", "", "before_oldest_block", "gap", "within_block", "behind_difference"};
-static const char *const record_fields[] = {"", "event", "word", "time_ms", "mode", "level", "brake", "indications", "place", "place_cm", "uncertainty_cm", "limit_m_per_h"};
-static const char *const kept_fields[] = {"", "events", "lives", "trip_outstanding", "identity", "running_number", "train", "level", "position", "national_values", "countries"};
-static const char *const modes[] = {"FS", "OS", "SR", "SH", "UN", "", "SB", "TR", "PT", "SF"};
-static const char *const brakes[] = {"none", "service", "emergency"};
-static const char *const signs[] = {"on_sight", "shunting", "level_0", "trip", "overridden", "not_revalidated", "overspeed"};
-static const char *const statuses[] = {"unknown", "valid", "invalid"};
-static const char *const causes[] = {"not_revalidated", "in_trip", "in_system_failure", "owes_trip", "far_too_fast", "rolled_too_far", "asked_for_service", "too_fast", "must_stand", "owes_too_long"};
-static const char *const trips[] = {"", "end_passed", "linking", "stop", "staff_distance", "level"};
-static const char *const limits[] = {"", "no_speed", "no_train_data", "national_staff_responsible", "national_override", "national_shunting", "national_unfitted",
-                                     "train_maximum", "main_speed", "end_speed", "static_speed", "restriction", "mode_area", "static_speed_ahead", "unknown_speed_ahead",
-                                     "restriction_ahead", "mode_area_ahead", "end_of_authority", "supervised_location", "release_speed", "national_release_speed"};
-
 static unsigned long long wide(uint64_t number) { return (unsigned long long)number; }
 
 static void tell_record(const etcs_record *record) {
     const char *between = "";
-    printf("{\"event\":%llu,\"time_ms\":%llu,\"mode\":\"%s\",\"level\":", wide(record->event), wide(record->moment_ms), modes[record->mode]);
+    printf("{\"event\":%llu,\"time_ms\":%llu,\"mode\":\"%s\",\"level\":", wide(record->event), wide(record->moment_ms), etcs_mode_name(record->mode));
     if (record->level == ETCS_LEVEL_INVALID)
         printf("null");
     else
         printf("%u", (unsigned)record->level);
-    printf(",\"brake\":\"%s\",\"indications\":[", brakes[record->brake]);
+    printf(",\"brake\":\"%s\",\"indications\":[", etcs_brake_name(record->brake));
     for (unsigned i = 0; i < 7; i++)
         if (record->indications >> i & 1) {
-            printf("%s\"%s\"", between, signs[i]);
+            printf("%s\"%s\"", between, etcs_indication_name(1u << i));
             between = ",";
         }
     printf("]");
@@ -80,13 +67,13 @@ static void tell_kept(const etcs_kept *kept) {
         printf("null");
     printf(",\"level\":");
     if (kept->level_status)
-        printf("{\"value\":%u,\"status\":\"%s\"}", (unsigned)kept->level, statuses[kept->level_status]);
+        printf("{\"value\":%u,\"status\":\"%s\"}", (unsigned)kept->level, etcs_datum_name(kept->level_status));
     else
         printf("null");
     printf(",\"position\":");
     if (kept->position_status)
         printf("{\"country\":%u,\"group\":%u,\"distance_cm\":%lld,\"status\":\"%s\"}", (unsigned)kept->country, (unsigned)kept->group, (long long)kept->distance_cm,
-               statuses[kept->position_status]);
+               etcs_datum_name(kept->position_status));
     else
         printf("null");
     printf(",\"national_values\":{\"shunting_m_per_h\":%u,\"staff_responsible_m_per_h\":%u,\"on_sight_m_per_h\":%u,\"unfitted_m_per_h\":%u,\"release_m_per_h\":%u,"
@@ -117,9 +104,9 @@ static void tell_line(const etcs_replay *replay) {
     printf("{\"life\":%u", (unsigned)replay->life);
     if (record)
         printf(",\"block\":%llu,\"event\":%llu,\"replay\":\"record_differs\",\"field\":\"%s\",\"journal\":", wide(replay->block), wide(replay->event),
-               record_fields[replay->field]);
+               etcs_record_field_name(replay->field));
     else if (head)
-        printf(",\"block\":%llu,\"replay\":\"head_differs\",\"field\":\"%s\",\"journal\":", wide(replay->block), kept_fields[replay->field]);
+        printf(",\"block\":%llu,\"replay\":\"head_differs\",\"field\":\"%s\",\"journal\":", wide(replay->block), etcs_kept_field_name(replay->field));
     else
         printf(",\"first_event\":%llu,\"last_event\":%llu,\"replay\":\"%s\"", wide(replay->first_event), wide(replay->last_event),
                replay->verdict == ETCS_VERDICT_AGREES ? "agrees" : "not_replayed");
@@ -132,7 +119,7 @@ static void tell_line(const etcs_replay *replay) {
         printf(",\"kernel\":");
         tell_kept(&replay->kernel_kept);
     } else if (replay->verdict != ETCS_VERDICT_AGREES) {
-        printf(",\"reason\":\"%s\"", reasons[replay->verdict]);
+        printf(",\"reason\":\"%s\"", etcs_verdict_name(replay->verdict));
     }
     if (replay->reserved != 0 || (!record && (replay->event != 0 || !is_zero(&replay->journal, sizeof replay->journal) || !is_zero(&replay->kernel, sizeof replay->kernel)))
         || (!head && (!is_zero(&replay->journal_kept, sizeof replay->journal_kept) || !is_zero(&replay->kernel_kept, sizeof replay->kernel_kept)))
@@ -160,19 +147,19 @@ static uint32_t replayed(const uint8_t *image, size_t size) {
 }
 
 static void tell_why(const etcs_why *why) {
-    printf("{\"event\":%llu,\"brake\":\"%s\",\"limit_m_per_h\":%u,\"speed_m_per_h\":%u,\"backward_cm\":%llu,\"allowed_backward_cm\":%llu", wide(why->event), brakes[why->brake],
+    printf("{\"event\":%llu,\"brake\":\"%s\",\"limit_m_per_h\":%u,\"speed_m_per_h\":%u,\"backward_cm\":%llu,\"allowed_backward_cm\":%llu", wide(why->event), etcs_brake_name(why->brake),
            (unsigned)why->limit_m_per_h, (unsigned)why->speed_m_per_h, wide(why->backward_cm), wide(why->allowed_backward_cm));
     for (unsigned i = 0; i < ETCS_BRAKE_CAUSES; i++) {
         if (why->holds[i])
-            printf(",\"%s\":%llu", causes[i], wide(why->since[i]));
+            printf(",\"%s\":%llu", etcs_brake_cause_name(i), wide(why->since[i]));
         else
-            printf(",\"%s\":%s", causes[i], why->since[i] == 0 ? "null" : "\"not zero\"");
+            printf(",\"%s\":%s", etcs_brake_cause_name(i), why->since[i] == 0 ? "null" : "\"not zero\"");
     }
     if (why->trip_cause)
-        printf(",\"trip_cause\":\"%s\",\"trip_cause_event\":%llu", trips[why->trip_cause], wide(why->trip_event));
+        printf(",\"trip_cause\":\"%s\",\"trip_cause_event\":%llu", etcs_trip_cause_name(why->trip_cause), wide(why->trip_event));
     else
         printf(",\"trip_cause\":null,\"trip_cause_event\":%s", why->trip_event == 0 ? "null" : "\"not zero\"");
-    printf(",\"limit_cause\":\"%s\",\"limit_cause_speed_m_per_h\":%u,\"limit_cause_place_cm\":", limits[why->limit_cause], (unsigned)why->limit_cause_m_per_h);
+    printf(",\"limit_cause\":\"%s\",\"limit_cause_speed_m_per_h\":%u,\"limit_cause_place_cm\":", etcs_limit_cause_name(why->limit_cause), (unsigned)why->limit_cause_m_per_h);
     if (why->has_place)
         printf("%lld", (long long)why->limit_cause_cm);
     else
@@ -204,7 +191,7 @@ static uint32_t whys(const uint8_t *image, size_t size, unsigned step) {
         if (answer == ETCS_UNIT_OK)
             tell_why(&why);
         else
-            printf("{\"event\":%llu,\"refused\":\"%s\"}\n", wide(record.event), etcs_status_text(answer));
+            printf("{\"event\":%llu,\"refused\":\"%s\"}\n", wide(record.event), etcs_status_name(answer));
     }
     return ETCS_UNIT_OK;
 }
@@ -240,7 +227,7 @@ int main(int count, char **words) {
     else
         answer = whys(image, (size_t)size, count > 3 ? (unsigned)atoi(words[3]) : 1);
     if (answer != ETCS_UNIT_OK)
-        printf("{\"refused\":\"%s\"}\n", etcs_status_text(answer));
+        printf("{\"refused\":\"%s\"}\n", etcs_status_name(answer));
     fclose(file);
     free(image);
     return 0;

@@ -52,7 +52,7 @@ int main(int count, char **words) {
         tried++;
         if (status != ETCS_UNIT_OK && status != ETCS_UNIT_CLOCK_BACK) {
             wrong++;
-            printf("line %u: %s: %.60s", number, etcs_status_text(status), line);
+            printf("line %u: %s: %.60s", number, etcs_status_name(status), line);
         }
     }
     is("state", etcs_memory_state(&told_of), ETCS_UNIT_OK);

@@ -16,6 +16,7 @@ from program import action_of  # noqa: E402
 
 AUTHORITY = "90007F802001432024A8007FE007D002B00D900010000DC03A400020801FE0"
 CYCLE_MS, CYCLES = 500, 1_000
+BRAKES = ("none", "service", "emergency")
 GAINED = {"none": 900, "service": -1_260, "emergency": -1_800}
 
 
@@ -33,11 +34,12 @@ class Train:
         for word, value in inputs:
             outputs.append((self.events, self.life.take(word, value)))
             self.events += 1
-        for event, output in outputs:
-            self.obey(event, output)
+        # (the most restrictive brake of one release holds until the next one)
+        strictest = max((str(output.brake) for _, output in outputs), key=BRAKES.index)
+        self.obey(*outputs[-1], strictest)
 
-    def obey(self, event, output):
-        brake, mode = str(output.brake), output.mode
+    def obey(self, event, output, brake):
+        mode = output.mode
         if (brake, mode) != (self.brake, self.mode):
             self.lines.append(f"event {event}: mode {mode}, brake {brake}, limit {output.limit} m/h, speed {self.speed} m/h")
         self.brake, self.mode = brake, mode
@@ -56,12 +58,12 @@ def told():
     train = Train()
     driver = [(1, "IC 704"), (4, 1), (3, 20_000, 160_000, 70, 0, 15), (6,)]
     train.accept(("hear", AUTHORITY), *(action_of(*one)[:2] for one in driver))
-    for _ in range(CYCLES):
+    for cycle in range(CYCLES):
         moved = train.go_on()
-        if train.speed == 0:
+        if train.speed == 0 and cycle > 0:
             break
         train.accept(("move", f"{moved} {train.speed}"), ("clock", str(train.moment)))
-    return [*train.lines, f"the train stands behind {train.moment} ms"]
+    return [*train.lines, f"the train stands after {train.moment} ms"]
 
 
 def main(words):

@@ -8,8 +8,6 @@
 #include "inputs.h"
 #include "medium.h"
 
-static const char *const waits[] = {"none", "asked", "owed"};
-
 static unsigned long long wide(uint64_t number) { return (unsigned long long)number; }
 
 /* That nothing is told now. */
@@ -22,7 +20,7 @@ static void untold(const char *what, etcs_unit *unit) {
 }
 
 static void waiting(const char *kind, uint8_t state, uint64_t left) {
-    printf(",\"%s\":[\"%s\",%llu]", kind, state < 3 ? waits[state] : "?", wide(left));
+    printf(",\"%s\":[\"%s\",%llu]", kind, etcs_acknowledgement_name(state), wide(left));
 }
 
 static void tell(const etcs_unit_why_told *why) {

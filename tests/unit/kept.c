@@ -4,7 +4,40 @@
  *     kept FOLDER CYCLES EVERY    a drive of so many cycles of 2 s in a ring of 64 slots, whose blocks are kept each EVERY cycles:
  *                                 FOLDER/image, FOLDER/archive, FOLDER/times; it prints the number of the last event
  *     kept IMAGE ARCHIVE          keeps what an image holds, twice; where $KEPT_LATER names a file, the image is that one's bytes the
- *                                 second time. It prints how many blocks that were */
+ *                                 second time. It prints how many blocks that were
+ *     kept archive IMAGE ARCHIVE LATER..    keeps what an image holds, and again each time that it has the bytes of another file
+ *     kept marks IMAGE TIMES FROM COUNT     writes so many marks, from this moment on; both print each answer when it comes */
+#ifndef _POSIX_C_SOURCE
+#define _POSIX_C_SOURCE 200809L
+#endif
+#include <errno.h>
+#include <unistd.h>
+
+/* Syncs and writes that fail: so many syncs from now on; the write that would make more bytes than these in all, after as many. */
+static int failing_syncs, syncs;
+static long written, most_written = -1;
+
+static int kept_sync(int descriptor) {
+    syncs++;
+    if (failing_syncs == 0)
+        return fsync(descriptor);
+    failing_syncs--;
+    errno = EIO;
+    return -1;
+}
+
+static ssize_t kept_write(int descriptor, const void *bytes, size_t len, off_t at) {
+    if (most_written >= 0 && written + (long)len > most_written)
+        len = (size_t)(most_written - written);
+    errno = ENOSPC;
+    if (len == 0)
+        return -1;
+    written += (long)len;
+    return pwrite(descriptor, bytes, len, at);
+}
+
+#define fsync kept_sync
+#define pwrite kept_write
 #include "etcs_file.h"
 
 #include <stdio.h>
@@ -87,6 +120,15 @@ static long size_of(const char *path) {
     return stat(path, &told) == 0 ? (long)told.st_size : -1;
 }
 
+/* Whether a file ends with a text. */
+static int is_end(const char *path, const char *text) {
+    char bytes[256] = {0};
+    const long size = size_of(path), len = (long)strlen(text);
+    FILE *file = fopen(path, "rb");
+    const int is_read = file && fseek(file, size - len, SEEK_SET) == 0 && fread(bytes, 1, (size_t)len, file) == (size_t)len;
+    return file && fclose(file) == 0 && is_read && memcmp(bytes, text, (size_t)len) == 0;
+}
+
 static void answers(const char *folder) {
     etcs_unit unit = {0};
     etcs_file file = {0};
@@ -96,8 +138,8 @@ static void answers(const char *folder) {
     uint64_t count = 9;
     wants("an image that isn't open is kept", etcs_archive_keep(&archive, &file, &count) == ETCS_FILE_CANT_READ && count == 0);
     wants("a mark without a file", etcs_times_mark(&times, 0, 0, 0, "a") != ETCS_FILE_OK);
-    etcs_file_format(&file, path_in(folder, "image"), 4);
-    etcs_file_open(&file, path_in(folder, "image"), &unit, ETCS_COLD_UNKNOWN);
+    wants("no image", etcs_file_format(&file, path_in(folder, "image"), 4) == ETCS_FILE_OK
+                      && etcs_file_open(&file, path_in(folder, "image"), &unit, ETCS_COLD_UNKNOWN) == ETCS_FILE_OK);
     begin(&file, &unit, &last);
     put(path_in(folder, "text"), "text of another kind");
     wants("a text is taken for an archive", etcs_archive_open(&archive, path_in(folder, "text")) == ETCS_FILE_NO_ARCHIVE);
@@ -110,12 +152,12 @@ static void answers(const char *folder) {
     wants("nothing is kept", etcs_archive_keep(&archive, &file, &count) == ETCS_FILE_OK && count == 2);
     wants("it is kept twice", etcs_archive_keep(&archive, &file, &count) == ETCS_FILE_OK && count == 0);
     for (uint64_t at = 1; at <= 3; at++) {
-        etcs_unit_clock(&unit, at);
+        wants("a moment isn\'t taken", etcs_unit_clock(&unit, at) == ETCS_UNIT_OK);
         flush(&file, &unit, &last);
     }
     wants("three aren't kept", etcs_archive_keep(&archive, &file, &count) == ETCS_FILE_OK && count == 3);
     for (uint64_t at = 4; at <= 9; at++) {
-        etcs_unit_clock(&unit, at);
+        wants("a moment isn\'t taken", etcs_unit_clock(&unit, at) == ETCS_UNIT_OK);
         flush(&file, &unit, &last);
     }
     wants("those that are there aren't kept", etcs_archive_keep(&archive, &file, &count) == ETCS_FILE_OK && count == 4 && archive.entries == 9);
@@ -136,13 +178,203 @@ static void answers(const char *folder) {
     wants("a bad mark is taken", etcs_times_mark(&times, 0, -1, 0, "a") == ETCS_FILE_BAD_MARK && etcs_times_mark(&times, 0, 0, 0, "a,b") == ETCS_FILE_BAD_MARK
                                      && etcs_times_mark(&times, 0, 0, 0, "") == ETCS_FILE_BAD_MARK
                                      && etcs_times_mark(&times, 0, INT64_C(253402300800000), 0, "a") == ETCS_FILE_BAD_MARK);
-    wants("a mark isn't taken", etcs_times_mark(&times, 9, INT64_C(253402300799999), 4294967295u, "GNSS") == ETCS_FILE_OK);
+    wants("a blank source is taken", etcs_times_mark(&times, 0, 0, 0, " ") == ETCS_FILE_BAD_MARK && etcs_times_mark(&times, 0, 0, 0, " a") == ETCS_FILE_BAD_MARK
+                                         && etcs_times_mark(&times, 0, 0, 0, "a ") == ETCS_FILE_BAD_MARK);
+    wants("a moment of 2^40 is taken", etcs_times_mark(&times, UINT64_C(1099511627776), 0, 0, "a") == ETCS_FILE_BAD_MARK);
+    wants("a source of 65 characters is taken",
+          etcs_times_mark(&times, 0, 0, 0, "aaaaaaaaaaaaaaaaaaaaaaaaaaaaaaaaaaaaaaaaaaaaaaaaaaaaaaaaaaaaaaaaa") == ETCS_FILE_BAD_MARK);
+    wants("something is written", size_of(path_in(folder, "times")) == first);
+    wants("a mark isn't taken", etcs_times_mark(&times, UINT64_C(1099511627775), INT64_C(253402300799999), 4294967295u, "a GNSS") == ETCS_FILE_OK);
     const long behind = size_of(path_in(folder, "times"));
-    wants("it is cut off", behind == first + (long)sizeof "1,9,,9999-12-31T23:59:59.999Z,4294967295,GNSS\n" - 1);
+    /* (the checksum is that which gzip writes of the text before its comma) */
+    wants("it is another line", is_end(path_in(folder, "times"), "\n1,1099511627775,,9999-12-31T23:59:59.999Z,4294967295,a GNSS,3862b89a\n"));
     etcs_times_close(&times);
     wants("it can't be cut off", truncate(path_in(folder, "times"), behind - 5) == 0);
     wants("what is cut off stays", etcs_times_open(&times, path_in(folder, "times"), &file) == ETCS_FILE_OK && size_of(path_in(folder, "times")) == first);
     etcs_times_close(&times);
+    /* zeros, longer than any line, that a loss of power left */
+    wants("it can't be made longer", truncate(path_in(folder, "times"), first + 700) == 0);
+    wants("it doesn't go on after zeros", etcs_times_open(&times, path_in(folder, "times"), &file) == ETCS_FILE_OK
+                                              && etcs_times_mark(&times, 9, 0, 0, "a") == ETCS_FILE_OK);
+    wants("the mark isn't a line", is_end(path_in(folder, "times"), "\n1,9,,1970-01-01T00:00:00.000Z,0,a,51eb2615\n"));
+    etcs_times_close(&times);
+    etcs_file_close(&file, &unit);
+}
+
+/* ---- images with damage */
+
+enum { RING = 8, IMAGE = ETCS_UNIT_SECTOR * (1 + 6 * RING) };
+
+static void read_all(const char *path, uint8_t *bytes) {
+    FILE *file = fopen(path, "rb");
+    wants("an image can't be read", file && fread(bytes, 1, IMAGE, file) == IMAGE && fclose(file) == 0);
+}
+
+static void write_all(const char *path, const uint8_t *bytes) {
+    FILE *file = fopen(path, "r+b");
+    wants("an image can't be written", file && fwrite(bytes, 1, IMAGE, file) == IMAGE && fclose(file) == 0);
+}
+
+/* A sector of the slot of a block. */
+static uint8_t *sector_of(uint8_t *image, uint64_t number, int sector) {
+    return image + ETCS_UNIT_SECTOR * (1 + 6 * (number % RING) + (uint64_t)sector);
+}
+
+static void write_number(uint8_t *at, uint64_t number) {
+    for (int byte = 7; byte >= 0; byte--, number >>= 8)
+        at[byte] = (uint8_t)number;
+}
+
+/* Keeps the blocks of an image, whose newest is 7, and those of a later one, whose newest is 10; `wanted` of each are new. */
+static void keeps_rest(const char *folder, const uint8_t *early, const uint8_t *late, uint64_t wanted, uint64_t more) {
+    etcs_archive archive = {0};
+    etcs_file file = {0};
+    uint64_t count = 0;
+    unlink(path_in(folder, "kept"));
+    write_all(path_in(folder, "ring"), early);
+    wants("the ring can't be locked", etcs_file_lock_(&file, path_in(folder, "ring"), 0) == ETCS_FILE_OK);
+    wants("no archive of a damaged ring", etcs_archive_open(&archive, path_in(folder, "kept")) == ETCS_FILE_OK);
+    wants("a damaged ring isn't kept", etcs_archive_keep(&archive, &file, &count) == ETCS_FILE_OK && count == wanted);
+    write_all(path_in(folder, "ring"), late);
+    wants("later blocks of a damaged ring aren't kept", etcs_archive_keep(&archive, &file, &count) == ETCS_FILE_OK && count == more);
+    wants("some are kept twice", etcs_archive_keep(&archive, &file, &count) == ETCS_FILE_OK && count == 0);
+    etcs_archive_close(&archive);
+    etcs_file_shut_(&file);
+}
+
+static void life_is(const char *folder, const uint8_t *image, uint32_t life) {
+    etcs_times times = {0};
+    etcs_file file = {0};
+    unlink(path_in(folder, "kept.times"));
+    write_all(path_in(folder, "ring"), image);
+    wants("the ring can't be locked for marks", etcs_file_lock_(&file, path_in(folder, "ring"), 0) == ETCS_FILE_OK);
+    wants("marks go to another life", etcs_times_open(&times, path_in(folder, "kept.times"), &file) == ETCS_FILE_OK && times.life == life);
+    etcs_times_close(&times);
+    etcs_file_shut_(&file);
+}
+
+/* Each bit of the first 16 bytes of a gate, and of two other bytes. */
+static void gates(const char *folder, uint8_t *early, uint8_t *late, uint8_t *begun) {
+    static const int others[] = {16, ETCS_UNIT_SECTOR - 1};
+    for (int bit = 0; bit < 8 * (16 + 2) && failures == 0; bit++) {
+        const int at = bit / 8 < 16 ? bit / 8 : others[bit / 8 - 16];
+        const uint8_t one = (uint8_t)(1u << bit % 8);
+        for (uint64_t number = 5; number <= 7; number += 2) { /* one within the ring, and the newest one */
+            sector_of(early, number, 0)[at] ^= one;
+            sector_of(late, number, 0)[at] ^= one;
+            keeps_rest(folder, early, late, 6, 3);
+            sector_of(early, number, 0)[at] ^= one;
+            sector_of(late, number, 0)[at] ^= one;
+        }
+        for (uint64_t number = 2; number <= 3; number++) { /* the last block of life 1, and the power-up of life 2 */
+            sector_of(begun, number, 0)[at] ^= one;
+            life_is(folder, begun, 2);
+            sector_of(begun, number, 0)[at] ^= one;
+        }
+    }
+}
+
+/* Gate and head agree, and yet name no block: a number above 2^40, and a head of no format. */
+static void heads(const char *folder, uint8_t *early, uint8_t *late) {
+    const uint64_t far_one = (UINT64_C(1) << 41) + 5;
+    for (int is_far = 0; is_far <= 1; is_far++) {
+        for (int which = 0; which <= 1; which++) {
+            uint8_t *const image = which ? late : early;
+            write_number(sector_of(image, 5, 0) + 8, is_far ? far_one : 5);
+            write_number(sector_of(image, 5, 1) + 8, is_far ? far_one : 5);
+            sector_of(image, 5, 1)[7] = is_far ? '3' : '9';
+        }
+        keeps_rest(folder, early, late, 6, 3);
+    }
+    write_number(sector_of(early, 5, 0) + 8, 5);
+    write_number(sector_of(early, 5, 1) + 8, 5);
+}
+
+static void damaged(const char *folder) {
+    static uint8_t early[IMAGE], late[IMAGE], begun[IMAGE];
+    etcs_unit unit = {0};
+    etcs_file file = {0};
+    etcs_unit_output last = {0};
+    wants("no image", etcs_file_format(&file, path_in(folder, "ring"), RING) == ETCS_FILE_OK
+                      && etcs_file_open(&file, path_in(folder, "ring"), &unit, ETCS_COLD_UNKNOWN) == ETCS_FILE_OK);
+    begin(&file, &unit, &last);
+    etcs_file_close(&file, &unit);
+    wants("no second life", etcs_file_open(&file, path_in(folder, "ring"), &unit, ETCS_COLD_UNKNOWN) == ETCS_FILE_OK);
+    flush(&file, &unit, &last);
+    read_all(path_in(folder, "ring"), begun); /* blocks 1 and 2 of life 1, 3 of life 2 */
+    for (uint64_t at = 4; at <= 10; at++) {
+        wants("a moment isn\'t taken", etcs_unit_clock(&unit, at) == ETCS_UNIT_OK);
+        flush(&file, &unit, &last);
+        if (at == 7)
+            read_all(path_in(folder, "ring"), early);
+    }
+    read_all(path_in(folder, "ring"), late);
+    etcs_file_close(&file, &unit);
+    keeps_rest(folder, early, late, 7, 3);
+    gates(folder, early, late, begun);
+    heads(folder, early, late);
+}
+
+/* ---- syncs and writes that fail */
+
+/* Keeps what is in the image while syncs fail, and then while none does. */
+static void owed_by_archive(const char *folder, etcs_file *file) {
+    etcs_archive archive = {0};
+    uint64_t count = 0;
+    failing_syncs = 1;
+    wants("an archive opens whose sync fails", etcs_archive_open(&archive, path_in(folder, "owed")) == ETCS_FILE_CANT_SYNC);
+    wants("an archive doesn't open", etcs_archive_open(&archive, path_in(folder, "owed")) == ETCS_FILE_OK);
+    failing_syncs = 2;
+    wants("a sync that fails: all is well", etcs_archive_keep(&archive, file, &count) == ETCS_FILE_CANT_SYNC && count == 2);
+    wants("a sync is owed, and nothing new: all is well", etcs_archive_keep(&archive, file, &count) == ETCS_FILE_CANT_SYNC && count == 0);
+    written = syncs = 0;
+    wants("what is owed isn't made good", etcs_archive_keep(&archive, file, &count) == ETCS_FILE_OK && count == 0 && syncs == 1 && written == 2 * 3072);
+    written = syncs = 0;
+    wants("nothing is owed, and yet something done", etcs_archive_keep(&archive, file, &count) == ETCS_FILE_OK && syncs == 0 && written == 0);
+    etcs_archive_close(&archive);
+    /* a disk that is full within a block */
+    unlink(path_in(folder, "owed"));
+    etcs_archive_open(&archive, path_in(folder, "owed"));
+    written = 0;
+    most_written = 3072 + 100;
+    wants("a disk that is full: all is well", etcs_archive_keep(&archive, file, &count) == ETCS_FILE_CANT_WRITE && count == 1);
+    most_written = -1;
+    wants("blocks are lost behind a full disk", etcs_archive_keep(&archive, file, &count) == ETCS_FILE_OK && count == 1 && archive.entries == 2);
+    etcs_archive_close(&archive);
+    syncs = 0;
+    etcs_archive_open(&archive, path_in(folder, "owed"));
+    wants("an opening settles nothing", syncs == 2); /* the file and its folder */
+    etcs_archive_close(&archive);
+}
+
+static void owed_by_marks(const char *folder, etcs_file *file) {
+    etcs_times times = {0};
+    failing_syncs = 1;
+    wants("marks open whose sync fails", etcs_times_open(&times, path_in(folder, "owed.times"), file) == ETCS_FILE_CANT_SYNC);
+    wants("marks don't open", etcs_times_open(&times, path_in(folder, "owed.times"), file) == ETCS_FILE_OK);
+    failing_syncs = 1;
+    wants("a mark whose sync fails: all is well", etcs_times_mark(&times, 1, 0, 0, "a") == ETCS_FILE_CANT_SYNC);
+    written = syncs = 0;
+    const long line = (long)sizeof "1,1,,1970-01-01T00:00:00.000Z,0,a,01234567\n" - 1;
+    wants("both marks aren't made good", etcs_times_mark(&times, 2, 0, 0, "a") == ETCS_FILE_OK && syncs == 1 && written == 3 * line);
+    written = 0;
+    most_written = 20;
+    wants("a disk that is full: all is well", etcs_times_mark(&times, 3, 0, 0, "a longer name of a clock") == ETCS_FILE_CANT_WRITE);
+    most_written = -1;
+    wants("no mark behind a full disk", etcs_times_mark(&times, 4, 0, 0, "a") == ETCS_FILE_OK);
+    wants("a part of a line stays", size_of(path_in(folder, "owed.times")) == (long)sizeof ETCS_TIMES_FIRST - 1 + 3 * line);
+    etcs_times_close(&times);
+}
+
+static void owed(const char *folder) {
+    etcs_unit unit = {0};
+    etcs_file file = {0};
+    etcs_unit_output last = {0};
+    wants("no image", etcs_file_format(&file, path_in(folder, "image"), 4) == ETCS_FILE_OK
+                      && etcs_file_open(&file, path_in(folder, "image"), &unit, ETCS_COLD_UNKNOWN) == ETCS_FILE_OK);
+    begin(&file, &unit, &last);
+    owed_by_archive(folder, &file);
+    owed_by_marks(folder, &file);
     etcs_file_close(&file, &unit);
 }
 
@@ -176,7 +408,49 @@ static void keeps(const char *image, const char *path) {
     printf("%llu %llu\n", (unsigned long long)count, (unsigned long long)again);
 }
 
+/* (by a call of the system, which tests/hostile/record.c sees) */
+static int tells(const char *what, uint32_t answer, uint64_t count) {
+    char line[64];
+    const int len = snprintf(line, sizeof line, "%s %u %llu\n", what, (unsigned)answer, (unsigned long long)count);
+    wants("a line can't be written", write(1, line, (size_t)len) == len);
+    return answer == ETCS_FILE_OK;
+}
+
+/* (the image is only locked: it needs no unit) */
+static int tells_archive(const char *image, const char *path, char **later, int more) {
+    etcs_file file = {0};
+    etcs_archive archive = {0};
+    uint64_t count = 0;
+    if (etcs_file_lock_(&file, image, 0) != ETCS_FILE_OK || !tells("open", etcs_archive_open(&archive, path), 0))
+        return 1;
+    for (int at = 0; at <= more; at++) {
+        if (at > 0)
+            becomes(image, later[at - 1]);
+        (void)tells("keep", etcs_archive_keep(&archive, &file, &count), count);
+    }
+    etcs_archive_close(&archive);
+    etcs_file_shut_(&file);
+    return 0;
+}
+
+static int tells_marks(const char *image, const char *path, int from, int most) {
+    etcs_file file = {0};
+    etcs_times times = {0};
+    if (etcs_file_lock_(&file, image, 0) != ETCS_FILE_OK || !tells("open", etcs_times_open(&times, path, &file), 0))
+        return 1;
+    for (int at = from; at < from + most; at++)
+        (void)tells("mark", etcs_times_mark(&times, (uint64_t)at, at, 0, "GNSS"), (uint64_t)at);
+    etcs_times_close(&times);
+    etcs_file_shut_(&file);
+    return 0;
+}
+
 int main(int count, char **words) {
+    alarm(540); /* (a call that doesn't return fails) */
+    if (count >= 4 && strcmp(words[1], "archive") == 0)
+        return tells_archive(words[2], words[3], words + 4, count - 4);
+    if (count == 6 && strcmp(words[1], "marks") == 0)
+        return tells_marks(words[2], words[3], atoi(words[4]), atoi(words[5]));
     if (count == 3)
         keeps(words[1], words[2]);
     if (count == 3)
@@ -186,5 +460,7 @@ int main(int count, char **words) {
     if (count != 2)
         return 2;
     answers(words[1]);
+    damaged(words[1]);
+    owed(words[1]);
     return failures ? 1 : 0;
 }

@@ -11,17 +11,9 @@
 
 #include "etcs_image.h"
 
-static const char *const kinds[] = {"", "powerup", "telegram", "odometer", "clock", "driver"};
-static const char *const modes[] = {"FS", "OS", "SR", "SH", "UN", "", "SB", "TR", "PT", "SF"};
-static const char *const brakes[] = {"none", "service", "emergency"};
-
 static void tell(const etcs_record *record) {
-    printf("block %llu event %llu %s %s ", (unsigned long long)record->block, (unsigned long long)record->event, kinds[record->kind], modes[record->mode]);
-    if (record->level == ETCS_LEVEL_INVALID)
-        printf("- ");
-    else
-        printf("%u ", (unsigned)record->level);
-    printf("%s %u ", brakes[record->brake], (unsigned)record->indications);
+    printf("block %llu event %llu %s %s ", (unsigned long long)record->block, (unsigned long long)record->event, etcs_kind_name(record->kind), etcs_mode_name(record->mode));
+    printf("%s %s %u ", etcs_level_name(record->level), etcs_brake_name(record->brake), (unsigned)record->indications);
     for (unsigned i = 0; i < record->payload_len; i++)
         printf("%02x", (unsigned)record->payload[i]);
     printf("%s", record->payload_len == 0 ? "-" : "");
@@ -149,7 +141,7 @@ int main(int count, char **words) {
     else
         answer = by_blocks(image, (size_t)size);
     if (answer != ETCS_UNIT_OK)
-        printf("refused %s\n", etcs_status_text(answer));
+        printf("refused %s\n", etcs_status_name(answer));
     fclose(file);
     free(image);
     return answer != ETCS_UNIT_OK;

@@ -50,6 +50,8 @@ static void null_pointers(medium *on) {
     is("release, no unit", etcs_unit_release(NULL, outputs, 8, &count), wanted);
     is("release, no outputs", etcs_unit_release(&unit, NULL, 8, &count), wanted);
     is("release, no count", etcs_unit_release(&unit, outputs, 8, NULL), wanted);
+    is("command, no outputs", etcs_unit_command(NULL, 1, outputs), wanted);
+    is("command, nowhere to tell", etcs_unit_command(outputs, 1, NULL), wanted);
     is("state, no unit", etcs_unit_state(NULL, &state), wanted);
     is("state, nowhere to tell", etcs_unit_state(&unit, NULL), wanted);
     is("why, no unit", etcs_unit_why(NULL, &why), wanted);
@@ -274,6 +276,11 @@ static void wanting(void) {
         is("no output", count, 0);
         is("wanted after it", etcs_unit_wanted(&unit, &sector), ETCS_UNIT_OK);
         is("the same gate", sector, 1 + 6 * slot);
+        is("provide another sector", etcs_unit_provide(&unit, sector + 1, sector_of(&on, sector + 1), ETCS_UNIT_SECTOR), ETCS_UNIT_OK);
+        is("nothing is wanted behind any sector", etcs_unit_wanted(&unit, &sector), ETCS_UNIT_NONE_WANTED);
+        is("prepare behind it", etcs_unit_prepare(&unit), ETCS_UNIT_SECTOR_WANTED);
+        is("wanted behind it", etcs_unit_wanted(&unit, &sector), ETCS_UNIT_OK);
+        is("the same gate behind it", sector, 1 + 6 * slot);
         PROVIDES_WRONGLY(unit, &unit, on.len / ETCS_UNIT_SECTOR, sector);
         is("provide", etcs_unit_provide(&unit, sector, sector_of(&on, sector), ETCS_UNIT_SECTOR), ETCS_UNIT_OK);
         is("nothing is wanted then", etcs_unit_wanted(&unit, &sector), ETCS_UNIT_NONE_WANTED);
@@ -540,8 +547,37 @@ static void kinds(void) {
     }
 }
 
+/* The most restrictive brake of a release holds, wherever it is in it; all else is that of the newest output. */
+static void commands(void) {
+    etcs_unit_output some[ETCS_UNIT_OUTPUTS + 1] = {{0, 0, 0, 0, 0, 0}}, command = {7, 7, ETCS_STAND_BY, ETCS_LEVEL_1, ETCS_BRAKE_SERVICE, 7};
+    is("nothing is released", etcs_unit_command(some, 0, &command), ETCS_UNIT_OK);
+    is("the command stays", command.event == 7 && command.brake == ETCS_BRAKE_SERVICE, 1);
+    for (uint32_t n = 1; n <= ETCS_UNIT_OUTPUTS; n++) {
+        for (uint32_t at = 0; at < n; at++) {
+            for (uint32_t i = 0; i < n; i++) {
+                some[i].event = 10 + i;
+                some[i].limit_m_per_h = 1000 * (i + 1);
+                some[i].brake = i == at ? ETCS_BRAKE_EMERGENCY : i % 2 ? ETCS_BRAKE_SERVICE : ETCS_BRAKE_NONE;
+            }
+            is("outputs are released", etcs_unit_command(some, n, &command), ETCS_UNIT_OK);
+            is("the brake", command.brake, ETCS_BRAKE_EMERGENCY);
+            is("the event", command.event, 9 + n);
+            is("the limit", command.limit_m_per_h, 1000 * n);
+        }
+    }
+    some[0].brake = ETCS_BRAKE_SERVICE;
+    some[1].brake = ETCS_BRAKE_NONE;
+    is("two are released", etcs_unit_command(some, 2, &command), ETCS_UNIT_OK);
+    is("the service brake holds", command.brake, ETCS_BRAKE_SERVICE);
+    some[1].brake = 3;
+    is("no such brake", etcs_unit_command(some, 2, &command), ETCS_UNIT_OUT_OF_RANGE);
+    is("too many", etcs_unit_command(some, ETCS_UNIT_OUTPUTS + 1, &command), ETCS_UNIT_OUT_OF_RANGE);
+    is("the command stays behind both", command.event == 11 && command.brake == ETCS_BRAKE_SERVICE, 1);
+}
+
 int main(void) {
     medium on = formatted(4);
+    commands();
     kinds();
     null_pointers(&on);
     version();

@@ -483,10 +483,10 @@ static void empty(void) {
 
 /* The names of the statuses. */
 static void texts(void) {
-    is("OK", (uint64_t)strcmp(etcs_status_text(ETCS_UNIT_OK), "OK"), 0);
-    is("END", (uint64_t)strcmp(etcs_status_text(ETCS_UNIT_END), "END"), 0);
-    is("none", (uint64_t)strcmp(etcs_status_text(5), "unknown"), 0);
-    is("none", (uint64_t)strcmp(etcs_status_text(UINT32_MAX), "unknown"), 0);
+    is("OK", (uint64_t)strcmp(etcs_status_name(ETCS_UNIT_OK), "OK"), 0);
+    is("END", (uint64_t)strcmp(etcs_status_name(ETCS_UNIT_END), "END"), 0);
+    is("none", (uint64_t)strcmp(etcs_status_name(5), "unknown"), 0);
+    is("none", (uint64_t)strcmp(etcs_status_name(UINT32_MAX), "unknown"), 0);
 }
 
 int main(void) {

@@ -153,7 +153,7 @@ static void dropped(void) {
     is("too long a telegram", etcs_telegram_dropped(bytes, ETCS_TELEGRAM_BYTES + 1, 0, &told), ETCS_UNIT_END);
     is("nothing told", told.number, 9999);
     for (uint32_t variable = 0; variable < 8; variable++)
-        is(names[variable], (uint64_t)strcmp(etcs_dropped_text(variable), names[variable]), 0);
+        is(names[variable], (uint64_t)strcmp(etcs_dropped_name(variable), names[variable]), 0);
 }
 
 static void unused(const char *bits, uint32_t mode, uint32_t direction, const etcs_packet_unused *wanted, uint32_t count) {

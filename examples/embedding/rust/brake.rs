@@ -311,6 +311,12 @@ impl Train {
     }
 }
 
+/// What is obeyed until the next release: the newest output, with the most restrictive brake of all; none where there is no output.
+fn command_of(outputs: &[Output]) -> Option<Output> {
+    let brake = outputs.iter().map(|output| output.brake).max()?;
+    outputs.last().map(|newest| Output { brake, ..*newest })
+}
+
 fn make_ready(unit: &mut Unit) -> Result<(), Refused> {
     unit.telegram(&[
         0x90, 0x00, 0x7F, 0x80, 0x20, 0x01, 0x43, 0x20, 0x24, 0xA8, 0x00, 0x7F, 0xE0, 0x07, 0xD0, 0x02, 0xB0, 0x0D, 0x90, 0x00, 0x10,
@@ -328,12 +334,12 @@ fn run() -> Result<(), Refused> {
     let mut unit = Unit::open(Medium::formatted(SLOTS)?, COLD_UNKNOWN)?;
     let mut train = Train { moment_ms: 0, speed_m_per_h: 0, rest: 0, brake: 2, mode: 6, last_event: 0 };
     make_ready(&mut unit)?;
-    for _ in 0..MOST_CYCLES {
-        for output in unit.flush()? {
-            train.obey(output);
+    for cycle in 0..MOST_CYCLES {
+        if let Some(command) = command_of(&unit.flush()?) {
+            train.obey(command);
         }
         let movement_cm = train.go_on();
-        if train.speed_m_per_h == 0 {
+        if train.speed_m_per_h == 0 && cycle > 0 {
             break;
         }
         unit.odometer(movement_cm, train.speed_m_per_h as u32)?;
@@ -341,7 +347,7 @@ fn run() -> Result<(), Refused> {
     }
     let last = Journal::open(&unit.medium.bytes)?.last().ok_or(Refused(END))??;
     assert_eq!(last.event, train.last_event, "the journal ends with another event");
-    println!("the train stands behind {} ms", train.moment_ms);
+    println!("the train stands after {} ms", train.moment_ms);
     Ok(())
 }
 

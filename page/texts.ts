@@ -147,6 +147,8 @@ export const TELEGRAM_FAULTS = [
 export const SAY = {
     old: "This browser has no WebAssembly with memories of 64 bits. Chromium has it since 133, Firefox since 134.",
     loading: "The page is loading.",
+    printed: (build: string, utc: string): string =>
+        `Gaknifur ${build}. Printed at ${utc}, by the clock of this computer.`,
     noBrake: "No brake is commanded.",
     noCause: "The cause isn't known yet.",
     notReplayed: "Why can't be told: the beginning of this life was overwritten or can't be read.",

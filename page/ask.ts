@@ -234,7 +234,10 @@ export class Ask {
     private showDay(): void {
         if (this.replays) this.showLives();
         this.showInterventions();
-        if (this.records?.count) this.showEvent();
+        this.graphs.forget();
+        if (!this.records?.count) return;
+        this.showEvent();
+        this.showCharts();
     }
 
     private wordOf(event: number): string {
@@ -352,7 +355,7 @@ export class Ask {
 
     private showCharts(): void {
         const { records, index } = this, life = this.lives.find(one => one.from <= index && index < one.end);
-        if (records && life) this.graphs.show(records, this.speeds, life, this.interventions, index);
+        if (records && life) this.graphs.show(records, this.speeds, life, this.interventions, index, this.day.times);
     }
 
     /** What tests ask. */

@@ -188,7 +188,9 @@ export const DAY = {
     behind: "An event came at its UTC or behind it, before the next moment of its life.",
     outside: "outside the journal and outside the proof",
     column: "UTC by marks, outside the journal and the proof",
+    axis: (date: string): string => `UTC by marks, from ${date} on`,
     none: "not told",
+    more: (faults: number): string => `${faults.toLocaleString("en")} more`,
     notOfLife: (life: number): string => `No UTC is told of this moment of life ${life} by these marks`,
 };
 

@@ -25,8 +25,9 @@ export class Graphs {
                 speed.push(speeds[n] ?? 0);
                 limit.push(records.limit(n));
             }
-            const marks = interventions.filter(one => one.first > from && one.first < end)
-                              .map(one => ({ index: one.first - from, brake: one.brake }));
+            const marks = interventions.flatMap(one => one.steps)
+                              .filter(({ index: at }) => at > from && at < end)
+                              .map(({ index: at, brake }) => ({ index: at - from, brake }));
             const both = { speed, limit, cursor: index - from, marks, pick: (n: number): void => this.pick(from + n) };
             const place = draw(at("place-chart") as unknown as SVGSVGElement,
                 {...both, x: places, unit: "m", per: 100, title: "Speed and limit over distance" });

@@ -152,6 +152,7 @@ export const SAY = {
     noBrake: "No brake is commanded.",
     noCause: "The cause isn't known yet.",
     notReplayed: "Why can't be told: the beginning of this life was overwritten or can't be read.",
+    whyNot: (reason: string): string => `Why can't be told: ${reason}.`,
     slow: (event: number): string => `As of event ${event}.`,
     refused: (what: string): string => `The unit refuses this: ${what}. Nothing changed.`,
     tooBig: (name: string): string =>
@@ -181,12 +182,40 @@ export const SAY = {
     torn: "This life ended within a write. No scenario can say so; the image has it.",
 };
 
+/** "In brief" of an image, as the report has it. */
+export const BRIEF = {
+    notYet: "not known yet …",
+    recordDiffers: "the record differs from what the kernel answers",
+    noReplay: "its life can't be run again",
+    causeNotKnown: (reason: string): string => `cause not known: ${reason}`,
+    none: "none",
+    noIntervention: "none but what each power-up commands",
+    whole: "nothing is lost, damaged or contradicts",
+    agrees: ", and the replay finds no difference",
+    notWhole: "something is lost, damaged or contradicts",
+    differs: (where: string): string => `the replay differs at ${where}`,
+    earlier: (trips: number): string => `${trips} earlier one${trips === 1 ? "" : "s"}`,
+    notKnown: "not known: the newest block can't be read",
+    powerUp: (block: string): string =>
+        `block ${block}, the newest, holds only a power-up, whose output is never released`,
+    released: (block: string): string => `the outputs of block ${block}, the newest, had left the unit: ` +
+        "it had begun to write a further block of the same life",
+    perhapsNot: "perhaps not",
+    perhaps: (block: string, first: string, last: string): string => `: the outputs of block ${
+        block}, the newest, of events ${first} to ${last}; nothing in the image shows that they left the unit`,
+    unwritten: (block: string, first: string, last: string): string =>
+        `None of the outputs of block ${block}, events ${first} to ${last}, left the unit: it was being written`,
+    powerUps: (number: number): string => `${number}; after each the emergency brake is commanded until ` +
+        "the driver has revalidated, which isn't counted as an intervention",
+};
+
 /** Of the time of day by marks (docs/INVESTIGATING.md). */
 export const DAY = {
     noMarks: "A journal has no time of day. Marks beside it may tell one, outside the journal and outside the proof.",
     count: (marks: number): string => marks === 1 ? "1 mark" : `${marks.toLocaleString("en")} marks`,
     behind: "An event came at its UTC or behind it, before the next moment of its life.",
     outside: "outside the journal and outside the proof",
+    byMarks: "by marks",
     column: "UTC by marks, outside the journal and the proof",
     axis: (date: string): string => `UTC by marks, from ${date} on`,
     none: "not told",

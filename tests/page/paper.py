@@ -5,6 +5,7 @@ import re
 import subprocess
 from pathlib import Path
 
+from asking import example, image
 from browsing import Browser
 from chromium import Chromium
 from desks import TOP
@@ -54,4 +55,34 @@ def builds(browser: Browser, page: Path, folder: Path) -> int:
     return 4 * len(BUILDS)
 
 
-CHECKS = {"builds": (builds, 12)}
+def on_sheets(browser: Browser, _page: Path, folder: Path) -> int:
+    """On a sheet as wide as A4 the dial takes less than a quarter of it, no file is to be chosen, and the causes are in the table."""
+    path = folder / "image"
+    path.write_bytes(image(folder, [example("trip")], 16))
+    browser.ask(path)
+    if not isinstance(browser, Chromium):
+        return 5
+    try:
+        browser.driver.execute_cdp_cmd("Emulation.setDeviceMetricsOverride", {"width": 718, "height": 1000, "deviceScaleFactor": 1, "mobile": False})
+        on_paper(browser, True)
+        box = browser.run("const b = document.getElementById('ask-dial').getBoundingClientRect(); return [b.width, b.height]")
+        assert 80 < box[0] < 180 and box[1] < 180, box
+        assert browser.run(SEEN, ["printed", "brief", "file", "marks-file", "scrub"]) == [True, True, False, False, False]
+        within(browser, 718)
+        on_paper(browser, False)
+        browser.driver.execute_cdp_cmd("Emulation.setDeviceMetricsOverride", {"width": 390, "height": 800, "deviceScaleFactor": 1, "mobile": False})
+        within(browser, 390)
+    finally:
+        on_paper(browser, False)
+        browser.driver.execute_cdp_cmd("Emulation.clearDeviceMetricsOverride", {})
+    return 5
+
+
+def within(browser: Browser, width: int) -> None:
+    """The causes of the interventions are within the window."""
+    boxes = browser.run("return [...document.querySelectorAll('#interventions li')].map(one => { const range = document.createRange(); range.selectNodeContents(one);"
+                        " const b = range.getBoundingClientRect(); return [b.left, b.right]; })")
+    assert len(boxes) >= 4 and all(0 <= left < right <= width for left, right in boxes), boxes
+
+
+CHECKS = {"on_sheets": (on_sheets, 5), "builds": (builds, 12)}

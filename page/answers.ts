@@ -11,11 +11,12 @@ import {KEPT_FIELDS, RECORD_FIELDS, SAY, SLOTS, VERDICTS} from "./texts";
 
 /** What an image is. */
 export function imageTexts(name: string, digest: string, bytes: number, facts: Facts, records: Records|null,
-    lives: number, unreadable: number[]): [string, string][] {
+    lives: number, unreadable: number[], isAssumed: boolean): [string, string][] {
     const rest = bytes % SECTOR, told: [string, string][] = [
         ["file", name], ["SHA-256", digest],
         ["bytes", `${count(bytes)}${rest ? `, of which ${rest} stand after the last whole sector` : ""}`],
-        ["sectors", count(facts.sectors)], ["slots", `${count(facts.slots)}, ${count(facts.whole)} whole`],
+        ["sectors", count(facts.sectors)],
+        ["slots", `${count(facts.slots)}, ${count(facts.whole)} whole${isAssumed ? `; ${SAY.assumed}` : ""}`],
         ["newest block", facts.newest ? count(facts.newest) : "none"]
     ];
     if (records?.count) {

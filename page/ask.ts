@@ -4,16 +4,18 @@ import {bytesOfMarks, misfit, sorted, whenChosen} from "./choosing";
 import {briefRows, counted, reasonOf} from "./brief";
 import {Day, MarksFile, utcText} from "./day";
 import {Calls, Records, END, OK} from "./calls";
-import {Dial, shownOf} from "./dial";
+import {Dial, scaleOf, shownOf} from "./dial";
 import {at, make, row, say, show, table} from "./dom";
 import {Graphs} from "./graphs";
 import {fieldsOf, placeOf, showBytes, sizeOf} from "./fields";
-import {Block, Facts, JournalRecord, POWER_UP, Replay, Slot, TELEGRAM, Why} from "./layouts";
+import {Block, Facts, POWER_UP, Replay, Slot, TELEGRAM, Why} from "./layouts";
 import {Intervention, lastOf, LifeRange} from "./lives";
 import {Head, Order, RecordsReport, Report, SlotsReport, Unwritten} from "./messages";
 import {drawRing, legendOf} from "./ring";
 import {brakeReason, brakeText, count, eventText, keptTexts, kmh, levelText, limitText} from "./shown";
 import {modeName} from "./shown";
+import {BySlots} from "./slots";
+import {choose} from "./tabs";
 import {offerApart} from "./telegram";
 import {BRIEF, DAY, SAY, STATUSES, WORDS} from "./texts";
 
@@ -54,6 +56,8 @@ export class Ask {
     private readonly dial = new Dial(at("ask-dial"));
     private readonly graphs = new Graphs(n => this.choose(n));
     private readonly day = new Day(() => this.showDay());
+    private readonly bySlots = new BySlots((file, slots) => this.ask(this.name, file, null, slots));
+    private slotsGiven: number|null = null;
 
     constructor(private readonly worker: { postMessage(order: Order, transfer?: Transferable[]): void },
         private readonly calls: Calls) {
@@ -80,6 +84,7 @@ export class Ask {
 
     /** Takes an image, or marks of the time of day, or both. */
     async take(files: File[]): Promise<void> {
+        choose("ask");
         const chosen = await sorted(files), { image, marks } = chosen ?? {};
         if (!chosen) this.refuse(SAY.oneFile);
         else if (marks && !image && !this.facts) this.refuse(SAY.noImageYet);
@@ -92,8 +97,10 @@ export class Ask {
     }
 
     /** Asks an image. */
-    ask(name: string, file: Blob, marks: MarksFile|null = null): void {
+    ask(name: string, file: Blob, marks: MarksFile|null = null, slots: number|null = null): void {
         this.id++;
+        this.bySlots.forget(file);
+        this.slotsGiven = slots;
         this.name = name;
         this.bytes = new Uint8Array();
         this.day.begin(marks);
@@ -112,7 +119,7 @@ export class Ask {
         for (const part of ["brief", "lives", "interventions", "hex", "fields", "kept", "ring", "ring-legend"])
             show(part);
         for (const part of ["replay-said", "slot-said", "verdict"]) say(part, "");
-        this.worker.postMessage({ kind: "image", id: this.id, file });
+        this.worker.postMessage({ kind: "image", id: this.id, file, slots });
     }
 
     hear(report: Report): void {
@@ -141,7 +148,7 @@ export class Ask {
 
     private showFacts(status: number, facts: Facts|null): void {
         if (!facts) {
-            this.refuse(SAY.noImage(this.name, STATUSES[status] ?? `status ${status}`));
+            this.refuse(SAY.noImage(this.name, STATUSES[status] ?? `status ${status}`) + this.bySlots.offer());
             return;
         }
         this.facts = facts;
@@ -152,8 +159,8 @@ export class Ask {
     private showImage(): void {
         const facts = this.facts;
         if (!facts) return;
-        const told = imageTexts(
-            this.name, this.digest, this.bytes.length, facts, this.records, this.lives.length, this.unreadable);
+        const told = imageTexts(this.name, this.digest, this.bytes.length, facts, this.records, this.lives.length,
+            this.unreadable, this.slotsGiven !== null);
         show("facts", ...told.flatMap(([name, value]) => [make("dt", {}, name), make("dd", {}, value)]));
     }
 
@@ -171,12 +178,14 @@ export class Ask {
         const scrub = at<HTMLInputElement>("scrub");
         scrub.max = String(Math.max(0, this.records.count - 1));
         scrub.disabled = this.records.count === 0;
-        if (status !== END) say("ask-error", `${this.name}: ${STATUSES[status] ?? `status ${status}`}.`);
+        if (status !== END)
+            say("ask-error", SAY.noImage(this.name, STATUSES[status] ?? `status ${status}`) + this.bySlots.offer());
         if (this.records.count) this.followHash();
         else say("event-said", SAY.noRecord);
     }
 
-    private takeSlots({ slots, newest, unwritten, heads, isWhole: whole }: SlotsReport): void {
+    private takeSlots({ slots, newest, unwritten, heads, isWhole }: SlotsReport): void {
+        const whole = isWhole && this.slotsGiven === null;
         this.slots = slots;
         this.newest = newest;
         this.unwritten = unwritten;
@@ -239,13 +248,8 @@ export class Ask {
     }
 
     private wordOf(event: number): string {
-        const record = this.recordOf(event);
-        return record && record.kind === POWER_UP ? WORDS[record.payload[0] ?? 0] ?? "" : "not there";
-    }
-
-    private recordOf(event: number): JournalRecord|null {
-        const index = this.indexOf(event);
-        return index === null || !this.records ? null : this.records.get(index);
+        const index = this.indexOf(event), record = index === null ? null : this.records?.get(index);
+        return record?.kind === POWER_UP ? WORDS[record.payload[0] ?? 0] ?? "" : "not there";
     }
 
     private linked(line: HTMLTableRowElement, event: number): HTMLTableRowElement {
@@ -331,9 +335,7 @@ export class Ask {
         say("ask-brake", brakeText(record.brake));
         at("ask-brake").className = `lamp brake-${record.brake}`;
         say("ask-dial-said", `${kmh(speed)} km/h, limit ${kmh(record.limit)} km/h`);
-        this.dial.setScale(Math.max(speed, record.limit) > 250_000 ? 400
-                : Math.max(speed, record.limit) > 180_000          ? 250
-                                                                   : 180);
+        this.dial.setScale(scaleOf(Math.max(speed, record.limit)));
     }
 
     private showWhy(): void {

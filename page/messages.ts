@@ -11,7 +11,9 @@ export interface ModuleOrder {
 export interface ImageOrder {
     kind: "image";
     id: number;
-    file: Blob
+    file: Blob;
+    /** The slots that are taken for those of the first sector; null where the first sector is read. */
+    slots: number|null
 }
 /** Asks why an event of the image that was read last was answered so. */
 export interface WhyOrder {

@@ -163,6 +163,10 @@ export const SAY = {
     noImageYet: "Choose the image first: marks are for the image that they lie beside.",
     tooManyMarks: (name: string): string =>
         `${name} isn't read: it has more than 16 MB, and the page reads marks up to that size.`,
+    bySlots: (slots: number): string => `By its size it could have ${slots.toLocaleString("en")} slots. ` +
+        "Enter their number to read it as if its first sector said so; the file stays as it is.",
+    assumed: "entered by hand, since the first sector can't be used",
+    unreadableFile: "the browser can't read the file; perhaps it was moved, altered or removed since it was chosen",
     notScenario: (name: string, why: string): string => `${name} isn't a scenario that etcs run reads: ${why}.`,
     noCase: "There is no test case of this: nothing was driven yet, or a life ended within a write.",
     caseTooLong:
@@ -293,10 +297,41 @@ export const CASE_WORDS = {
     ] as [number, string][],
 };
 
-export const MISSION = [
-    "The identity is known: enter or confirm it", "The level is valid: choose or confirm it",
-    "The train data are known: enter or confirm them", "Start (or Shunting): the driver has revalidated"
-];
+export const MISSION =
+    ["the identity is known", "the level is valid", "the train data are known", "the mission has begun"];
+/** Why a button would have no effect, and the modes in which the driver's table accepts an action. */
+export const IDLE = {
+    off: "Power is off",
+    startFirst: "The emergency brake is commanded until the four steps are done",
+    braked: "A brake is commanded, so the train stands",
+    moves: "Only at standstill",
+    unknown: "Nothing is known to confirm; enter it",
+    mode: (wanted: string, mode: string): string => `Accepted in ${wanted}; the mode is ${mode}`,
+    modes: {
+        "enter-identity": [6],
+        "enter-running": [6],
+        "level-1": [6],
+        "level-0": [6],
+        "enter-train": [6],
+        "confirm-1": [6],
+        "confirm-2": [6],
+        "confirm-3": [6],
+        "confirm-4": [6],
+        "start": [6, 8],
+        "shunting": [6, 0, 1, 2, 4, 8],
+        "leave": [3],
+        "override": [0, 1, 2, 8],
+        "close": [0, 1, 2, 3, 4, 8]
+    } as Record<string, number[]>,
+};
+export function modeIn(modes: number[]): string { return modes.map(mode => MODES[mode]?.[1] ?? "").join(", "); }
+/** An entry of the driver that is outside its limits. */
+export const ENTRY = {
+    identity: "The identity has 1 to 16 letters, digits and other characters of ASCII. Nothing was entered.",
+    limits: (what: string, least: string, most: string): string =>
+        `${what}: a number from ${least} to ${most}. Nothing was entered.`,
+    slots: "A number of slots is from 2 to 1,048,576. Nothing was read.",
+};
 export const NOTHING_TO_DRAW = "Nothing to draw: all events have one value here.";
 export const OWED: [number, number, string][] = [
     [1, 8, "Acknowledge the trip"],

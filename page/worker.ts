@@ -5,11 +5,12 @@ import {hexOf} from "./hex";
 import {Block, BYTES, Facts, Replay, SECTOR, Slot, Why} from "./layouts";
 import {askedOf, Intervention, interventionsOf, lastOf, livesOf, speedsOf, tripsOf} from "./lives";
 import {Head, Order, Report, Unwritten} from "./messages";
+import {SAY} from "./texts";
 import {isWhole} from "./whole";
 
 const tell = (report: Report, transfer: Transferable[] = []): void =>
     (postMessage as (message: Report, transfer: Transferable[]) => void)(report, transfer);
-const EACH_MS = 50, UNWRITTEN = 5;
+const EACH_MS = 50, UNWRITTEN = 5, VERSION = 2;
 const channel = new MessageChannel();
 let calls: Promise<Calls>|null = null;
 let image: { id: number; held: Held }|null = null;
@@ -152,12 +153,22 @@ async function causes(calls: Calls, id: number, held: Held, { records, intervent
     return isDone;
 }
 
-async function read(calls: Calls, id: number, file: Blob): Promise<void> {
+/** A copy of an image whose first sector says so many slots (docs/FORMAT.md). */
+function withSlots(bytes: Uint8Array, slots: number): Uint8Array {
+    const copy = bytes.slice(), view = new DataView(copy.buffer);
+    copy.fill(0, 0, SECTOR);
+    copy.set(new TextEncoder().encode("ETCSJRU1"));
+    view.setUint32(8, VERSION);
+    view.setUint32(12, slots);
+    return copy;
+}
+
+async function read(calls: Calls, id: number, file: Blob, slots: number|null): Promise<void> {
     const bytes = new Uint8Array(await file.arrayBuffer());
     const digest = hexOf(new Uint8Array(await crypto.subtle.digest("SHA-256", bytes)));
     if (newest !== id) return;
     if (image) calls.drop(image.held);
-    const held = calls.hold(bytes);
+    const held = calls.hold(slots === null ? bytes : withSlots(bytes, slots));
     image = { id, held };
     tell({ kind: "bytes", id, bytes: bytes.buffer, digest }, [bytes.buffer]);
     const { status, value } = calls.facts(held);
@@ -178,7 +189,7 @@ async function obey(order: Order): Promise<void> {
     }
     if (!calls) throw new Error("there is no module yet");
     const ready = await calls;
-    if (order.kind === "image") await read(ready, order.id, order.file);
+    if (order.kind === "image") await read(ready, order.id, order.file, order.slots);
     else if (order.kind === "once" || image?.id === order.id) {
         const held = order.kind === "once" ? ready.hold(new Uint8Array(order.bytes)) : (image as { held: Held }).held;
         const { status, value } = ready.why(held, order.block, order.event);
@@ -190,6 +201,9 @@ async function obey(order: Order): Promise<void> {
 onmessage = (event: MessageEvent<Order>) => {
     const order = event.data;
     if (order.kind === "image") newest = order.id;
-    obey(order).catch(
-        (error: unknown) => tell({ kind: "failed", id: order.kind === "module" ? 0 : order.id, says: String(error) }));
+    obey(order).catch((error: unknown) => tell({
+        kind: "failed",
+        id: order.kind === "module" ? 0 : order.id,
+        says: error instanceof DOMException ? SAY.unreadableFile : String(error)
+    }));
 };

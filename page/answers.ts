@@ -3,18 +3,20 @@ import {Records} from "./calls";
 import {Child, make} from "./dom";
 import {Facts, JournalRecord, Replay, SECTOR, Slot, Why} from "./layouts";
 import {Intervention} from "./lives";
+import {causeTextsOf, tripReason} from "./brief";
 import {Head} from "./messages";
-import {brakeText, causeTexts, count, indicationTexts, kmh, levelText} from "./shown";
+import {brakeText, count, indicationTexts, kmh, levelText} from "./shown";
 import {metres, modeName, modeWord, seconds} from "./shown";
 import {KEPT_FIELDS, RECORD_FIELDS, SAY, SLOTS, VERDICTS} from "./texts";
 
 /** What an image is. */
 export function imageTexts(name: string, digest: string, bytes: number, facts: Facts, records: Records|null,
-    lives: number, unreadable: number[]): [string, string][] {
+    lives: number, unreadable: number[], isAssumed: boolean): [string, string][] {
     const rest = bytes % SECTOR, told: [string, string][] = [
         ["file", name], ["SHA-256", digest],
         ["bytes", `${count(bytes)}${rest ? `, of which ${rest} stand after the last whole sector` : ""}`],
-        ["sectors", count(facts.sectors)], ["slots", `${count(facts.slots)}, ${count(facts.whole)} whole`],
+        ["sectors", count(facts.sectors)],
+        ["slots", `${count(facts.slots)}, ${count(facts.whole)} whole${isAssumed ? `; ${SAY.assumed}` : ""}`],
         ["newest block", facts.newest ? count(facts.newest) : "none"]
     ];
     if (records?.count) {
@@ -61,6 +63,14 @@ function verdictText(life: Replay): string {
     return life.verdict === 3 ? `${says}: block ${count(life.block)} in ${KEPT_FIELDS[life.field]}` : says;
 }
 
+/** What the replay of all lives came to. */
+export function replayText(lives: Replay[], unreadable: number[]): string {
+    const differs = lives.some(life => life.verdict === 2 || life.verdict === 3);
+    const agrees = lives.some(life => life.verdict === 1), says = [differs ? SAY.differs : agrees ? SAY.agrees : ""];
+    if (unreadable.length) says.push(`Can't be read: block ${unreadable.join(", ")}.`);
+    return [...says, agrees ? SAY.authentic : ""].filter(text => text).join(" ");
+}
+
 /** The cells of a line of a replay. */
 export function lifeCells(life: Replay, word: string): Child[] {
     const isBad = life.verdict === 2 || life.verdict === 3, kind = life.verdict === 1 ? "good" : isBad ? "bad" : "";
@@ -72,12 +82,18 @@ export function lifeCells(life: Replay, word: string): Child[] {
 
 /** The cells of an intervention; its causes come later. */
 export function interventionTexts(
-    records: Records, one: Intervention, speed: number, why: Why|null|undefined): Child[] {
-    const causes = why === undefined ? "…" : why ? causeTexts(why).join("; ") || SAY.noCause : SAY.notReplayed;
+    records: Records, one: Intervention, speed: number, trips: number[], causes: Map<number, Why|string>): Child[] {
+    const tripped = trips.filter(index => one.first <= index && index <= one.last);
+    const asked = [...new Set([...one.steps.map(({ index }) => index), ...tripped])];
+    const says = causeTextsOf(asked.map(index => causes.get(index)));
+    for (const index of tripped)
+        says.push(`tripped at event ${count(records.event(index))}: ${tripReason(causes.get(index))}`);
+    const isWorst = one.steps.some(({ brake }) => brake === 2);
     return [
         `${count(records.event(one.first))} to ${count(records.event(one.last))}`, metres(records.front(one.first)),
         seconds(records.moment(one.first)), `${kmh(speed)} of ${kmh(records.limit(one.first))} km/h`,
-        make("strong", { class: one.brake === 2 ? "bad" : "" }, brakeText(one.brake)), causes
+        make("strong", { class: isWorst ? "bad" : "" }, one.steps.map(({ brake }) => brakeText(brake)).join(", then ")),
+        make("ul", {}, ...says.map(text => make("li", {}, text)))
     ];
 }
 

@@ -1,20 +1,23 @@
 // Asking an image: what is dropped goes to the worker, and what that reports is shown.
-import {behindText, imageTexts, interventionTexts, lifeCells, lostTexts, slotText} from "./answers";
+import {behindText, imageTexts, interventionTexts, lifeCells, lostTexts, replayText, slotText} from "./answers";
 import {bytesOfMarks, misfit, sorted, whenChosen} from "./choosing";
+import {briefRows, counted, reasonOf} from "./brief";
 import {Day, MarksFile, utcText} from "./day";
 import {Calls, Records, END, OK} from "./calls";
-import {Dial, shownOf} from "./dial";
+import {Dial, scaleOf, shownOf} from "./dial";
 import {at, make, row, say, show, table} from "./dom";
 import {Graphs} from "./graphs";
 import {fieldsOf, placeOf, showBytes, sizeOf} from "./fields";
-import {Block, Facts, JournalRecord, POWER_UP, Replay, Slot, TELEGRAM, Why} from "./layouts";
-import {Intervention, LifeRange} from "./lives";
-import {Head, Order, RecordsReport, Report, SlotsReport} from "./messages";
-import {drawRing} from "./ring";
+import {Block, Facts, POWER_UP, Replay, Slot, TELEGRAM, Why} from "./layouts";
+import {Intervention, lastOf, LifeRange} from "./lives";
+import {Head, Order, RecordsReport, Report, SlotsReport, Unwritten} from "./messages";
+import {drawRing, legendOf} from "./ring";
 import {brakeReason, brakeText, count, eventText, keptTexts, kmh, levelText, limitText} from "./shown";
 import {modeName} from "./shown";
+import {BySlots} from "./slots";
+import {choose} from "./tabs";
 import {offerApart} from "./telegram";
-import {DAY, SAY, SLOTS, STATUSES, WORDS} from "./texts";
+import {BRIEF, DAY, SAY, STATUSES, WORDS} from "./texts";
 
 const LINK_MS = 100;
 
@@ -27,6 +30,8 @@ export class Ask {
     private lives: LifeRange[] = [];
     private speeds = new Float64Array();
     private interventions: Intervention[] = [];
+    private trips: number[] = [];
+    private unwritten: Unwritten|null = null;
     private slots: Slot[] = [];
     private heads = new Map<number, Head>();
     private newest: Block|null = null;
@@ -43,12 +48,16 @@ export class Ask {
     index = 0;
     /** Whether all is told of the image. */
     isDone = false;
-    private isWhole = false;
+    private isWhole: boolean|null = null;
     private asking = 0;
     private linking = 0;
+    /** The link that this page wrote itself, for the image before. */
+    private ownLink = "";
     private readonly dial = new Dial(at("ask-dial"));
     private readonly graphs = new Graphs(n => this.choose(n));
     private readonly day = new Day(() => this.showDay());
+    private readonly bySlots = new BySlots((file, slots) => this.ask(this.name, file, null, slots));
+    private slotsGiven: number|null = null;
 
     constructor(private readonly worker: { postMessage(order: Order, transfer?: Transferable[]): void },
         private readonly calls: Calls) {
@@ -75,6 +84,7 @@ export class Ask {
 
     /** Takes an image, or marks of the time of day, or both. */
     async take(files: File[]): Promise<void> {
+        choose("ask");
         const chosen = await sorted(files), { image, marks } = chosen ?? {};
         if (!chosen) this.refuse(SAY.oneFile);
         else if (marks && !image && !this.facts) this.refuse(SAY.noImageYet);
@@ -87,24 +97,29 @@ export class Ask {
     }
 
     /** Asks an image. */
-    ask(name: string, file: Blob, marks: MarksFile|null = null): void {
+    ask(name: string, file: Blob, marks: MarksFile|null = null, slots: number|null = null): void {
         this.id++;
+        this.bySlots.forget(file);
+        this.slotsGiven = slots;
         this.name = name;
         this.bytes = new Uint8Array();
         this.day.begin(marks);
-        this.records = this.replays = this.newest = this.facts = null;
+        this.records = this.replays = this.newest = this.facts = this.unwritten = this.isWhole = null;
         this.causes.clear();
         this.whys.clear();
         this.heads.clear();
         this.slots = [];
         this.index = 0;
         this.isDone = false;
+        clearTimeout(this.linking);
+        if (location.hash === this.ownLink) this.link("");
         this.graphs.forget();
         say("ask-error", "");
         say("ask-progress", SAY.reading);
-        for (const part of ["lives", "interventions", "hex", "fields", "kept", "ring", "ring-legend"]) show(part);
+        for (const part of ["brief", "lives", "interventions", "hex", "fields", "kept", "ring", "ring-legend"])
+            show(part);
         for (const part of ["replay-said", "slot-said", "verdict"]) say(part, "");
-        this.worker.postMessage({ kind: "image", id: this.id, file });
+        this.worker.postMessage({ kind: "image", id: this.id, file, slots });
     }
 
     hear(report: Report): void {
@@ -133,7 +148,7 @@ export class Ask {
 
     private showFacts(status: number, facts: Facts|null): void {
         if (!facts) {
-            this.refuse(SAY.noImage(this.name, STATUSES[status] ?? `status ${status}`));
+            this.refuse(SAY.noImage(this.name, STATUSES[status] ?? `status ${status}`) + this.bySlots.offer());
             return;
         }
         this.facts = facts;
@@ -144,40 +159,40 @@ export class Ask {
     private showImage(): void {
         const facts = this.facts;
         if (!facts) return;
-        const told = imageTexts(
-            this.name, this.digest, this.bytes.length, facts, this.records, this.lives.length, this.unreadable);
+        const told = imageTexts(this.name, this.digest, this.bytes.length, facts, this.records, this.lives.length,
+            this.unreadable, this.slotsGiven !== null);
         show("facts", ...told.flatMap(([name, value]) => [make("dt", {}, name), make("dd", {}, value)]));
     }
 
-    private takeRecords({ status, bytes, unreadable, lives, speeds, interventions }: RecordsReport): void {
+    private takeRecords({ status, bytes, unreadable, lives, speeds, interventions, trips }: RecordsReport): void {
         this.journalStatus = status;
         this.unreadable = unreadable;
         this.records = new Records(new Uint8Array(bytes));
         this.lives = lives;
         this.speeds = speeds;
         this.interventions = interventions;
+        this.trips = trips;
         this.day.hold(this.records);
         this.showImage();
         this.showInterventions();
         const scrub = at<HTMLInputElement>("scrub");
         scrub.max = String(Math.max(0, this.records.count - 1));
         scrub.disabled = this.records.count === 0;
-        if (status !== END) say("ask-error", `${this.name}: ${STATUSES[status] ?? `status ${status}`}.`);
+        if (status !== END)
+            say("ask-error", SAY.noImage(this.name, STATUSES[status] ?? `status ${status}`) + this.bySlots.offer());
         if (this.records.count) this.followHash();
         else say("event-said", SAY.noRecord);
     }
 
-    private takeSlots({ slots, newest, heads, isWhole: whole }: SlotsReport): void {
+    private takeSlots({ slots, newest, unwritten, heads, isWhole }: SlotsReport): void {
+        const whole = isWhole && this.slotsGiven === null;
         this.slots = slots;
         this.newest = newest;
+        this.unwritten = unwritten;
         for (const head of heads) this.heads.set(head.number, head);
-        const counts = SLOTS.map((_, state) => slots.filter(slot => slot.state === state).length);
-        show("ring-legend",
-            ...counts.flatMap((number, state) => number
-                    ? [make("li", { title: SLOTS[state]?.[1] ?? "" }, make("span", { class: `swatch state-${state}` }),
-                          `${count(number)} × ${SLOTS[state]?.[0]}: ${SLOTS[state]?.[1]}`)]
-                    : []));
+        show("ring-legend", ...legendOf(slots));
         this.isWhole = whole;
+        this.showBrief();
         const lost = lostTexts(heads);
         say("verdict",
             whole ? SAY.whole : SAY.notWhole + (lost.length ? ` Lost: ${lost.slice(0, 20).join("; ")}.` : ""));
@@ -204,15 +219,9 @@ export class Ask {
     private takeReplay(lives: Replay[], unreadable: number[]): void {
         this.replays = lives;
         this.showLives();
-        const differs = lives.some(life => life.verdict === 2 || life.verdict === 3),
-              agrees = lives.some(life => life.verdict === 1);
-        say("replay-said",
-            `${
-                differs      ? SAY.differs
-                    : agrees ? SAY.agrees
-                             : ""}${unreadable.length ? ` Can't be read: block ${unreadable.join(", ")}.` : ""} ${
-                agrees ? SAY.authentic : ""}`
-                .trim());
+        this.showInterventions();
+        this.showWhy();
+        say("replay-said", replayText(lives, unreadable));
     }
 
     private showLives(): void {
@@ -223,8 +232,6 @@ export class Ask {
         show("lives", table(["life", "events", "power-up", "replay", ...this.dayHeads()], rows));
     }
 
-    // ---- the time of day by marks
-
     private dayHeads(): string[] { return this.day.times ? [DAY.column] : []; }
     private dayCells(index: number|null): string[] {
         const { records, day } = this;
@@ -234,17 +241,15 @@ export class Ask {
     private showDay(): void {
         if (this.replays) this.showLives();
         this.showInterventions();
-        if (this.records?.count) this.showEvent();
+        this.graphs.forget();
+        if (!this.records?.count) return;
+        this.showEvent();
+        this.showCharts();
     }
 
     private wordOf(event: number): string {
-        const record = this.recordOf(event);
-        return record && record.kind === POWER_UP ? WORDS[record.payload[0] ?? 0] ?? "" : "not there";
-    }
-
-    private recordOf(event: number): JournalRecord|null {
-        const index = this.indexOf(event);
-        return index === null || !this.records ? null : this.records.get(index);
+        const index = this.indexOf(event), record = index === null ? null : this.records?.get(index);
+        return record?.kind === POWER_UP ? WORDS[record.payload[0] ?? 0] ?? "" : "not there";
     }
 
     private linked(line: HTMLTableRowElement, event: number): HTMLTableRowElement {
@@ -259,24 +264,40 @@ export class Ask {
     private showInterventions(): void {
         const { records } = this;
         if (!records) return;
-        const rows = this.interventions.slice(0, 500).map(
-            one => this.linked(
-                row(...interventionTexts(records, one, this.speeds[one.first] ?? 0, this.causes.get(one.first)),
-                    ...this.dayCells(one.first)),
-                records.event(one.first)));
-        const heads = ["events", "place", "time", "speed", "command", "causes where it began", ...this.dayHeads()];
-        show("interventions", table(heads, rows),
-            this.interventions.length > 500 && make("p", {}, `The first 500 of ${count(this.interventions.length)}.`));
+        const causes = counted(records, this.replays, this.causes);
+        const all = this.interventions.filter(one => !one.isPowerUp),
+              rows = all.slice(-500).map(one => this.linked(row(...interventionTexts(records, one,
+                                                                    this.speeds[one.first] ?? 0, this.trips, causes),
+                                                                ...this.dayCells(one.first)),
+                                             records.event(one.first)));
+        const heads = ["events", "place", "time", "speed", "command", "causes", ...this.dayHeads()];
+        show("interventions", all.length ? table(heads, rows) : BRIEF.noIntervention,
+            all.length > 500 && make("p", {}, `The last 500 of ${count(all.length)}.`));
+        this.showBrief();
     }
 
-    // ---- an event
+    private showBrief(): void {
+        const { records, day } = this, causes = records && counted(records, this.replays, this.causes);
+        if (!records?.count || !causes) return;
+        const utc = (n: number): string =>
+            day.times ? `, ${utcText(day.of(records.life(n), records.moment(n)))} UTC ${DAY.byMarks}` : "";
+        const { lives, speeds, interventions, trips, isWhole, replays, newest, unwritten } = this;
+        const
+            known = { records, lives, speeds, interventions, trips, isWhole, replays, newest, unwritten, causes, utc };
+        show("brief", ...briefRows(known).flatMap(([name, says]) => [make("dt", {}, name), make("dd", {}, ...says)]));
+    }
 
     private indexOf(event: number): number|null { return this.records ? this.records.find(event) : null; }
 
     private followHash(): void {
         const event = /^#event=(\d+)$/.exec(location.hash)?.[1];
         if (event !== undefined) this.chooseEvent(Number(event));
-        else this.choose(0);
+        else this.choose(lastOf(this.interventions)?.first ?? 0);
+    }
+
+    private link(hash: string): void {
+        this.ownLink = hash;
+        history.replaceState(null, "", hash || location.pathname);
     }
 
     chooseEvent(event: number): void {
@@ -294,8 +315,7 @@ export class Ask {
         at<HTMLInputElement>("event-number").value = String(event);
         // (a browser takes few links in a short time, so the link waits until the scrubber stands)
         clearTimeout(this.linking);
-        this.linking =
-            setTimeout(() => history.replaceState(null, "", `#event=${event}`), LINK_MS) as unknown as number;
+        this.linking = setTimeout(() => this.link(`#event=${event}`), LINK_MS) as unknown as number;
         this.showEvent();
         this.showWhy();
         this.showBytes();
@@ -315,9 +335,7 @@ export class Ask {
         say("ask-brake", brakeText(record.brake));
         at("ask-brake").className = `lamp brake-${record.brake}`;
         say("ask-dial-said", `${kmh(speed)} km/h, limit ${kmh(record.limit)} km/h`);
-        this.dial.setScale(Math.max(speed, record.limit) > 250_000 ? 400
-                : Math.max(speed, record.limit) > 180_000          ? 250
-                                                                   : 180);
+        this.dial.setScale(scaleOf(Math.max(speed, record.limit)));
     }
 
     private showWhy(): void {
@@ -335,9 +353,11 @@ export class Ask {
                               40) as unknown as number;
             return;
         }
-        show("ask-causes",
-            ...(told.why ? brakeReason(told.why, record) : [SAY.notReplayed]).map(text => make("li", {}, text)));
-        say("ask-limit", told.why ? limitText(told.why) : "");
+        const reason = this.replays ? reasonOf(this.replays, record.event) : null, why = reason ? null : told.why;
+        show("ask-causes", ...(why ? brakeReason(why, record) : [
+            reason ? SAY.whyNot(reason) : SAY.notReplayed
+        ]).map(text => make("li", {}, text)));
+        say("ask-limit", why ? limitText(why) : "");
     }
 
     private showBytes(): void {
@@ -352,7 +372,7 @@ export class Ask {
 
     private showCharts(): void {
         const { records, index } = this, life = this.lives.find(one => one.from <= index && index < one.end);
-        if (records && life) this.graphs.show(records, this.speeds, life, this.interventions, index);
+        if (records && life) this.graphs.show(records, this.speeds, life, this.interventions, index, this.day.times);
     }
 
     /** What tests ask. */
@@ -365,12 +385,15 @@ export class Ask {
             lives: this.replays,
             digest: this.digest,
             interventions: this.interventions,
+            trips: this.trips,
+            unwritten: this.unwritten,
             causes: [...this.causes],
             count: this.records?.count ?? 0,
             newest: this.newest,
             isWhole: this.isWhole,
             day: this.day.told,
-            firsts: this.interventions.map(one => this.records?.event(one.first))
+            counted: this.records && [...counted(this.records, this.replays, this.causes)],
+            events: [...this.causes.keys()].map(index => this.records?.event(index))
         };
     }
 }

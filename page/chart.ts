@@ -1,4 +1,5 @@
-// Speed and limit over distance or time. Thousands of points come as the least and the greatest of each column.
+// Speed and limit over distance or time, with a point for each record. A limit holds from its record to the next one,
+// so it is drawn in steps. Thousands of points come as the least and the greatest of each column.
 import {svg} from "./dom";
 import {NOTHING_TO_DRAW} from "./texts";
 
@@ -9,12 +10,14 @@ export interface Plot {
     limit: (number|null)[];
     unit: string;
     per: number;
+    /** What stands at a place of the axis, where that isn't its number. */
+    label?: ((x: number) => string)|undefined;
     cursor: number|null;
     marks: { index: number; brake: number }[];
     pick: ((index: number) => void)|null;
     title: string;
 }
-const LEFT = 46, RIGHT = 12, TOP = 12, BOTTOM = 34, COLUMNS = 700;
+const LEFT = 46, RIGHT = 12, TOP = 12, BOTTOM = 34, COLUMNS = 700, MOST_DOTS = 400, NARROW = 560;
 
 /** The indexes that are drawn: of each column the first, the last, and the least and the greatest of some values. */
 export function thinned(x: number[], values: (number|null)[]): number[] {
@@ -62,7 +65,7 @@ export function steps(low: number, high: number, about: number): number[] {
 
 /** Draws a plot; what it answers moves the cursor. */
 export function draw(root: SVGSVGElement, plot: Plot): (index: number) => void {
-    const width = 760, height = 250;
+    const isNarrow = root.clientWidth > 0 && root.clientWidth < NARROW, width = isNarrow ? 420 : 760, height = 250;
     root.setAttribute("viewBox", `0 0 ${width} ${height}`);
     let [low, high] = bounds(plot.x);
     if (high <= low) {
@@ -79,7 +82,7 @@ export function draw(root: SVGSVGElement, plot: Plot): (index: number) => void {
         parts.push(svg("line", { x1: LEFT, x2: width - RIGHT, y1: Y(1000 * v), y2: Y(1000 * v), class: "grid" }),
             svg("text", { x: LEFT - 6, y: Y(1000 * v) + 4, "text-anchor": "end", class: "axis" }, String(v)));
     }
-    for (const x of steps(low / plot.per, high / plot.per, 8)) {
+    for (const x of steps(low / plot.per, high / plot.per, isNarrow ? 4 : 8)) {
         parts.push(svg("line", {
             x1: X(x * plot.per),
             x2: X(x * plot.per),
@@ -88,11 +91,16 @@ export function draw(root: SVGSVGElement, plot: Plot): (index: number) => void {
             class: "grid"
         }),
             svg("text", { x: X(x * plot.per), y: height - BOTTOM + 17, "text-anchor": "middle", class: "axis" },
-                x.toLocaleString("en")));
+                plot.label ? plot.label(x * plot.per) : x.toLocaleString("en")));
     }
     parts.push(svg("text", { x: width - RIGHT, y: height - 3, "text-anchor": "end", class: "axis" }, plot.unit),
-        svg("text", { x: LEFT, y: height - 3, class: "axis" }, "km/h"), line(plot.limit, plot, X, Y, "limit-line"),
-        line(plot.speed, plot, X, Y, "speed-line"));
+        svg("text", { x: LEFT, y: height - 3, class: "axis" }, "km/h"),
+        line(plot.limit, plot, X, Y, "limit-line", (x, y) => `H${x}V${y}`),
+        line(plot.speed, plot, X, Y, "speed-line", (x, y) => `L${x} ${y}`));
+    if (plot.x.length <= MOST_DOTS) {
+        for (const [values, kind] of [[plot.limit, "limit-dots"], [plot.speed, "speed-dots"]] as const)
+            parts.push(line(values, plot, X, Y, kind, (x, y) => `M${x} ${y}h0`));
+    }
     for (const { index, brake } of plot.marks) {
         const x = X(plot.x[index] ?? low);
         parts.push(svg("path",
@@ -123,8 +131,9 @@ export function draw(root: SVGSVGElement, plot: Plot): (index: number) => void {
     return move;
 }
 
-function line(
-    values: (number|null)[], plot: Plot, X: (x: number) => number, Y: (v: number) => number, kind: string): Element {
+/** A path through the points of some values; `goes` is how it comes to the next one. */
+function line(values: (number|null)[], plot: Plot, X: (x: number) => number, Y: (v: number) => number, kind: string,
+    goes: (x: string, y: string) => string): Element {
     let path = "", isDown = false;
     for (const n of thinned(plot.x, values)) {
         const value = values[n];
@@ -132,7 +141,8 @@ function line(
             isDown = false;
             continue;
         }
-        path += `${isDown ? "L" : "M"}${X(plot.x[n] ?? 0).toFixed(1)} ${Y(value).toFixed(1)}`;
+        const x = X(plot.x[n] ?? 0).toFixed(1), y = Y(value).toFixed(1);
+        path += isDown ? goes(x, y) : `M${x} ${y}h0`;
         isDown = true;
     }
     return svg("path", { d: path || "M0 0", class: kind, fill: "none" });

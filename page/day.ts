@@ -5,6 +5,8 @@ import {JournalRecord} from "./layouts";
 import {DAY, SAY} from "./texts";
 import {DRIFT_PPM, iso, MOST_DRIFT_PPM, NoMarks, Times, Utc} from "./times";
 
+const MOST_FAULTS = 200;
+
 /** A file of marks; of one that is too long the bytes aren't read. */
 export interface MarksFile {
     name: string;
@@ -74,7 +76,9 @@ export class Day {
         const { times } = this;
         say("day-error", fault);
         say("day-said", times ? `${DAY.count(times.marks.length)}. ${times.says()}. ${DAY.behind}` : DAY.noMarks);
-        show("day-faults", ...(times?.faults() ?? []).map(text => make("li", {}, text)));
+        const faults = times?.faults() ?? [], more = faults.length - MOST_FAULTS;
+        const list = more > 0 ? [...faults.slice(0, MOST_FAULTS), DAY.more(more)] : faults;
+        show("day-faults", ...list.map(text => make("li", {}, text)));
     }
 
     /** The time of day of a record's moment. */

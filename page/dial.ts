@@ -16,6 +16,9 @@ const GREY = "#c3c3c3", DARK_GREY = "#555555", YELLOW = "#dfdf00", ORANGE = "#ea
       WHITE = "#ffffff";
 const SWEEP = 144, OUTER = 137, WIDTH = 9, HOOK = 20;
 
+/** How far the dial of a journal reaches. */
+export function scaleOf(most: number): number { return most > 250_000 ? 400 : most > 180_000 ? 250 : 180; }
+
 /** What the dial shows of an output, and of why it is so. */
 export function shownOf(speed: number, limit: number, brake: number, indications: number, why: Why|null): Shown {
     const cause = why ? why.limitCause : 0, isRelease = cause >= RELEASE && cause <= NATIONAL_RELEASE;

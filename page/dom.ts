@@ -45,6 +45,7 @@ export function row(...cells: Child[]): HTMLTableRowElement {
 }
 
 export function table(heads: string[], rows: HTMLTableRowElement[]): HTMLTableElement {
+    for (const line of rows) [...line.cells].forEach((cell, n) => cell.setAttribute("data-head", heads[n] ?? ""));
     return make("table", {},
         make("thead", {}, make("tr", {}, ...heads.map(head => make("th", { scope: "col" }, head)))),
         make("tbody", {}, ...rows));

@@ -16,7 +16,7 @@ import {aheadOf, drawPlan} from "./planning";
 import {brakeReason, brakeText, count, indicationTexts, keptTexts, kmh} from "./shown";
 import {levelText, limitText, metres, modeName, seconds} from "./shown";
 import {AHEAD, SAY, STATUSES, WORDS} from "./texts";
-import {owedIn, showMission, showSteps} from "./mission";
+import {greyOut, owedIn, showMission, showSteps} from "./mission";
 import {given, learnAll, offerTracks, Track, tracks} from "./tracks";
 
 const SLOTS = 2048, TRAIN = {
@@ -26,6 +26,7 @@ const SLOTS = 2048, TRAIN = {
     reaction: 500,
     buildUp: 1500
 };
+const LEVERS: [string, number][] = [["full", 100], ["coast", 0], ["slow", -100]];
 /** How long the causes may be out of date while time runs, beside what a question takes. */
 const STALE_MS = 250;
 
@@ -52,6 +53,7 @@ export class Drive {
         if (!first) throw new Error("there is no track");
         this.track = first;
         this.medium = calls.hold(formatted(calls, SLOTS));
+        showMission();
         const select = at<HTMLSelectElement>("track");
         select.addEventListener("change", () => this.board(Number(select.value)));
         at("restart").addEventListener("click", () => this.board(Number(select.value)));
@@ -63,8 +65,7 @@ export class Drive {
         });
         at("cut").addEventListener("click", () => this.askCut());
         at("lever").addEventListener("input", () => this.pull(Number(at<HTMLInputElement>("lever").value)));
-        const levers: [string, number][] = [["full", 100], ["coast", 0], ["slow", -100]];
-        for (const [id, value] of levers) at(id).addEventListener("click", () => this.pull(value));
+        for (const [id, value] of LEVERS) at(id).addEventListener("click", () => this.pull(value));
         at("heed").addEventListener("click", () => {
             this.heeds = !this.heeds;
             this.showLever();
@@ -91,7 +92,6 @@ export class Drive {
         this.isOff = false;
         this.pull(0);
         this.setTime(0);
-        showMission();
         this.guard(() => {
             this.course = new Course(
                 this.calls, this.medium, TRAIN, balisesOf(this.track.scenario.groups), this.track.scenario.cold ?? 0);
@@ -158,6 +158,8 @@ export class Drive {
                 : this.lever > 0 ? `${this.lever} % traction`
                 : this.lever < 0 ? `${- this.lever} % service brake`
                                  : "0");
+        for (const [id, value] of LEVERS)
+            at(id).setAttribute("aria-pressed", String(!this.heeds && this.lever === value));
         at("heed").setAttribute("aria-pressed", String(this.heeds));
     }
 
@@ -388,6 +390,8 @@ export class Drive {
             `Life ${head.lives}, block ${count(head.number)}, events to ${count(head.events - 1)}. ${SAY.kept}: ` +
             keptTexts(head.kept).map(([name, value]) => `${name} ${value}`).join("; ") + ".";
         if (at("life-said").textContent !== text) say("life-said", text);
-        showSteps(head.kept, course.output.indications);
+        const now = {...course.output, stands: course.motion.stands, kept: head.kept };
+        showSteps(now);
+        greyOut(this.isOff ? null : now);
     }
 }

@@ -2,6 +2,8 @@
 import {Records} from "./calls";
 import {draw} from "./chart";
 import {at} from "./dom";
+import {DAY} from "./texts";
+import {iso, Times} from "./times";
 import {Intervention, LifeRange} from "./lives";
 
 export class Graphs {
@@ -12,7 +14,8 @@ export class Graphs {
 
     forget(): void { this.drawn = null; }
 
-    show(records: Records, speeds: Float64Array, life: LifeRange, interventions: Intervention[], index: number): void {
+    show(records: Records, speeds: Float64Array, life: LifeRange, interventions: Intervention[], index: number,
+        times: Times|null): void {
         const { from, end } = life;
         if (this.drawn?.life !== life) {
             const places: number[] = [], moments: number[] = [], speed: number[] = [], limit: number[] = [];
@@ -22,15 +25,30 @@ export class Graphs {
                 speed.push(speeds[n] ?? 0);
                 limit.push(records.limit(n));
             }
-            const marks = interventions.filter(one => one.first > from && one.first < end)
-                              .map(one => ({ index: one.first - from, brake: one.brake }));
+            const marks = interventions.flatMap(one => one.steps)
+                              .filter(({ index: at }) => at > from && at < end)
+                              .map(({ index: at, brake }) => ({ index: at - from, brake }));
             const both = { speed, limit, cursor: index - from, marks, pick: (n: number): void => this.pick(from + n) };
             const place = draw(at("place-chart") as unknown as SVGSVGElement,
                 {...both, x: places, unit: "m", per: 100, title: "Speed and limit over distance" });
             const time = draw(at("time-chart") as unknown as SVGSVGElement,
-                {...both, x: moments, unit: "s", per: 1000, title: "Speed and limit over time" });
+                {...both, x: moments, per: 1000, title: "Speed and limit over time", ...axisOf(times, life.number) });
             this.drawn = { life, moves: [place, time] };
         }
         for (const move of this.drawn.moves) move(index - from);
     }
+}
+
+/** The axis of moments: seconds of the life, or by marks the time of day. */
+function axisOf(times: Times|null, life: number): { unit: string; label?: (moment: number) => string } {
+    if (!times?.utc(life, 0)) return { unit: "s" };
+    const first = times.utc(life, 0)?.utc ?? 0;
+    return {
+        unit: DAY.axis(iso(first).slice(0, 10)),
+        label: tick => {
+            const moment = Math.round(tick), told = times.utc(life, moment), isSecond = moment % 1000 === 0;
+            if (!told) return "";
+            return isSecond ? iso(Math.round(told.utc / 1000) * 1000).slice(11, 19) : iso(told.utc).slice(11, 23);
+        }
+    };
 }

@@ -1,6 +1,7 @@
 // Buttons of the driver's actions, and the keys: every action has one.
-import {at, make, row, show, table} from "./dom";
+import {at, make, row, say, show, table} from "./dom";
 import {Drive} from "./drive";
+import {identityOf, numbersOf, RUNNING, TRAIN_DATA} from "./entries";
 import {choose} from "./tabs";
 
 interface Action {
@@ -10,21 +11,32 @@ interface Action {
     act(drive: Drive): void
 }
 
-function text(id: string): string { return at<HTMLInputElement>(id).value; }
-function number(id: string, scale: number): number { return Math.round(Number(text(id)) * scale); }
+const MISSION = ["enter-identity", "level-1", "enter-train", "start"];
+
+function enterIdentity(drive: Drive): void {
+    const identity = identityOf();
+    if (identity !== null) drive.act(1, identity);
+}
+
+function enter(drive: Drive, code: number, entries: Parameters<typeof numbersOf>[0], ...more: number[]): void {
+    const numbers = numbersOf(entries);
+    if (numbers) drive.act(code, ...numbers, ...more);
+}
+
+/** The steps of the start of mission that aren't done yet, one after the other. */
+function doAll(drive: Drive): void {
+    MISSION.forEach((id, n) => {
+        if (!at(`mission-${n}`).classList.contains("done")) ACTIONS.find(one => one.id === id)?.act(drive);
+    });
+}
 
 const ACTIONS: Action[] = [
-    { id: "enter-identity", text: "Enter identity", key: "i", act: drive => drive.act(1, text("identity")) },
-    { id: "enter-running", text: "Enter running number", key: "n", act: drive => drive.act(2, number("running", 1)) },
+    { id: "enter-identity", text: "Enter identity", key: "i", act: enterIdentity },
+    { id: "enter-running", text: "Enter running number", key: "n", act: drive => enter(drive, 2, RUNNING) },
     { id: "level-1", text: "Level 1", key: "1", act: drive => drive.act(4, 1) },
     { id: "level-0", text: "Level 0", key: "0", act: drive => drive.act(4, 0) },
-    {
-        id: "enter-train",
-        text: "Enter train data",
-        key: "d",
-        act: drive => drive.act(3, number("length", 100), number("maximum", 1000), number("deceleration", 100),
-            number("reaction", 1000), 15)
-    },
+    { id: "enter-train", text: "Enter train data", key: "d", act: drive => enter(drive, 3, TRAIN_DATA, 15) },
+    { id: "do-all", text: "Do all four", key: "m", act: doAll },
     { id: "confirm-1", text: "Confirm identity", key: "I", act: drive => drive.act(5, 1) },
     { id: "confirm-2", text: "Confirm running number", key: "N", act: drive => drive.act(5, 2) },
     { id: "confirm-3", text: "Confirm train data", key: "D", act: drive => drive.act(5, 3) },
@@ -62,9 +74,19 @@ const OTHERS: [string, string, (drive: Drive, lever: number) => void][] = [
 ];
 
 export function setKeys(drive: Drive): void {
-    show("actions",
-        ...ACTIONS.map(
-            one => make("button", { id: one.id, title: `key ${one.key}`, click: () => one.act(drive) }, one.text)));
+    for (const one of ACTIONS) {
+        const click = (): void => {
+            one.act(drive);
+            const why = at(one.id).dataset["why"];
+            if (why) say("drive-error", `${why}.`);
+        };
+        const button =
+            make("button", { id: one.id, title: `key ${one.key}`, "data-key": `key ${one.key}`, click }, one.text);
+        const step = MISSION.indexOf(one.id);
+        if (step >= 0) at(`mission-${step}`).prepend(button);
+        else at(one.id === "do-all" ? "mission-all" : "actions").append(button);
+    }
+    drive.render(true);
     const name = (key: string): string => key === " " ? "space" : key;
     show("keys", table(["key", "does"], [
         ...ACTIONS.map(one => row(one.key, one.text)), ...OTHERS.map(([key, does]) => row(name(key), does)),

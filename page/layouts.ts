@@ -119,6 +119,8 @@ export interface Why {
 export const SECTOR = 512;
 /** The kinds of events that the page looks for. */
 export const POWER_UP = 1, TELEGRAM = 2, ODOMETER = 3;
+/** The mode Trip. */
+export const TRIP = 7;
 export const BYTES = {
     output: 16,
     request: 24,

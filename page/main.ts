@@ -24,6 +24,15 @@ const PROBE = Uint8Array.of(0, 0x61, 0x73, 0x6d, 1, 0, 0, 0, 5, 3, 1, 4, 1);
 
 function bytesOf64(text: string): Uint8Array { return Uint8Array.from(atob(text), letter => letter.charCodeAt(0)); }
 
+/** Version and commit, and whether the unit is proved: at the top, and on paper with the time of printing. */
+function showBuild(version: string): void {
+    const { build, commit } = given, isOne = build.startsWith(`${version},`) && build.startsWith(commit);
+    const says = isOne ? build : `unit ${version} of ${build}; page ${commit}`;
+    say("version", says);
+    at("unproved").hidden = !build.endsWith("unproved");
+    addEventListener("beforeprint", () => say("printed", SAY.printed(says, new Date().toISOString())));
+}
+
 async function begin(): Promise<void> {
     if (typeof WebAssembly !== "object" || !WebAssembly.validate(PROBE)) {
         say("sentence", SAY.old);
@@ -47,7 +56,7 @@ async function begin(): Promise<void> {
     new Editor(calls, drive);
     setKeys(drive);
     new Telegram(calls);
-    say("version", `unit ${calls.version()}, page ${given.commit}`);
+    showBuild(calls.version());
     say("sentence", "");
     choose(/^#event=/.test(location.hash) ? "ask" : "drive");
     Object.assign(window, {

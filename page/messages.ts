@@ -11,7 +11,9 @@ export interface ModuleOrder {
 export interface ImageOrder {
     kind: "image";
     id: number;
-    file: Blob
+    file: Blob;
+    /** The slots that are taken for those of the first sector; null where the first sector is read. */
+    slots: number|null
 }
 /** Asks why an event of the image that was read last was answered so. */
 export interface WhyOrder {
@@ -51,13 +53,15 @@ export interface RecordsReport {
     unreadable: number[];
     lives: LifeRange[];
     speeds: Float64Array;
-    interventions: Intervention[]
+    interventions: Intervention[];
+    trips: number[]
 }
 export interface SlotsReport {
     kind: "slots";
     id: number;
     slots: Slot[];
     newest: Block|null;
+    unwritten: Unwritten|null;
     heads: Head[];
     isWhole: boolean
 }
@@ -99,6 +103,14 @@ export interface FailedReport {
 }
 export type Report = BytesReport|FactsReport|RecordsReport|SlotsReport|ReplayReport|CausesReport|WhyReport|
     ProgressReport|DoneReport|FailedReport;
+
+/** The block after the newest, which was being written: its number, life and events. */
+export interface Unwritten {
+    number: number;
+    life: number;
+    firstEvent: number;
+    events: number
+}
 
 /** What of the head of a block is asked for all of them: whether one follows the other. */
 export interface Head {

@@ -1,12 +1,21 @@
 // The slots of an image, drawn as a ring: each an arc, or where there are many, one arc for several with the worst of
 // them.
-import {svg} from "./dom";
+import {make, svg} from "./dom";
 import {Slot} from "./layouts";
 import {SLOTS} from "./texts";
 
 const MOST = 240, LINED = 64, OUTER = 100, INNER = 72;
 /** What of several slots is shown: the greater. */
 const RANK = [0, 1, 7, 5, 6, 3, 2, 4];
+
+/** The states that some slots have, each with how many they are. */
+export function legendOf(slots: Slot[]): Node[] {
+    return SLOTS.flatMap(([name, says], state) => {
+        const number = slots.filter(slot => slot.state === state).length;
+        const swatch = make("span", { class: `swatch state-${state}` });
+        return number ? [make("li", {}, swatch, `${number.toLocaleString("en")} × ${name}: ${says}`)] : [];
+    });
+}
 
 function arc(from: number, to: number, outer: number, inner: number): string {
     const end = Math.min(to, from + 2 * Math.PI - 1e-4), large = end - from > Math.PI ? 1 : 0;

@@ -17,7 +17,7 @@ const MOST = {
 const MOST_MOMENT = 2 ** 40 - 1;
 const WHOLE = /^(?!-0$)-?(0|[1-9][0-9]*)$/;
 /** Of each code of an action the least and the greatest of its values; an identity is a text. */
-const VALUES: Record<number, [number, number][]> = {
+export const VALUES: Record<number, [number, number][]> = {
     2: [[0, 99_999_999]],
     3: [[1, 409_500], [1, 600_000], [1, 300], [0, 10_000], [0, 15]],
     4: [[0, 1]],
@@ -103,6 +103,12 @@ function step(value: unknown, place: string): Step {
     throw new NotScenario(`${inner}: drive, telegram, clock, driver, or flush with true is wanted`);
 }
 
+/** The line and column that a browser tells of a fault in JSON, where it tells them. */
+function placeIn(message: string): string {
+    const found = /line (\d+) column (\d+)/.exec(message);
+    return found ? ` (line ${found[1]}, column ${found[2]})` : "";
+}
+
 /** The scenario of a file. */
 export function readScenario(bytes: Uint8Array): Scenario {
     let told: unknown;
@@ -113,7 +119,8 @@ export function readScenario(bytes: Uint8Array): Scenario {
             return typeof value === "number" && !WHOLE.test(context?.source ?? String(value)) ? NaN : value;
         });
     } catch (error) {
-        throw new NotScenario(`this is no JSON: ${error instanceof Error ? error.message : String(error)}`);
+        throw new NotScenario(
+            error instanceof SyntaxError ? `this is no JSON${placeIn(error.message)}` : "it isn't text in UTF-8");
     }
     const it = members(told, ""), hasCold = "cold" in it;
     only(it, hasCold ? ["cold", "groups", "steps"] : ["groups", "steps"], "");

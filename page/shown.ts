@@ -66,15 +66,23 @@ export function limitText(why: Why): string {
         why.causeAt === null ? "" : ` at ${metres(why.causeAt)}`}${number} (${section}).`;
 }
 
+/** A cause of the brake, with the event since which it holds and what ends it. */
+export function causeText(cause: number, since: number|undefined): string {
+    const [says, ends] = CAUSES[cause] ?? ["", ""];
+    return `${says} (since event ${since}; ${ends})`;
+}
+
 /** The causes of the brake that hold, each with its end. */
 export function causeTexts(why: Why): string[] {
-    return CAUSES.flatMap(([says, ends], n) => why.holds[n] ? [`${says} (since event ${why.since[n]}; ${ends})`] : []);
+    return why.holds.flatMap((holds, n) => holds ? [causeText(n, why.since[n])] : []);
 }
+
+/** Why the train was tripped. */
+export function tripCauseText(why: Why): string { return TRIPS[why.tripCause] ?? ""; }
 
 export function tripText(why: Why): string|null {
     if (!why.holds[3]) return null;
-    return why.tripCause ? `The train was tripped: ${TRIPS[why.tripCause]}, event ${why.tripEvent}.`
-                         : `The train was tripped: ${TRIPS[0]}.`;
+    return `The train was tripped: ${TRIPS[why.tripCause]}${why.tripCause ? `, event ${why.tripEvent}` : ""}.`;
 }
 
 export function brakeReason(why: Why|null, output: {brake: number}): string[] {

@@ -147,9 +147,12 @@ export const TELEGRAM_FAULTS = [
 export const SAY = {
     old: "This browser has no WebAssembly with memories of 64 bits. Chromium has it since 133, Firefox since 134.",
     loading: "The page is loading.",
+    printed: (build: string, utc: string): string =>
+        `Gaknifur ${build}. Printed at ${utc}, by the clock of this computer.`,
     noBrake: "No brake is commanded.",
     noCause: "The cause isn't known yet.",
     notReplayed: "Why can't be told: the beginning of this life was overwritten or can't be read.",
+    whyNot: (reason: string): string => `Why can't be told: ${reason}.`,
     slow: (event: number): string => `As of event ${event}.`,
     refused: (what: string): string => `The unit refuses this: ${what}. Nothing changed.`,
     tooBig: (name: string): string =>
@@ -160,6 +163,10 @@ export const SAY = {
     noImageYet: "Choose the image first: marks are for the image that they lie beside.",
     tooManyMarks: (name: string): string =>
         `${name} isn't read: it has more than 16 MB, and the page reads marks up to that size.`,
+    bySlots: (slots: number): string => `By its size it could have ${slots.toLocaleString("en")} slots. ` +
+        "Enter their number to read it as if its first sector said so; the file stays as it is.",
+    assumed: "entered by hand, since the first sector can't be used",
+    unreadableFile: "the browser can't read the file; perhaps it was moved, altered or removed since it was chosen",
     notScenario: (name: string, why: string): string => `${name} isn't a scenario that etcs run reads: ${why}.`,
     noCase: "There is no test case of this: nothing was driven yet, or a life ended within a write.",
     caseTooLong:
@@ -179,14 +186,44 @@ export const SAY = {
     torn: "This life ended within a write. No scenario can say so; the image has it.",
 };
 
+/** "In brief" of an image, as the report has it. */
+export const BRIEF = {
+    notYet: "not known yet …",
+    recordDiffers: "the record differs from what the kernel answers",
+    noReplay: "its life can't be run again",
+    causeNotKnown: (reason: string): string => `cause not known: ${reason}`,
+    none: "none",
+    noIntervention: "none but what each power-up commands",
+    whole: "nothing is lost, damaged or contradicts",
+    agrees: ", and the replay finds no difference",
+    notWhole: "something is lost, damaged or contradicts",
+    differs: (where: string): string => `the replay differs at ${where}`,
+    earlier: (trips: number): string => `${trips} earlier one${trips === 1 ? "" : "s"}`,
+    notKnown: "not known: the newest block can't be read",
+    powerUp: (block: string): string =>
+        `block ${block}, the newest, holds only a power-up, whose output is never released`,
+    released: (block: string): string => `the outputs of block ${block}, the newest, had left the unit: ` +
+        "it had begun to write a further block of the same life",
+    perhapsNot: "perhaps not",
+    perhaps: (block: string, first: string, last: string): string => `: the outputs of block ${
+        block}, the newest, of events ${first} to ${last}; nothing in the image shows that they left the unit`,
+    unwritten: (block: string, first: string, last: string): string =>
+        `None of the outputs of block ${block}, events ${first} to ${last}, left the unit: it was being written`,
+    powerUps: (number: number): string => `${number}; after each the emergency brake is commanded until ` +
+        "the driver has revalidated, which isn't counted as an intervention",
+};
+
 /** Of the time of day by marks (docs/INVESTIGATING.md). */
 export const DAY = {
     noMarks: "A journal has no time of day. Marks beside it may tell one, outside the journal and outside the proof.",
     count: (marks: number): string => marks === 1 ? "1 mark" : `${marks.toLocaleString("en")} marks`,
     behind: "An event came at its UTC or behind it, before the next moment of its life.",
     outside: "outside the journal and outside the proof",
+    byMarks: "by marks",
     column: "UTC by marks, outside the journal and the proof",
+    axis: (date: string): string => `UTC by marks, from ${date} on`,
     none: "not told",
+    more: (faults: number): string => `${faults.toLocaleString("en")} more`,
     notOfLife: (life: number): string => `No UTC is told of this moment of life ${life} by these marks`,
 };
 
@@ -260,10 +297,41 @@ export const CASE_WORDS = {
     ] as [number, string][],
 };
 
-export const MISSION = [
-    "The identity is known: enter or confirm it", "The level is valid: choose or confirm it",
-    "The train data are known: enter or confirm them", "Start (or Shunting): the driver has revalidated"
-];
+export const MISSION =
+    ["the identity is known", "the level is valid", "the train data are known", "the mission has begun"];
+/** Why a button would have no effect, and the modes in which the driver's table accepts an action. */
+export const IDLE = {
+    off: "Power is off",
+    startFirst: "The emergency brake is commanded until the four steps are done",
+    braked: "A brake is commanded, so the train stands",
+    moves: "Only at standstill",
+    unknown: "Nothing is known to confirm; enter it",
+    mode: (wanted: string, mode: string): string => `Accepted in ${wanted}; the mode is ${mode}`,
+    modes: {
+        "enter-identity": [6],
+        "enter-running": [6],
+        "level-1": [6],
+        "level-0": [6],
+        "enter-train": [6],
+        "confirm-1": [6],
+        "confirm-2": [6],
+        "confirm-3": [6],
+        "confirm-4": [6],
+        "start": [6, 8],
+        "shunting": [6, 0, 1, 2, 4, 8],
+        "leave": [3],
+        "override": [0, 1, 2, 8],
+        "close": [0, 1, 2, 3, 4, 8]
+    } as Record<string, number[]>,
+};
+export function modeIn(modes: number[]): string { return modes.map(mode => MODES[mode]?.[1] ?? "").join(", "); }
+/** An entry of the driver that is outside its limits. */
+export const ENTRY = {
+    identity: "The identity has 1 to 16 letters, digits and other characters of ASCII. Nothing was entered.",
+    limits: (what: string, least: string, most: string): string =>
+        `${what}: a number from ${least} to ${most}. Nothing was entered.`,
+    slots: "A number of slots is from 2 to 1,048,576. Nothing was read.",
+};
 export const NOTHING_TO_DRAW = "Nothing to draw: all events have one value here.";
 export const OWED: [number, number, string][] = [
     [1, 8, "Acknowledge the trip"],

@@ -247,11 +247,16 @@ export class Times {
     constructor(readonly name: string, bytes: Uint8Array, records: Records, readonly drift: number) {
         const { marks, wrong, cut } = readMarks(bytes), bounds = new Map<number, Bound[]>();
         this.marks = marks;
-        this.leftOut = wrong;
-        const events = marks.some(mark => mark.event !== null) ? placesOf(records) : new Map<number, number>();
+this.leftOut = wrong;
+        const isByEvent = marks.some(mark => mark.event !== null);
+        const events = isByEvent ? placesOf(records) : new Map<number, number>(),
+              later = isByEvent ? latersOf(records) : [];
         for (const mark of marks) {
-            const found = this.bound(records, events, mark);
-            if (found) bounds.set(found[0], [...(bounds.get(found[0]) ?? []), found[1]]);
+            const [life, bound] = this.bound(records, events, later, mark) ?? [];
+            if (life === undefined || !bound) continue;
+            const list = bounds.get(life);
+            if (list) list.push(bound);
+            else bounds.set(life, [bound]);
         }
         if (cut) this.leftOut.push(`the last line is cut off: ${spelled(cut)}`);
         for (const life of [...bounds.keys()].sort((one, other) => one - other))
@@ -259,7 +264,8 @@ export class Times {
     }
 
     /** What a mark says of a moment. An event came at its moment or behind it, before the next moment of its life. */
-    private bound(records: Records, events: Map<number, number>, mark: Mark): [number, Bound]|null {
+    private bound(
+        records: Records, events: Map<number, number>, laters: (number|undefined)[], mark: Mark): [number, Bound]|null {
         const early = mark.utc - mark.uncertainty, late = mark.utc + mark.uncertainty;
         if (mark.life !== null && mark.moment !== null) return [mark.life, { moment: mark.moment, early, late, mark }];
         const at = events.get(mark.event ?? -1);
@@ -270,8 +276,8 @@ export class Times {
         const life = records.life(at), moment = records.moment(at);
         let behind = 0;
         if (records.kind(at) !== CLOCK) {
-            const later = laterOf(records, at);
-            if (later === null) {
+            const later = laters[at];
+            if (later === undefined) {
                 this.leftOut.push(`${named(mark)}: no moment of its life follows, so nothing says how long behind ` +
                     "its moment it came");
                 return null;
@@ -311,10 +317,15 @@ function placesOf(records: Records): Map<number, number> {
     return found;
 }
 
-/** The first later moment of the same life behind a record. */
-function laterOf(records: Records, at: number): number|null {
-    const life = records.life(at), moment = records.moment(at);
-    for (let n = at; n < records.count; n++)
-        if (records.life(n) === life && records.moment(n) > moment) return records.moment(n);
-    return null;
+/** Of each record the first greater moment of its life after it; nothing where none follows. */
+function latersOf(records: Records): (number|undefined)[] {
+    const laters = new Array<number|undefined>(records.count), greater = new Map<number, number[]>();
+    for (let n = records.count - 1; n >= 0; n--) {
+        const life = records.life(n), moment = records.moment(n), list = greater.get(life) ?? [];
+        while (list.length && (list[list.length - 1] ?? 0) <= moment) list.pop();
+        laters[n] = list[list.length - 1];
+        list.push(moment);
+        greater.set(life, list);
+    }
+    return laters;
 }

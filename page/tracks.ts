@@ -18,7 +18,9 @@ export interface Given {
     tracks: Track[];
     decoded: Record<string, Decoded>;
     grammar: Grammar;
-    commit: string
+    commit: string;
+    /** Version and commit of the module, and whether it is proved, as the module says it. */
+    build: string
 }
 declare const GIVEN: Given;
 export const given: Given = GIVEN;

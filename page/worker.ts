@@ -2,14 +2,15 @@
 // order.
 import {AT_ONCE, Calls, END, Held, OK, Records} from "./calls";
 import {hexOf} from "./hex";
-import {Block, BYTES, Facts, Replay, Slot, Why} from "./layouts";
-import {Intervention, interventionsOf, livesOf, speedsOf} from "./lives";
-import {Head, Order, Report} from "./messages";
+import {Block, BYTES, Facts, Replay, SECTOR, Slot, Why} from "./layouts";
+import {askedOf, Intervention, interventionsOf, lastOf, livesOf, speedsOf, tripsOf} from "./lives";
+import {Head, Order, Report, Unwritten} from "./messages";
+import {SAY} from "./texts";
 import {isWhole} from "./whole";
 
 const tell = (report: Report, transfer: Transferable[] = []): void =>
     (postMessage as (message: Report, transfer: Transferable[]) => void)(report, transfer);
-const EACH_MS = 50;
+const EACH_MS = 50, UNWRITTEN = 5, VERSION = 2;
 const channel = new MessageChannel();
 let calls: Promise<Calls>|null = null;
 let image: { id: number; held: Held }|null = null;
@@ -19,7 +20,8 @@ let newest = 0;
 interface Read {
     records: Records;
     status: number;
-    interventions: Intervention[]
+    interventions: Intervention[];
+    trips: number[]
 }
 
 /** Lets other orders in. */
@@ -67,9 +69,10 @@ async function readRecords(calls: Calls, id: number, held: Held): Promise<Read|n
     if (!isRead) return null;
     const bytes = room.slice(0, BYTES.record * count), records = new Records(bytes.slice());
     const lives = livesOf(records), speeds = speedsOf(records, lives), interventions = interventionsOf(records, lives);
-    tell({ kind: "records", id, status, bytes: bytes.buffer, unreadable, lives, speeds, interventions },
+    const trips = tripsOf(records, lives);
+    tell({ kind: "records", id, status, bytes: bytes.buffer, unreadable, lives, speeds, interventions, trips },
         [bytes.buffer, speeds.buffer]);
-    return { records, status, interventions };
+    return { records, status, interventions, trips };
 }
 
 async function readSlots(calls: Calls, id: number, held: Held, facts: Facts, read: Read): Promise<boolean> {
@@ -89,8 +92,30 @@ async function readSlots(calls: Calls, id: number, held: Held, facts: Facts, rea
         return false;
     const block: Block|null = newest ? calls.block(held, newest).value : null;
     const all = isWhole(facts, slots, heads, read.records, read.status);
-    tell({ kind: "slots", id, slots, newest: block, heads, isWhole: all });
+    tell({
+        kind: "slots",
+        id,
+        slots,
+        newest: block,
+        unwritten: unwrittenOf(calls, held, slots, block),
+        heads,
+        isWhole: all
+    });
     return true;
+}
+
+/** The block after the newest that a slot holds unwritten, by the fields of its head (docs/FORMAT.md). */
+function unwrittenOf(calls: Calls, held: Held, slots: Slot[], newest: Block|null): Unwritten|null {
+    const slot = slots.findIndex(one => one.state === UNWRITTEN && newest !== null && one.number === newest.number + 1);
+    if (slot < 0 || !newest) return null;
+    const bytes = calls.bytesOf({ at: held.at + BigInt(SECTOR * (2 + 6 * slot)), size: SECTOR });
+    const head = new DataView(bytes.buffer);
+    return {
+        number: newest.number + 1,
+        life: head.getUint32(24),
+        firstEvent: newest.events,
+        events: Number(head.getBigUint64(16))
+    };
 }
 
 async function replay(calls: Calls, id: number, held: Held): Promise<boolean> {
@@ -109,12 +134,15 @@ async function replay(calls: Calls, id: number, held: Held): Promise<boolean> {
     return isDone;
 }
 
-async function causes(calls: Calls, id: number, held: Held, { records, interventions: list }: Read): Promise<boolean> {
+/** The causes of the last intervention, and then where each command began and where the train was tripped. */
+async function causes(calls: Calls, id: number, held: Held, { records, interventions, trips }: Read): Promise<boolean> {
     let found: [number, Why|null][] = [];
+    const last = lastOf(interventions), steps = interventions.flatMap(one => one.steps.map(({ index }) => index));
+    const list = [...new Set([...last ? askedOf(records, last) : [], ...[...trips, ...steps].sort((a, b) => b - a)])];
     const isDone = await pieces(id, "causes", list.length, done => {
-        const one = list[done];
-        if (!one) return false;
-        found.push([one.first, calls.why(held, records.block(one.first), records.event(one.first)).value]);
+        const index = list[done];
+        if (index === undefined) return false;
+        found.push([index, calls.why(held, records.block(index), records.event(index)).value]);
         if (found.length >= 20) {
             tell({ kind: "causes", id, causes: found });
             found = [];
@@ -125,12 +153,22 @@ async function causes(calls: Calls, id: number, held: Held, { records, intervent
     return isDone;
 }
 
-async function read(calls: Calls, id: number, file: Blob): Promise<void> {
+/** A copy of an image whose first sector says so many slots (docs/FORMAT.md). */
+function withSlots(bytes: Uint8Array, slots: number): Uint8Array {
+    const copy = bytes.slice(), view = new DataView(copy.buffer);
+    copy.fill(0, 0, SECTOR);
+    copy.set(new TextEncoder().encode("ETCSJRU1"));
+    view.setUint32(8, VERSION);
+    view.setUint32(12, slots);
+    return copy;
+}
+
+async function read(calls: Calls, id: number, file: Blob, slots: number|null): Promise<void> {
     const bytes = new Uint8Array(await file.arrayBuffer());
     const digest = hexOf(new Uint8Array(await crypto.subtle.digest("SHA-256", bytes)));
     if (newest !== id) return;
     if (image) calls.drop(image.held);
-    const held = calls.hold(bytes);
+    const held = calls.hold(slots === null ? bytes : withSlots(bytes, slots));
     image = { id, held };
     tell({ kind: "bytes", id, bytes: bytes.buffer, digest }, [bytes.buffer]);
     const { status, value } = calls.facts(held);
@@ -151,7 +189,7 @@ async function obey(order: Order): Promise<void> {
     }
     if (!calls) throw new Error("there is no module yet");
     const ready = await calls;
-    if (order.kind === "image") await read(ready, order.id, order.file);
+    if (order.kind === "image") await read(ready, order.id, order.file, order.slots);
     else if (order.kind === "once" || image?.id === order.id) {
         const held = order.kind === "once" ? ready.hold(new Uint8Array(order.bytes)) : (image as { held: Held }).held;
         const { status, value } = ready.why(held, order.block, order.event);
@@ -163,6 +201,9 @@ async function obey(order: Order): Promise<void> {
 onmessage = (event: MessageEvent<Order>) => {
     const order = event.data;
     if (order.kind === "image") newest = order.id;
-    obey(order).catch(
-        (error: unknown) => tell({ kind: "failed", id: order.kind === "module" ? 0 : order.id, says: String(error) }));
+    obey(order).catch((error: unknown) => tell({
+        kind: "failed",
+        id: order.kind === "module" ? 0 : order.id,
+        says: error instanceof DOMException ? SAY.unreadableFile : String(error)
+    }));
 };

@@ -22,7 +22,11 @@ fi
 page=${3:-}
 if [ -z "$page" ]; then
     page=$folder/gaknifur.html
-    tools/page "$page" || exit 1
+    tools/page "$page" 2>"$folder/said" || { cat "$folder/said"; exit 1; }
+    grep -q "aren't proved yet, this proves them first, which takes about an hour" "$folder/said" || { cat "$folder/said"; echo "page: tools/page doesn't say that it proves"; exit 1; }
+    tools/page --unproved "$folder/unproved.html" >"$folder/said" 2>&1 || { cat "$folder/said"; exit 1; }
+    grep -q 'without proof, which takes' "$folder/said" && grep -q '^made .*, unproved)$' "$folder/said" && grep -q '<title>.*, unproved)</title>' "$folder/unproved.html" ||
+        { cat "$folder/said"; echo "page: an unproved page doesn't say that it is unproved"; exit 1; }
     tools/page "$page" >"$folder/said" 2>&1 && { echo "page: tools/page wrote over a file without --force"; exit 1; }
     grep -q 'is there; --force writes over' "$folder/said" || { cat "$folder/said"; exit 1; }
     printf 'a letter\n' >"$folder/letter"

@@ -165,9 +165,10 @@ def alterations(browser: Browser, _page: Path, folder: Path) -> int:
             count += compare_replay(told, path, at)
             differs += any(life["verdict"] in (2, 3) for life in told["lives"])
             causes = {index: why for index, why in told["causes"]}
-            assert set(causes) == {one["first"] for one in told["interventions"]}, at
-            for one, event in zip(told["interventions"][:6], told["firsts"]):
-                count += compare_why(one["first"], causes[one["first"]], event, path)
+            steps = {step["index"] for one in told["interventions"] for step in one["steps"]}
+            assert steps | set(told["trips"]) <= set(causes), at
+            for index, event in list(zip(causes, told["events"]))[:6]:
+                count += compare_why(index, causes[index], event, path)
         lost += not wanted["whole"]
     assert whole >= 7 and lost >= 20 and differs >= 8, (whole, lost, differs)
     return count

@@ -164,7 +164,7 @@ def markup(browser: Browser, _page: Path, folder: Path) -> int:
         assert not browser.run("return document.querySelector('main b, main img, main script')")
     browser.run("document.getElementById('identity').value = 'ü'.repeat(16); document.getElementById('tab-drive').click()")
     browser.click("enter-identity")
-    assert "refuses this" in browser.text("drive-error")
+    assert "1 to 16 letters" in browser.text("entry-error")
     assert browser.complaints() == []
     return 13
 

@@ -1,4 +1,5 @@
 """How long an image takes to be told, and that the page stays usable meanwhile. A busy machine makes single runs slow, so the best of several counts."""
+import base64
 import json
 import time
 from pathlib import Path
@@ -6,10 +7,12 @@ from typing import Any
 
 from browsing import Browser
 from desks import TELEGRAMS, etcs
+from gaknifur import times
 
 EVENTS, RUNS, STEPS = 10_000, 5, 200
 OPENS_S, PAUSE_MS, FRAME_MS = 3.0, 250, 1000 / 60
 MOST_EVENTS, MOST_RUNS = 100_000, 3
+MARKS, MARKS_S = 100_000, 20
 START: list[Any] = [{"driver": [1, "IC 704"]}, {"driver": [4, 1]}, {"driver": [3, 20000, 160000, 70, 0, 15]}, {"telegram": TELEGRAMS[0]}, {"driver": [6]}]
 WATCH = """
 const { ask } = window.gaknifur;
@@ -54,7 +57,7 @@ def measured(browser: Browser, folder: Path, events: int, runs: int, is_long: bo
         begun = time.monotonic()
         told = browser.ask(path, seconds=120)
         found.append((time.monotonic() - begun, *browser.run("return [window.seen.busy, window.seen.progress]")))
-        assert told["count"] == events and told["isWhole"] and len(told["causes"]) == len(told["interventions"]) >= 4, told["count"]
+        assert told["count"] == events and told["isWhole"] and len(told["causes"]) >= len(told["interventions"]) >= 4, told["count"]
         assert all(life["verdict"] == 1 for life in told["lives"]) and len(told["lives"]) == 4
     seconds = min(one[0] for one in found)
     pause = max(min(one[1].get(kind, 0) for one in found) for kind in found[0][1])
@@ -76,5 +79,27 @@ def opens_long(browser: Browser, _page: Path, folder: Path) -> int:
     return measured(browser, folder, MOST_EVENTS, MOST_RUNS, is_long=True)
 
 
-CHECKS = {"opens": (opens, RUNS + STEPS)}
+MARK = """
+const [bytes, done] = arguments, { ask } = window.gaknifur, data = Uint8Array.from(atob(bytes), one => one.charCodeAt(0)), begun = performance.now();
+ask.take([new File([data], "image.times")]).then(() => done([performance.now() - begun, document.getElementById('day-said').textContent,
+    document.getElementById('day-faults').childElementCount]));
+"""
+
+
+def marks(browser: Browser, _page: Path, folder: Path) -> int:
+    """100,000 marks, half of them by event, are read in a time that grows as their number does; also such as contradict one another."""
+    path, count = long_image(folder, EVENTS), 0
+    browser.ask(path)
+    for off in (10 ** 6, 0):  # (ms; with 0 nearly all marks contradict the first ones)
+        lines = [f"1,{n % 5_000},,2026-03-01T10:00:{n % 60:02}.000Z,{off},GNSS" if n % 2 else f",,{n % 2_000},2026-03-01T10:01:{n % 60:02}.000Z,{off},log"
+                 for n in range(MARKS)]
+        data = "\n".join([times.FIRST, *lines, ""])
+        took, said, faults = browser.run_later(MARK, base64.b64encode(data.encode()).decode())
+        print(f"page: {MARKS} marks in {took / 1000:.1f} s, {faults} faults are shown", flush=True)
+        assert said.startswith(f"{MARKS:,} marks. ") and (faults == 0) == (off > 0) and took <= 1000 * MARKS_S, (took, said, faults)
+        count += MARKS
+    return count
+
+
+CHECKS = {"opens": (opens, RUNS + STEPS), "marks": (marks, 2 * MARKS)}
 LONG = {"opens_long": (opens_long, MOST_RUNS + STEPS)}

@@ -1,0 +1,37 @@
+// The number of slots of an image whose first sector can't be used: it is entered by hand, and the image is read again.
+import {at, say} from "./dom";
+import {SECTOR} from "./layouts";
+import {ENTRY, SAY} from "./texts";
+
+const LEAST = 2, MOST = 1_048_576, PER_SLOT = 6;
+
+export class BySlots {
+    private file: Blob|null = null;
+
+    constructor(read: (file: Blob, slots: number) => void) {
+        at("read-slots").addEventListener("click", () => {
+            const field = at<HTMLInputElement>("slots"), slots = Number(field.value.replace(/,/g, ""));
+            const isOne = field.value.trim() !== "" && Number.isInteger(slots) && slots >= LEAST && slots <= MOST;
+            field.setAttribute("aria-invalid", String(!isOne));
+            say("slots-error", isOne ? "" : ENTRY.slots);
+            if (isOne && this.file) read(this.file, slots);
+        });
+    }
+
+    /** Another image is read. */
+    forget(file: Blob): void {
+        this.file = file;
+        at("by-slots").hidden = true;
+    }
+
+    /** Offers to read the image with another number; answers what is said of it. */
+    offer(): string {
+        if (!this.file) return "";
+        const slots = Math.max(LEAST, Math.floor((Math.floor(this.file.size / SECTOR) - 1) / PER_SLOT));
+        at<HTMLInputElement>("slots").value = String(slots);
+        at("slots").setAttribute("aria-invalid", "false");
+        say("slots-error", "");
+        at("by-slots").hidden = false;
+        return ` ${SAY.bySlots(slots)}`;
+    }
+}

@@ -1,0 +1,82 @@
+"""In brief: what the page says at the top of an image is what the report says there, and the page opens at the last intervention."""
+import random
+from pathlib import Path
+from typing import Any
+
+from asking import CAUSES, TRIPS, altered, bases, example, image
+from browsing import Browser
+from gaknifur import brief, reading, tables
+
+TRIED = 50
+OUTPUT = """
+const { ask } = window.gaknifur, { told } = ask, known = new Map(told.counted.filter(([, why]) => typeof why === 'object')), { records } = ask;
+const last = [...told.interventions].reverse().find(one => !one.isPowerUp), all = last ? [...Array(last.last - last.first + 1).keys()].map(n => n + last.first) : [];
+const since = new Set(all.flatMap(n => known.get(n) ? known.get(n).holds.map((is, c) => is ? c + ' ' + known.get(n).since[c] : '').filter(one => one) : []));
+const rows = [...document.querySelectorAll('#brief dt')].map(one => [one.textContent, one.nextElementSibling.textContent]);
+return [last ? [records.event(last.first), records.event(last.last), last.goesOn, last.steps.map(one => one.brake)] : null, [...since].sort(),
+    told.trips.map(n => [records.event(n), known.get(n) ? known.get(n).tripCause : null]), Object.fromEntries(rows), records.event(ask.index)];
+"""
+BRAKES = ("none", "service", "emergency")
+
+
+def wanted_of(path: Path) -> tuple[Any, list[str], list[Any], brief.Newest | None]:
+    """What the report has in brief: the last intervention, its causes, all trips, and the newest block."""
+    journal = reading.read(path, replay=True, why=True)
+    records = tables.frame(journal)
+    at_top = brief.brief(journal, records, tables.interventions(records))
+    one = at_top.intervention
+    causes = sorted(f"{CAUSES.index(cause.cause)} {cause.since}" for cause in one["causes"]) if one else []
+    found = [one["first_event"], one["last_event"], bool(one["goes_on"]), [BRAKES.index(step) for step in one["steps"].split()]] if one else None
+    trips = [(records["event"].at[row], records["trip"].at[row]) for row in tables.trips(records)]
+    return found, causes, [[int(event), TRIPS.index(trip.cause) if trip else None] for event, trip in trips], at_top.newest
+
+
+def said_of(newest: brief.Newest | None) -> str:
+    """How the page begins to say whether the newest block's outputs left the unit."""
+    if newest is None:
+        return "not known"
+    if newest.is_power_up:
+        return f"block {newest.block:,}, the newest, holds only a power-up"
+    return f"the outputs of block {newest.block:,}, the newest, had left the unit" if newest.is_released else "perhaps not"
+
+
+def in_brief(browser: Browser, _page: Path, folder: Path) -> int:
+    """Of images, whole and altered: the last intervention, all its causes, the trips, what is released, and where the page opens."""
+    dice, count, braked, tripped, said = random.Random(5), 0, 0, 0, set()
+    made = bases(folder, dice)
+    for number, data in enumerate([*made, *(altered(dice.choice(made), dice) for _ in range(TRIED))]):
+        path = folder / f"image{number}"
+        path.write_bytes(data)
+        told = browser.ask(path)
+        if not told["facts"] or told["status"] != 38 or not told["count"]:
+            continue
+        one, causes, trips, rows, opened = browser.run(OUTPUT)
+        found, since, entered, newest = wanted_of(path)
+        assert (one, trips) == (found, entered) and causes == since, (number, one, found, causes, since, trips, entered)
+        assert rows["Released"].startswith(said_of(newest)), (number, rows["Released"], newest)
+        assert ("None of the outputs" in rows["Released"]) == (newest is not None and newest.unwritten is not None), (number, rows)
+        assert opened == (one[0] if one else browser.run("return window.gaknifur.ask.records.event(0)")), (number, opened, one)
+        for event, _ in trips[-12:]:
+            assert f"event {event:,}" in rows["Trips"], (number, rows["Trips"])
+        braked, tripped, count = braked + bool(one and causes), tripped + bool(trips), count + 1
+        said.add(rows["Released"][:12])
+    assert braked >= 20 and tripped >= 10 and len(said) >= 3, (count, braked, tripped, said)
+    return count
+
+
+def by_hand(browser: Browser, _page: Path, folder: Path) -> int:
+    """The trip of the example after two other lives: every cause, the trip with its section, and no power-up as an intervention."""
+    path = folder / "image"
+    path.write_bytes(image(folder, [example("power_cut"), example("power_cut", "restart.json"), example("trip")], 16))
+    browser.ask(path)
+    rows = browser.run(OUTPUT)[3]
+    for says in ("emergency brake, life 3, events 24 to 28, from event 24: at 300.00 m, at 15.0 km/h (limit 0.0 km/h)", "above the limit by more than 10 km/h",
+                 "above the limit by more than 5 km/h", "the mode is Trip", "past the end of authority (4.6.3)", "end of authority: 0.0 km/h at 300.00 m"):
+        assert says in rows["Last intervention"], (says, rows["Last intervention"])
+    assert rows["Trips"].startswith("life 3, event 26, at ") and rows["Power-ups"].startswith("3; after each"), rows
+    assert browser.run("return document.querySelectorAll('#interventions tbody tr').length") == 1
+    assert browser.text("event-said").startswith("Event 24 of life 3")
+    return 10
+
+
+CHECKS = {"in_brief": (in_brief, 40), "brief_by_hand": (by_hand, 10)}

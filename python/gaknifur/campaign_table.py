@@ -14,6 +14,7 @@ from .digests import digest
 from .program import DEVICE, REFUSED, Failed
 
 COMMIT_SECONDS = 0.25
+IS_PROVED = {True: "yes", False: "no", None: "unknown"}
 INSERT = f"INSERT OR REPLACE INTO result ({', '.join(COLUMNS)}) VALUES ({', '.join('?' * len(COLUMNS))})"
 SCHEMA = """
 CREATE TABLE campaign (name TEXT PRIMARY KEY, value TEXT NOT NULL) STRICT;
@@ -42,7 +43,7 @@ class Table:
             self.connection.close()
             raise Failed(f"{path}: is no table of a campaign", REFUSED) from error
         for name, value in settings.items():
-            if found.get(name) != value:
+            if name.endswith("_sha256") and found.get(name) != value:
                 self.connection.close()
                 raise Failed(f"{path}: was made with {name} {found.get(name)}, and this is {value}; take another file", REFUSED)
 
@@ -86,11 +87,11 @@ class Table:
 
 
 def settings_of() -> dict[str, str]:
-    """The programs, by their SHA-256. One that is neither named nor proved is refused."""
+    """The programs: their SHA-256, and whether each is proved."""
     found = {}
     for name in ("etcs", "etcs_lab"):
-        path = program.built(name)
-        found[f"{name}_sha256"] = digest(path)
+        found[f"{name}_sha256"] = digest(Path(program.find(name)))
+        found[f"{name}_is_proved"] = IS_PROVED[program.proof(name)]
     return found
 
 

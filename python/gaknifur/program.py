@@ -112,22 +112,21 @@ def find(name: str = "etcs_lab") -> str:
     return str(proved(script(name)) or tried(script(name)))
 
 
-def is_proved(name: str) -> bool:
-    """Whether a program is named, or there is a proved one of these sources."""
-    return bool(os.environ.get(f"GAKNIFUR_{name.upper()}")) or proved(script(name)) is not None
-
-
 @functools.cache
-def reader_is_proved() -> bool | None:
-    """Whether the `etcs_lab` that reads images is the proved one of these sources; None where the environment names another one, of
-    which nothing says it."""
-    if not (told := os.environ.get("GAKNIFUR_ETCS_LAB")):
-        return proved(script("etcs_lab")) is not None
+def proof(name: str) -> bool | None:
+    """Whether a program is the proved one of these sources; None where the environment names another one, of which nothing is known."""
+    if not (named := os.environ.get(f"GAKNIFUR_{name.upper()}")):
+        return proved(script(name)) is not None
     try:
-        own = proved(script("etcs_lab"))
-        return True if own is not None and os.path.samefile(own, told) else None
+        own = proved(script(name))
+        return True if own is not None and os.path.samefile(own, named) else None
     except (Failed, OSError):
         return None
+
+
+def reader_is_proved() -> bool | None:
+    """The same of the `etcs_lab` that reads images."""
+    return proof("etcs_lab")
 
 
 PROOF = {True: "etcs_lab is proved", False: "etcs_lab is not proved: it was compiled without a proof",
@@ -138,13 +137,6 @@ PROOF = {True: "etcs_lab is proved", False: "etcs_lab is not proved: it was comp
 def reader() -> str:
     """By what an image is read: the version and the commit, and whether `etcs_lab` is proved."""
     return f"gaknifur {version()}; {PROOF[reader_is_proved()]}"
-
-
-def built(name: str) -> Path:
-    """The file of a program that is named or proved. Another one is refused."""
-    if not is_proved(name):
-        raise Failed(f"there is no proved {name} of these sources; ./{name} --prove makes it", REFUSED)
-    return Path(find(name))
 
 
 @dataclass(frozen=True)

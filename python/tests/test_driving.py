@@ -1,10 +1,13 @@
 """Trains in a closed loop: how they move, by hand; and over the plain kernel what comes of a drive, and what is told of it."""
+import contextlib
 import importlib
+import io
 import tempfile
 import unittest
 from collections.abc import Callable
 from decimal import Decimal
 from pathlib import Path
+from types import SimpleNamespace
 from typing import Any
 from unittest.mock import patch
 
@@ -366,6 +369,21 @@ class Pictures(unittest.TestCase):
             drive_words.picture_kind(Path("drive.gif"))
         self.assertTrue(files.SVG.is_own(svg[:files.FIRST_BYTES]))
         self.assertTrue(files.PNG.is_own(drawn(told, None, "a drive", ".png")[:files.FIRST_BYTES]))
+
+
+class Library(unittest.TestCase):
+    """The library of the unit."""
+
+    def test_an_unproved_one_is_named(self) -> None:
+        """By what tools/library --unproved leaves in its file."""
+        for mark, is_named in ((b"\0Gaknifur 0.1.0, commit 0123abc, unproved\0", True), (b"\0Gaknifur 0.1.0, commit 0123abc, proved\0", False),
+                               (b"", False)):
+            with self.subTest(mark=mark), tempfile.TemporaryDirectory() as folder, contextlib.redirect_stderr(io.StringIO()) as said:
+                path = Path(folder, "libetcs_unit.so")
+                path.write_bytes(b"\x7fELF" + mark + b"\0")
+                with patch("gaknifur.closed_loop.library", lambda: SimpleNamespace(_name=str(path))):
+                    closed_loop.check_library.__wrapped__()
+                self.assertEqual(said.getvalue(), f"lab: this run is unproved: {path} was compiled without proof\n" if is_named else "")
 
 
 if __name__ == "__main__":

@@ -269,7 +269,7 @@ class Images(Room):
             self.assertEqual(caught.exception.status, REFUSED)
 
     def test_the_unit_s_library_is_looked_for_first(self) -> None:
-        with patch.object(closed_loop, "library", side_effect=OSError("none")), self.assertRaisesRegex(Failed, "no library"):
+        with patch.object(closed_loop, "library", side_effect=OSError("none")), self.assertRaisesRegex(Failed, "tools/library --unproved PREFIX"):
             closed_loop.on_medium(MemoryMedium(IMAGE), self.scenario, self.drive)
 
 

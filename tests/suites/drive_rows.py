@@ -111,7 +111,7 @@ class Driven(Compared):
             found = lab(*words)
             self.same(f"{words}", (found[0], said in found[2]), (status, True))
         found = lab("drive", kept, env={"GAKNIFUR_ETCS_UNIT": str(self.room / "no.so")}.items())
-        self.same("no library", (found[0], "tools/library PREFIX makes it" in found[2]), (3, True))
+        self.same("no library", (found[0], "tools/library --unproved PREFIX" in found[2]), (3, True))
         found = lab("drive", kept, env={"GAKNIFUR_ETCS_UNIT": "libc.so.6"}.items())
         self.same("another library", (found[0], "is of another interface" in found[2]), (3, True))
 

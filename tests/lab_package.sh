@@ -22,6 +22,7 @@ ETCS=$etcs ETCS_LAB=$lab "$python" tests/pages.py LABORATORY || status=1
 "$python" tests/lab_package/report_rows.py "$etcs" "$lab" || status=1
 "$python" tests/lab_package/seal_rows.py "$lab" || status=1
 "$python" tests/lab_package/verdict_rows.py "$lab" || status=1
+"$python" tests/lab_package/status_rows.py "$etcs" "$lab" || status=1
 "$python" tests/lab_package/release_rows.py || status=1
 "$python" tests/lab_package/diff_rows.py "$lab" || status=1
 "$python" tests/lab_package/join_rows.py "$lab" || status=1

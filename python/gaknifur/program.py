@@ -19,6 +19,8 @@ from pathlib import Path
 from . import layout
 
 WHOLE, REFUSED, WRONG_WORDS, DEVICE, NOT_WHOLE = range(5)
+FOUND = NOT_WHOLE
+"""The exit statuses, which mean the same in each program (docs/REFUSALS.md, Exit statuses). 4 is a finding, of an image or of anything else."""
 MEMORY, MANY, MOST_COPIED = Path("/dev/shm"), 64, 256
 """The folder that Linux keeps in memory; how many images it has room for, where it is taken for one; and the greatest number of
 slots of an image that is copied."""
@@ -57,7 +59,7 @@ def script(name: str) -> Path:
         return found
     if on_path := shutil.which(name):
         return Path(on_path).resolve()
-    raise Failed(f"there is no {name} beside this package and none on the PATH; GAKNIFUR_{name.upper()} may name it", DEVICE)
+    raise Failed(f"{name} is missing, next to this package and on the PATH; GAKNIFUR_{name.upper()} can name it", DEVICE)
 
 
 @functools.cache
@@ -76,7 +78,7 @@ def tried(script: Path) -> Path:
     error."""
     done = subprocess.run([script, "--tried"], stdin=subprocess.DEVNULL, stdout=subprocess.PIPE)
     if done.returncode:
-        raise Failed(f"there is no {script.name} that can be run", DEVICE)
+        raise Failed(f"{script.name} can't be run, as the lines above say", DEVICE)
     return Path(os.fsdecode(done.stdout.removesuffix(b"\n")))
 
 

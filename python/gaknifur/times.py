@@ -103,7 +103,7 @@ def read_marks(path: Path) -> tuple[list[Mark], str | None]:
     text = files.bytes_of(path).decode("utf-8", errors="replace")
     lines = text.split("\n")
     if lines[0].rstrip("\r") != FIRST:
-        raise Failed(f"{path}: line 1 isn't {FIRST}", REFUSED)
+        raise Failed(f"{path}: line 1 has to be {FIRST}", REFUSED)
     found = []
     for at, line in enumerate(lines[1:-1], 2):
         if not line.strip() or line.startswith("#"):

@@ -118,8 +118,8 @@ class Reading(unittest.TestCase):
         self.assertEqual(len(read(self.image, is_own=True).records), 1)
 
     def test_no_json(self) -> None:
-        for text, said in (("event 1\n", "no JSON"), ('{"end": "done"}\n[1\n', "no JSON"), ('{"end": "done"}\n1\n', "no object"),
-                           ('{"end": "done"}, {"end": "done"}\n', "no JSON"), ('[1\n2]\n', "no JSON")):
+        for text, said in (("event 1\n", "isn't JSON"), ('{"end": "done"}\n[1\n', "isn't JSON"), ('{"end": "done"}\n1\n', "isn't an object"),
+                           ('{"end": "done"}, {"end": "done"}\n', "isn't JSON"), ('[1\n2]\n', "isn't JSON")):
             self.program.with_name("etcs_lab.events").write_text(text)
             self.assertRaisesRegex(Failed, said, self.read)
 
@@ -255,7 +255,7 @@ class Unproved(unittest.TestCase):
             os.environ.pop("GAKNIFUR_ETCS", None)
             Path(folder, "etcs").write_text("#!/bin/sh\nexit 2\n")
             Path(folder, "etcs").chmod(0o755)
-            self.assertRaisesRegex(Failed, "no etcs that can be run", etcs, "decode", "90")
+            self.assertRaisesRegex(Failed, "etcs can't be run", etcs, "decode", "90")
 
 
 class Proved(unittest.TestCase):

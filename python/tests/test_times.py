@@ -159,7 +159,7 @@ class Files(Room):
                 self.assertEqual(caught.exception.status, REFUSED)
                 tried += 1
         for text in ("", "life,moment\n", f"{times.FIRST}x\n"):
-            with self.assertRaisesRegex(Failed, "line 1 isn't life,moment_ms"):
+            with self.assertRaisesRegex(Failed, "line 1 has to be life,moment_ms"):
                 self.times(text)
         with self.assertRaisesRegex(Failed, "line 2"):
             self.times(f"{times.FIRST}\n1,0,,{TEN},50\n")
@@ -178,7 +178,7 @@ class Files(Room):
             marks.mark(1, 600_000, TEN_MS + 600_000, 50, "GNSS")
         self.assertEqual(path.read_text(), LINES.replace("# a word of the investigator\n", "").rstrip("\n") + "\n")
         (self.room / "text").write_text("text")
-        self.assertRaisesRegex(Failed, "is there, and is not a file of marks", Marks, self.room / "text")
+        self.assertRaisesRegex(Failed, "exists and is not a file of marks", Marks, self.room / "text")
 
 
 class Outputs(Room):

@@ -88,9 +88,9 @@ def planted(room, by_case):
     (room / "text.json").write_text("[]")
     try:
         measured.read(room / "text.json")
-        yield "", "is no file of what cases reach"
+        yield "", "is not a file that `lab test --reached` made"
     except Failed as failed:
-        yield str(failed), "is no file of what cases reach"
+        yield str(failed), "is not a file that `lab test --reached` made"
 
 
 def by_command(room, by_case, lost):

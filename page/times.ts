@@ -247,7 +247,7 @@ export class Times {
     constructor(readonly name: string, bytes: Uint8Array, records: Records, readonly drift: number) {
         const { marks, wrong, cut } = readMarks(bytes), bounds = new Map<number, Bound[]>();
         this.marks = marks;
-this.leftOut = wrong;
+        this.leftOut = wrong;
         const isByEvent = marks.some(mark => mark.event !== null);
         const events = isByEvent ? placesOf(records) : new Map<number, number>(),
               later = isByEvent ? latersOf(records) : [];

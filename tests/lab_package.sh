@@ -1,6 +1,6 @@
 #!/bin/bash
-# The package python/gaknifur and its script ./lab, on the programs that the gate leaves behind: types, the package's own tests, the commands of
-# docs/LABORATORY.md, tables and database beside plain readers, reports, sealed copies, releases,
+# The package python/gaknifur and its script ./lab, on the programs that the gate leaves behind: types, the package's own tests,
+# exit statuses, tables and database beside plain readers, reports, sealed copies, releases,
 # differences of images, archives of blocks, and journals that are followed.
 #
 #     tests/lab_package.sh [ETCS_LAB ETCS [IMAGES [SEED]]]    on other programs, with more or other images
@@ -17,11 +17,11 @@ tools/python --checks || exit 1
 status=0
 (cd python && "$python" -m mypy) || status=1
 (cd python && "$python" -m unittest -q) || status=1
-ETCS=$etcs ETCS_LAB=$lab "$python" tests/pages.py LABORATORY || status=1
 "$python" tests/lab_package/told_rows.py "$lab" "${@:3}" || status=1
 "$python" tests/lab_package/report_rows.py "$etcs" "$lab" || status=1
 "$python" tests/lab_package/seal_rows.py "$lab" || status=1
 "$python" tests/lab_package/verdict_rows.py "$lab" || status=1
+"$python" tests/lab_package/status_rows.py "$etcs" "$lab" || status=1
 "$python" tests/lab_package/release_rows.py || status=1
 "$python" tests/lab_package/diff_rows.py "$lab" || status=1
 "$python" tests/lab_package/join_rows.py "$lab" || status=1

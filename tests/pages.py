@@ -1,8 +1,8 @@
 #!/usr/bin/env python3
-"""Runs the commands of pages of docs/ in their order, each page in a folder of its own, and compares what each prints,
-on both streams, with what stands below it.
+"""Runs the commands of pages of docs/ in their order and compares what each prints, on both streams, with what is below it.
+Several pages are run one after another in one folder, as a reader goes through them: none uses the names of another one.
 
-    tests/pages.py [--write] PAGE..    as LABORATORY. With --write what is printed takes the place of what stands there
+    tests/pages.py [--write] PAGE..    as LABORATORY. With --write what is printed replaces what is there
 
 A command stands after `$ `, indented by four or in a block of `console`; lines after `> `, or after a backslash, go on
 with it. A block of C or Python becomes the file of the HOME that the line above it names. The folder has what the
@@ -36,10 +36,10 @@ class Page:
         self.compared = self.differ = 0
         self.environment = os.environ | {f"GAKNIFUR_{name.upper()}": str(path) for name, path in PROGRAMS.items()}
         for entry in TOP.iterdir():
-            if not entry.name.startswith("."):
+            if not entry.name.startswith(".") and not (self.room / entry.name).is_symlink():
                 (self.room / entry.name).symlink_to(PROGRAMS.get(entry.name, entry))
         if "```console" in self.text:
-            self.home.mkdir()
+            self.home.mkdir(exist_ok=True)
             # (rustup looks for its toolchain in the HOME of who installed it)
             rustup = os.environ.get("RUSTUP_HOME", str(Path.home() / ".rustup"))
             self.environment |= {"HOME": str(self.home), "RUSTUP_HOME": rustup}
@@ -66,11 +66,16 @@ class Page:
 
 
 def main(words):
+    with tempfile.TemporaryDirectory() as room:
+        return in_folder(words, room)
+
+
+def in_folder(words, room):
+    """Runs the pages in this folder."""
     is_write, status = words[0] == "--write", 0
     for name in words[is_write:]:
-        with tempfile.TemporaryDirectory() as room:
-            page = Page(name, room)
-            text = page.commands()
+        page = Page(name, room)
+        text = page.commands()
         if is_write:
             page.path.write_text(text)
             continue

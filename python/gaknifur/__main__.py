@@ -3,7 +3,8 @@
 `capture`. Each module of `PARTS` has some of them, and only the one whose word is asked is loaded."""
 import argparse
 import sys
-from collections.abc import Callable, Mapping, Sequence
+from collections.abc import Callable, Iterable, Mapping, Sequence
+from difflib import get_close_matches
 from importlib import import_module
 from typing import TYPE_CHECKING, NoReturn, Protocol, cast
 
@@ -25,20 +26,30 @@ PARTS: dict[str, tuple[str, ...]] = {
 """The modules that have words, in the order of the help, and their words."""
 
 NEXT = """\
-  0 made   1 refused: not formatted, no database of journals, a fault in a YAML file, a test that failed, or a finding of lint
-  2 wrong words   3 a file, etcs or etcs_lab   5 a fault of lab itself
-  4 made, and something of an image is lost, damaged or contradicts, or the replay differs
+Exit status:
+  0  done, and nothing was found
+  1  refused: the input isn't valid, or the output can't be written
+  2  wrong arguments
+  3  a file, the device or a program that is needed failed
+  4  done, and something was found: an image is damaged or its replay differs, a test failed, lint has findings, evidence was altered
+  5  an internal error of lab
 
-Of a damaged image all is told that can be read, and one line on standard error says what is wrong. Take a digest of the image
-before anything reads it, and work on a copy. docs/LABORATORY.md tells where each word is gone through."""
+`lab COMMAND --help` describes a command; docs/LABORATORY.md says which page explains it. Of a damaged image everything readable is
+printed, and standard error says what is wrong. Take a digest of an image before anything reads it, and work on a copy."""
 
 
 class Parser(argparse.ArgumentParser):
     """A parser that says on one line what is wrong with words."""
 
     def error(self, message: str) -> NoReturn:
-        """Wrong words."""
+        """Wrong arguments: the usage, and one line that says which."""
         super().error(shown(message))
+
+
+def nearest(given: str, known: Iterable[str]) -> str:
+    """A question for the nearest right word, where one is near."""
+    near = get_close_matches(given, list(known), 1)
+    return f"; did you mean {near[0]}?" if near else ""
 
 
 class Version(argparse.Action):
@@ -74,11 +85,10 @@ def part_of(word: str) -> str | None:
 def words(only: str | None = None) -> argparse.ArgumentParser:
     """The words, with their help; those of one module alone, where one is named."""
     lab = Parser(
-        prog="lab", description="Tables, a database and reports of images of journals, as etcs_lab reads them; and suites of "
-        "test cases.",
+        prog="lab", description="Tables, databases and reports of the journals of an onboard unit, and suites of test cases.",
         epilog=NEXT, formatter_class=argparse.RawDescriptionHelpFormatter, allow_abbrev=False)
-    lab.add_argument("--version", action=Version, nargs=0, help="tells version and commit")
-    subjects = lab.add_subparsers(dest="word", metavar="WORD", required=True)
+    lab.add_argument("--version", action=Version, nargs=0, help="print version and commit")
+    subjects = lab.add_subparsers(dest="word", metavar="COMMAND", required=True)
 
     def word(name: str, told: str, more: str) -> argparse.ArgumentParser:
         return subjects.add_parser(name, help=told, description=f"{told[0].upper()}{told[1:]}. {more}", allow_abbrev=False)
@@ -93,12 +103,16 @@ def understood(given: Sequence[str]) -> argparse.Namespace:
     parser = words(part_of(given[0]) if given else None)
     subjects = next(action for action in parser._actions if isinstance(action, argparse._SubParsersAction))
     chosen = subjects.choices.get(given[0]) if given else None
+    if chosen is None and given and not given[0].startswith("-"):
+        parser.error(f"unknown command {given[0]}{nearest(given[0], subjects.choices) or '; lab --help lists the commands'}")
     if chosen is None:
         return parser.parse_args(given)
     told: argparse.Namespace
     told, others = chosen.parse_known_intermixed_args(given[1:])
     if others and given[0] != "test":
-        chosen.error(f"unrecognized arguments: {' '.join(others)}")
+        is_option = others[0].startswith("-")
+        near = nearest(others[0].partition("=")[0], chosen._option_string_actions) if is_option else ""
+        chosen.error(f"{'unknown option' if is_option else 'unexpected argument'} {others[0]}{near}")
     told.word, told.others = given[0], others
     return told
 

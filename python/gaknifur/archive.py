@@ -214,7 +214,7 @@ def source(path: Path) -> Source:
     found = Source(path)
     with path.open("rb") as file:
         if file.read(layout.SECTOR) != layout.archive_sector():
-            raise Failed(f"{path}: is no archive of blocks of version {layout.ARCHIVE_VERSION}", REFUSED)
+            raise Failed(f"{path}: is not an archive of blocks of version {layout.ARCHIVE_VERSION}", REFUSED)
         place = layout.SECTOR
         while len(data := file.read(layout.SLOT)) == layout.SLOT:
             number = layout.block_in(data)
@@ -296,10 +296,10 @@ def join(out: Path, paths: list[Path]) -> Joined:
     found = Joined([source(path) for path in paths])
     choose_all(found)
     if not found.chosen:
-        raise Failed(f"{shown(paths[0])}: there is no block to be joined", REFUSED)
+        raise Failed(f"{shown(paths[0])}: no block to join. Nothing was written.", REFUSED)
     slots = found.slots
     if slots > layout.MOST_SLOTS:
-        raise Failed(f"{shown(out)}: would have {slots} slots, and {layout.MOST_SLOTS} are the most; join fewer", REFUSED)
+        raise Failed(f"{shown(out)}: would have {slots} slots, more than {layout.MOST_SLOTS}; join fewer sources. Nothing was written.", REFUSED)
     with files.new_file(out) as file:
         file.truncate(layout.slot_at(slots))
         file.write(layout.first_sector(slots))

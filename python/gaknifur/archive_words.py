@@ -13,18 +13,18 @@ Word = Callable[[str, str, str], argparse.ArgumentParser]
 
 def add_words(word: Word) -> None:
     """Adds the words."""
-    join = word("join", "makes one image of a larger ring of images and archives of one unit",
-                "Of a block that differs in two of them the first one is taken, and status 4 says so, as where a block is missing.")
-    join.add_argument("out", metavar="OUT", type=Path, help="the image that is made")
+    join = word("join", "join images and archives of one unit into one larger image",
+                "Where a block differs between sources, the first source wins. Status 4: a block differs or is missing.")
+    join.add_argument("out", metavar="OUT", type=Path, help="the image to make")
     join.add_argument("sources", metavar="IMAGE|ARCHIVE", nargs="+", type=Path)
-    join.add_argument("--json", action="store_true", help="as JSON")
-    follow = word("follow", "prints the records of an image as they come, while a unit runs on it",
-                  "It takes no lock and never keeps the unit waiting. It ends with the unit.")
+    join.add_argument("--json", action="store_true", help="print JSON")
+    follow = word("follow", "print the records of an image while a unit writes them",
+                  "Takes no lock and never delays the unit. Ends when the unit ends.")
     follow.add_argument("image", metavar="IMAGE", type=Path)
-    follow.add_argument("--json", action="store_true", help="as etcs_lab events prints them")
-    follow.add_argument("--archive", metavar="FILE", type=Path, help="appends each block to this archive, too")
-    follow.add_argument("--for", dest="seconds", metavar="SECONDS", type=float, help="ends after so long at the latest")
-    follow.add_argument("--wait", action="store_true", help="goes on also where no unit runs, until it is interrupted")
+    follow.add_argument("--json", action="store_true", help="print JSON, as `etcs_lab events` does")
+    follow.add_argument("--archive", metavar="FILE", type=Path, help="also append each block to this archive")
+    follow.add_argument("--for", dest="seconds", metavar="SECONDS", type=float, help="end after this time at the latest")
+    follow.add_argument("--wait", action="store_true", help="keep waiting while no unit runs, until interrupted")
 
 
 def join_images(told: argparse.Namespace, progress: Progress) -> int:

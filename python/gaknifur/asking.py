@@ -86,7 +86,7 @@ def once(pairs: list[tuple[str, object]]) -> dict[str, object]:
     found: dict[str, object] = {}
     for name, value in pairs:
         if name in found:
-            raise Wrong(f"\"{short(name)}\" stands twice")
+            raise Wrong(f"\"{short(name)}\" is given twice")
         found[name] = value
     return found
 

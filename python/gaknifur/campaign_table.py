@@ -14,6 +14,7 @@ from .digests import digest
 from .program import DEVICE, REFUSED, Failed
 
 COMMIT_SECONDS = 0.25
+IS_PROVED = {True: "yes", False: "no", None: "unknown"}
 INSERT = f"INSERT OR REPLACE INTO result ({', '.join(COLUMNS)}) VALUES ({', '.join('?' * len(COLUMNS))})"
 SCHEMA = """
 CREATE TABLE campaign (name TEXT PRIMARY KEY, value TEXT NOT NULL) STRICT;
@@ -40,11 +41,11 @@ class Table:
             found = dict(self.connection.execute("SELECT name, value FROM campaign"))
         except sqlite3.DatabaseError as error:
             self.connection.close()
-            raise Failed(f"{path}: is no table of a campaign", REFUSED) from error
+            raise Failed(f"{path}: is not a campaign table", REFUSED) from error
         for name, value in settings.items():
-            if found.get(name) != value:
+            if name.endswith("_sha256") and found.get(name) != value:
                 self.connection.close()
-                raise Failed(f"{path}: was made with {name} {found.get(name)}, and this is {value}; take another file", REFUSED)
+                raise Failed(f"{path}: was made with {name} {found.get(name)}, and this program is {value}; name a new file", REFUSED)
 
     def take_alone(self) -> None:
         """Begins the first transaction; refused at once where another program has one."""
@@ -55,7 +56,7 @@ class Table:
         except sqlite3.Error as error:
             self.connection.close()
             is_busy = error.sqlite_errorcode == sqlite3.SQLITE_BUSY
-            said = "another program writes to it; wait for its end, or take another file" if is_busy else error
+            said = "another program is writing to it; wait for its end, or name another file" if is_busy else error
             raise Failed(f"{self.path}: {said}", DEVICE) from error
 
     def has_rows(self) -> bool:
@@ -86,11 +87,11 @@ class Table:
 
 
 def settings_of() -> dict[str, str]:
-    """The programs, by their SHA-256. One that is neither named nor proved is refused."""
+    """The programs: their SHA-256, and whether each is proved."""
     found = {}
     for name in ("etcs", "etcs_lab"):
-        path = program.built(name)
-        found[f"{name}_sha256"] = digest(path)
+        found[f"{name}_sha256"] = digest(Path(program.find(name)))
+        found[f"{name}_is_proved"] = IS_PROVED[program.proof(name)]
     return found
 
 
@@ -101,7 +102,7 @@ def rows_of(path: Path) -> dict[str, Row]:
         kept = [name for name in COLUMNS if name not in NOT_COMPARED]
         return {row[0]: dict(zip(kept, row)) for row in connection.execute(f"SELECT {', '.join(kept)} FROM result ORDER BY name")}
     except sqlite3.DatabaseError as error:
-        raise Failed(f"{path}: is no table of a campaign", REFUSED) from error
+        raise Failed(f"{path}: is not a campaign table", REFUSED) from error
     finally:
         connection.close()
 
@@ -114,7 +115,7 @@ def unsound(path: Path, most: int) -> tuple[int, int, list[Row]]:
         rows = connection.execute("SELECT name, ended, first_missed FROM result WHERE NOT sound ORDER BY name LIMIT ?", (most,))
         return count, bad, [dict(zip(("name", "ended", "first_missed"), row)) for row in rows]
     except sqlite3.DatabaseError as error:
-        raise Failed(f"{path}: is no table of a campaign", REFUSED) from error
+        raise Failed(f"{path}: is not a campaign table", REFUSED) from error
     finally:
         connection.close()
 

@@ -8,7 +8,8 @@ from pathlib import Path
 from typing import TYPE_CHECKING
 
 from . import campaign, campaign_table, files
-from .program import DEVICE, NOT_WHOLE, REFUSED, WRONG_WORDS, Failed
+from .last_net import INTERRUPTED
+from .program import DEVICE, FOUND, WRONG_WORDS, Failed
 from .shown import shown
 
 if TYPE_CHECKING:
@@ -21,19 +22,20 @@ SHOWN = 10
 
 def add_words(word: Word) -> None:
     """Adds both words."""
-    many = word("campaign", "plays many scenarios, case files or random lives",
-                "Each is a row of a table in SQLite. What is in the table already isn't played again, so a campaign that was "
-                "interrupted goes on. Status 4: a row isn't sound.")
-    many.add_argument("folder", metavar="FOLDER", nargs="?", type=Path, help="case files and scenarios below it")
+    many = word("campaign", "run many scenarios, case files or random lives into one table",
+                "Each is a row of an SQLite table. Rows that exist aren't run again, so an interrupted campaign continues. "
+                "Status 4: a row isn't sound.")
+    many.add_argument("folder", metavar="FOLDER", nargs="?", type=Path, help="run the case files and scenarios below this folder")
     many.add_argument("out", metavar="OUT.db", type=Path)
-    many.add_argument("--random", metavar="N", type=natural, default=0, help="also so many random lives")
-    many.add_argument("--seed", metavar="N", type=natural, default=1, help="other numbers, other lives; 1")
-    many.add_argument("--slots", metavar="N", type=natural, default=64, help="slots of each fresh image; 64")
-    many.add_argument("--workers", metavar="N", type=natural, default=os.cpu_count() or 1, help="processes of this machine")
-    many.add_argument("--scheduler", metavar="tcp://HOST:PORT", help="a scheduler of Dask, in place of processes here")
-    many.add_argument("--csv", metavar="OUT.csv", type=Path, help="the whole table, at the end")
-    many.add_argument("--force", action="store_true", help="write over a CSV that lab made; nothing writes over others")
-    two = word("compare", "tells which rows of two campaigns differ", "Seconds and workers aren't compared. Status 4: some differ.")
+    many.add_argument("--random", metavar="N", type=natural, default=0, help="also run this many random lives")
+    many.add_argument("--seed", metavar="N", type=natural, default=1, help="seed of the random lives (default: 1)")
+    many.add_argument("--slots", metavar="N", type=natural, default=64, help="slots of each new image (default: 64)")
+    many.add_argument("--workers", metavar="N", type=natural, default=os.cpu_count() or 1, help="processes on this machine (default: the number of processors)")
+    many.add_argument("--scheduler", metavar="tcp://HOST:PORT", help="use this Dask scheduler instead of local processes")
+    many.add_argument("--csv", metavar="OUT.csv", type=Path, help="write the whole table at the end")
+    many.add_argument("--force", action="store_true", help="overwrite a CSV that lab made (no option overwrites others)")
+    two = word("compare", "list the rows that differ between two campaigns",
+               "Seconds and workers aren't compared. Status 4: rows differ.")
     two.add_argument("first", metavar="ONE.db", type=Path)
     two.add_argument("second", metavar="OTHER.db", type=Path)
 
@@ -41,19 +43,19 @@ def add_words(word: Word) -> None:
 def natural(text: str) -> int:
     """A number of an option."""
     if not re.fullmatch("[0-9]{1,9}", text):
-        raise argparse.ArgumentTypeError(f"{text} is no number")
+        raise argparse.ArgumentTypeError(f"{text} is not a number")
     return int(text)
 
 
 def play_campaign(told: argparse.Namespace, progress: "Progress") -> int:
     """The word `campaign`."""
     if told.folder is None and not told.random:
-        raise Failed("a campaign needs a folder or --random", WRONG_WORDS)
+        raise Failed("campaign: a FOLDER or --random N is required", WRONG_WORDS)
     out = files.Out(told.csv, files.CAMPAIGN_TABLE, told.force) if told.csv else None
     files.check_all([out] if out else [], [told.out], [told.out])
     jobs: campaign.Folder | list[campaign.Job] = campaign.Folder(told.folder, told.slots) if told.folder else []
     if told.folder and not len(jobs):
-        raise Failed(f"{told.folder}: has no test case and no scenario, so nothing was played", DEVICE)
+        raise Failed(f"{told.folder}: contains no test case and no scenario; nothing was run", DEVICE)
     table = campaign_table.Table(told.out, campaign_table.settings_of())
     played = 0
 
@@ -74,7 +76,7 @@ def play_campaign(told: argparse.Namespace, progress: "Progress") -> int:
             campaign.here(itertools.chain(left, lives), count, max(1, told.workers), take)
     except KeyboardInterrupt:
         table.close()
-        raise Failed(f"{played} played; the same command goes on", REFUSED) from None
+        raise Failed(f"interrupted; {played} were run and are kept. The same command continues", INTERRUPTED) from None
     except OSError:  # a file that can't be read any more
         table.close()
         raise
@@ -85,7 +87,7 @@ def play_campaign(told: argparse.Namespace, progress: "Progress") -> int:
     print(f"{rows} rows, {played} of them played now; {bad} not sound")
     for row in first:
         print(shown(f"  {row['name']}: {row['ended']}{'; ' + row['first_missed'].splitlines()[0] if row['first_missed'] else ''}"))
-    return NOT_WHOLE if bad else 0
+    return FOUND if bad else 0
 
 
 def compare_campaigns(told: argparse.Namespace, progress: "Progress") -> int:
@@ -94,7 +96,7 @@ def compare_campaigns(told: argparse.Namespace, progress: "Progress") -> int:
     for line in found:
         print(shown(line))
     print(f"{len(found)} rows differ")
-    return NOT_WHOLE if found else 0
+    return FOUND if found else 0
 
 
 WORDS = {"campaign": play_campaign, "compare": compare_campaigns}

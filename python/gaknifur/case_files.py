@@ -49,7 +49,7 @@ def names_below(folder: Path) -> list[str]:
 def below(folder: Path) -> tuple[list[str], list[str]]:
     """The files of cases below a folder, and the scenarios in JSON that none of them names, by their names there."""
     if not folder.is_dir():
-        raise Failed(f"{folder}: there is no such folder", DEVICE)
+        raise Failed(f"{folder}: no such folder", DEVICE)
     names = names_below(folder)
     case_files = [name for name in names if is_case_file(name.rpartition("/")[2])]
     named = {other for name in case_files for other in files_of(folder / name)}

@@ -145,7 +145,7 @@ def decimal_test(at: Value, name: str) -> Test:
     if at.is_mapping():
         told = {key: told_number(one, name) for key, one in at.members((), ("least", "most")).items()}
         if not told:
-            raise at.fault(f"least or most is wanted here, of {name}")
+            raise at.fault(f"{name} needs `least` or `most`")
         least, most = told.get("least"), told.get("most")
         if least is not None and most is not None and least > most:
             raise at.fault(f"no number is both {least} at least and {most} at most")
@@ -162,7 +162,7 @@ def told_number(at: Value, name: str) -> Decimal:
     """A number that a value of this name may have."""
     number = at.number()
     if name == "level" and number not in LEVELS:
-        raise at.fault(f"level is 0, 1 or {UNKNOWN}, and this is {at.told_by()}")
+        raise at.fault(f"expected level 0, 1 or {UNKNOWN}, found {at.told_by()}")
     return number
 
 
@@ -185,7 +185,7 @@ def test_of(name: str, at: Value) -> Test:
     if at.is_list():
         tests = [test_of(name, one) for one in at.elements()]
         if not tests:
-            raise at.fault(f"a list of {name} has nothing in it")
+            raise at.fault(f"the list of {name} is empty")
         return Test(lambda found: any(test.holds(found) for test in tests), " or ".join(test.text for test in tests))
     if name in SHOWS:
         truth = at.truth()
@@ -199,7 +199,7 @@ def condition(at: Value, marks: Iterable[str], is_when: bool, is_driven: bool = 
         return Condition(at, {}, is_end=True)
     told = at.members((), (*CONDITION, *(DRIVEN if is_driven else ()), *(["mark"] if is_when else [])))
     if not told:
-        raise at.fault("a condition has at least one name")
+        raise at.fault("a condition needs at least one name")
     mark = told["mark"].one_of(marks) if "mark" in told else None
     return Condition(at, {name: test_of(name, value) for name, value in told.items() if name != "mark"}, mark)
 
@@ -221,20 +221,20 @@ def check_form(at: Value, told: dict[str, Value]) -> None:
     if "at" in found and len(found) == 1:
         raise at.fault("expect or row is missing")
     if "after" in found and len(found) != 3:
-        raise at.fault(f"one of {', '.join(WITHIN)} is wanted beside after and expect")
+        raise at.fault(f"`after` and `expect` need one of {', '.join(WITHIN)}")
 
 
 def row_of(at: Value) -> Row:
     """A row of the mode table."""
     found = ROW.fullmatch(at.text())
     if not found:
-        raise at.fault("a row of the mode table is wanted here, as \"16\" or \"2 from OS\"")
+        raise at.fault("expected a row of the mode table, such as \"16\" or \"2 from OS\"")
     row = Row(int(found[1]), found[2])
     sources = mode_table().get(row.number, ([], ""))[0]
     if not row.source and len(sources) > 1:
-        raise at.fault(f"row {row.number} leads from several modes, so one is wanted, as \"{row.number} from {sources[0]}\"")
+        raise at.fault(f"row {row.number} leads from several modes; name one, such as \"{row.number} from {sources[0]}\"")
     if row_name(row.number, row.source, mode_table()) is None:
-        raise at.fault(f"{row.text} is no row of the mode table")
+        raise at.fault(f"{row.text} is not a row of the mode table")
     return row
 
 
@@ -260,9 +260,9 @@ def sections_of(at: Value) -> list[str]:
     told = at.elements() if at.is_list() else [at]
     for one in told:
         if not SECTION.fullmatch(one.text()):
-            raise one.fault(f"\"{shortened(one.text())}\" is no section of SUBSET-026, as 3.8.1 or 7.4.2 packet 12")
+            raise one.fault(f"\"{shortened(one.text())}\" is not a section of SUBSET-026, such as 3.8.1 or 7.4.2 packet 12")
     if not told:
-        raise at.fault("no section stands here")
+        raise at.fault("a section is missing")
     return [one.text() for one in told]
 
 
@@ -274,7 +274,7 @@ def life_of(at: Value, shared: scenarios.Shared) -> Life:
         raise told["ends"].fault("a drive is always carried out; how it ends is an expected result")
     if "scenario" not in told:
         if "steps" not in told:
-            raise at.fault("a life has steps, or a scenario of another file")
+            raise at.fault("a life needs steps, or a scenario of another file")
         return Life(at, scenarios.build(told, shared), None, ends, drives.drive_of(told["drive"]) if "drive" in told else None)
     if set(told) - {"scenario", "ends"}:
         raise at.fault("a life has steps, or a scenario of another file, and not both")
@@ -321,7 +321,7 @@ def case_of(at: Value) -> Case:
     shared = scenarios.shared_of({name: told[name] for name in scenarios.SHARED if name in told}, at.path)
     lives = [life_of(one, shared) for one in told["lives"].elements()]
     if not lives:
-        raise told["lives"].fault("a case has at least one life")
+        raise told["lives"].fault("a case needs at least one life")
     case = Case(at, told["test_case"].text(), told["feature"].text(), sections_of(told["sections"]), told["rule"].text(),
                 told["starting_conditions"].text(), told["slots"].integer(2, MOST_SLOTS) if "slots" in told else slots_of(lives), lives,
                 shows=shows_of(told["shows"]) if "shows" in told else [])
@@ -339,7 +339,7 @@ def read(path: Path) -> list[Case]:
     names = Counter(case.name for case in found)
     for case in found:
         if names[case.name] > 1:
-            raise case.at.fault(f"the test case \"{shortened(case.name)}\" stands twice in this file")
+            raise case.at.fault(f"the test case \"{shortened(case.name)}\" is in this file twice")
     return found
 
 

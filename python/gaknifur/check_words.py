@@ -15,16 +15,16 @@ Word = Callable[[str, str, str], argparse.ArgumentParser]
 
 def add_words(word: Word) -> None:
     """Adds the word."""
-    check = word("check", "examines and replays an image, says whether both have nothing to tell, and what is implausible",
-                 "It hands on what etcs_lab check prints, and its status: 4 where something is lost, damaged, contradicts or differs. "
-                 "Status 4 too where something is implausible, as movement over time against the speeds. The thresholds can be set.")
+    check = word("check", "examine and replay an image, and list what is implausible",
+                 "Prints what `etcs_lab check` prints, and then implausible values, such as a movement that the recorded speeds don't "
+                 "explain. Status 4: something is lost, damaged, contradictory, different or implausible.")
     check.add_argument("image", metavar="IMAGE", type=Path)
-    check.add_argument("--json", action="store_true", help="as JSON")
-    for name, unit, told in (("path_cm", "CM", "movement may be off by so much"), ("path_percent", "N", "and so many percent"),
-                             ("acceleration_cm_per_s2", "CM/S2", "a speed may change so fast"), ("jump_m_per_h", "M/H", "beside so much at once"),
-                             ("place_cm", "CM", "a group's place may be off by so much"), ("place_percent", "N", "and so many percent of the way")):
+    check.add_argument("--json", action="store_true", help="print JSON")
+    for name, unit, told in (("path_cm", "CM", "tolerated error of a movement in cm"), ("path_percent", "N", "plus this percentage"),
+                             ("acceleration_cm_per_s2", "CM/S2", "greatest plausible change of speed in cm/s²"), ("jump_m_per_h", "M/H", "plus this step of speed in m/h"),
+                             ("place_cm", "CM", "tolerated error of a balise group's place in cm"), ("place_percent", "N", "plus this percentage of the distance")):
         usual = next(one.default for one in fields(plausible.Thresholds) if one.name == name)
-        check.add_argument(f"--{name.replace('_', '-')}", metavar=unit, type=int, default=usual, help=f"{told}; else {usual}")
+        check.add_argument(f"--{name.replace('_', '-')}", metavar=unit, type=int, default=usual, help=f"{told} (default: {usual})")
 
 
 def judge(told: argparse.Namespace) -> int:

@@ -1,20 +1,34 @@
 """A drive over the onboard unit itself: the library that `tools/library` makes, on an image in memory."""
+import functools
+import re
+from pathlib import Path
+
 from . import driving, program, scenarios
 from .drives import Drive, slots_for
+from .last_net import say
 from .program import DEVICE, REFUSED, Failed
 from .unit import Cold, Medium, MemoryMedium, Refused, Unit, library
 from .words import SCALES_CM
 
 
+UNPROVED = re.compile(rb"Gaknifur [^\0]{1,200}, unproved\0")
+"""What the file of a library has that tools/library --unproved made."""
+
+
+@functools.cache
 def check_library() -> None:
-    """The unit's library is there, and of the interface of this package."""
+    """The unit's library is there, and of the interface of this package. One that is unproved is named on standard error, once."""
     try:
-        library()
+        found = library()
     except OSError as error:
-        raise Failed(f"there is no library of the onboard unit ({error}); tools/library PREFIX makes it, and "
-                     "GAKNIFUR_ETCS_UNIT names its libetcs_unit.so", DEVICE) from error
+        raise Failed(f"can't load the library of the onboard unit ({error}). Make it by `tools/library --unproved PREFIX` (two to three "
+                     "minutes, without proof) or `tools/library PREFIX`, and name it by GAKNIFUR_ETCS_UNIT=PREFIX/lib/libetcs_unit.so",
+                     DEVICE) from error
     except (Refused, AttributeError) as error:
-        raise Failed(f"the library of the onboard unit is of another interface: {error}", DEVICE) from error
+        raise Failed(f"the library of the onboard unit has another interface: {error}", DEVICE) from error
+    file = Path(found._name)
+    if file.is_file() and UNPROVED.search(file.read_bytes()):
+        say(f"this run is unproved: {file} was compiled without proof")
 
 
 def over_image(data: bytes, scenario: scenarios.Scenario, drive: Drive) -> tuple[driving.Driven, bytes]:

@@ -79,7 +79,7 @@ def files(folder: Path) -> list[Path]:
     if folder.is_file():
         return [folder]
     if not folder.is_dir():
-        raise Failed(f"{folder}: there is no such folder", DEVICE)
+        raise Failed(f"{folder}: no such folder", DEVICE)
     return sorted(path for path in folder.rglob("*.yaml") if case_files.is_case_file(path.name))
 
 
@@ -89,7 +89,7 @@ def all_cases(folder: Path) -> list[Case]:
     for path in files(folder):
         for case in cases.read(path):
             if case.name in found:
-                raise case.at.fault(f"the test case \"{case.name}\" stands in {found[case.name].path} too")
+                raise case.at.fault(f"the test case \"{case.name}\" is in {found[case.name].path} too")
             found[case.name] = case
     return list(found.values())
 

@@ -60,7 +60,7 @@ def open_database(path: str | Path, images: Iterable[Path] = ()) -> sqlite3.Conn
         raise Failed(f"{path}: {error}", DEVICE) from error
     if version != VERSION:
         connection.close()
-        raise Failed(f"{path}: is no database of journals of version {VERSION}", REFUSED)
+        raise Failed(f"{path}: is not a database of journals of version {VERSION}", REFUSED)
     return connection
 
 

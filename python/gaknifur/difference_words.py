@@ -13,11 +13,11 @@ Word = Callable[[str, str, str], argparse.ArgumentParser]
 
 def add_words(word: Word) -> None:
     """Adds the word."""
-    diff = word("diff", "tells what changed between two images of one unit",
-                "Status 0 where both hold the same journal or B continues A, else 4.")
+    diff = word("diff", "compare two images of one unit",
+                "Status 0: both hold the same journal, or B continues A. Status 4: anything else.")
     diff.add_argument("a", metavar="A", type=Path, help="the image that was read first")
-    diff.add_argument("b", metavar="B", type=Path, help="the one that was read later")
-    diff.add_argument("--json", action="store_true", help="as JSON")
+    diff.add_argument("b", metavar="B", type=Path, help="the image that was read later")
+    diff.add_argument("--json", action="store_true", help="print JSON")
 
 
 def tell_difference(told: argparse.Namespace, progress: Progress) -> int:

@@ -14,16 +14,16 @@ Word = Callable[[str, str, str], argparse.ArgumentParser]
 
 def add_words(word: Word) -> None:
     """Adds the words."""
-    made = word("dissector", "writes a dissector in Lua, by which Wireshark takes telegrams apart",
+    made = word("dissector", "write a Wireshark dissector for telegrams, in Lua",
                 "Captures have the link type USER0 (147).")
-    made.add_argument("out", metavar="OUT.lua", nargs="?", type=Path, help="the file; else standard output")
-    made.add_argument("--force", action="store_true", help="write over files that lab made; nothing writes over others")
-    capture = word("capture", "writes the telegrams of a journal into a capture for Wireshark",
-                   "Its link type is USER0 (147).")
+    made.add_argument("out", metavar="OUT.lua", nargs="?", type=Path, help="output file (default: standard output)")
+    made.add_argument("--force", action="store_true", help="overwrite files that lab made (no option overwrites others)")
+    capture = word("capture", "write the telegrams of a journal as a capture for Wireshark",
+                   "The link type is USER0 (147).")
     capture.add_argument("image", metavar="IMAGE", type=Path)
     capture.add_argument("out", metavar="OUT.pcap", type=Path)
     capture.add_argument("--force", action="store_true",
-                         help="write over files that lab made; nothing writes over others")
+                         help="overwrite files that lab made (no option overwrites others)")
 
 
 def write_dissector(told: argparse.Namespace, progress: Progress) -> None:
@@ -42,7 +42,7 @@ def write_capture(told: argparse.Namespace, progress: Progress) -> int:
     journal = read(told.image, replay=True, progress=progress)
     data, count = dissector.capture(journal)
     if not count:
-        raise Failed(f"{told.image}: there is no telegram in the journal", REFUSED)
+        raise Failed(f"{told.image}: the journal has no telegram. Nothing was written.", REFUSED)
     files.write(out, data, [told.image])
     found = brief.faults(journal)
     if found:

@@ -22,16 +22,16 @@ COLUMNS = ("time_ms", "first_event", "event", "place_cm", "speed_m_per_h", "limi
 
 def add_words(word: Word) -> None:
     """Adds the word."""
-    drive = word("drive", "plays a train in a closed loop with the onboard unit, and tells what came of it",
-                 "The unit is the proved library that tools/library PREFIX makes; GAKNIFUR_ETCS_UNIT names its .so.")
+    drive = word("drive", "run a simulated train in a closed loop with the onboard unit",
+                 "The unit is the library that `tools/library PREFIX` makes; GAKNIFUR_ETCS_UNIT names its .so.")
     drive.add_argument("yaml", metavar="FILE.yaml", type=Path, help="a scenario with a drive")
-    drive.add_argument("--csv", metavar="OUT.csv", type=Path, help="a row for each time step")
-    drive.add_argument("--picture", metavar="OUT", type=Path, help="speed and limit over the place, .svg or .png")
-    drive.add_argument("--image", metavar="IMAGE", type=Path, help="the journal; a life more where the file is there")
-    drive.add_argument("--scenario", metavar="OUT.json", type=Path, help="what the unit was told, for etcs run")
-    drive.add_argument("--force", action="store_true", help="write over files that lab made; nothing writes over others")
-    drive.add_argument("--build-up", metavar="TIMES", help="a table in place of all that: the same drive with each of these "
-                       "build-up times of the brakes, as \"0 s, 1 s, 2 s\"")
+    drive.add_argument("--csv", metavar="OUT.csv", type=Path, help="write one row per time step")
+    drive.add_argument("--picture", metavar="OUT", type=Path, help="draw speed and limit over the place (.svg or .png)")
+    drive.add_argument("--image", metavar="IMAGE", type=Path, help="keep the journal here; an existing image gets one more life")
+    drive.add_argument("--scenario", metavar="OUT.json", type=Path, help="write the inputs of the unit as a scenario for `etcs run`")
+    drive.add_argument("--force", action="store_true", help="overwrite files that lab made (no option overwrites others)")
+    drive.add_argument("--build-up", metavar="TIMES", help="print instead a table of this drive with each of these brake "
+                       "build-up times, such as \"0 s, 1 s, 2 s\"")
 
 
 # ---- what is told
@@ -119,9 +119,9 @@ def on_file(path: Path, scenario: scenarios.Scenario, drive: Drive) -> driving.D
         with FileMedium(path) as medium:
             return on_medium(medium, scenario, drive)
     except FileExistsError as error:
-        raise files.refused(path, "is there since a moment ago; nothing writes over it") from error
+        raise files.refused(path, "was created by somebody else meanwhile; it is not overwritten") from error
     except BlockingIOError as error:
-        raise Failed(f"{path}: another program holds this image", DEVICE) from error
+        raise Failed(f"{path}: another program holds its lock. Nothing was changed.", DEVICE) from error
     except OSError as error:
         raise Failed(f"{path}: {error.strerror}", DEVICE) from error
 
@@ -134,7 +134,7 @@ def picture_kind(path: Path | None) -> files.Kind | None:
     if path is None:
         return None
     if path.suffix not in PICTURES:
-        raise Failed(f"a picture is a file .svg or .png, and not \"{path.suffix}\"", WRONG_WORDS)
+        raise Failed(f"--picture: the file name has to end in .svg or .png, not in \"{path.suffix}\"", WRONG_WORDS)
     return PICTURES[path.suffix]
 
 
@@ -170,7 +170,7 @@ def play_drive(given: argparse.Namespace, progress: Progress) -> None:
     check_library()
     scenario, drive = read(given.yaml)
     if drive is None:
-        raise Failed(f"{given.yaml}: has no drive", REFUSED)
+        raise Failed(f"{given.yaml}: has no `drive`", REFUSED)
     outs = outs_of(given)
     if given.build_up:
         return tell_build_ups(given.yaml, build_ups_of(given.build_up, drive), progress)

@@ -126,7 +126,7 @@ def percent(at: Value, text: str, least: int, most: int) -> Decimal:
     """A number of per cent."""
     found = PERCENT.fullmatch(text.strip())
     if not found or not least <= at.decimal(found[1]) <= most:
-        raise at.fault(f"a number from {least} to {most} with % is wanted here, and this is {at.told_by()}")
+        raise at.fault(f"expected a number from {least} to {most} with %, found {at.told_by()}")
     return scenarios.EXACT.divide(at.decimal(found[1]), Decimal(100))
 
 
@@ -139,13 +139,13 @@ def rates_of(at: Value, least: int) -> Rates:
     for number, one in enumerate(elements):
         parts = UP_TO.fullmatch(one.text())
         if (parts is None) != (number == len(elements) - 1):
-            raise one.fault("each rate but the last one is told with up to and a speed, as \"0.8 m/s2 up to 40 km/h\"")
+            raise one.fault("each rate except the last one needs `up to` and a speed, such as \"0.8 m/s2 up to 40 km/h\"")
         up_to = scenarios.quantity(parts[2], one, "speed", 1, scenarios.MOST_SPEED) if parts else scenarios.MOST_SPEED
         if found and up_to <= found[-1][0]:
-            raise one.fault("the speeds rise")
+            raise one.fault("the speeds have to rise")
         found.append((up_to, scenarios.quantity(parts[1] if parts else one.text(), one, "acceleration", least, MOST_ACCELERATION)))
     if not found:
-        raise at.fault("a list of rates has nothing in it")
+        raise at.fault("the list of rates is empty")
     return tuple(found)
 
 
@@ -157,10 +157,10 @@ def adhesion_of(at: Value) -> tuple[tuple[Decimal, int, int | None], ...]:
     for one in at.elements():
         parts = STRETCH.fullmatch(one.text())
         if parts is None:
-            raise one.fault("a share and a stretch are wanted here, as \"30 % from 400 m to 700 m\"")
+            raise one.fault("expected a share and a stretch, such as \"30 % from 400 m to 700 m\"")
         start, end = (scenarios.quantity(text, one, "distance", 0, scenarios.MOST_PLACE_CM) for text in (parts[2], parts[3]))
         if start >= end:
-            raise one.fault("a stretch begins before it ends")
+            raise one.fault("a stretch has to begin before it ends")
         found.append((percent(one, parts[1], 1, 100), start, end))
     return tuple(found)
 
@@ -197,7 +197,7 @@ def when_of(at: Value) -> When:
     """When a driver does something."""
     told = at.members((), WHEN)
     if not told:
-        raise at.fault(f"one of {', '.join(WHEN)} is wanted here")
+        raise at.fault(f"expected one of {', '.join(WHEN)}")
     return When(scenarios.told_quantity(told["place"], "distance", 0, scenarios.MOST_PLACE_CM) if "place" in told else None,
                 scenarios.told_quantity(told["time"], "time", 0, scenarios.MOST_MOMENT) if "time" in told else None,
                 told["mode"].one_of(MODES) if "mode" in told else None,
@@ -210,7 +210,7 @@ def act_of(at: Value) -> Act:
     told = at.members(("when",), ("after", "do", "heeds", *WITH_VALUE))
     what = [name for name in told if name not in ("when", "after")]
     if len(what) != 1:
-        raise at.fault(f"one of do, heeds, {', '.join(WITH_VALUE)} is wanted beside when")
+        raise at.fault(f"`when` needs one of do, heeds, {', '.join(WITH_VALUE)}")
     word, value = what[0], told[what[0]]
     when = when_of(told["when"])
     after = scenarios.told_quantity(told["after"], "time", 0, MOST_LASTS_MS) if "after" in told else 0
@@ -236,7 +236,7 @@ def drive_of(at: Value) -> Drive:
                   scenarios.told_quantity(told["lasts"], "time", 10, MOST_LASTS_MS),
                   "until" in told and told["until"].one_of([STANDSTILL]) == STANDSTILL)
     if drive.cycles > MOST_CYCLES:
-        raise told["lasts"].fault(f"this has {drive.cycles:,} time steps, and {MOST_CYCLES:,} are the most")
+        raise told["lasts"].fault(f"{drive.cycles:,} time steps are more than {MOST_CYCLES:,}")
     return drive
 
 

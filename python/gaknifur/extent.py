@@ -24,7 +24,7 @@ def bound(text: str) -> Bound:
     """The bound that a text tells: `120` is an event, `300m` a place, `20.5s` a moment."""
     found = FORM.fullmatch(text)
     if not found or (found[2] is None and "." in found[1]):
-        raise Failed(f"{text}: is neither an event (120) nor a place (300m) nor a moment (20.5s)", WRONG_WORDS)
+        raise Failed(f"{text}: not an event (120), a place (300m) or a moment (20.5s)", WRONG_WORDS)
     column, unit = UNITS[found[2]]
     return Bound(column, round(float(found[1]) * unit), text)
 

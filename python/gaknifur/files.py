@@ -119,7 +119,7 @@ def open_to_read(path: Path) -> BinaryIO:
     try:
         mode = os.fstat(descriptor).st_mode
         if not stat.S_ISREG(mode) and not stat.S_ISBLK(mode):
-            raise Failed(f"{path}: is no regular file and no device of blocks", DEVICE)
+            raise Failed(f"{path}: is neither a regular file nor a block device", DEVICE)
         lock(descriptor, is_shared=True)
         return open(descriptor, "rb")
     except BaseException as error:
@@ -129,7 +129,7 @@ def open_to_read(path: Path) -> BinaryIO:
         raise
 
 
-KINDS = ((stat.S_ISDIR, "a folder"), (stat.S_ISFIFO, "a named pipe (FIFO)"), (stat.S_ISCHR, "a device"), (stat.S_ISBLK, "a device of blocks"))
+KINDS = ((stat.S_ISDIR, "a folder"), (stat.S_ISFIFO, "a named pipe (FIFO)"), (stat.S_ISCHR, "a device"), (stat.S_ISBLK, "a block device"))
 """What isn't a regular file, as it is called."""
 TO_READ = os.O_RDONLY | getattr(os, "O_NONBLOCK", 0) | getattr(os, "O_CLOEXEC", 0) | getattr(os, "O_BINARY", 0)
 
@@ -165,13 +165,13 @@ def is_same(one: os.stat_result, other: os.stat_result) -> bool:
 def check_plain(path: Path, found: os.stat_result, inputs: Iterable[Path]) -> None:
     """What stands there is a regular file, none that is read here, and no image."""
     if not stat.S_ISREG(found.st_mode):
-        raise refused(path, "is there, and is no regular file")
+        raise refused(path, "exists and isn't a regular file")
     for one in inputs:
         read = standing(one)
         if read is not None and is_same(found, read):
-            raise refused(path, f"is {shown(one)} itself, which is read here")
+            raise refused(path, f"is the input file {shown(one)}")
     if bytes_of(path, len(IMAGE_MARK)) == IMAGE_MARK:
-        raise refused(path, "holds a journal, and nothing writes over that")
+        raise refused(path, "holds a journal, which is never overwritten")
 
 
 def check(out: Out, inputs: Iterable[Path] = ()) -> os.stat_result | None:
@@ -181,11 +181,11 @@ def check(out: Out, inputs: Iterable[Path] = ()) -> os.stat_result | None:
         return None
     check_plain(path, found, inputs)
     if not out.kind.is_own(bytes_of(path, None if out.kind.is_whole else FIRST_BYTES)):
-        raise refused(path, f"is there, and is not {out.kind.name} that lab made; nothing writes over it")
+        raise refused(path, f"exists and is not {out.kind.name} that lab made; it is never overwritten")
     if not out.is_forced:
-        raise refused(path, "is there; --force writes over what lab made")
+        raise refused(path, "already exists; --force overwrites what lab made")
     if not found.st_mode & 0o222:
-        raise refused(path, "is there, and nobody may write to it")
+        raise refused(path, "exists and is write-protected")
     return found
 
 
@@ -196,7 +196,7 @@ def check_all(outs: Iterable[Out], inputs: Iterable[Path] = (), others: Iterable
         check(out, inputs)
         real = os.path.realpath(out.path)
         if real in seen:
-            raise refused(out.path, "is told twice; each file has a name of its own")
+            raise refused(out.path, "is named twice; each output needs a file of its own")
         seen.add(real)
 
 
@@ -207,7 +207,7 @@ def write(out: Out, data: str | bytes | Iterable[str], inputs: Iterable[Path] = 
     try:
         put(Path(os.path.realpath(out.path)), (part if isinstance(part, bytes) else part.encode() for part in parts), before)
     except FileExistsError as error:
-        raise refused(out.path, "is there since a moment ago; nothing writes over it") from error
+        raise refused(out.path, "was created by somebody else meanwhile; it is not overwritten") from error
     except OSError as error:
         raise Failed(f"{out.path}: {error.strerror}", DEVICE) from error
 
@@ -244,12 +244,12 @@ def put(path: Path, data: Iterable[bytes], before: os.stat_result | None) -> Non
 def new_file(path: Path) -> Iterator[BinaryIO]:
     """A file that nothing stands in the place of, whole or not at all, for what memory needn't hold at once."""
     if standing(path) is not None or path.is_symlink():
-        raise refused(path, "is there; a file that isn't there yet is made")
+        raise refused(path, "already exists; name a new file")
     try:
         with filled(Path(os.path.realpath(path))) as file:
             yield file
     except FileExistsError as error:
-        raise refused(path, "is there since a moment ago; nothing writes over it") from error
+        raise refused(path, "was created by somebody else meanwhile; it is not overwritten") from error
     except OSError as error:
         raise Failed(f"{path}: {error.strerror}", DEVICE) from error
 
@@ -301,7 +301,7 @@ def new_folder(path: Path, names: Collection[str]) -> Iterator[Path]:
     """A folder that is filled next to its name, and takes the name once all in it is whole and synced. Nothing may have the name. Where it
     can't be filled, nothing of it stays; what a run left that was killed is removed first. `names` are those of the files that it may have."""
     if standing(path) is not None or path.is_symlink():
-        raise refused(path, "is there; a folder that isn't there yet is made")
+        raise refused(path, "already exists; name a new folder")
     real = Path(os.path.realpath(path))
     remove_left(real.parent, names)
     try:
@@ -316,7 +316,7 @@ def new_folder(path: Path, names: Collection[str]) -> Iterator[Path]:
                 rename_new(beside, real)
             except OSError as error:
                 if error.errno in (errno.EEXIST, errno.ENOTEMPTY, errno.ENOTDIR):
-                    raise refused(path, "is there since a moment ago; nothing takes its place") from error
+                    raise refused(path, "was created by somebody else meanwhile; it is not replaced") from error
                 raise
             sync_folder(real.parent)
     except OSError as error:
@@ -376,7 +376,7 @@ def remove_one_left(path: Path, names: Collection[str]) -> None:
         plain, others = evidence.names_in(path)
         if os.fstat(descriptor).st_uid == os.geteuid() and set(others) <= folders_of(names) and set(plain) <= set(names):
             shutil.rmtree(path)
-            say(f"{path}: removed; a run that was killed had left it unfinished")
+            say(f"{path}: removed, since it was the unfinished output of a run that was killed")
     except (OSError, Failed, evidence.Unfit):
         pass
     finally:
@@ -415,7 +415,7 @@ class Appended:
             self.is_in_doubt = False
             """Whether a sync failed since the last good one. What was appended since is at `kept`."""
             if self.read(0, len(first)) != first:
-                raise refused(path, f"is there, and is not {name}")
+                raise refused(path, f"exists and is not {name}")
         except BaseException as error:
             self.close()
             if isinstance(error, BlockingIOError):
@@ -525,7 +525,7 @@ def check_database(path: Path, kind: Database, inputs: Iterable[Path] = ()) -> b
         return False
     check_plain(path, found, inputs)
     if not kind.is_own(bytes_of(path, SQLITE_ID.stop)):
-        raise refused(path, f"is there, and is not {kind.name} that lab made")
+        raise refused(path, f"exists and is not {kind.name} that lab made")
     return True
 
 
@@ -552,5 +552,5 @@ def open_database(path: Path, kind: Database, fill: Callable[[sqlite3.Connection
 def read_database(path: Path, kind: Database) -> sqlite3.Connection:
     """The database in a file, to be read alone."""
     if not check_database(path, kind):
-        raise Failed(f"{path}: there is no such file", DEVICE)
+        raise Failed(f"{path}: no such file", DEVICE)
     return sqlite3.connect(address(path, "ro"), uri=True, timeout=WAIT_SECONDS)

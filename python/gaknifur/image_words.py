@@ -15,56 +15,56 @@ Word = Callable[[str, str, str], argparse.ArgumentParser]
 
 def add_words(word: Word) -> None:
     """Adds the words."""
-    table = word("table", "prints a row for each record of the journal, as CSV",
-                 "Units stand in the names of the columns; nothing stands where nothing is known.")
+    table = word("table", "print one row per journal record as CSV, or write a workbook",
+                 "Column names end in their units. Unknown values are empty.")
     table.add_argument("image", metavar="IMAGE", type=Path)
     table.add_argument("out", metavar="OUT.csv|OUT.xlsx", nargs="?", type=Path,
-                       help="the file, a workbook where its name ends in .xlsx; else standard output")
+                       help="output file; .xlsx makes a workbook (default: CSV on standard output)")
     which = table.add_mutually_exclusive_group()
     add_all(which)
     add_times(table)
-    which.add_argument("--damaged", action="store_true", help="in place of these the records of blocks that are damaged or in "
-                       "a wrong slot, each with its slot and byte; nothing else vouches for them")
+    which.add_argument("--damaged", action="store_true", help="print instead the records of damaged or misplaced blocks, each with "
+                       "its slot and byte; nothing else confirms them")
     add_force(table)
-    line = word("timeline", "writes the events for other programs: Timesketch's CSV, or JSON Lines",
-                "Of OUT.csv each event has a time of day, by marks beside the journal; OUT.jsonl has all events.")
+    line = word("timeline", "write the events for other programs, as CSV for Timesketch or as JSON Lines",
+                "OUT.csv has the events with a time of day, which marks next to the journal give; OUT.jsonl has all events.")
     line.add_argument("image", metavar="IMAGE", type=Path)
-    line.add_argument("out", metavar="OUT.csv|OUT.jsonl", nargs="?", type=Path, help="the file; else JSON Lines on standard output")
+    line.add_argument("out", metavar="OUT.csv|OUT.jsonl", nargs="?", type=Path, help="output file (default: JSON Lines on standard output)")
     add_times(line)
     add_force(line)
-    data = word("database", "adds images to an SQLite database",
-                "A database that isn't there is made. An image that is in it already, by its SHA-256, is left as it is.")
+    data = word("database", "add images to an SQLite database",
+                "The database is created if it does not exist. An image that it already contains (by SHA-256) stays as it is.")
     data.add_argument("images", metavar="IMAGE", nargs="+", type=Path)
     data.add_argument("out", metavar="OUT.db", type=Path)
     add_all(data)
     add_times(data)
-    page = word("report", "writes a page with charts into one HTML file",
-                "The page asks nothing of the network and has no script.")
+    page = word("report", "write a report with charts as one HTML file",
+                "The page has no script and loads nothing from the network.")
     page.add_argument("image", metavar="IMAGE", type=Path)
     page.add_argument("out", metavar="OUT.html", type=Path)
-    page.add_argument("--from", dest="first", metavar="WHERE", help="an event (120), a place (300m), a moment (20.5s)")
-    page.add_argument("--to", dest="last", metavar="WHERE", help="the same")
-    page.add_argument("--life", metavar="N", type=int, help="this life alone")
+    page.add_argument("--from", dest="first", metavar="WHERE", help="start at this event (120), place (300m) or moment (20.5s)")
+    page.add_argument("--to", dest="last", metavar="WHERE", help="end at this event, place or moment")
+    page.add_argument("--life", metavar="N", type=int, help="report only this power cycle (life)")
     add_force(page)
     add_times(page)
-    page.add_argument("--newest-first", action="store_true", help="the lives from the last one to the first")
+    page.add_argument("--newest-first", action="store_true", help="list the lives from the last to the first")
 
 
 def add_all(parser: argparse._ActionsContainer) -> None:
     """The word for other blocks."""
     parser.add_argument("--all", action="store_true", dest="other_blocks",
-                        help="also the records of readable blocks that aren't of the journal; `source` tells them apart")
+                        help="include readable blocks outside the journal; column `source` marks them")
 
 
 def add_times(parser: argparse.ArgumentParser) -> None:
     """The words for marks of the time of day."""
-    parser.add_argument("--times", metavar="FILE", type=Path, help="marks of the time of day; else IMAGE.times, where it is there")
-    parser.add_argument("--drift", metavar="PPM", type=int, help="by how many millionths the unit's clock runs off at most; else 100")
+    parser.add_argument("--times", metavar="FILE", type=Path, help="marks of the time of day (default: IMAGE.times, if it exists)")
+    parser.add_argument("--drift", metavar="PPM", type=int, help="maximum clock drift in ppm (default: 100)")
 
 
 def add_force(parser: argparse.ArgumentParser) -> None:
     """The word for files that are there."""
-    parser.add_argument("--force", action="store_true", help="write over files that lab made; nothing writes over others")
+    parser.add_argument("--force", action="store_true", help="overwrite files that lab made (no option overwrites others)")
 
 
 def note(journal: Journal, is_judged: bool = False) -> int:
@@ -108,7 +108,7 @@ def out_of(told: argparse.Namespace, kind: files.Kind, source: Path) -> files.Ou
 def write_table(told: argparse.Namespace, progress: Progress) -> int:
     """The word `table`. (pandas, and matplotlib of a report, take a second to load, which other words needn't.)"""
     if told.out is not None and told.out.suffix == ".parquet":
-        raise Failed(f"{told.out}: no Parquet is written, since Debian has no package for it; name it .csv or .xlsx",
+        raise Failed(f"{told.out}: Parquet isn't supported; use a name that ends in .csv or .xlsx",
                      WRONG_WORDS)
     is_book = told.out is not None and told.out.suffix == ".xlsx"
     if is_book and not find_spec("openpyxl"):
@@ -127,7 +127,7 @@ def write_table(told: argparse.Namespace, progress: Progress) -> int:
 def write_timeline(told: argparse.Namespace, progress: Progress) -> int:
     """The word `timeline`."""
     if told.out is not None and told.out.suffix not in (".csv", ".jsonl"):
-        raise Failed(f"{told.out}: its name ends in .csv or .jsonl", WRONG_WORDS)
+        raise Failed(f"{told.out}: the name has to end in .csv or .jsonl", WRONG_WORDS)
     out = out_of(told, files.TIMELINE, told.image)
     journal = read(told.image, replay=True, progress=progress)
     take_times(journal, told)
@@ -146,7 +146,7 @@ def write_database(told: argparse.Namespace, progress: Progress) -> int:
     """The word `database`."""
     from . import database, tables
     if told.times is not None and len(told.images) > 1:
-        raise Failed("--times is of one image; the others have their marks beside them", WRONG_WORDS)
+        raise Failed("--times works with one image only; for more, put IMAGE.times next to each image", WRONG_WORDS)
     connection, status = database.open_database(told.out, told.images), 0
     try:
         for image in told.images:

@@ -15,13 +15,13 @@ from .course import DRIVE, Life, of_case, played, scenario_of
 from .last_net import say
 from .located import Value, document
 from .messages import Known, walk
-from .program import DEVICE, REFUSED, Failed, Run
+from .program import DEVICE, FOUND, REFUSED, Failed, Run
 from .reading import Json, Progress, parsed
 from .shown import shown
 from .track_checks import Finding, Judged
 
 Word = Callable[[str, str, str], argparse.ArgumentParser]
-FOUND = 1
+
 
 
 @dataclass(frozen=True)
@@ -217,11 +217,11 @@ def paths_of(path: Path) -> list[Path]:
     """A file; of a folder all files of cases, and the scenarios in JSON that none of them names."""
     if not path.is_dir():
         if not path.exists():
-            raise Failed(f"{path}: there is no such file", DEVICE)
+            raise Failed(f"{path}: no such file", DEVICE)
         return [path]
     found, others = case_files.below(path)
     if not found and not others:
-        raise Failed(f"{path}: has no test case and no scenario", DEVICE)
+        raise Failed(f"{path}: contains no test case and no scenario", DEVICE)
     return [path / name for name in (*found, *others)]
 
 
@@ -229,13 +229,13 @@ def paths_of(path: Path) -> list[Path]:
 
 def add_words(word: Word) -> None:
     """Adds the word."""
-    lint = word("lint", "tells what is wrong or weak in a track and the steps on it, by the items of docs/SAFETY.md",
-                "0 nothing is found, 1 something is. It has what etcs_lab lint tells, and then each check. A case says with "
-                "`shows` which items it is there to show.")
+    lint = word("lint", "list faults and weak points of scenarios and test cases",
+                "Runs `etcs_lab lint` and then the checks of docs/SAFETY.md. A case that is meant to show an item lists it under `shows`. "
+                "Status 4: something was found.")
     lint.add_argument("paths", metavar="FILE", nargs="+", type=Path, help="a scenario in JSON or YAML, test cases, or a folder")
-    lint.add_argument("--json", action="store_true", help="an object a line")
-    lint.add_argument("--without", metavar="ITEM", action="append", default=[], help="not this item, as it was gone through "
-                      f"elsewhere: {cases.ADVICE}, {', '.join(map(str, track_checks.ITEMS))}")
+    lint.add_argument("--json", action="store_true", help="print one JSON object per line")
+    lint.add_argument("--without", metavar="ITEM", action="append", default=[], help="skip this check: "
+                      f"{cases.ADVICE}, {', '.join(map(str, track_checks.ITEMS))}")
 
 
 def check_items(items: list[str]) -> None:
@@ -243,13 +243,13 @@ def check_items(items: list[str]) -> None:
     known = {cases.ADVICE, *map(str, track_checks.ITEMS)}
     for one in items:
         if one not in known:
-            raise Failed(f"--without {one}: no check has this item", 2)
+            raise Failed(f"--without {one}: no such check; lab lint --help lists them", 2)
 
 
 def lint(told: argparse.Namespace, progress: Progress) -> int:
     """The word `lint`."""
     check_items(told.without)
-    status = 0
+    found = refused = False
     paths = [path for one in told.paths for path in paths_of(one)]
     for done, path in enumerate(paths):
         progress("lint", done, len(paths))
@@ -257,15 +257,15 @@ def lint(told: argparse.Namespace, progress: Progress) -> int:
             for subject in of_file(path):
                 for line in kept_lines(subject, list(lines_of(subject))):
                     if line.item not in told.without:
-                        status = FOUND
+                        found = True
                         sys.stdout.write((line.as_json() if told.json else line.for_people()) + "\n")
         except Failed as failed:
             if failed.status != REFUSED:
                 raise
-            status = FOUND
+            refused = True
             say(str(failed))
     sys.stdout.flush()
-    return status
+    return REFUSED if refused else FOUND if found else 0
 
 
 WORDS: dict[str, Callable[[argparse.Namespace, Progress], Any]] = {"lint": lint}

@@ -46,7 +46,7 @@ def guess(word: str, words: Iterable[str]) -> str:
     """What a wrong word may have been, and the words that there are."""
     there = sorted(words)
     near = difflib.get_close_matches(word, there, 1)
-    return (f"is \"{near[0]}\" meant? " if near else "") + f"there are: {', '.join(there)}"
+    return (f"did you mean \"{near[0]}\"? " if near else "") + f"known: {', '.join(there)}"
 
 
 @dataclass(frozen=True)
@@ -104,40 +104,40 @@ class Value:
         """A text that isn't empty."""
         if isinstance(self.node, yaml.ScalarNode) and self.node.value:
             return str(self.node.value)
-        raise self.fault(f"a text is wanted here, and this is {self.told_by()}")
+        raise self.fault(f"expected a text, found {self.told_by()}")
 
     def number(self) -> Decimal:
         """A number, perhaps with decimals."""
         text = self.node.value if isinstance(self.node, yaml.ScalarNode) else ""
         if not NUMBER.fullmatch(text):
-            raise self.fault(f"a number is wanted here, and this is {self.told_by()}")
+            raise self.fault(f"expected a number, found {self.told_by()}")
         return self.decimal(text)
 
     def decimal(self, text: str) -> Decimal:
         """The number of some digits that stand here, which are no more than are reckoned with."""
         if sum(one.isdigit() for one in text) > MOST_DIGITS:
-            raise self.fault(f"a number has at most {MOST_DIGITS} digits, and this is {self.told_by()}")
+            raise self.fault(f"expected a number of at most {MOST_DIGITS} digits, found {self.told_by()}")
         return Decimal(text.replace("_", ""))
 
     def integer(self, least: int, most: int) -> int:
         """A whole number within limits."""
         number = self.number()
         if number != int(number) or not least <= number <= most:
-            raise self.fault(f"a whole number from {least:,} to {most:,} is wanted here, and this is {self.told_by()}")
+            raise self.fault(f"expected a whole number from {least:,} to {most:,}, found {self.told_by()}")
         return int(number)
 
     def truth(self) -> bool:
         """`true` or `false`, and no other word."""
         text = self.node.value if isinstance(self.node, yaml.ScalarNode) else ""
         if text not in ("true", "false"):
-            raise self.fault(f"true or false is wanted here, and this is {self.told_by()}")
+            raise self.fault(f"expected true or false, found {self.told_by()}")
         return bool(text == "true")
 
     def one_of(self, words: Iterable[str]) -> str:
         """One of some words."""
         text, words = self.text(), list(words)
         if text not in words:
-            raise self.fault(f"\"{shortened(text)}\" can't stand here; {guess(text[:MOST_SHOWN], words)}")
+            raise self.fault(f"\"{shortened(text)}\" is not allowed here; {guess(text[:MOST_SHOWN], words)}")
         return text
 
     def file(self) -> Path:
@@ -150,13 +150,13 @@ class Value:
             why = error.strerror if isinstance(error, OSError) else "a character of it can't be in a name"
             raise self.fault(f"\"{shortened(text)}\" names no file: {why}") from None
         if not is_there:
-            raise self.fault(f"there is no file {shortened(str(path))}")
+            raise self.fault(f"no such file: {shortened(str(path))}")
         return path
 
     def elements(self) -> list["Value"]:
         """The elements of a list."""
         if not isinstance(self.node, yaml.SequenceNode):
-            raise self.fault(f"a list is wanted here, and this is {self.told_by()}")
+            raise self.fault(f"expected a list, found {self.told_by()}")
         return [Value(self.path, node) for node in self.node.value]
 
     def below(self, names: Iterable[str]) -> Iterator["Value"]:
@@ -177,12 +177,12 @@ class Value:
     def entries(self) -> dict[str, "Value"]:
         """Names with values."""
         if not isinstance(self.node, yaml.MappingNode):
-            raise self.fault(f"names with values are wanted here, and this is {self.told_by()}")
+            raise self.fault(f"expected names with values, found {self.told_by()}")
         found: dict[str, Value] = {}
         for key, value in self.node.value:
             name = Value(self.path, key).text()
             if name in found:
-                raise Value(self.path, key).fault(f"\"{shortened(name)}\" stands twice, first in line {found[name].line}")
+                raise Value(self.path, key).fault(f"\"{shortened(name)}\" is given twice, first in line {found[name].line}")
             found[name] = Value(self.path, value)
         return found
 
@@ -226,10 +226,10 @@ def check(path: Path, node: yaml.Node, sizes: dict[int, int]) -> int:
         return sizes[id(node)]
     value = Value(path, node)
     if node.tag not in PLAIN_TAGS:
-        raise value.fault(f"the tag {shortened(node.tag)} can't stand here")
+        raise value.fault(f"the tag {shortened(node.tag)} is not allowed")
     inner: list[yaml.Node] = []
     if isinstance(node, yaml.ScalarNode) and any("\ud800" <= one <= "\udfff" for one in node.value):
-        raise value.fault("half a character (a lone surrogate) can't stand here")
+        raise value.fault("half a character (a lone surrogate) is not allowed")
     if isinstance(node, yaml.SequenceNode):
         inner = node.value
     if isinstance(node, yaml.MappingNode):
@@ -248,7 +248,7 @@ def text_of(path: Path) -> str:
     except OSError as error:
         raise Failed(f"{path}: {error.strerror}", DEVICE) from error
     except ValueError as error:
-        raise Failed(f"{on_a_line(str(path))}: is no name of a file", DEVICE) from error
+        raise Failed(f"{on_a_line(str(path))}: is not a file name", DEVICE) from error
     if len(data) > MOST_BYTES:
         raise Failed(f"{path}: has more than {MOST_BYTES:,} bytes", REFUSED)
     try:
@@ -265,7 +265,7 @@ def at_end_of(path: Path, before: str, said: str) -> BadFile:
 
 def at_mark(path: Path, mark: Any, said: object) -> BadFile:
     """What is no YAML, at a mark of its reader."""
-    return BadFile(path, mark.line + 1 if mark else 1, mark.column + 1 if mark else 1, f"this is no YAML: {said}")
+    return BadFile(path, mark.line + 1 if mark else 1, mark.column + 1 if mark else 1, f"not YAML: {said}")
 
 
 def documents(path: Path) -> list[Value]:
@@ -280,7 +280,7 @@ def documents(path: Path) -> list[Value]:
     except yaml.MarkedYAMLError as error:
         raise at_mark(path, error.problem_mark or error.context_mark, error.problem or error.context) from error
     except yaml.reader.ReaderError as error:
-        said = f"this is no YAML: the character U+{ord(text[error.position]):04X} can't stand here"
+        said = f"not YAML: the character U+{ord(text[error.position]):04X} is not allowed"
         raise at_end_of(path, text[:error.position], said) from error
     except (yaml.YAMLError, ValueError, OverflowError) as error:  # of a number that is no character's, among others
         said = " ".join(str(error).split()) if isinstance(error, yaml.YAMLError) else "there is no such character"
@@ -295,7 +295,7 @@ def document(path: Path) -> Value:
     """The one document of a file."""
     found = documents(path)
     if not found:
-        raise BadFile(path, 1, 1, "one document is wanted, and there is none")
+        raise BadFile(path, 1, 1, "the file is empty; one document is needed")
     if len(found) > 1:
-        raise found[1].fault(f"one document is wanted, and there are {len(found)}")
+        raise found[1].fault(f"expected one document, found {len(found)}")
     return found[0]

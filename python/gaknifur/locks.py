@@ -11,6 +11,6 @@ except ImportError:
 def lock(descriptor: int, is_shared: bool = False) -> None:
     """Takes the lock of an open file. Where another program has it, that is a `BlockingIOError`."""
     if fcntl is None:
-        raise Failed("this system has no locks of files (flock), and lab opens images, archives and databases under a lock only; "
+        raise Failed("this system has no file locks (flock), which lab needs to open images, archives and databases; "
                      "run it on Linux", DEVICE)
     fcntl.flock(descriptor, (fcntl.LOCK_SH if is_shared else fcntl.LOCK_EX) | fcntl.LOCK_NB)

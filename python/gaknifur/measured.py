@@ -91,7 +91,7 @@ def read(path: Path) -> ByCase:
     except OSError as error:
         raise Failed(f"{path}: {error.strerror}", DEVICE) from error
     except (ValueError, KeyError, TypeError, AttributeError) as error:
-        raise Failed(f"{path}: is no file of what cases reach, as lab test --reached makes it", REFUSED) from error
+        raise Failed(f"{path}: is not a file that `lab test --reached` made", REFUSED) from error
 
 
 # ---- floors

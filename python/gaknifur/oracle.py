@@ -48,7 +48,7 @@ class Asked:
 def ask(command: str, name: str, records: list[Json], within_s: float) -> Asked:
     """Puts the events of a journal to a unit, from the first one of the first life on."""
     if records and (records[0]["event"], records[0]["kind"]) != (0, "powerup"):
-        raise Failed(f"{name}: the journal has lost its beginning, so no other unit can be asked; it needs more slots",
+        raise Failed(f"{name}: the journal has lost its beginning, so another unit can't be compared; make the image with more slots",
                      REFUSED)
     asked = Asked(records)
     with OtherUnit(command, within_s) as unit:

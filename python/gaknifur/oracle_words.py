@@ -17,28 +17,29 @@ MOST_WITHIN_S = 3_600.0
 
 def add_words(word: Word) -> None:
     """Adds the words."""
-    word("serve", "answers events on the standard streams as the proved unit does, by the protocol of docs/ORACLE.md",
-         "The unit is the library that tools/library PREFIX makes; GAKNIFUR_ETCS_UNIT names its .so.")
+    word("serve", "run the onboard unit as a server on standard input and output",
+         "It speaks the protocol of docs/ORACLE.md. The unit is the library that `tools/library PREFIX` makes; "
+         "GAKNIFUR_ETCS_UNIT names its .so.")
     against = word("against",
-                   "puts the events of a journal to another unit, and compares its answers with the journal's",
-                   "0 nothing differs   4 something differs, or the unit broke the protocol.")
+                   "replay a journal against another unit and compare the answers",
+                   "Status 4: an answer differs, or the unit broke the protocol.")
     against.add_argument("image", metavar="IMAGE", type=Path)
     against.add_argument("command", metavar="COMMAND",
-                         help="a program with its words, that speaks the protocol of docs/ORACLE.md")
-    against.add_argument("--json", action="store_true", help="each line as an object")
+                         help="a command with its arguments that speaks the protocol of docs/ORACLE.md")
+    against.add_argument("--json", action="store_true", help="print one JSON object per line")
     add_within(against)
 
 
 def add_within(parser: argparse.ArgumentParser) -> None:
     """The word for the time that another unit has."""
     parser.add_argument("--answer-within", metavar="SECONDS", type=float, default=WITHIN_S,
-                        help=f"how long another unit has for each answer; else {WITHIN_S:g}")
+                        help=f"time limit for each answer of the other unit (default: {WITHIN_S:g})")
 
 
 def within_of(seconds: float) -> float:
     """The time that is told."""
     if not 0 < seconds <= MOST_WITHIN_S:
-        raise Failed(f"--answer-within: more than 0 and at most {MOST_WITHIN_S:g} s", WRONG_WORDS)
+        raise Failed(f"--answer-within: has to be more than 0 and at most {MOST_WITHIN_S:g} s", WRONG_WORDS)
     return seconds
 
 
@@ -53,7 +54,7 @@ def against(told: argparse.Namespace, progress: Progress) -> int:
     words_of(told.command)
     journal = read(told.image, progress=progress)
     if not journal.is_whole or not journal.records:
-        raise Failed(f"{told.image}: the journal isn't whole, or is empty, so no other unit is asked", REFUSED)
+        raise Failed(f"{told.image}: the journal is damaged or empty, so the other unit was not started", REFUSED)
     asked = oracle.ask(told.command, journal.name, list(journal.records), within_s)
     for line in oracle.lines(asked):
         sys.stdout.write(line_of(line.told) if told.json else line.text + "\n")

@@ -41,7 +41,7 @@ def words_of(command: str) -> list[str]:
     except ValueError as error:
         raise Failed(f"--against: {error}", WRONG_WORDS) from None
     if not words:
-        raise Failed("--against: a command is wanted", WRONG_WORDS)
+        raise Failed("--against: a command is missing", WRONG_WORDS)
     return words
 
 

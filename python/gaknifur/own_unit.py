@@ -94,7 +94,7 @@ class OwnUnit:
         if event["kind"] == "powerup":
             return self.power_up(event["word"])
         if self.unit is None:
-            raise Failed(f"event {event['event']}: there was no power-up before it", REFUSED)
+            raise Failed(f"event {event['event']}: the first event has to be a power-up", REFUSED)
         self.take(self.unit, event)
         output, = self.unit.flush()
         state = self.unit.state()

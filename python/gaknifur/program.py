@@ -19,6 +19,8 @@ from pathlib import Path
 from . import layout
 
 WHOLE, REFUSED, WRONG_WORDS, DEVICE, NOT_WHOLE = range(5)
+FOUND = NOT_WHOLE
+"""The exit statuses, which mean the same in each program (docs/REFUSALS.md, Exit statuses). 4 is a finding, of an image or of anything else."""
 MEMORY, MANY, MOST_COPIED = Path("/dev/shm"), 64, 256
 """The folder that Linux keeps in memory; how many images it has room for, where it is taken for one; and the greatest number of
 slots of an image that is copied."""
@@ -57,7 +59,7 @@ def script(name: str) -> Path:
         return found
     if on_path := shutil.which(name):
         return Path(on_path).resolve()
-    raise Failed(f"there is no {name} beside this package and none on the PATH; GAKNIFUR_{name.upper()} may name it", DEVICE)
+    raise Failed(f"{name} is missing, next to this package and on the PATH; GAKNIFUR_{name.upper()} can name it", DEVICE)
 
 
 @functools.cache
@@ -76,7 +78,7 @@ def tried(script: Path) -> Path:
     error."""
     done = subprocess.run([script, "--tried"], stdin=subprocess.DEVNULL, stdout=subprocess.PIPE)
     if done.returncode:
-        raise Failed(f"there is no {script.name} that can be run", DEVICE)
+        raise Failed(f"{script.name} can't be run, as the lines above say", DEVICE)
     return Path(os.fsdecode(done.stdout.removesuffix(b"\n")))
 
 
@@ -112,22 +114,21 @@ def find(name: str = "etcs_lab") -> str:
     return str(proved(script(name)) or tried(script(name)))
 
 
-def is_proved(name: str) -> bool:
-    """Whether a program is named, or there is a proved one of these sources."""
-    return bool(os.environ.get(f"GAKNIFUR_{name.upper()}")) or proved(script(name)) is not None
-
-
 @functools.cache
-def reader_is_proved() -> bool | None:
-    """Whether the `etcs_lab` that reads images is the proved one of these sources; None where the environment names another one, of
-    which nothing says it."""
-    if not (told := os.environ.get("GAKNIFUR_ETCS_LAB")):
-        return proved(script("etcs_lab")) is not None
+def proof(name: str) -> bool | None:
+    """Whether a program is the proved one of these sources; None where the environment names another one, of which nothing is known."""
+    if not (named := os.environ.get(f"GAKNIFUR_{name.upper()}")):
+        return proved(script(name)) is not None
     try:
-        own = proved(script("etcs_lab"))
-        return True if own is not None and os.path.samefile(own, told) else None
+        own = proved(script(name))
+        return True if own is not None and os.path.samefile(own, named) else None
     except (Failed, OSError):
         return None
+
+
+def reader_is_proved() -> bool | None:
+    """The same of the `etcs_lab` that reads images."""
+    return proof("etcs_lab")
 
 
 PROOF = {True: "etcs_lab is proved", False: "etcs_lab is not proved: it was compiled without a proof",
@@ -138,13 +139,6 @@ PROOF = {True: "etcs_lab is proved", False: "etcs_lab is not proved: it was comp
 def reader() -> str:
     """By what an image is read: the version and the commit, and whether `etcs_lab` is proved."""
     return f"gaknifur {version()}; {PROOF[reader_is_proved()]}"
-
-
-def built(name: str) -> Path:
-    """The file of a program that is named or proved. Another one is refused."""
-    if not is_proved(name):
-        raise Failed(f"there is no proved {name} of these sources; ./{name} --prove makes it", REFUSED)
-    return Path(find(name))
 
 
 @dataclass(frozen=True)

@@ -153,7 +153,7 @@ def condition(at: Value, with_more: bool) -> Condition:
     """A condition of a property."""
     told = at.members((), (*CONDITION, *(MORE if with_more else ())))
     if not told:
-        raise at.fault("a condition has at least one name")
+        raise at.fault("a condition needs at least one name")
     return Condition(at, {name: packet_test(value) if name == "packet" else test_of(name, value) for name,
                           value in told.items()})
 
@@ -162,7 +162,7 @@ def within_of(at: Value, told: dict[str, Value]) -> tuple[str, int] | None:
     """Within how much a record leads to another one."""
     found = [word for word in WITHIN if word in told]
     if ("leads_to" in told) != (len(found) == 1):
-        raise at.fault(f"leads_to stands with one of {', '.join(WITHIN)}, and no other word does")
+        raise at.fault(f"`leads_to` needs one of {', '.join(WITHIN)}, and nothing else takes one")
     return (found[0], told[found[0]].integer(0, MOST_WITHIN)) if found else None
 
 
@@ -171,12 +171,12 @@ def property_of(at: Value) -> Property:
     told = at.members(("note",), ("sections", "law", "unjudged", *CHOOSES, *REQUIRES, *WITHIN))
     found = [word for word in REQUIRES if word in told]
     if len(found) != 1:
-        raise at.fault(f"one of {', '.join(REQUIRES)} is wanted")
+        raise at.fault(f"expected one of {', '.join(REQUIRES)}")
     requires = found[0]
     if "until" in told and "since" not in told:
-        raise told["until"].fault("until stands behind since")
+        raise told["until"].fault("`until` needs `since`")
     if requires == "preceded_by" and "where" not in told:
-        raise at.fault("preceded_by stands with where")
+        raise at.fault("`preceded_by` needs `where`")
     is_before = requires == "preceded_by"
     chooses = {word: condition(told[word], not (is_before and word == "where")) for word in CHOOSES if word in told}
     law, unjudged = (told[name].text() if name in told else None for name in ("law", "unjudged"))
@@ -202,8 +202,8 @@ def read(path: Path) -> Told:
     told = at.members(("search", "properties"), ("scenarios", *scenarios.SHARED))
     found = [property_of(one) for one in told["properties"].elements()]
     if not found:
-        raise told["properties"].fault("there is no property")
+        raise told["properties"].fault("the list of properties is empty")
     for number, one in enumerate(found):
         if one.note in [other.note for other in found[:number]]:
-            raise one.at.fault("this note stands twice")
+            raise one.at.fault("this note is given twice")
     return Told(path, told["search"].text(), told.get("scenarios"), scenarios.shared_of(told, path), found)

@@ -154,9 +154,9 @@ def parsed(line: str, what: str) -> Json:
     try:
         told = json.loads(line)
     except ValueError as error:
-        raise Failed(f"etcs_lab {what} told a line that is no JSON", REFUSED) from error
+        raise Failed(f"etcs_lab {what} printed a line that isn't JSON", REFUSED) from error
     if not isinstance(told, dict):
-        raise Failed(f"etcs_lab {what} told a line that is no object", REFUSED)
+        raise Failed(f"etcs_lab {what} printed a line that isn't an object", REFUSED)
     return told
 
 
@@ -298,7 +298,7 @@ def read(path: str | Path, other_blocks: bool = False, replay: bool = False, why
     Causes are known only with a replay. Where the file `is_own`, nothing else writes to it, so that isn't looked at."""
     path = Path(path)
     if not path.exists():
-        raise Failed(f"{path}: there is no such file", DEVICE)
+        raise Failed(f"{path}: no such file", DEVICE)
     progress("examination", 0, 0)
     examination, replayed = check(path, progress) if replay else (examine(path), [])
     journal = Journal(path, examination)

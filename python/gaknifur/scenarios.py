@@ -90,14 +90,14 @@ def quantity(text: str, at: Value, kind: str, least: int, most: int) -> int:
     text = text.strip()
     found, units = QUANTITY.fullmatch(text), UNITS[kind]
     if not found or found[2] not in units:
-        raise at.fault(f"{'an' if kind[0] in 'aeiou' else 'a'} {kind} is wanted here, a number and {' or '.join(units)}, "
-                       f"and this is \"{shortened(text)}\"")
+        raise at.fault(f"expected {'an' if kind[0] in 'aeiou' else 'a'} {kind}, a number and {' or '.join(units)}, "
+                       f"found \"{shortened(text)}\"")
     number = EXACT.multiply(at.decimal(found[1]), units[found[2]])
     least_unit = next(iter(units))
     if number != int(number):
-        raise at.fault(f"\"{text}\" is no whole number of {least_unit}")
+        raise at.fault(f"\"{text}\" is not a whole number of {least_unit}")
     if not least <= number <= most:
-        raise at.fault(f"\"{text}\" isn't within {least:,} and {most:,} {least_unit}")
+        raise at.fault(f"\"{text}\" is not between {least:,} and {most:,} {least_unit}")
     return int(number)
 
 
@@ -126,7 +126,7 @@ def shared_of(members: dict[str, Value], path: Path, within: tuple[Path, ...] = 
     for kind, there in (("telegrams", found.telegrams), ("parts", found.parts)):
         for key, value in (members[kind].entries() if kind in members else {}).items():
             if key in there:
-                raise value.fault(f"\"{shortened(key)}\" is there already, from {there[key].path}:{there[key].line}")
+                raise value.fault(f"\"{shortened(key)}\" is already defined at {there[key].path}:{there[key].line}")
             there[key] = value
     return found
 
@@ -143,18 +143,18 @@ def digits_of(at: Value, shared: Shared) -> str:
         if text in shared.telegrams:
             told = shared.telegrams[text]
             if told.is_text() and told.text() in shared.telegrams:
-                raise told.fault("a telegram can't be told by another one's name")
+                raise told.fault("a telegram can\'t be defined by another one\'s name")
             return digits_of(told, Shared())
         if is_hex(text):
             return checked_size(text.upper(), at)
         if "NID_BG" not in text:
-            raise at.fault(f"there is no telegram \"{shortened(text)}\"; {', '.join(sorted(shared.telegrams)) or 'none is told'}")
+            raise at.fault(f"no telegram is called \"{shortened(text)}\"; defined: {', '.join(sorted(shared.telegrams)) or 'none'}")
         return written(text, at, None)
     members = at.members((), ("fields", "refused", "installed"))
     if "installed" in members:
         return of_track(at, members)
     if "fields" not in members:
-        raise at.fault("fields is missing here, or installed")
+        raise at.fault("`fields` or `installed` is missing")
     refused = members["refused"].text() if "refused" in members else None
     return written(members["fields"].text(), members["fields"], refused)
 
@@ -162,7 +162,7 @@ def digits_of(at: Value, shared: Shared) -> str:
 def of_track(at: Value, members: dict[str, Value]) -> str:
     """The digits of what a unit is handed in place of a telegram of an installed track, which is told by its variables or in hex."""
     if len(members) > 1:
-        raise at.fault("beside installed nothing else can stand here")
+        raise at.fault("nothing else is allowed next to `installed`")
     told = members["installed"]
     text = told.text()
     if is_hex(text):
@@ -213,7 +213,7 @@ def compared(told: telegrams.Telegram, found: list[str], at: Value) -> None:
         raise at.fault(f"etcs decode says of this telegram: {found[0]}")
     for wanted, line in zip(told.lines(), found[:-1], strict=False):
         if line != wanted:
-            raise at.fault(f"etcs decode finds another telegram: {line}; {wanted} was told")
+            raise at.fault(f"etcs decode finds another telegram: {line}; the scenario says {wanted}")
 
 
 class Builder:
@@ -262,7 +262,7 @@ class Builder:
             else:
                 told = step.members((), WITH_VALUE)
                 if len(told) != 1:
-                    raise step.fault(f"a step has one word, and this one has {', '.join(told) or 'none'}")
+                    raise step.fault(f"a step needs exactly one keyword, found {', '.join(told) or 'none'}")
                 (word, value), = told.items()
             self.step(word, value, step, depth)
 
@@ -309,7 +309,7 @@ class Builder:
         """A movement at a speed, as `200 m at 30 km/h`."""
         way, word, speed = at.text().partition(" at ")
         if not word:
-            raise at.fault(f"a distance and a speed are wanted here, as \"200 m at 30 km/h\", and this is {at.told_by()}")
+            raise at.fault(f"expected a distance and a speed, such as \"200 m at 30 km/h\", found {at.told_by()}")
         movement = quantity(way, at, "distance", -LONGEST_CM, MOST_DRIVE_CM)
         told = {"drive": [movement, quantity(speed, at, "speed", 0, MOST_SPEED)]}
         self.add(told, step, self.events_of(movement))

@@ -115,7 +115,7 @@ def connected(scheduler: str) -> tuple[Any, Any]:
             with instead({name: version_alone(name) for name in TOLD}):
                 client = Client(scheduler, set_as_default=False, timeout=PATIENCE)
         except OSError as error:
-            raise Failed(f"{scheduler}: no scheduler answers there", DEVICE) from error
+            raise Failed(f"{scheduler}: no scheduler answers at this address", DEVICE) from error
     return client, as_completed(loop=client.loop)
 
 

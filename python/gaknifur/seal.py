@@ -343,7 +343,7 @@ def verify(folder: Path, trust: signing.Trust) -> Shown:
     Each of these is looked at only where what is before it is as it was sealed."""
     found = Shown()
     if not folder.is_dir():
-        raise Failed(f"{folder}: there is no such folder", DEVICE)
+        raise Failed(f"{folder}: no such folder", DEVICE)
     signatures, stamp = signing.signatures(folder, trust), signing.time_stamp(folder, trust)
     if vouched(signatures, stamp, trust, found):
         look_inside(folder, signatures, found)

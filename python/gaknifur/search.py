@@ -65,7 +65,7 @@ def image_of(scenarios: Lives, image: Path) -> None:
         scenario.write_text(text, encoding="utf-8")
         status, printed = program.etcs("run", "--", str(scenario), str(image))
         if status:
-            raise Failed(f"etcs run ends with {printed[-1] if printed else f'status {status}'}: {text}", REFUSED)
+            raise Failed(f"etcs run ended with {printed[-1] if printed else f'status {status}'}: {text}", REFUSED)
 
 
 def recorded(scenarios: Lives) -> list[Json]:

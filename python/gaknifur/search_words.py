@@ -10,7 +10,7 @@ from typing import Any
 from . import files, oracle_words, playing, properties
 from .located import BadFile
 from .other_unit import words_of
-from .program import DEVICE, REFUSED, WRONG_WORDS, Failed
+from .program import DEVICE, FOUND, REFUSED, WRONG_WORDS, Failed
 from .properties import Property, Told, Violated
 from .reading import Json, Progress
 from .shown import shown
@@ -25,21 +25,21 @@ RECORD = ("event", "life", "kind", "time_ms", "mode", "level", "brake", "indicat
 
 def add_words(word: Word) -> None:
     """Adds the word."""
-    search = word("search", "looks through random scenarios for one that breaks a property, and makes it small",
-                  "0 none was found   1 one was found, or a property was never judged.")
-    search.add_argument("yaml", metavar="FILE.yaml", type=Path, help="the properties")
+    search = word("search", "search random scenarios for one that breaks a property, and shrink it",
+                  "Status 4: one was found, or a property was never judged.")
+    search.add_argument("yaml", metavar="FILE.yaml", type=Path, help="the file with the properties")
     search.add_argument("--examples", metavar="N", type=int, default=EXAMPLES,
-                        help=f"how many scenarios are tried; else {EXAMPLES}")
+                        help=f"number of scenarios to try (default: {EXAMPLES})")
     search.add_argument("--seed", metavar="N", type=int,
-                        help="the same seed gives the same scenarios; else one that is told")
+                        help="the same seed gives the same scenarios (default: a random one, which is printed)")
     search.add_argument("--only", metavar="NOTE", action="append", default=[],
-                        help="only properties whose note has this text")
+                        help="only properties whose note contains this text")
     search.add_argument("--keep", metavar="FOLDER", type=Path,
-                        help="a new folder for what is found: a test case, its image and its report")
+                        help="write what is found into this new folder: a test case, its image and its report")
     search.add_argument("--against", metavar="COMMAND",
-                        help="judge another unit's answers, a program that speaks the protocol of docs/ORACLE.md")
+                        help="check the answers of another unit: a command that speaks the protocol of docs/ORACLE.md")
     search.add_argument("--records", metavar="EVENTS.jsonl", type=Path,
-                        help="search nothing, and judge these records: lines as etcs_lab events tells them, of any unit")
+                        help="check these records of any unit instead of searching: lines as `etcs_lab events` prints them")
     oracle_words.add_within(search)
 
 
@@ -66,18 +66,18 @@ def record_of(path: Path, number: int, line: str) -> Json | None:
     try:
         told: Any = json.loads(line)
     except (ValueError, RecursionError):
-        raise fault("this is no JSON") from None
+        raise fault("not JSON") from None
     if not isinstance(told, dict):
-        raise fault("this is no object")
+        raise fault("not an object")
     if "event" not in told:
         return None
     for name in (*RECORD, *NEEDED.get(str(told.get("kind")), ())):
         if name not in told:
-            raise fault(f"a record has {name}, as docs/JSON.md tells it, and this has none")
+            raise fault(f"member {name} is missing (docs/JSON.md describes records)")
     if told["kind"] not in NEEDED:
-        raise fault(f"kind is one of {', '.join(NEEDED)}")
+        raise fault(f"kind has to be one of {', '.join(NEEDED)}")
     if not are_values(told):
-        raise fault("a value of this record isn't one that docs/JSON.md tells")
+        raise fault("a value of this record is not one of docs/JSON.md")
     return told
 
 
@@ -89,9 +89,9 @@ def records_of(path: Path) -> list[Json]:
     except OSError as error:
         raise Failed(f"{path}: {error.strerror}", DEVICE) from error
     except UnicodeDecodeError:
-        raise Failed(f"{path}: this is no text in UTF-8", REFUSED) from None
+        raise Failed(f"{path}: not a UTF-8 text", REFUSED) from None
     if not found:
-        raise Failed(f"{path}: there is no record", REFUSED)
+        raise Failed(f"{path}: contains no record", REFUSED)
     return properties.derived(playing.with_speeds(found))
 
 
@@ -159,20 +159,20 @@ def chosen(told: Told, only: list[str]) -> list[Property]:
     """The properties that are looked at."""
     found = [one for one in told.properties if not only or any(text in one.note for text in only)]
     if not found:
-        raise Failed(f"{told.path}: no property has such a note", REFUSED)
+        raise Failed(f"{told.path}: no property has a note with this text", REFUSED)
     return found
 
 
 def check(given: argparse.Namespace) -> None:
     """What the words ask can be done."""
     if not 1 <= given.examples <= MOST_EXAMPLES:
-        raise Failed(f"--examples: 1 to {MOST_EXAMPLES:,}", WRONG_WORDS)
+        raise Failed(f"--examples: has to be 1 to {MOST_EXAMPLES:,}", WRONG_WORDS)
     if given.seed is not None and not 0 <= given.seed < SEEDS:
-        raise Failed(f"--seed: 0 to {SEEDS - 1}", WRONG_WORDS)
+        raise Failed(f"--seed: has to be 0 to {SEEDS - 1}", WRONG_WORDS)
     if given.records and (given.against or given.keep):
-        raise Failed("--records stands without --against and --keep", WRONG_WORDS)
+        raise Failed("--records can't be combined with --against or --keep", WRONG_WORDS)
     if given.keep and given.keep.exists() and (not given.keep.is_dir() or any(given.keep.iterdir())):
-        raise Failed(f"--keep {given.keep}: is there already, and isn't an empty folder", REFUSED)
+        raise Failed(f"--keep {given.keep}: already exists and isn't an empty folder. Nothing was run.", REFUSED)
     oracle_words.within_of(given.answer_within)
     if given.against:
         words_of(given.against)
@@ -184,7 +184,7 @@ def search(given: argparse.Namespace, progress: Progress) -> int:
     told = properties.read(given.yaml)
     looked_at = chosen(told, given.only)
     if given.records:
-        return REFUSED if judge_records(looked_at, records_of(given.records)) else 0
+        return FOUND if judge_records(looked_at, records_of(given.records)) else 0
     try:
         from . import strategies
         from . import search as searching
@@ -212,7 +212,7 @@ def search(given: argparse.Namespace, progress: Progress) -> int:
             print(f"  kept: {keep(given.keep, name, text, lambda path: searching.image_of(lives, path))}")
         else:
             print(indented(text), flush=True)
-    return REFUSED if wrong else 0
+    return FOUND if wrong else 0
 
 
 WORDS: dict[str, Callable[[argparse.Namespace, Progress], int | None]] = {"search": search}

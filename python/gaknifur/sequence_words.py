@@ -15,14 +15,14 @@ Word = Callable[[str, str, str], argparse.ArgumentParser]
 
 def add_words(word: Word) -> None:
     """Adds the word."""
-    one = word("sequence", "makes test cases of a table of steps, by a mapping file of the laboratory's own",
-               "0 made   1 something isn't mapped, or a fault   "
-               "4 made, and something is left out or isn't mapped (--partly).")
+    one = word("sequence", "convert a table of test steps to test cases",
+               "MAPPING.yaml maps the columns and wordings of your table. Status 1: something isn't mapped, and nothing was made. "
+               "Status 4: made, and something was left out or isn't mapped (--partly).")
     one.add_argument("table", metavar="TABLE.csv|TABLE.xlsx", type=Path)
     one.add_argument("mapping", metavar="MAPPING.yaml", type=Path)
-    one.add_argument("out", metavar="OUT.case.yaml", nargs="?", type=Path, help="the file; else standard output")
-    one.add_argument("--partly", action="store_true", help="make what can be made, also where something isn't mapped")
-    one.add_argument("--force", action="store_true", help="write over files that lab made; nothing writes over others")
+    one.add_argument("out", metavar="OUT.case.yaml", nargs="?", type=Path, help="output file (default: standard output)")
+    one.add_argument("--partly", action="store_true", help="make what can be made, even if something isn't mapped")
+    one.add_argument("--force", action="store_true", help="overwrite files that lab made (no option overwrites others)")
 
 
 def check(text: str, beside: Path) -> None:
@@ -42,7 +42,7 @@ def sequence(told: argparse.Namespace, progress: Progress) -> int:
     for line in (*made.left_out, *made.unmapped):
         say(line)
     if made.unmapped and not told.partly:
-        raise Failed(f"{told.table}: {len(made.unmapped)} texts aren't mapped, and nothing is made; "
+        raise Failed(f"{told.table}: {len(made.unmapped)} texts aren't mapped, so nothing was made; "
                      "--partly makes the rest", REFUSED)
     text = f"{sequences.MADE}{told.table.name} by {told.mapping.name}\n" + "---\n".join(made.cases)
     check(text, told.out.absolute().parent if told.out else told.mapping.absolute().parent)

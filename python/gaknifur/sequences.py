@@ -79,11 +79,11 @@ def pattern_of(at: Value, name: str) -> Pattern:
     """What a text means."""
     told = at.members(("text",), ("interface", name, "left_out"))
     if (name in told) == ("left_out" in told):
-        raise at.fault(f"one of {name}, left_out is wanted")
+        raise at.fault(f"expected one of {name}, left_out")
     try:
         pattern = re.compile(told["text"].text())
     except re.error as error:
-        raise told["text"].fault(f"this is no regular expression: {error}") from None
+        raise told["text"].fault(f"not a regular expression: {error}") from None
     return Pattern(at, told["interface"].text() if "interface" in told else None, pattern, told.get(name),
                    told["left_out"].text() if "left_out" in told else None)
 
@@ -110,7 +110,7 @@ def cells(path: Path) -> Iterator[list[str]]:
     except OSError as error:
         raise Failed(f"{path}: {error.strerror}", DEVICE) from error
     except (UnicodeDecodeError, csv.Error) as error:
-        raise Failed(f"{path}: this is no table in UTF-8: {error}", REFUSED) from error
+        raise Failed(f"{path}: not a UTF-8 table: {error}", REFUSED) from error
 
 
 def of_text(file: BinaryIO) -> Iterator[list[str]]:
@@ -141,7 +141,7 @@ def of_workbook(path: Path, file: BinaryIO) -> Iterator[list[str]]:
     except Failed:
         raise
     except Exception as error:  # (the reader has no kind of error of its own)
-        raise Failed(f"{path}: this is no workbook with a sheet: {type(error).__name__}", REFUSED) from error
+        raise Failed(f"{path}: not a workbook with a sheet: {type(error).__name__}", REFUSED) from error
 
 
 def check_saved(path: Path, row: Iterable[Any], formulas: Iterable[Any]) -> None:
@@ -169,7 +169,7 @@ def table(path: Path, columns: dict[str, str]) -> list[Row]:
         raise Failed(f"{path}: has more than {MOST_ROWS:,} rows", REFUSED)
     head = next(((number, row) for number, row in rows if all(name in row for name in columns.values())), None)
     if head is None:
-        raise Failed(f"{path}: no row names the columns {', '.join(columns.values())}", REFUSED)
+        raise Failed(f"{path}: no row has the column names {', '.join(columns.values())}", REFUSED)
     at = {name: head[1].index(column) for name, column in columns.items()}
     return [Row(f"{path}:{number}", {name: row[index] if index < len(row) else "" for name, index in at.items()})
             for number, row in rows if number > head[0] and any(row)]

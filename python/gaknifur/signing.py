@@ -37,7 +37,7 @@ class Key:
             done = tool("ssh-keygen", "-l", "-f", self.name)
             found = FINGERPRINT.search(done.output)
             if done.status or not found:
-                raise Failed(f"{self.name}: is no key of OpenSSH: {done.last()}", REFUSED)
+                raise Failed(f"{self.name}: is not an OpenSSH key: {done.last()}", REFUSED)
             return found.group()
         done = tool("gpg", "--batch", "--with-colons", "--list-secret-keys", "--", self.name)
         prints = [line.split(":")[9] for line in done.output.splitlines() if line.startswith("fpr:")]

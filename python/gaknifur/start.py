@@ -14,7 +14,7 @@ MISSING = 3
 def begin() -> int:
     """Does what the words ask, and answers the status."""
     if not all(map(find_spec, NEEDED)):
-        print(f"lab: {', '.join(NEEDED[:-1])} or {NEEDED[-1]} is missing; tools/python installs them by Debian's "
+        print(f"lab: {', '.join(NEEDED[:-1])} or {NEEDED[-1]} is missing; tools/python installs them from Debian's "
               "packages", file=sys.stderr)
         return MISSING
     sys.path.insert(0, str(Path(__file__).resolve().parents[1]))

@@ -105,7 +105,7 @@ def quantities(at: Value, kind: str, least: int, most: int) -> tuple[int, ...]:
     """A list of quantities, of which at least one is there."""
     found = tuple(scenarios.told_quantity(one, kind, least, most) for one in at.elements())
     if not found:
-        raise at.fault("at least one is wanted")
+        raise at.fault("the list is empty")
     return found
 
 

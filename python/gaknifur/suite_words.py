@@ -8,33 +8,33 @@ from pathlib import Path
 
 from . import coverage, files, measured_words, oracle_words, scenarios
 from .image_words import Word, add_force, out_of, write
-from .program import DEVICE, REFUSED, WRONG_WORDS, Failed
+from .program import DEVICE, FOUND, REFUSED, WRONG_WORDS, Failed
 from .reading import Progress
 
 
 def add_words(word: Word) -> None:
     """Adds the words."""
-    build = word("build", "makes of a scenario in YAML the JSON that etcs run reads",
-                 "Each fault is told with its file, line and column.")
+    build = word("build", "compile a YAML scenario to the JSON that `etcs run` reads",
+                 "Errors name the file, line and column.")
     build.add_argument("yaml", metavar="FILE.yaml", type=Path)
-    build.add_argument("out", metavar="OUT.json", nargs="?", type=Path, help="the file; else standard output")
+    build.add_argument("out", metavar="OUT.json", nargs="?", type=Path, help="output file (default: standard output)")
     add_force(build)
-    test = word("test", "plays the test cases of a folder, and judges what they expect",
-                "Further words are pytest's: -k, -x, --lf, --junitxml=FILE and the others.")
-    test.add_argument("folder", metavar="FOLDER", type=Path, help="or a file of cases")
-    test.add_argument("--section", action="append", default=[], help="only results about this section, or a part of it")
+    test = word("test", "run the test cases of a folder and check their expected results",
+                "Other options go to pytest, such as -k, -x and --lf. Status 4: a test failed.")
+    test.add_argument("folder", metavar="FOLDER", type=Path, help="a folder or a file with test cases")
+    test.add_argument("--section", action="append", default=[], help="only results about this section of SUBSET-026 or its subsections")
     test.add_argument("--feature", action="append", default=[], help="only cases of this feature")
-    test.add_argument("--junitxml", "--junit-xml", metavar="OUT.xml", type=Path, help="the results, for other programs")
-    test.add_argument("--reached", metavar="OUT.json", type=Path, help="what each case reaches, for coverage --measured --reached")
-    test.add_argument("--python", action="store_true", help="also run what the folder has for pytest: conftest.py, settings, "
-                      "modules of tests. They are programs, and may do whatever you may")
+    test.add_argument("--junitxml", "--junit-xml", metavar="OUT.xml", type=Path, help="write the results as JUnit XML")
+    test.add_argument("--reached", metavar="OUT.json", type=Path, help="write what each case reaches, for `coverage --measured --reached`")
+    test.add_argument("--python", action="store_true", help="also run the folder's Python files for pytest (conftest.py, "
+                      "settings, test modules); they run with all your permissions")
     add_force(test)
-    test.add_argument("--keep", metavar="FOLDER", help="keep the image and the report of each case that failed in this new folder")
-    test.add_argument("--against", metavar="COMMAND", help="another unit, a program that speaks the protocol of docs/ORACLE.md: its answers "
-                      "are compared with the proved unit's, and judged")
+    test.add_argument("--keep", metavar="FOLDER", help="keep the image and report of each failed case in this new folder")
+    test.add_argument("--against", metavar="COMMAND", help="also run another unit: a command that speaks the protocol of docs/ORACLE.md. "
+                      "Its answers are checked and compared")
     oracle_words.add_within(test)
-    told = word("coverage", "tells which sections and transitions the cases of a folder are about",
-                "1 where one that the product covers has no case, and no reason why.")
+    told = word("coverage", "list the sections and transitions that the cases of a folder cover",
+                "Status 4: a section or transition of the product has neither a case nor a reason why not.")
     told.add_argument("folder", metavar="FOLDER", type=Path)
     measured_words.add_words(told)
 
@@ -62,7 +62,7 @@ def begun(folder: Path, words: list[str], plugins: list[object]) -> int:
     try:
         return pytest.main(words, plugins)
     except ImportError as error:  # a plugin that the folder's settings name
-        raise Failed(f"{folder}: pytest doesn't begin: {error}", REFUSED) from error
+        raise Failed(f"{folder}: pytest can't start: {error}", REFUSED) from error
 
 
 def results_of(folder: Path) -> Path:
@@ -90,10 +90,10 @@ def run_tests(told: argparse.Namespace, progress: Progress) -> None:
         raise Failed("pytest is missing; tools/python installs it by Debian's packages", DEVICE) from error
     check_options(told.others)
     if not told.folder.exists():
-        raise Failed(f"{told.folder}: there is no such folder", DEVICE)
+        raise Failed(f"{told.folder}: no such folder", DEVICE)
     for word in told.others:
         if word.partition("=")[0] in WRITING:
-            raise Failed(f"pytest's {word} isn't taken here, since it writes over what is there", WRONG_WORDS)
+            raise Failed(f"pytest's {word} isn't supported here, since it overwrites files", WRONG_WORDS)
     from . import measured, reaching
     out = files.Out(told.junitxml, files.JUNIT, told.force) if told.junitxml else None
     reached = files.Out(told.reached, measured.FILE, told.force) if told.reached else None
@@ -108,11 +108,13 @@ def run_tests(told: argparse.Namespace, progress: Progress) -> None:
             "ignore::pytest.PytestCacheWarning", f"--rootdir={root}", *([] if told.python else WITHOUT_PYTHON), *words,
             str(told.folder), *selected, *told.others], plugins + ([reaching.Reaches(reached)] if reached else []))
     if status == pytest.ExitCode.NO_TESTS_COLLECTED:
-        raise Failed(f"{told.folder}: there is no such test", REFUSED)
+        raise Failed(f"{told.folder}: no test matches, so none was run", REFUSED)
     if status == pytest.ExitCode.USAGE_ERROR:
-        raise Failed("pytest doesn't take these words", WRONG_WORDS)
+        raise Failed("pytest refuses these options, as the lines above say; no test was run", WRONG_WORDS)
+    if status == pytest.ExitCode.TESTS_FAILED:
+        raise Failed(f"{told.folder}: a test failed", FOUND)
     if status != pytest.ExitCode.OK:
-        raise Failed(f"{told.folder}: not all that was expected came", REFUSED)
+        raise Failed(f"{told.folder}: not all tests could be run, as the lines above say", REFUSED)
 
 
 def tell_coverage(told: argparse.Namespace, progress: Progress) -> None:
@@ -124,7 +126,7 @@ def tell_coverage(told: argparse.Namespace, progress: Progress) -> None:
     sys.stdout.write(coverage.told(found))
     sys.stdout.flush()
     if found.faults:
-        raise Failed(f"{told.folder}: not all is covered as told", REFUSED)
+        raise Failed(f"{told.folder}: coverage differs from what is declared, as the lines above say", FOUND)
 
 
 WORDS = {"build": write_scenario, "test": run_tests, "coverage": tell_coverage}

@@ -6,7 +6,7 @@ from pathlib import Path
 
 from . import files, sweeps
 from .closed_loop import check_library
-from .program import REFUSED, Failed, find
+from .program import FOUND, Failed, find
 from .reading import Progress
 
 Word = Callable[[str, str, str], argparse.ArgumentParser]
@@ -14,20 +14,20 @@ Word = Callable[[str, str, str], argparse.ArgumentParser]
 
 def add_words(word: Word) -> None:
     """Adds the word."""
-    sweep = word("sweep", "plays a case with parameters at each of their values, and tells what came of it as a table",
-                 "1 where an expected result didn't come, or a point couldn't be judged.")
+    sweep = word("sweep", "run a parametrised case at each of its values and print a table",
+                 "Status 4: an expected result is missing, or a point couldn't be judged.")
     sweep.add_argument("yaml", metavar="FILE.yaml", type=Path)
-    sweep.add_argument("--csv", metavar="OUT.csv", type=Path, help="the table as CSV")
-    sweep.add_argument("--html", metavar="OUT.html", type=Path, help="a page with heat maps")
-    sweep.add_argument("--workers", metavar="N", type=int, help="so many points at once; else as many as there are processors")
-    sweep.add_argument("--force", action="store_true", help="write over files that lab made; nothing writes over others")
+    sweep.add_argument("--csv", metavar="OUT.csv", type=Path, help="write the table as CSV")
+    sweep.add_argument("--html", metavar="OUT.html", type=Path, help="write a page with heat maps")
+    sweep.add_argument("--workers", metavar="N", type=int, help="points to run at once (default: the number of processors)")
+    sweep.add_argument("--force", action="store_true", help="overwrite files that lab made (no option overwrites others)")
 
 
 def check(path: Path, found: Sequence[sweeps.Told]) -> None:
     """Each point could be judged, and all that was expected came."""
     bad = sum(bool(one.missed or one.fault) for one in found)
     if bad:
-        raise Failed(f"{path}: at {bad} of {len(found)} points not all that was expected came", REFUSED)
+        raise Failed(f"{path}: {bad} of {len(found)} points failed", FOUND)
 
 
 def play(told: argparse.Namespace, progress: Progress) -> None:

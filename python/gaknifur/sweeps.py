@@ -76,7 +76,7 @@ def values_of(at: Value) -> list[str]:
     else:
         found = [format(number.normalize(), "f") for number in range_of(at)]
     if len(set(found)) != len(found) or not found:
-        raise at.fault("a parameter has one value at least, and none twice")
+        raise at.fault("a parameter needs at least one value, and none twice")
     return found
 
 
@@ -86,7 +86,7 @@ def range_of(at: Value) -> Iterator[Decimal]:
     numbers = [at.decimal(one) for one in told.groups(default="1")] if told and all(
         one is None or one.count(".") < 2 and one.strip("-.") for one in told.groups()) else []
     if not numbers or numbers[0] > numbers[1] or not numbers[2]:
-        raise at.fault(f"a list of values is wanted here, or a range as 1..63 or 20..120 step 20, and this is {at.told_by()}")
+        raise at.fault(f"expected a list of values, or a range such as 1..63 or 20..120 step 20, found {at.told_by()}")
     first, last, step = numbers
     if (last - first) / step >= MOST_POINTS:
         raise at.fault(f"this has more than {MOST_POINTS:,} values")
@@ -99,13 +99,13 @@ def parameters_of(at: Value) -> dict[str, list[str]]:
     found: dict[str, list[str]] = {}
     for name, value in at.entries().items():
         if not NAME.fullmatch(name):
-            raise value.fault(f"\"{shortened(name)}\" is no name of a parameter: small letters, digits and _")
+            raise value.fault(f"\"{shortened(name)}\" is not a parameter name: small letters, digits and _")
         found[name] = values_of(value)
     count = 1
     for values in found.values():
         count *= len(values)
     if not found or count > MOST_POINTS:
-        raise at.fault(f"this has {count if found else 0:,} points, and 1 to {MOST_POINTS:,} are wanted")
+        raise at.fault(f"this has {count if found else 0:,} points; 1 to {MOST_POINTS:,} are possible")
     return found
 
 
@@ -133,7 +133,7 @@ class Filling:
     def value(self, node: yaml.Node, name: str) -> str:
         """The value of a parameter."""
         if name not in self.point:
-            raise Value(self.path, node).fault(f"there is no parameter ${shortened(name)}; {guess(name, self.point)}")
+            raise Value(self.path, node).fault(f"no parameter is called ${shortened(name)}; {guess(name, self.point)}")
         self.used.add(name)
         return self.point[name]
 
@@ -145,7 +145,7 @@ def outcome_of(at: Value, marks: Sequence[str], is_driven: bool) -> Outcome:
     told = at.members(("name",), ("at", "value", "most", "least", "count", "where"))
     way = [word for word in ("at", "most", "least", "count") if word in told]
     if len(way) != 1 or ("value" in told) != (way == ["at"]) or "where" in told and way[0] not in ("most", "least"):
-        raise at.fault("one of these is wanted: at and value; most or least, perhaps with where; count")
+        raise at.fault("expected one of: at and value; most or least, perhaps with where; count")
     values = (*VALUES, *(DRIVEN if is_driven else ()))
     word = way[0]
     if word == "at":
@@ -180,7 +180,7 @@ def read(path: Path) -> Sweep:
     used = at_point(found, point)[2]
     for name in found.parameters:
         if name not in used:
-            raise told["for"].fault(f"the parameter {name} stands nowhere, as ${name}")
+            raise told["for"].fault(f"the parameter {name} is used nowhere as ${name}")
     return found
 
 
@@ -217,14 +217,14 @@ def at_point(sweep: Sweep, point: Point) -> tuple[Case, list[Outcome], set[str]]
     shared = scenarios.shared_of({name: told[name] for name in scenarios.SHARED if name in told}, sweep.at.path)
     lives = [cases.life_of(one, shared) for one in told["lives"].elements()]
     if not lives:
-        raise told["lives"].fault("a sweep has at least one life")
+        raise told["lives"].fault("a sweep needs at least one life")
     marks, is_driven = list(cases.marks_of(told["lives"], lives)), any(life.drive for life in lives)
     expected = [cases.expected_of(one, [], "", marks, is_driven) for one in told["expected"].elements()] if "expected" in told else []
     slots = told["slots"].integer(2, cases.MOST_SLOTS) if "slots" in told else cases.slots_of(lives)
     outcomes = [outcome_of(one, marks, is_driven) for one in told["tell"].elements()]
     names = [*point, *(one.name for one in outcomes)]
     if not outcomes or len(set(names)) != len(names):
-        raise told["tell"].fault("something is told, and no name is that of another outcome or of a parameter")
+        raise told["tell"].fault("`tell` needs at least one outcome, and each name only once, also among the parameters")
     return Case(sweep.at, sweep.name, "", [], "", "", slots, lives, expected), outcomes, filling.used
 
 

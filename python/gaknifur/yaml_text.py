@@ -25,6 +25,6 @@ def filled(at: Value, words: dict[str, str]) -> str:
     text = at.text()
     for name in re.findall(r"\{(\w+)\}", text):
         if name not in words:
-            raise at.fault(f"there is no \"{name}\"; there are: {', '.join(sorted(words)) or 'none'}")
+            raise at.fault(f"unknown \"{name}\"; known: {', '.join(sorted(words)) or 'none'}")
         text = text.replace(f"{{{name}}}", words[name])
     return text

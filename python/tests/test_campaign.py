@@ -93,7 +93,7 @@ class Folders(unittest.TestCase):
     def test_a_folder_of_nothing_is_refused(self) -> None:
         (empty := self.folder / "empty").mkdir()
         told = argparse.Namespace(folder=empty, out=self.out, slots=64, random=3, seed=1, csv=None, scheduler=None, workers=1)
-        with patch.object(campaign_table, "settings_of", dict), self.assertRaisesRegex(Failed, "empty: has no test case and no scenario"):
+        with patch.object(campaign_table, "settings_of", dict), self.assertRaisesRegex(Failed, "empty: contains no test case and no scenario"):
             campaign_words.play_campaign(told, lambda what, done, whole: None)
         self.assertFalse(self.out.exists())
 

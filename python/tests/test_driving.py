@@ -1,10 +1,13 @@
 """Trains in a closed loop: how they move, by hand; and over the plain kernel what comes of a drive, and what is told of it."""
+import contextlib
 import importlib
+import io
 import tempfile
 import unittest
 from collections.abc import Callable
 from decimal import Decimal
 from pathlib import Path
+from types import SimpleNamespace
 from typing import Any
 from unittest.mock import patch
 
@@ -293,21 +296,21 @@ class Loops(unittest.TestCase):
 
     def test_faults_and_their_places(self) -> None:
         for wrong, said in (
-                (DRIVE.replace("service", "servise"), 'drive.yaml:9:35: "servise" can\'t stand here; is "service" meant?'),
-                (DRIVE.replace("0.6 m/s2", "0.6 m"), "drive.yaml:9:25: an acceleration is wanted here, a number and cm/s2 or m/s2"),
-                (DRIVE.replace("limit", "limits"), 'drive.yaml:10:19: "limits" can\'t stand here; is "limit" meant?'),
-                (DRIVE.replace("500 ms", "10 ms").replace("100 s", "10001 s"), "drive.yaml:12:10: this has 1,000,100 time steps, and 1,000,000 are"),
-                (DRIVE.replace("0.6 m/s2", "[0.6 m/s2, 0.3 m/s2]"), "drive.yaml:9:26: each rate but the last one is told with up to"),
-                (DRIVE.replace("0.6 m/s2", "[0.6 m/s2 up to 40 km/h]"), "drive.yaml:9:26: each rate but the last one is told with up to"),
-                (DRIVE.replace("0.6 m/s2", "[1 m/s2 up to 40 km/h, 0.5 m/s2 up to 40 km/h, 0.2 m/s2]"), "drive.yaml:9:48: the speeds rise"),
-                (DRIVE.replace("build_up: 1 s", "adhesion: [30 % from 7 m to 7 m]"), "drive.yaml:9:82: a stretch begins before it ends"),
-                (DRIVE.replace("build_up: 1 s", "adhesion: [30 %]"), "drive.yaml:9:82: a share and a stretch are wanted here"),
-                (DRIVE.replace("build_up: 1 s", "adhesion: 101 %"), "drive.yaml:9:81: a number from 1 to 100 with % is wanted"),
-                (DRIVE.replace("standstill", "rest"), 'drive.yaml:13:10: "rest" can\'t stand here'),
+                (DRIVE.replace("service", "servise"), 'drive.yaml:9:35: "servise" is not allowed here; did you mean "service"?'),
+                (DRIVE.replace("0.6 m/s2", "0.6 m"), "drive.yaml:9:25: expected an acceleration, a number and cm/s2 or m/s2"),
+                (DRIVE.replace("limit", "limits"), 'drive.yaml:10:19: "limits" is not allowed here; did you mean "limit"?'),
+                (DRIVE.replace("500 ms", "10 ms").replace("100 s", "10001 s"), "drive.yaml:12:10: 1,000,100 time steps are more than 1,000,000"),
+                (DRIVE.replace("0.6 m/s2", "[0.6 m/s2, 0.3 m/s2]"), "drive.yaml:9:26: each rate except the last one needs `up to`"),
+                (DRIVE.replace("0.6 m/s2", "[0.6 m/s2 up to 40 km/h]"), "drive.yaml:9:26: each rate except the last one needs `up to`"),
+                (DRIVE.replace("0.6 m/s2", "[1 m/s2 up to 40 km/h, 0.5 m/s2 up to 40 km/h, 0.2 m/s2]"), "drive.yaml:9:48: the speeds have to rise"),
+                (DRIVE.replace("build_up: 1 s", "adhesion: [30 % from 7 m to 7 m]"), "drive.yaml:9:82: a stretch has to begin before it ends"),
+                (DRIVE.replace("build_up: 1 s", "adhesion: [30 %]"), "drive.yaml:9:82: expected a share and a stretch"),
+                (DRIVE.replace("build_up: 1 s", "adhesion: 101 %"), "drive.yaml:9:81: expected a number from 1 to 100 with %"),
+                (DRIVE.replace("standstill", "rest"), 'drive.yaml:13:10: "rest" is not allowed here'),
                 (DRIVE.replace("0.9 m/s2", "0 m/s2"), "drive.yaml:9:10: emergency is missing"),
-                (DRIVE.replace("limit}", "limit, acts: [{when: {}, do: start}]}"), "drive.yaml:10:40: one of place, time, mode"),
-                (DRIVE.replace("limit}", "limit, acts: [{when: {time: 1 s}}]}"), "drive.yaml:10:33: one of do, heeds"),
-                (DRIVE.replace("build_up: 1 s", "odometer: 5 %"), "drive.yaml:9:81: a number from 50 to 150 with % is wanted")):
+                (DRIVE.replace("limit}", "limit, acts: [{when: {}, do: start}]}"), "drive.yaml:10:40: expected one of place, time, mode"),
+                (DRIVE.replace("limit}", "limit, acts: [{when: {time: 1 s}}]}"), "drive.yaml:10:33: `when` needs one of do, heeds"),
+                (DRIVE.replace("build_up: 1 s", "odometer: 5 %"), "drive.yaml:9:81: expected a number from 50 to 150 with %")):
             with self.assertRaises(Failed) as found:
                 self.written(wrong)
             self.assertTrue(str(found.exception).removeprefix(f"{self.folder}/").startswith(said), f"{found.exception}\n{said}")
@@ -324,7 +327,7 @@ class Loops(unittest.TestCase):
 
     def test_without_a_drive(self) -> None:
         (self.folder / "x.case.yaml").write_text(CASE.replace("scenario: drive.yaml", "steps: [start, {mark: started}]"), encoding="utf-8")
-        with self.assertRaisesRegex(Failed, '"train_speed_kmh" can\'t stand here'):
+        with self.assertRaisesRegex(Failed, '"train_speed_kmh" is not allowed here'):
             cases.read(self.folder / "x.case.yaml")
         path = self.folder / "none.yaml"
         path.write_text("steps: [start]", encoding="utf-8")
@@ -362,10 +365,25 @@ class Pictures(unittest.TestCase):
             self.assertEqual(svg, drawn(told, ends, "a drive", ".svg"))
             self.assertEqual(sum(text in svg for text in (b"end of authority", b"supervised location")), count)
         self.assertTrue(drawn(told, None, "a drive", ".png").startswith(b"\x89PNG"))
-        with self.assertRaisesRegex(Failed, "a picture is a file .svg or .png"):
+        with self.assertRaisesRegex(Failed, "--picture: the file name has to end in .svg or .png"):
             drive_words.picture_kind(Path("drive.gif"))
         self.assertTrue(files.SVG.is_own(svg[:files.FIRST_BYTES]))
         self.assertTrue(files.PNG.is_own(drawn(told, None, "a drive", ".png")[:files.FIRST_BYTES]))
+
+
+class Library(unittest.TestCase):
+    """The library of the unit."""
+
+    def test_an_unproved_one_is_named(self) -> None:
+        """By what tools/library --unproved leaves in its file."""
+        for mark, is_named in ((b"\0Gaknifur 0.1.0, commit 0123abc, unproved\0", True), (b"\0Gaknifur 0.1.0, commit 0123abc, proved\0", False),
+                               (b"", False)):
+            with self.subTest(mark=mark), tempfile.TemporaryDirectory() as folder, contextlib.redirect_stderr(io.StringIO()) as said:
+                path = Path(folder, "libetcs_unit.so")
+                path.write_bytes(b"\x7fELF" + mark + b"\0")
+                with patch("gaknifur.closed_loop.library", lambda: SimpleNamespace(_name=str(path))):
+                    closed_loop.check_library.__wrapped__()
+                self.assertEqual(said.getvalue(), f"lab: this run is unproved: {path} was compiled without proof\n" if is_named else "")
 
 
 if __name__ == "__main__":

@@ -66,7 +66,7 @@ class Writing(Room):
 
     def test_what_lab_made_only_with_force(self) -> None:
         path = self.file("out", TABLE)
-        self.refuses("out: is there; --force writes over what lab made", Out(path, files.TABLE))
+        self.refuses("out: already exists; --force overwrites what lab made", Out(path, files.TABLE))
         path.chmod(0o640)
         files.write(Out(path, files.TABLE, True), b"new")
         self.assertEqual((path.read_bytes(), path.stat().st_mode & 0o777), (b"new", 0o640))
@@ -75,7 +75,7 @@ class Writing(Room):
         for data in (b"", b"text", b"block,event\n", b"<!DOCTYPE html>\n<p>", b"\x89PNG\r\n\x1a\n", b"SQLite format 3\0"):
             path = self.file("out", data)
             for kind in (files.TABLE, files.REPORT, files.PNG, files.SVG, files.JUNIT, scenarios.FILE):
-                self.refuses("is not .* that lab made; nothing writes over it", Out(path, kind, True))
+                self.refuses("is not .* that lab made; it is never overwritten", Out(path, kind, True))
             self.assertEqual(path.read_bytes(), data)
         self.refuses("is not a report that lab made", Out(self.file("out", TABLE), files.REPORT, True))
 
@@ -86,20 +86,20 @@ class Writing(Room):
         (self.room / "second").hardlink_to(path)
         for name in ("image", "link", "second"):
             for is_forced in (False, True):
-                self.refuses("image itself, which is read here", Out(self.room / name, files.TABLE, is_forced), path)
-        self.refuses("other: holds a journal, and nothing writes over that", Out(other, files.TABLE, True), path)
+                self.refuses("is the input file .*image", Out(self.room / name, files.TABLE, is_forced), path)
+        self.refuses("other: holds a journal, which is never overwritten", Out(other, files.TABLE, True), path)
         self.assertEqual((path.read_bytes(), other.read_bytes()), (IMAGE, IMAGE))
 
     def test_no_file_that_nobody_may_write(self) -> None:
         path = self.file("out", TABLE)
         path.chmod(0o444)
-        self.refuses("nobody may write to it", Out(path, files.TABLE, True))
+        self.refuses("is write-protected", Out(path, files.TABLE, True))
 
     def test_nothing_but_regular_files(self) -> None:
         os.mkfifo(self.room / "pipe")
         (self.room / "folder").mkdir()
         for path in (self.room / "pipe", self.room / "folder", Path("/dev/null"), Path("/dev/zero")):
-            self.refuses("is no regular file", Out(path, files.TABLE, True))
+            self.refuses("isn't a regular file", Out(path, files.TABLE, True))
 
     def test_a_link_goes_on_leading_to_what_is_written(self) -> None:
         path = self.file("out", TABLE)
@@ -116,7 +116,7 @@ class Writing(Room):
             path.write_bytes(b"other")
             link(one, other)
 
-        with patch("os.link", taken), self.assertRaisesRegex(Failed, "is there since a moment ago"):
+        with patch("os.link", taken), self.assertRaisesRegex(Failed, "was created by somebody else meanwhile"):
             files.write(Out(path, files.TABLE), b"new")
         self.assertEqual((path.read_bytes(), self.names()), (b"other", ["out"]))
 
@@ -149,9 +149,9 @@ class Writing(Room):
 
     def test_two_of_one_name(self) -> None:
         (self.room / "link").symlink_to(self.room / "out")
-        with self.assertRaisesRegex(Failed, "is told twice"):
+        with self.assertRaisesRegex(Failed, "is named twice"):
             files.check_all([Out(self.room / "out", files.TABLE), Out(self.room / "link", files.TABLE)])
-        with self.assertRaisesRegex(Failed, "is told twice"):
+        with self.assertRaisesRegex(Failed, "is named twice"):
             files.check_all([Out(self.room / "out", files.TABLE)], others=[self.room / "out"])
 
     def test_a_scenario_that_lab_laid_out(self) -> None:
@@ -192,9 +192,9 @@ class Words(Room):
             with self.assertRaises(Failed) as caught:
                 drive_words.outs_of(argparse.Namespace(**vars(given) | {name: path}))
             self.assertEqual(caught.exception.status, REFUSED)
-        with self.assertRaisesRegex(Failed, "is told twice"):
+        with self.assertRaisesRegex(Failed, "is named twice"):
             drive_words.outs_of(argparse.Namespace(**vars(given) | {"csv": self.room / "b", "scenario": self.room / "b"}))
-        with self.assertRaisesRegex(Failed, "is told twice"):
+        with self.assertRaisesRegex(Failed, "is named twice"):
             drive_words.outs_of(argparse.Namespace(**vars(given) | {"csv": self.room / "b", "image": self.room / "b"}))
         self.assertEqual(list(drive_words.outs_of(argparse.Namespace(**vars(given) | {"csv": self.room / "b"}))), ["csv"])
 
@@ -269,7 +269,7 @@ class Images(Room):
             self.assertEqual(caught.exception.status, REFUSED)
 
     def test_the_unit_s_library_is_looked_for_first(self) -> None:
-        with patch.object(closed_loop, "library", side_effect=OSError("none")), self.assertRaisesRegex(Failed, "no library"):
+        with patch.object(closed_loop, "library", side_effect=OSError("none")), self.assertRaisesRegex(Failed, "tools/library --unproved PREFIX"):
             closed_loop.on_medium(MemoryMedium(IMAGE), self.scenario, self.drive)
 
 

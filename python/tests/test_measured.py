@@ -100,7 +100,7 @@ class Words(unittest.TestCase):
 
     def test_words_that_ask_for_another(self) -> None:
         for word in (["--reached", "x"], ["--cases"]):
-            with self.assertRaisesRegex(Failed, f"{word[0]} is a word of coverage --measured") as found:
+            with self.assertRaisesRegex(Failed, f"{word[0]} needs --measured") as found:
                 measured_words.check(understood(["coverage", "suites", *word]))
             self.assertEqual(found.exception.status, 2)
         measured_words.check(understood(["coverage", "suites", "--measured", "--cases"]))
@@ -127,10 +127,10 @@ class Floors(unittest.TestCase):
                          ["a: x 1: one reaches it, and there is a reason why none does"])
 
     def test_faults_have_their_places(self) -> None:
-        for text, said in (("floors: {c: 1}", 'measured.yaml:1:10: "c" can\'t stand here'),
-                           ("floors: {a: 4}", "measured.yaml:1:13: a whole number from 0 to 3 is wanted here"),
+        for text, said in (("floors: {c: 1}", 'measured.yaml:1:10: "c" is not allowed here'),
+                           ("floors: {a: 4}", "measured.yaml:1:13: expected a whole number from 0 to 3"),
                            ("out_of_reach: {a: {'q*': why}}", 'measured.yaml:1:26: "q*" names nothing that is counted'),
-                           ("floor: {a: 1}", 'is "floors" meant?')):
+                           ("floor: {a: 1}", 'did you mean \"floors\"?')):
             with self.assertRaises(Failed) as told:
                 self.found(text)
             self.assertIn(said, str(told.exception))

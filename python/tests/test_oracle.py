@@ -61,7 +61,7 @@ class Messages(unittest.TestCase):
         self.assertIn("answer to event 4", self.wrong(ANSWER | {"event": 4}))
         self.assertIn("no JSON", self.wrong(b"[" * 100_000))
         self.assertIn("no JSON object", self.wrong([]))
-        self.assertIn("stands twice", self.wrong(line(ANSWER)[:-1] + b', "mode": "FS"}'))
+        self.assertIn("is given twice", self.wrong(line(ANSWER)[:-1] + b', "mode": "FS"}'))
 
     def test_a_greeting(self) -> None:
         told = asking.greeting_of(line({"protocol": 1, "unit": "x", "tells": ["brake", "mode"]}))
@@ -379,10 +379,10 @@ class Records(unittest.TestCase):
             return str(found.exception).removeprefix(f"{path}:")
 
     def test_faults(self) -> None:
-        self.assertIn("there is no record", self.said('{"image": {}}\n{"end": "done"}\n'))
-        self.assertIn("2:1: this is no JSON", self.said("{}\n{"))
-        self.assertIn("1:1: this is no object", self.said("[]"))
-        self.assertIn("1:1: a record has life", self.said('{"event": 1}'))
+        self.assertIn("contains no record", self.said('{"image": {}}\n{"end": "done"}\n'))
+        self.assertIn("2:1: not JSON", self.said("{}\n{"))
+        self.assertIn("1:1: not an object", self.said("[]"))
+        self.assertIn("1:1: member life is missing", self.said('{"event": 1}'))
         wrongs: list[Json] = [{"event": "1"}, {"limit_m_per_h": "40"}, {"indications": [1]}, {"decoded": []},
                               {"decoded": {"packets": [{}]}},
                               {"life": None}, {"place_cm": 1.5}]

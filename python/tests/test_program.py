@@ -10,8 +10,8 @@ import unittest
 from pathlib import Path
 from unittest.mock import patch
 
-from gaknifur import program, reading
-from gaknifur.program import Failed, Ran, built, etcs
+from gaknifur import campaign_table, program, reading
+from gaknifur.program import Failed, Ran, etcs, find, proof
 from gaknifur.reading import Journal, Records, read
 
 from .samples import journal, line, record
@@ -118,8 +118,8 @@ class Reading(unittest.TestCase):
         self.assertEqual(len(read(self.image, is_own=True).records), 1)
 
     def test_no_json(self) -> None:
-        for text, said in (("event 1\n", "no JSON"), ('{"end": "done"}\n[1\n', "no JSON"), ('{"end": "done"}\n1\n', "no object"),
-                           ('{"end": "done"}, {"end": "done"}\n', "no JSON"), ('[1\n2]\n', "no JSON")):
+        for text, said in (("event 1\n", "isn't JSON"), ('{"end": "done"}\n[1\n', "isn't JSON"), ('{"end": "done"}\n1\n', "isn't an object"),
+                           ('{"end": "done"}, {"end": "done"}\n', "isn't JSON"), ('[1\n2]\n', "isn't JSON")):
             self.program.with_name("etcs_lab.events").write_text(text)
             self.assertRaisesRegex(Failed, said, self.read)
 
@@ -229,8 +229,25 @@ class Unproved(unittest.TestCase):
             with patch.dict(os.environ), patch("gaknifur.program.script", lambda name: top / name):
                 os.environ.pop("GAKNIFUR_ETCS", None)
                 self.assertEqual([etcs("decode", str(number)) for number in range(3)], [(0, [f"ran decode {number}"]) for number in range(3)])
-                self.assertRaisesRegex(Failed, "no proved etcs", built, "etcs")
+                self.assertEqual((find("etcs"), proof.__wrapped__("etcs")), (f"{top}/compiled", False))
             self.assertEqual((top / "asked").read_text(), "--is-proved\n--tried\n")
+
+    def test_a_campaign_takes_it(self) -> None:
+        """It says so in its table, and compares programs by their digests alone."""
+        with tempfile.TemporaryDirectory() as folder, patch.dict(os.environ), \
+                patch("gaknifur.program.script", lambda name: Path(folder, name)), patch("gaknifur.program.proof", proof.__wrapped__):
+            for name in ("etcs", "etcs_lab"):
+                os.environ.pop(f"GAKNIFUR_{name.upper()}", None)
+                Path(folder, name).write_text(f"#!/bin/sh\n[ \"$1\" = --tried ] && echo {folder}/compiled\n")
+                Path(folder, name).chmod(0o755)
+            Path(folder, "compiled").write_text("x")
+            settings = campaign_table.settings_of()
+            digest = "2d711642b726b04401627ca9fbac32f5c8530fb1903cc4db02258717921a4881"  # (sha256sum of x)
+            self.assertEqual(settings, {"etcs_sha256": digest, "etcs_is_proved": "no", "etcs_lab_sha256": digest, "etcs_lab_is_proved": "no"})
+            campaign_table.Table(Path(folder, "t.db"), settings).close()
+            campaign_table.Table(Path(folder, "t.db"), settings | {"etcs_is_proved": "yes"}).close()
+            with self.assertRaisesRegex(Failed, "etcs_sha256"):
+                campaign_table.Table(Path(folder, "t.db"), settings | {"etcs_sha256": "other"})
 
     def test_that_compiles_nothing(self) -> None:
         with tempfile.TemporaryDirectory() as folder, patch.dict(os.environ), \
@@ -238,7 +255,7 @@ class Unproved(unittest.TestCase):
             os.environ.pop("GAKNIFUR_ETCS", None)
             Path(folder, "etcs").write_text("#!/bin/sh\nexit 2\n")
             Path(folder, "etcs").chmod(0o755)
-            self.assertRaisesRegex(Failed, "no etcs that can be run", etcs, "decode", "90")
+            self.assertRaisesRegex(Failed, "etcs can't be run", etcs, "decode", "90")
 
 
 class Proved(unittest.TestCase):
@@ -255,7 +272,7 @@ class Proved(unittest.TestCase):
             with patch.dict(os.environ), patch("gaknifur.program.script", lambda name: top / name):
                 os.environ.pop("GAKNIFUR_ETCS", None)
                 self.assertEqual([etcs("decode", str(number)) for number in range(3)], [(0, [f"ran decode {number}"]) for number in range(3)])
-                self.assertEqual(built("etcs"), top / "crates/etcs/out/etcs")
+                self.assertEqual((find("etcs"), proof.__wrapped__("etcs")), (str(top / "crates/etcs/out/etcs"), True))
             self.assertEqual((top / "asked").read_text(), "--is-proved\n")
 
 

@@ -75,11 +75,11 @@ class Tables(unittest.TestCase):
 
     def test_faults(self) -> None:
         for table, mapping, said in (
-                ("No,Action\n", MAPPING, "no row names the columns"),
-                ("No,I/F,Action,Expected\n\"1", MAPPING, "no table"),
-                ("", MAPPING.replace("(?P<way>", "(?P<way"), "no regular expression"),
-                ("No,I/F,Action,Expected\n1,ODO,5 m,\n", MAPPING.replace("'{way} m", "'{wy} m"), "there is no \"wy\""),
-                ("", MAPPING.replace("left_out: why", "left_out: why, steps: [flush]"), "one of steps, left_out")):
+                ("No,Action\n", MAPPING, "no row has the column names"),
+                ("No,I/F,Action,Expected\n\"1", MAPPING, "not a UTF-8 table"),
+                ("", MAPPING.replace("(?P<way>", "(?P<way"), "not a regular expression"),
+                ("No,I/F,Action,Expected\n1,ODO,5 m,\n", MAPPING.replace("'{way} m", "'{wy} m"), "unknown \"wy\""),
+                ("", MAPPING.replace("left_out: why", "left_out: why, steps: [flush]"), "expected one of steps, left_out")):
             with self.assertRaises(Failed) as found:
                 self.made(table, mapping)
             self.assertIn(said, str(found.exception))
@@ -163,13 +163,13 @@ class Workbooks(unittest.TestCase):
             self.save([self.HEAD], lambda xml: xml[:-20])
             if not cut:
                 self.path.write_text("No,I/F,Action,Expected\n", encoding="utf-8")
-            with self.assertRaisesRegex(Failed, "this is no workbook with a sheet"):
+            with self.assertRaisesRegex(Failed, "not a workbook with a sheet"):
                 self.rows()
         chart: Any = openpyxl.Workbook()
         chart.create_chartsheet("drawn")
         del chart["Sheet"]
         chart.save(self.path)
-        with self.assertRaisesRegex(Failed, "this is no workbook with a sheet"):
+        with self.assertRaisesRegex(Failed, "not a workbook with a sheet"):
             self.rows()
 
 

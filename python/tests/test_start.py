@@ -57,7 +57,7 @@ class Room(unittest.TestCase):
 
 
 class WithoutLocks(Room):
-    """A system like Windows, which has no locks of files, no limits of processes and no files in memory."""
+    """A system like Windows, which has no file locks, no limits of processes and no files in memory."""
 
     def begun(self, *words: str) -> tuple[int, str, str]:
         """Runs a command there."""
@@ -74,7 +74,7 @@ class WithoutLocks(Room):
         self.assertEqual((status, json.loads(printed), said), (0, {"groups": [], "steps": [{"drive": [100, 5000]}]}, ""))
 
     def test_what_needs_one_is_refused(self) -> None:
-        with patch.object(locks, "fcntl", None), self.assertRaisesRegex(Failed, "no locks of files") as found:
+        with patch.object(locks, "fcntl", None), self.assertRaisesRegex(Failed, "no file locks") as found:
             locks.lock(0)
         self.assertEqual(found.exception.status, DEVICE)
 
@@ -138,8 +138,8 @@ class Folders(Room):
         (suite / "pytest.ini").write_text("[pytest]\npythonpath = ..\naddopts = -p plugged\n")
         (suite / "a.case.yaml").write_text(CASE)
         status, told, said = self.lab("test", "suite")
-        self.assertEqual((status, "there is no file" in told, self.ran()), (1, True, []), told + said)
-        self.assertEqual(self.lab("test", "suite", "--python")[::2], (1, "lab: suite: pytest doesn't begin: Error importing plugin "
+        self.assertEqual((status, "no such file" in told, self.ran()), (1, True, []), told + said)
+        self.assertEqual(self.lab("test", "suite", "--python")[::2], (1, "lab: suite: pytest can't start: Error importing plugin "
                                                                      "\"plugged\": No module named 'plugged'\n"))
         (suite / "pytest.ini").unlink()
         status, told, said = self.lab("test", "suite", "--python")
@@ -149,7 +149,7 @@ class Folders(Room):
         (self.work / "a.case.yaml").write_text(CASE)
         for word in ("--log-file=kept", "--basetemp=.", "--debug=kept"):
             status, _, said = self.lab("test", ".", word)
-            self.assertEqual((status, said), (2, f"lab: pytest's {word} isn't taken here, since it writes over what is there\n"))
+            self.assertEqual((status, said), (2, f"lab: pytest's {word} isn't supported here, since it overwrites files\n"))
         self.assertEqual([path.name for path in self.work.iterdir()], ["a.case.yaml"])
 
     def test_results_in_xml(self) -> None:
@@ -165,7 +165,7 @@ class Folders(Room):
         first = (self.work / "out.xml").read_text()
         self.assertIn(f"generated xml file: {self.work / 'out.xml'}", told)
         self.assertIn('errors="1"', first)
-        self.assertEqual(self.lab("test", ".", "--junitxml=out.xml")[2], "lab: out.xml: is there; --force writes over what lab made\n")
+        self.assertEqual(self.lab("test", ".", "--junitxml=out.xml")[2], "lab: out.xml: already exists; --force overwrites what lab made\n")
         self.assertEqual((self.work / "out.xml").read_text(), first)
         self.lab("test", ".", "--junitxml=out.xml", "--force")
         self.assertNotEqual((self.work / "out.xml").read_text(), first)  # its moment is another one
@@ -175,7 +175,7 @@ class Folders(Room):
         (self.work / "a.case.yaml").write_text(CASE)
         (self.work / "conftest.py").write_text("open('out.xml', 'x').write('my own notes')\n")
         status, _, said = self.lab("test", ".", "--junitxml=out.xml", "--python")
-        self.assertEqual((status, said), (1, "lab: out.xml: is there, and is not results in XML that lab made; nothing writes over it\n"))
+        self.assertEqual((status, said), (1, "lab: out.xml: exists and is not results in XML that lab made; it is never overwritten\n"))
         self.assertEqual((self.work / "out.xml").read_text(), "my own notes")
 
 
@@ -194,10 +194,10 @@ class Nets(Room):
     def test_each_is_told_in_a_line(self) -> None:
         status, said = self.caught(KeyError("a\nb"))
         self.assertEqual(status, 5)
-        self.assertRegex(said, r"^a fault of lab itself: KeyError: 'a\\nb' at last_net.py:\d+; docs/LABORATORY.md says how to report it$")
+        self.assertRegex(said, r"^internal error: KeyError: 'a\\nb' at last_net.py:\d+; docs/LABORATORY.md says how to report it$")
         for error in (RecursionError("deep"), AssertionError(), UnicodeEncodeError("utf-8", "\ud800", 0, 1, "surrogates"), StopIteration()):
-            self.assertIn(f"a fault of lab itself: {type(error).__name__}", self.caught(error)[1])
-        self.assertEqual(self.caught(MemoryError()), (3, "there is no memory"))
+            self.assertIn(f"internal error: {type(error).__name__}", self.caught(error)[1])
+        self.assertEqual(self.caught(MemoryError()), (3, "out of memory"))
         self.assertEqual(self.caught(KeyboardInterrupt()), (130, "interrupted"))
         self.assertEqual(self.caught(OSError(28, "No space left on device", "out")), (3, "out: No space left on device"))
 
@@ -208,7 +208,7 @@ class Nets(Room):
             done = subprocess.run([sys.executable, "-I", "-c", started, str(TOP / "python")], capture_output=True, text=True,
                                   env=os.environ | ({last_net.TRACEBACK: "1"} if asked else {}))
             self.assertEqual((done.returncode, "Traceback" in done.stderr), (5, asked))
-            self.assertRegex(done.stderr, r"^lab: a fault of lab itself: KeyError: 'a' at __main__.py:\d+; docs/LABORATORY.md says how")
+            self.assertRegex(done.stderr, r"^lab: internal error: KeyError: 'a' at __main__.py:\d+; docs/LABORATORY.md says how")
 
     def test_streams_that_are_full_or_closed(self) -> None:
         (self.work / "a.yaml").write_text("steps: [start]\n")

@@ -90,23 +90,23 @@ steps: [{use: both}, {drive: 150.5 m at 36.5 km/h}, {confirm: running_number}, f
 
     def test_faults_and_their_places(self) -> None:
         for text, said in (
-                ("steps: [{dirve: 1 m}]", '1:10: "dirve" can\'t stand here; is "drive" meant?'),
-                ("steps:\n  - drive: 200 m", '2:12: a distance and a speed are wanted here'),
-                ("steps:\n  - drive: 200 at 3 km/h", '2:12: a distance is wanted here, a number and cm or m or km'),
-                ("steps:\n  - drive: 0.5 cm at 3 km/h", '2:12: "0.5 cm" is no whole number of cm'),
-                ("steps:\n  - drive: 11 km at 3 km/h", '2:12: "11 km" isn\'t within -10,000 and 1,000,000 cm'),
-                ("steps: [strat]", '1:9: "strat" can\'t stand here; is "start" meant?'),
-                ("steps: [start]\nsteps: []", '2:1: "steps" stands twice, first in line 1'),
-                ("steps: [{choose_level: 2}]", "1:24: a whole number from 0 to 1 is wanted here"),
-                ("steps: [{use: part}]", '1:15: "part" can\'t stand here'),
+                ("steps: [{dirve: 1 m}]", '1:10: "dirve" is not allowed here; did you mean "drive"?'),
+                ("steps:\n  - drive: 200 m", '2:12: expected a distance and a speed'),
+                ("steps:\n  - drive: 200 at 3 km/h", '2:12: expected a distance, a number and cm or m or km'),
+                ("steps:\n  - drive: 0.5 cm at 3 km/h", '2:12: "0.5 cm" is not a whole number of cm'),
+                ("steps:\n  - drive: 11 km at 3 km/h", '2:12: "11 km" is not between -10,000 and 1,000,000 cm'),
+                ("steps: [strat]", '1:9: "strat" is not allowed here; did you mean "start"?'),
+                ("steps: [start]\nsteps: []", '2:1: "steps" is given twice, first in line 1'),
+                ("steps: [{choose_level: 2}]", "1:24: expected a whole number from 0 to 1"),
+                ("steps: [{use: part}]", '1:15: "part" is not allowed here'),
                 ("steps: [{mark: a}, {mark: a}]", '1:27: "a" marks line 1 already'),
                 ("parts: {a: [{use: a}]}\nsteps: [{use: a}]", "1:19: parts use one another more than 16 deep"),
                 ("include: x.case.yaml\nsteps: []", "1:10: x.case.yaml includes itself"),
-                ("groups: [{at: 0 m, balises: [a]}]\nsteps: []", '1:15: "0 m" isn\'t within 1 and 100,000,000 cm'),
+                ("groups: [{at: 0 m, balises: [a]}]\nsteps: []", '1:15: "0 m" is not between 1 and 100,000,000 cm'),
                 ("groups: [{at: 1 m, balises: [\"90\", \"90\"]}]\nsteps: []", "1:10: spacing is missing"),
-                ("steps: [{telegram: xy}]", '1:20: there is no telegram "xy"'),
-                ("steps: [!!python/name:os.system x]", "1:9: the tag tag:yaml.org,2002:python/name:os.system can't stand here"),
-                ("steps: [", "1:9: this is no YAML")):
+                ("steps: [{telegram: xy}]", '1:20: no telegram is called "xy"'),
+                ("steps: [!!python/name:os.system x]", "1:9: the tag tag:yaml.org,2002:python/name:os.system is not allowed"),
+                ("steps: [", "1:9: not YAML")):
             self.assertTrue(self.said(text).startswith(said), f"{text}\n{self.said(text)}\n{said}")
 
     def test_telegrams_are_compared(self) -> None:
@@ -137,8 +137,8 @@ steps: [{use: both}, {drive: 150.5 m at 36.5 km/h}, {confirm: running_number}, f
             self.assertIn("1:28: etcs decode finds another telegram: packet 3", self.said(by_name))
         with patch("gaknifur.program.adapted", side_effect=Failed("has more than one packet 3", 1)):
             self.assertIn("1:28: the telegram has more than one packet 3", self.said(by_name))
-        self.assertIn("1:20: beside installed nothing else can stand here", self.said("steps: [{telegram: {installed: 90, refused: 2}}]"))
-        self.assertIn("1:20: fields is missing here, or installed", self.said("steps: [{telegram: {refused: 2}}]"))
+        self.assertIn("1:20: nothing else is allowed next to `installed`", self.said("steps: [{telegram: {installed: 90, refused: 2}}]"))
+        self.assertIn("1:20: `fields` or `installed` is missing", self.said("steps: [{telegram: {refused: 2}}]"))
         self.assertIn("1:32: packet 3: V_NVSHUNT is missing before V_NVSTFF",
                       self.said(f"steps: [{{telegram: {{installed: '{OF_TRACK.replace('V_NVSHUNT 6, ', '')}'}}}}]"))
 
@@ -154,27 +154,27 @@ class Bounds(InFiles):
         long = "1" * 300_000
         begun = time.process_time()
         for text, said in (
-                ("steps: " + "[" * 100_000, "1:72: this is no YAML: it is more than 64 deep"),
-                ("\n".join(" " * deep + "a:" for deep in range(1_000)), "65:65: this is no YAML: it is more than 64 deep"),
-                ("steps: &a [start, *a]", "1:19: this is no YAML: *a holds itself"),
-                ("x: &a\n  y: [*a]\nsteps: []", "2:7: this is no YAML: *a holds itself"),
+                ("steps: " + "[" * 100_000, "1:72: not YAML: it is more than 64 deep"),
+                ("\n".join(" " * deep + "a:" for deep in range(1_000)), "65:65: not YAML: it is more than 64 deep"),
+                ("steps: &a [start, *a]", "1:19: not YAML: *a holds itself"),
+                ("x: &a\n  y: [*a]\nsteps: []", "2:7: not YAML: *a holds itself"),
                 (f"a0: &a0 [x]\n{laughs}\nsteps: [start]", "7:5: this has more than 1,048,576 values"),
                 (f"parts:\n  p0: [start]\n{ten}\nsteps: [{{use: p7}}]", "2:8: a life has at most 100,000 steps"),
                 (f"parts:\n  p0: []\n{ten}\nsteps: [{{use: p9}}]", "3:"),
-                (f"steps: [{{choose_level: {long}}}]", "1:24: a number has at most 28 digits, and this is \"1111"),
-                (f"steps: [{{clock: {long} s}}]", "1:17: a number has at most 28 digits"),
-                ("steps: [{drive: 1.0000000000000000000000000001 m at 3 km/h}]", "1:17: a number has at most 28 digits"),
+                (f"steps: [{{choose_level: {long}}}]", "1:24: expected a number of at most 28 digits, found \"1111"),
+                (f"steps: [{{clock: {long} s}}]", "1:17: expected a number of at most 28 digits"),
+                ("steps: [{drive: 1.0000000000000000000000000001 m at 3 km/h}]", "1:17: expected a number of at most 28 digits"),
                 ("steps: [{telegram: 'NID_BG " + "9" * 5_000 + "'}]", '1:20: "NID_BG 999'),
                 ("steps: [{telegram: 'NID_BG 2; ²: NID_TSR 1'}]", '1:20: "²: NID_TSR 1" begins with no number'),
                 ("steps: [{telegram: 'NID_BG 2; 3: " + "NID_C 1, " * 50_000 + "'}]", "1:20: a telegram is told in at most 20,000 characters"),
-                ('include: "a\\0b"\nsteps: []', "1:10: there is no file"), ("include: " + "a" * 5_000 + "\nsteps: []", '1:10: "aaaa'),
-                ("include: /dev/zero\nsteps: []", "1:10: there is no file /dev/zero"), ("include: .\nsteps: []", "1:10: there is no file"),
-                ("steps: [\n a\0]", "2:3: this is no YAML: the character U+0000 can't stand here"),
-                ('steps: ["\\ud800"]', "1:9: half a character (a lone surrogate) can't stand here"),
-                ('steps: ["\\UFFFFFFFF"]', "1:12: this is no YAML: there is no such character"),
-                ('steps: ["a\\nb\\u202e"]', '1:9: "a\\nb\\u202e" can\'t stand here'),
-                ("steps: [{" + "x" * 100_000 + "}]", '1:10: "xxxx'), ("", "1:1: one document is wanted"),
-                ("steps: []\n---\nsteps: []", "3:1: one document is wanted")):
+                ('include: "a\\0b"\nsteps: []', "1:10: no such file"), ("include: " + "a" * 5_000 + "\nsteps: []", '1:10: "aaaa'),
+                ("include: /dev/zero\nsteps: []", "1:10: no such file: /dev/zero"), ("include: .\nsteps: []", "1:10: no such file"),
+                ("steps: [\n a\0]", "2:3: not YAML: the character U+0000 is not allowed"),
+                ('steps: ["\\ud800"]', "1:9: half a character (a lone surrogate) is not allowed"),
+                ('steps: ["\\UFFFFFFFF"]', "1:12: not YAML: there is no such character"),
+                ('steps: ["a\\nb\\u202e"]', '1:9: "a\\nb\\u202e" is not allowed here'),
+                ("steps: [{" + "x" * 100_000 + "}]", '1:10: "xxxx'), ("", "1:1: the file is empty"),
+                ("steps: []\n---\nsteps: []", "3:1: expected one document, found 2")):
             told = self.said(text)
             self.assertTrue(told.startswith(said), f"{text[:80]}\n{told[:300]}\n{said}")
             self.assertEqual((len(told.splitlines()), len(told) < 500), (1, True), told[:300])
@@ -186,8 +186,8 @@ class Bounds(InFiles):
         self.assertEqual(len(scenarios.read(self.write(text.replace("steps: [{use: p1}, ", "steps: ["))).steps), 49_000)
 
     def test_of_a_case(self) -> None:
-        self.assertIn("this is no YAML: *m holds itself", self.said_of("{note: x, never: {mode: &m [*m]}}"))
-        self.assertIn("there is no file", self.said(CASE.replace("{steps: [start, {mark: here}, flush]}", '{scenario: "a\\0.json"}'), True))
+        self.assertIn("not YAML: *m holds itself", self.said_of("{note: x, never: {mode: &m [*m]}}"))
+        self.assertIn("no such file", self.said(CASE.replace("{steps: [start, {mark: here}, flush]}", '{scenario: "a\\0.json"}'), True))
 
     def test_a_file_that_is_too_large_or_no_text(self) -> None:
         self.assertIn("has more than 1,048,576 bytes", self.said("#" * (1 << 20) + "\nsteps: []"))
@@ -201,7 +201,7 @@ class Bounds(InFiles):
         self.assertEqual(told.steps, [{"clock": 1000}, {"clock": 20}])
         # 1.666666666666666666666666667 * 60,000 is 100,000.00000000000000000000002
         for text in ("1.000000000000000000000000001 s", "1.666666666666666666666666667 min"):
-            self.assertIn("is no whole number of ms", self.said(f"steps: [{{clock: {text}}}]"))
+            self.assertIn("is not a whole number of ms", self.said(f"steps: [{{clock: {text}}}]"))
 
     def test_a_chain_of_files(self) -> None:
         folder = self.path.parent
@@ -263,7 +263,7 @@ class Telegrams(unittest.TestCase):
         for text, said in (("NID_BG 2; 65: NID_TSR 7, L_TSR 50", "packet 65: D_TSR is missing before L_TSR"),
                            ("NID_BG 2; 65: NID_TSR 256, D_TSR 1, L_TSR 1, Q_FRONT 1, V_TSR 4", "NID_TSR has 8 bits, from 0 to 255"),
                            ("NID_BG 2; 66: NID_TSR 7, NID_TSR 8", "packet 66 has no NID_TSR there"),
-                           ("NID_BG 2; 66: NID_TRS 7", "there is no variable NID_TRS; is \"NID_TSR\" meant?"),
+                           ("NID_BG 2; 66: NID_TRS 7", "there is no variable NID_TRS; did you mean \"NID_TSR\"?"),
                            ("NID_C 2", "the header tells no NID_BG"), ("NID_BG 2; V_MAIN 3", "\"V_MAIN 3\" begins with no number of a packet")):
             with self.assertRaisesRegex(telegrams.Wrong, f"^{said}"):
                 telegrams.telegram(text).digits
@@ -274,25 +274,25 @@ class Cases(InFiles):
 
     def test_faults_and_their_places(self) -> None:
         for expected, where, said in (
-                ("{note: x, at: {mode: FS}, expct: {mode: FS}}", "expct", '"expct" can\'t stand here; is "expect" meant?'),
-                ("{note: x, at: {mode: FS}, expect: {mode: SF, mode: FS}}", "mode: FS}}", '"mode" stands twice'),
-                ("{note: x, at: {mode: XX}, expect: {mode: FS}}", "XX", '"XX" can\'t stand here'),
-                ("{note: x, at: {mode: FS}, expect: {brakes: none}}", "brakes", '"brakes" can\'t stand here; is "brake" meant?'),
-                ("{note: x, at: {mark: there}, expect: {mode: FS}}", "there", '"there" can\'t stand here'),
-                ("{note: x, never: {shows_trip: on}}", "on}", 'true or false is wanted here, and this is "on"'),
-                ("{note: x, never: {place_cm: 5 m}}", "5 m", "a number is wanted here"),
+                ("{note: x, at: {mode: FS}, expct: {mode: FS}}", "expct", '"expct" is not allowed here; did you mean "expect"?'),
+                ("{note: x, at: {mode: FS}, expect: {mode: SF, mode: FS}}", "mode: FS}}", '"mode" is given twice'),
+                ("{note: x, at: {mode: XX}, expect: {mode: FS}}", "XX", '"XX" is not allowed here'),
+                ("{note: x, at: {mode: FS}, expect: {brakes: none}}", "brakes", '"brakes" is not allowed here; did you mean "brake"?'),
+                ("{note: x, at: {mark: there}, expect: {mode: FS}}", "there", '"there" is not allowed here'),
+                ("{note: x, never: {shows_trip: on}}", "on}", 'expected true or false, found "on"'),
+                ("{note: x, never: {place_cm: 5 m}}", "5 m", "expected a number"),
                 ("{note: x, never: {place_cm: {least: 5, most: 4}}}", "{least", "no number is both 5 at least and 4 at most"),
-                ("{note: x, never: {}}", "{}", "a condition has at least one name"),
+                ("{note: x, never: {}}", "{}", "a condition needs at least one name"),
                 ("{note: x, at: {mode: FS}}", "{note", "expect or row is missing"),
                 ("{note: x, at: {mode: FS}, never: {mode: SF}}", "{note", "an expected result is one of"),
-                ("{note: x, after: {mode: FS}, expect: {mode: SF}}", "{note", "one of within_events, within_ms, within_cm is wanted"),
+                ("{note: x, after: {mode: FS}, expect: {mode: SF}}", "{note", "`after` and `expect` need one of within_events"),
                 ("{at: {mode: FS}, expect: {mode: SF}}", "{at", "note is missing"),
-                ("{note: x, at: {mode: FS}, row: 99}", "99", "99 is no row of the mode table"),
-                ("{note: x, at: {mode: FS}, row: 16 from FS}", "16 from FS", "16 from FS is no row of the mode table"),
-                ("{note: x, at: {mode: FS}, row: 2}", "2}", 'row 2 leads from several modes, so one is wanted, as "2 from FS"'),
-                ("{note: x, never: {level: 2}}", "2}", 'level is 0, 1 or unknown, and this is "2"'),
-                ("{note: x, never: {level: {least: -1}}}", "-1", 'level is 0, 1 or unknown, and this is "-1"'),
-                ("{note: x, sections: [9.1], never: {mode: SF}}", "9.1", '"9.1" is no section of SUBSET-026')):
+                ("{note: x, at: {mode: FS}, row: 99}", "99", "99 is not a row of the mode table"),
+                ("{note: x, at: {mode: FS}, row: 16 from FS}", "16 from FS", "16 from FS is not a row of the mode table"),
+                ("{note: x, at: {mode: FS}, row: 2}", "2}", 'row 2 leads from several modes; name one, such as "2 from FS"'),
+                ("{note: x, never: {level: 2}}", "2}", 'expected level 0, 1 or unknown, found "2"'),
+                ("{note: x, never: {level: {least: -1}}}", "-1", 'expected level 0, 1 or unknown, found "-1"'),
+                ("{note: x, sections: [9.1], never: {mode: SF}}", "9.1", '"9.1" is not a section of SUBSET-026')):
             told, place = self.said_of(expected), f"8:{5 + expected.index(where)}: "
             self.assertTrue(told.startswith(place + said), f"{expected}\n{told}\n{place}{said}")
 

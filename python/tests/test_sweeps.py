@@ -101,7 +101,7 @@ class Sweeps(unittest.TestCase):
             assert drive is not None and scenario is not None
             self.assertEqual((drive.train.build_up_ms, drive.train.reaction_ms, scenario.steps), (build_up, 500, [{"driver": [6]}]))
             self.assertEqual([one.name for one in outcomes], ["end_m"])
-        with self.assertRaisesRegex(Failed, "a.yaml:4:.*: a time is wanted here"):
+        with self.assertRaisesRegex(Failed, "a.yaml:4:.*: expected a time"):
             sweeps.at_point(sweep, {"build_up": "2 m"})
 
     def test_tables(self) -> None:
@@ -150,25 +150,25 @@ class Sweeps(unittest.TestCase):
     def test_faults_and_their_places(self) -> None:
         replaced: Callable[[str, str], str] = SWEEP.replace
         for text, said in (
-                (replaced("$speed km", "$sped km"), '3:58: there is no parameter $sped; is "speed" meant? there are: speed, way'),
-                (replaced("$speed km", "20 km"), "2:6: the parameter speed stands nowhere, as $speed"),
-                (replaced("10..30 step 10", "30..10"), "2:29: a list of values is wanted here, or a range as 1..63"),
-                (replaced("10..30 step 10", "1..9 step 0"), "2:29: a list of values is wanted here, or a range as 1..63"),
-                (replaced("10..30 step 10", "1..2.5.1"), "2:29: a list of values is wanted here, or a range as 1..63"),
+                (replaced("$speed km", "$sped km"), '3:58: no parameter is called $sped; did you mean "speed"? known: speed, way'),
+                (replaced("$speed km", "20 km"), "2:6: the parameter speed is used nowhere as $speed"),
+                (replaced("10..30 step 10", "30..10"), "2:29: expected a list of values, or a range such as 1..63"),
+                (replaced("10..30 step 10", "1..9 step 0"), "2:29: expected a list of values, or a range such as 1..63"),
+                (replaced("10..30 step 10", "1..2.5.1"), "2:29: expected a list of values, or a range such as 1..63"),
                 (replaced("10..30 step 10", "1..100000"), "2:29: this has more than 10,000 values"),
-                (replaced("10..30 step 10", "1..9000"), "2:6: this has 18,000 points, and 1 to 10,000 are wanted"),
-                (replaced("[10, 20]", "[10, 10]"), "2:12: a parameter has one value at least, and none twice"),
-                (replaced("{way:", "{Way:"), '2:12: "Way" is no name of a parameter'),
-                (replaced("value: speed_kmh", "value: speed_mh"), '5:43: "speed_mh" can\'t stand here'),
-                (replaced(", value: speed_kmh", ""), "5:5: one of these is wanted: at and value"),
-                (replaced("name: most", "name: run"), "5:3: something is told, and no name is that of another"),
-                (replaced("name: most", "name: way"), "5:3: something is told, and no name is that of another"),
-                (replaced("count: {kind: odometer}", "count: {kind: wheel}"), '8:36: "wheel" can\'t stand here'),
+                (replaced("10..30 step 10", "1..9000"), "2:6: this has 18,000 points; 1 to 10,000 are possible"),
+                (replaced("[10, 20]", "[10, 10]"), "2:12: a parameter needs at least one value, and none twice"),
+                (replaced("{way:", "{Way:"), '2:12: "Way" is not a parameter name'),
+                (replaced("value: speed_kmh", "value: speed_mh"), '5:43: "speed_mh" is not allowed here'),
+                (replaced(", value: speed_kmh", ""), "5:5: expected one of: at and value"),
+                (replaced("name: most", "name: run"), "5:3: `tell` needs at least one outcome"),
+                (replaced("name: most", "name: way"), "5:3: `tell` needs at least one outcome"),
+                (replaced("count: {kind: odometer}", "count: {kind: wheel}"), '8:36: "wheel" is not allowed here'),
                 (replaced("[10, 20]", "[10, 20000]"), None)):
             if said is None:
                 # What a later point makes wrong is told with its place too.
                 sweep = self.read(text)
-                with self.assertRaisesRegex(Failed, '3:5[0-9]: "20000 m" isn\'t within'):
+                with self.assertRaisesRegex(Failed, '3:5[0-9]: "20000 m" is not between'):
                     sweeps.at_point(sweep, sweep.points()[-1])
                 continue
             with self.assertRaises(Failed) as found:

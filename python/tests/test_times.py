@@ -184,7 +184,7 @@ class Files(Room):
             marks.mark(1, 600_000, TEN_MS + 600_000, 50, "GNSS")
         self.assertEqual(path.read_text(), HOST)
         (self.room / "text").write_text("text")
-        self.assertRaisesRegex(Failed, "is there, and is not a file of marks", Marks, self.room / "text")
+        self.assertRaisesRegex(Failed, "exists and is not a file of marks", Marks, self.room / "text")
 
     def test_a_wrong_checksum_loses_its_line_only(self) -> None:
         first, line, other, _ = HOST.replace("\n1,0,", "\n3,0,").replace("21d7d1e5", "fb46f99a").split("\n")  # (a bit of "3" makes it "#")

@@ -59,6 +59,27 @@ class Order(unittest.TestCase):
             self.assertEqual(ended.exception.code, 2, given)
 
 
+class Wrong(unittest.TestCase):
+    """A wrong command or option is named, with the nearest right one; status 2."""
+
+    def test_the_nearest_word(self) -> None:
+        for words, said in ((["reprot", "a", "b"], "lab: error: unknown command reprot; did you mean report?"),
+                            (["zzz"], "lab: error: unknown command zzz; lab --help lists the commands"),
+                            (["report", "a", "b", "--lfe", "3"], "lab report: error: unknown option --lfe; did you mean --life?"),
+                            (["report", "a", "b", "c"], "lab report: error: unexpected argument c")):
+            with self.subTest(words=words), contextlib.redirect_stderr(io.StringIO()) as told, self.assertRaises(SystemExit) as ended:
+                lab.understood(words)
+            self.assertEqual((ended.exception.code, told.getvalue().splitlines()[-1]), (2, said))
+
+    def test_help_is_natural(self) -> None:
+        """Each command and option has a help text in the imperative or as a noun, without the words of the old dialect."""
+        dialect = re.compile(r"\b(tells?|told|stands?|behind|beside|alone|so many|puts|makes of|takes apart|words?)\b")
+        for name in ("", *(word for words in lab.PARTS.values() for word in words)):
+            with contextlib.redirect_stdout(io.StringIO()) as told, self.assertRaises(SystemExit):
+                lab.understood([*([name] if name else []), "--help"])
+            self.assertEqual(dialect.findall(told.getvalue()), [], name)
+
+
 class Completion(unittest.TestCase):
     """What bash completes is each word and each option of the help, and nothing else."""
 
@@ -108,7 +129,7 @@ class Names(unittest.TestCase):
     def test_of_parquet(self) -> None:
         with tempfile.TemporaryDirectory() as room:
             out = Path(room) / "out.parquet"
-            with self.assertRaisesRegex(Failed, "no Parquet is written, since Debian has no package for it"):
+            with self.assertRaisesRegex(Failed, "Parquet isn't supported"):
                 image_words.write_table(lab.understood(["table", "image", str(out)]), lambda *_: None)
             self.assertFalse(out.exists())
 
@@ -179,7 +200,7 @@ class Suites(unittest.TestCase):
 
     def test_a_class_is_a_case(self) -> None:
         out = self.room / "results.xml"
-        self.assertEqual(self.lab(f"--junitxml={out}")[0], 1)
+        self.assertEqual(self.lab(f"--junitxml={out}")[0], 4)
         found = [(one.get("classname"), one.get("name")) for one in xml.etree.ElementTree.parse(out).iter("testcase")]
         self.assertEqual(len(found), 6)
         self.assertEqual({name for name, _ in found}, {"one.case.yaml.one", "two.case.yaml.two of a/kind"})
@@ -193,7 +214,7 @@ class Suites(unittest.TestCase):
     def test_image_and_report_are_kept(self) -> None:
         kept = self.room / "kept"
         with patch("gaknifur.reading.read", lambda path, **words: self.told(path)):
-            self.assertEqual(self.lab("--keep", str(kept))[0], 1)
+            self.assertEqual(self.lab("--keep", str(kept))[0], 4)
         self.assertEqual(sorted(str(path.relative_to(kept)) for path in kept.rglob("*")),
                          ["one", "one/image", "one/report.html", "two_of_a_kind", "two_of_a_kind/image", "two_of_a_kind/report.html"])
         self.assertEqual((kept / "one/image").read_bytes(), b"the image")
@@ -211,7 +232,7 @@ class Suites(unittest.TestCase):
         self.assertEqual(self.lab("--reached", str(out), "-k", "comes")[0], 0)
         self.assertEqual(measured.read(out), {name: {"power-up words": ["unknown"]} for name in ("one", "two of a/kind")})
         status, told = self.lab("--reached", str(out))
-        self.assertEqual((status, "--force writes over what lab made" in told), (1, True))
+        self.assertEqual((status, "--force overwrites what lab made" in told), (1, True))
         self.assertEqual(self.lab("--reached", str(out), "--force", "-k", "comes")[0], 0)
         out.write_text("mine")
         self.assertIn("is not what cases reach that lab made", self.lab("--reached", str(out), "--force")[1])

@@ -99,7 +99,7 @@ def interrupted(room, lives):
     os.killpg(playing.pid, signal.SIGINT)
     said = playing.communicate(timeout=WAIT)[1]
     before = rows(out)
-    unless(playing.returncode == 1 and said.splitlines()[-1:] and "the same command goes on" in said.splitlines()[-1], f"interrupted: {said}")
+    unless(playing.returncode == 130 and said.splitlines()[-1:] and "The same command continues" in said.splitlines()[-1], f"interrupted: {said}")
     unless(5 <= before < lives, f"{before} rows where it was interrupted")
     again = lab(*words[1:])
     unless(again.returncode == 0 and again.stdout.startswith(f"{lives} rows, {lives - before} of them"), f"gone on: {again.stdout}{again.stderr}")

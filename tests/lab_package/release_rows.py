@@ -187,7 +187,7 @@ def main():
                 status, text, took = verified(room, folder, *words)
                 tried += 1
                 is_unseen = name == "2^40 bytes in place of SHA256SUMS.sig" and not words  # (no signers are named, so it isn't looked at)
-                count.unless(status == int(not is_unseen) and (words or said in text), f"{name} {words and 'signers named'}: status {status}, {text[:300]!r}")
+                count.unless(status == (0 if is_unseen else 4) and (words or said in text), f"{name} {words and 'signers named'}: status {status}, {text[:300]!r}")
                 count.unless(took < SLOW, f"{name}: took {took:.1f} s")
                 count.unless(text.replace("\n", "").isprintable() and "Traceback" not in text, f"{name}: {text[:300]!r}")
                 count.unless(LIE not in text.splitlines() or words, f"{name}: a signature is shown")

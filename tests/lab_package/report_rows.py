@@ -121,8 +121,8 @@ def damaged(rows):
              said="lab: 3.5: is neither an event (120) nor a place (300m) nor a moment (20.5s)")
     rows.lab("database", "trip", "trip.db")
     rows.lab("database", "trip", "trip.db", said="lab: trip: is in the database already")
-    rows.lab("database", "trip", "trip", status=1, said="lab: trip: is trip itself, which is read here")
-    rows.lab("report", "trip", "byte", "--force", status=1, said="lab: byte: holds a journal, and nothing writes over that")
+    rows.lab("database", "trip", "trip", status=1, said="lab: trip: is the input file trip")
+    rows.lab("report", "trip", "byte", "--force", status=1, said="lab: byte: holds a journal, which is never overwritten")
     for word in ("table", "database", "report"):
         rows.same(f"lab {word} --help", f"usage: lab {word}" in rows.lab(word, "--help"), True)
     rows.same("./lab table", rows.script("table", rows.room / "trip"), rows.lab("table", "trip"))

@@ -324,7 +324,7 @@ def in_lines(count, room):
         (folder / "data/table.csv").write_text("altered")
         strip(folder)
     status, text, said = printed(forge)
-    count.same("a faked signature", (status, LIE in text.splitlines(), said), (1, False, ""))
+    count.same("a faked signature", (status, LIE in text.splitlines(), said), (4, False, ""))
 
     def forge_tools(folder):
         put(folder, "tools.lab", "1\x1b[2K\r\u202e")
@@ -430,8 +430,8 @@ def refuses(count, name, said, image, folder):
 def at_the_edges(count, room, image):
     """What isn't sealed, and images that are damaged or none."""
     os.mkfifo(room / "pipe")
-    refuses(count, "a pipe", "is no regular file", room / "pipe", room / "new")
-    refuses(count, "a folder", "is no regular file", room, room / "new")
+    refuses(count, "a pipe", "isn't a regular file", room / "pipe", room / "new")
+    refuses(count, "a folder", "isn't a regular file", room, room / "new")
     refuses(count, "no file", "No such file", room / "none", room / "new")
     refuses(count, "a folder that is there", "is there", image, room / "bag")
     with image.open("r+b") as held:
@@ -478,7 +478,7 @@ def killed(count, room, image):
         seal.seal(image, at / f"sealed-{name}", seal.Sealing())
         count.same(f"sealed behind that at {name}", sorted(set(os.listdir(at)) - set(strangers)), [f"sealed-{name}"])
         shutil.rmtree(at / f"sealed-{name}")
-    for number, said, status in ((errno.EIO, "Input/output error", DEVICE), (errno.EEXIST, "since a moment ago", REFUSED)):
+    for number, said, status in ((errno.EIO, "Input/output error", DEVICE), (errno.EEXIST, "created by somebody else meanwhile", REFUSED)):
         def fails(*_, number=number):
             raise OSError(number, os.strerror(number))
         with patch("gaknifur.files.rename_new", fails):

@@ -102,16 +102,16 @@ class Driven(Compared):
         kept = DRIVES / "heeds_the_limit.yaml"
         for words, status, said in ((["drive", none], 1, "has no drive"), (["drive", self.room / "nothing.yaml"], 3, "No such file"),
                                     (["drive", kept, "--picture", self.room / "x.gif"], 2, "a picture is a file .svg or .png"),
-                                    (["drive", kept, "--build-up", "2 m"], 1, "--build-up: a time is wanted here"),
+                                    (["drive", kept, "--build-up", "2 m"], 1, "--build-up: expected a time"),
                                     (["build", kept], 1, "lab drive has --scenario"),
-                                    (["drive", kept, "--image", self.room], 1, "is no regular file"),
+                                    (["drive", kept, "--image", self.room], 1, "isn't a regular file"),
                                     (["drive", kept, "--image", kept], 1, "is a file that is read here"),
                                     (["drive", kept, "--image", none], 1, "the unit answers 2 OPEN_NOT_FORMATTED"),
-                                    (["drive", kept, "--csv", kept, "--force"], 1, "itself, which is read here")):
+                                    (["drive", kept, "--csv", kept, "--force"], 1, "is the input file")):
             found = lab(*words)
             self.same(f"{words}", (found[0], said in found[2]), (status, True))
         found = lab("drive", kept, env={"GAKNIFUR_ETCS_UNIT": str(self.room / "no.so")}.items())
-        self.same("no library", (found[0], "tools/library PREFIX makes it" in found[2]), (3, True))
+        self.same("no library", (found[0], "tools/library --unproved PREFIX" in found[2]), (3, True))
         found = lab("drive", kept, env={"GAKNIFUR_ETCS_UNIT": "libc.so.6"}.items())
         self.same("another library", (found[0], "is of another interface" in found[2]), (3, True))
 

@@ -298,7 +298,7 @@ def check_rows(env, wrong):
                 text.append(HEAD.replace("NAME", f"{name}.{which}") + "  - " + one + "\n")
         Path(room, "rows.case.yaml").write_text("---\n".join(text))
         found, done = found_in(env, room)
-        if done.returncode != 1 or "fault of lab" in done.stderr:
+        if done.returncode != 4 or "fault of lab" in done.stderr:
             wrong.append(f"status {done.returncode}: {done.stderr}")
         for name, wanted, *_ in ROWS:
             there = found.get(f"{name}.fault", [])
@@ -344,7 +344,7 @@ def check_words(env, wrong):
         done = lab(env, "s.json", "--json", cwd=room)
         told = [json.loads(line) for line in done.stdout.splitlines()]
         wanted("places", [(one.get("safety", "advice"), one["line"], one["column"], one["pointer"]) for one in told] == PLACES
-               and done.returncode == 1 and all(one["file"] == "s.json" and one["case"] is None for one in told), done)
+               and done.returncode == 4 and all(one["file"] == "s.json" and one["case"] is None for one in told), done)
         done = lab(env, "s.json", cwd=room)
         wanted("lines", re.fullmatch(r"s.json:5:31: /steps/6/driver: the kernel doesn't accept .*\n"
                                      r"s.json:4:13: SAFETY 12: /steps/4/drive: 1.5 m backward are read with speed 0, .*\. Do: .*\n", done.stdout), done)
@@ -352,11 +352,11 @@ def check_words(env, wrong):
         wanted("without", (done.returncode, done.stdout) == (0, ""), done)
         path.write_text(SCENARIO.replace("[-150, 0]", "[-15000, 0]"))
         done = lab(env, "s.json", cwd=room)
-        wanted("faults first", done.returncode == 1 and done.stdout.startswith("s.json:4:13: /steps/4/drive: refused 3 OutOfRange; wanted: ")
+        wanted("faults first", done.returncode == 4 and done.stdout.startswith("s.json:4:13: /steps/4/drive: refused 3 OutOfRange; wanted: ")
                and len(done.stdout.splitlines()) == 1, done)
         path.write_text("{")
         done = lab(env, "s.json", cwd=room)
-        wanted("no JSON", done.returncode == 1 and "refused 1 NotJson" in done.stdout, done)
+        wanted("no JSON", done.returncode == 4 and "refused 1 NotJson" in done.stdout, done)
         for name, words, status in (("wrong item", ["s.json", "--without", "13"], 2), ("no word", [], 2), ("another word", ["s.json", "--jsn"], 2),
                                     ("no file", ["t.json"], 3), ("an empty folder", ["empty"], 3)):
             Path(room, "empty").mkdir(exist_ok=True)
@@ -365,7 +365,7 @@ def check_words(env, wrong):
         case = Path(room, "x.case.yaml")
         shutil.copy(TOP / "suites/common.yaml", room)
         text = HEAD.replace("NAME", "x") + "  - {steps: [use: staff, {drive: -1.5 m at 0 km/h}]}\n"
-        for shows, status, said in (("", 1, "SAFETY 12: "), ("shows: [12]\n", 0, ""), ("shows: [12, 33]\n", 1, "says that it shows 33, and nothing of it is found"),
+        for shows, status, said in (("", 4, "SAFETY 12: "), ("shows: [12]\n", 0, ""), ("shows: [12, 33]\n", 4, "says that it shows 33, and nothing of it is found"),
                                     ("shows: [0]\n", 1, None), ("shows: [all]\n", 1, None)):
             case.write_text(shows + text)
             done = lab(env, case.name, cwd=room)
@@ -373,7 +373,7 @@ def check_words(env, wrong):
                    bool(done.stdout) == bool(said)), done)
         Path(room, "s.yaml").write_text("include: common.yaml\nsteps:\n  - use: staff\n  - drive: -1.5 m at 0 km/h\n")
         done = lab(env, "s.yaml", cwd=room)
-        wanted("a scenario in YAML", done.returncode == 1 and done.stdout.startswith("s.yaml:4:5: SAFETY 12: /steps/4/drive: "), done)
+        wanted("a scenario in YAML", done.returncode == 4 and done.stdout.startswith("s.yaml:4:5: SAFETY 12: /steps/4/drive: "), done)
 
 
 def check_own(env, wrong):

@@ -60,8 +60,8 @@ FLOORS = (
     ("mode rows: all", "mode rows: 39", "", "mode rows: 38 are reached, and 39 is the floor"),
     ("", "", "  power-up words:\n    moved: none\n", "power-up words: moved: "),
     ("1 from *: &overrun", "99 from *: &overrun", "", '"99 from *" names nothing that is counted'),
-    ("trip causes: all", "trip cause: all", "", 'is "trip causes" meant?'),
-    ("trip causes: all", "trip causes: 7", "", "a whole number from 0 to 6 is wanted here"))
+    ("trip causes: all", "trip cause: all", "", 'did you mean \"trip causes\"?'),
+    ("trip causes: all", "trip causes: 7", "", "expected a whole number from 0 to 6"))
 """What is altered in the floors and reasons of the corpus, what stands behind them, and what has to be said."""
 
 
@@ -88,9 +88,9 @@ def planted(room, by_case):
     (room / "text.json").write_text("[]")
     try:
         measured.read(room / "text.json")
-        yield "", "is no file of what cases reach"
+        yield "", "is not a file that `lab test --reached` made"
     except Failed as failed:
-        yield str(failed), "is no file of what cases reach"
+        yield str(failed), "is not a file that `lab test --reached` made"
 
 
 def by_command(room, by_case, lost):
@@ -106,7 +106,7 @@ def by_command(room, by_case, lost):
         path.write_text("\n---\n".join(one for one in documents if f"test_case: {DROPPED}\n" not in one))
     reached.write_text(measured.text_of({case: sets for case, sets in by_case.items() if case != DROPPED}))
     status, said = told(folder, reached)
-    if status != 1 or not missing(lost[DROPPED]) <= set(said.splitlines()):
+    if status != 4 or not missing(lost[DROPPED]) <= set(said.splitlines()):
         yield f"without {DROPPED}: status {status}: {said}"
 
 

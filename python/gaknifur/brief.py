@@ -23,7 +23,7 @@ def faults(journal: Journal) -> list[str]:
     if journal.refusal is not None:
         found.append(f"no event can be told: {journal.refusal}")
     elif not journal.is_whole:
-        found.append("something is lost, damaged or contradicts")
+        found.append(f"something is lost, damaged or contradicts{size_text(journal)}")
     differ = journal.differences
     if differ:
         more = f", and {len(differ) - 1} more" if len(differ) > 1 else ""
@@ -31,6 +31,17 @@ def faults(journal: Journal) -> list[str]:
     if not found:
         found += unreplayed(journal)
     return found
+
+
+def size_text(journal: Journal) -> str:
+    """Where the file has another number of slots than its first sector says: what an examination counts, and what the records are of."""
+    first = journal.image.get("first_sector", {})
+    says, has = first.get("slots"), first.get("size_slots")
+    if says is None or says == has:
+        return ""
+    size = "no whole number of slots" if has is None else f"{has:,} slots"
+    return (f": the file has {size}, and its first sector says {says:,}. So a power-up and an examination accept no journal in it; "
+            "the records are those of each slot that can be read")
 
 
 def findings(journal: Journal) -> list[Json]:

@@ -7,6 +7,7 @@ answers. So it counts only where the replay says that the journal tells the same
 the reason is told.
 """
 import bisect
+import re
 from collections.abc import Iterable, Iterator
 from dataclasses import dataclass
 
@@ -157,8 +158,8 @@ class Held:
 
     @property
     def says(self) -> str:
-        """What it says."""
-        return CAUSES[self.cause][0]
+        """What it says, with speeds in km/h as in the columns of a report."""
+        return re.sub(r"\b(\d+) m/h", lambda found: f"{int(found[1]) / 1000:g} km/h", CAUSES[self.cause][0])
 
     @property
     def ends(self) -> str:

@@ -162,11 +162,15 @@ def lua() -> str:
 
 
 def capture(journal: Journal) -> tuple[bytes, int]:
-    """A capture of the telegrams of a journal, in their order, and how many there are. The time of a packet is the
-    moment of its life."""
-    found = [PCAP_HEAD]
+    """A capture of the telegrams of a journal, in their order, and how many there are. The time of a packet is the moment of its
+    life; each life begins at the first full second that is more than a second after the last moment of the life before."""
+    found, life, begun, last = [PCAP_HEAD], None, 0, 0
     for record in journal.records:
+        if record["life"] != life:
+            begun = 0 if life is None else (last // 1000 + 2) * 1000
+            life = record["life"]
+        last = begun + record["time_ms"]
         if record["kind"] == "telegram":
-            data, ms = bytes.fromhex(record["telegram"]), record["time_ms"]
+            data, ms = bytes.fromhex(record["telegram"]), last
             found.append(struct.pack("<IIII", ms // 1000 & 0xFFFFFFFF, ms % 1000 * 1000, len(data), len(data)) + data)
     return b"".join(found), len(found) - 1

@@ -389,7 +389,7 @@ def is_there(path: Path, inputs: Iterable[Path] = ()) -> bool:
     if found is None:
         return False
     if not stat.S_ISREG(found.st_mode):
-        raise refused(path, "is no regular file")
+        raise refused(path, "isn't a regular file")
     if any(read is not None and is_same(found, read) for read in map(standing, inputs)):
         raise refused(path, "is a file that is read here")
     return True

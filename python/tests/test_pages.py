@@ -65,7 +65,7 @@ class Pages(unittest.TestCase):
     def test_causes_are_told(self) -> None:
         page = report.page(told())
         self.assertNotIn("ause not known", page)
-        self.assertIn(f"<li>{CAUSES['far_too_fast'][0]}: since <a href=\"#r3\">event 3</a>; ends when the train stands</li>", page)
+        self.assertIn(f"<li>the speed was above the limit by more than 10 km/h, and the train has not stood since: since <a href=\"#r3\">event 3</a>; ends when the train stands</li>", page)
 
 
 def tripped() -> Journal:
@@ -170,7 +170,10 @@ class Briefs(unittest.TestCase):
                 ([differs, head, ends[1]], {"whole": False}, [lost, "the replay differs: life 1, event 3, in brake, and 1 more"]),
                 ([head, ends[1]], {}, ["the replay differs: life 1, the head of block 2, in level"]),
                 ([left | {"reason": "within_block"}, ends[1]], {}, ["events 4 to 4 can't be replayed: no head tells what was kept before its power-up"]),
-                ([ends[1]], {}, ["the replay says that something differs or is lost"])]
+                ([ends[1]], {}, ["the replay says that something differs or is lost"]),
+                ([ends[0]], {"whole": False, "image": {"first_sector": {"slots": 16, "size_slots": 17}}},
+                 [f"{lost}: the file has 17 slots, and its first sector says 16. So a power-up and an examination accept no journal in it; "
+                  "the records are those of each slot that can be read"])]
         for replay, told, wanted in rows:
             one = journal(*RUN, **told)
             one.replay = replay

@@ -1,4 +1,5 @@
 """Tables of steps as test cases (docs/SEQUENCES.md), and the dissector for Wireshark (docs/WIRESHARK.md)."""
+import struct
 import tempfile
 import unittest
 from collections.abc import Callable
@@ -183,6 +184,14 @@ class Captures(unittest.TestCase):
         self.assertEqual(data[:24].hex(), "d4c3b2a1020004000000000000000000ffff000093000000")
         self.assertEqual(data[24:].hex(), "01000000d0070000" + "03000000" * 2 + "90007f")
         self.assertTrue(dissector.CAPTURE.is_own(data))
+
+    def test_lives_follow_each_other(self) -> None:
+        """By hand: the second life begins at 2 s, the third one at 2 s + 3,999 ms, and so after 7 s."""
+        records = [record(0, "telegram", telegram="90"), record(1, "telegram", telegram="90", time_ms=999), record(2, "powerup", life=2),
+                   record(3, "telegram", telegram="90", life=2), record(4, "clock", time_ms=3_999, life=2), record(5, "telegram", telegram="90", life=3)]
+        data, count = dissector.capture(Journal(Path("x"), {}, records))
+        times = [struct.unpack_from("<II", data, 24 + 17 * number) for number in range(count)]
+        self.assertEqual(times, [(0, 0), (0, 999_000), (2, 0), (7, 0)])
 
     def test_the_layouts_in_lua(self) -> None:
         told = dissector.lua()

@@ -111,7 +111,7 @@ def second(out):
     begun = time.monotonic()
     told = lab("campaign", out, "--random", "1", "--seed", "8")
     took = time.monotonic() - begun
-    unless((told.returncode, told.stdout, told.stderr) == (3, "", f"lab: {out}: another program writes to it; wait for its end, or take another "
+    unless((told.returncode, told.stdout, told.stderr) == (3, "", f"lab: {out}: another program is writing to it; wait for its end, or name another "
            "file\n"), f"a second campaign: {told.returncode} {told.stdout}{told.stderr}")
     unless(took < MOST_REFUSING, f"a second campaign: refused after {took:.0f} s")
 

@@ -287,7 +287,7 @@ def stays(rows, room):
         for name, said, do in (("an archive that is held", "another program writes it", lambda: Archive(path)),
                                ("no archive", "is not an archive of blocks", lambda: Archive(text)), ("an image", "is not an archive of blocks", lambda: Archive(image)),
                                ("no image", "is not a formatted image", lambda: Ring(text)), ("no file", "No such file", lambda: Ring(room / "none")),
-                               ("a folder", "", lambda: Ring(room)), ("onto an image", "is there", lambda: archive.join(image, [path])),
+                               ("a folder", "", lambda: Ring(room)), ("onto an image", "already exists", lambda: archive.join(image, [path])),
                                ("of no block", "no block", lambda: archive.join(room / "new", [room / "empty"]))):
             (room / "empty").write_bytes(image_of(4, {}))
             try:

@@ -104,7 +104,8 @@ def damaged(rows):
     (rows.room / "newest").write_bytes(image[:512 * (1 + 6 * 3) + 1024 + 16] + b"\xff" + image[512 * (1 + 6 * 3) + 1024 + 17:])
     rows.page("newest", charts=0, said="lab: newest: something is lost, damaged or contradicts", text=["block 3 can't be read"])
     (rows.room / "short").write_bytes(image[:-512])
-    short = "lab: short: something is lost, damaged or contradicts"
+    short = ("lab: short: something is lost, damaged or contradicts: the file has no whole number of slots, and its first sector says 16. "
+             "So a power-up and an examination accept no journal in it; the records are those of each slot that can be read")
     rows.page("short", charts=EXAMPLES["trip"], said=short)
     rows.run("format", "empty", 4)
     rows.page("empty", charts=0, text=["No block of a journal can be read", "There is nothing to draw"])
@@ -115,10 +116,10 @@ def damaged(rows):
     (rows.room / "none").write_bytes(b"x" * 5000)
     rows.lab("report", "none", "none.html", status=1, said="lab: none: is not a formatted image")
     rows.same("no page of what is no image", (rows.room / "none.html").exists(), False)
-    rows.lab("report", "missing", "none.html", status=3, said="lab: missing: there is no such file")
+    rows.lab("report", "missing", "none.html", status=3, said="lab: missing: no such file")
     rows.lab("report", "trip", "no/folder.html", status=3, said="lab: no/folder.html: No such file or directory")
     rows.lab("report", "trip", "none.html", "--from", "3.5", status=2,
-             said="lab: 3.5: is neither an event (120) nor a place (300m) nor a moment (20.5s)")
+             said="lab: 3.5: not an event (120), a place (300m) or a moment (20.5s)")
     rows.lab("database", "trip", "trip.db")
     rows.lab("database", "trip", "trip.db", said="lab: trip: is in the database already")
     rows.lab("database", "trip", "trip", status=1, said="lab: trip: is the input file trip")

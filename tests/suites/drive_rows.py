@@ -100,8 +100,8 @@ class Driven(Compared):
         none = self.room / "none.yaml"
         none.write_text("steps: [start]\n")
         kept = DRIVES / "heeds_the_limit.yaml"
-        for words, status, said in ((["drive", none], 1, "has no drive"), (["drive", self.room / "nothing.yaml"], 3, "No such file"),
-                                    (["drive", kept, "--picture", self.room / "x.gif"], 2, "a picture is a file .svg or .png"),
+        for words, status, said in ((["drive", none], 1, "has no `drive`"), (["drive", self.room / "nothing.yaml"], 3, "No such file"),
+                                    (["drive", kept, "--picture", self.room / "x.gif"], 2, "--picture: the file name has to end in .svg or .png"),
                                     (["drive", kept, "--build-up", "2 m"], 1, "--build-up: expected a time"),
                                     (["build", kept], 1, "lab drive has --scenario"),
                                     (["drive", kept, "--image", self.room], 1, "isn't a regular file"),
@@ -113,7 +113,7 @@ class Driven(Compared):
         found = lab("drive", kept, env={"GAKNIFUR_ETCS_UNIT": str(self.room / "no.so")}.items())
         self.same("no library", (found[0], "tools/library --unproved PREFIX" in found[2]), (3, True))
         found = lab("drive", kept, env={"GAKNIFUR_ETCS_UNIT": "libc.so.6"}.items())
-        self.same("another library", (found[0], "is of another interface" in found[2]), (3, True))
+        self.same("another library", (found[0], "has another interface" in found[2]), (3, True))
 
     def table(self):
         """The longer the brakes need, the farther the train runs; by hand half of the build-up time at 140 km/h more."""

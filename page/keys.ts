@@ -76,8 +76,8 @@ const OTHERS: [string, string, (drive: Drive, lever: number) => void][] = [
 export function setKeys(drive: Drive): void {
     for (const one of ACTIONS) {
         const click = (): void => {
-            one.act(drive);
             const why = at(one.id).dataset["why"];
+            one.act(drive);
             if (why) say("drive-error", `${why}.`);
         };
         const button =

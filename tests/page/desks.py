@@ -367,6 +367,9 @@ def offers(browser: Browser, _page: Path, _folder: Path) -> int:
     """What is owed is a button; the keys do what the buttons do; the dialog of a cut within a write cuts there."""
     board(browser, name_of(browser, "on_sight"))
     browser.click(*START, "heed")
+    assert browser.text("drive-error") == "", browser.text("drive-error")
+    browser.click("start")
+    assert browser.text("drive-error") == "Accepted in Stand By, Post Trip; the mode is Full Supervision.", browser.text("drive-error")
     browser.run("for (let n = 0; n < 2000 && !document.getElementById('acknowledge-2'); n++) window.gaknifur.drive.step(),"
                 " window.gaknifur.drive.render(true)")
     browser.click("acknowledge-2")

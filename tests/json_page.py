@@ -262,6 +262,7 @@ def read(page, program, word, *words, **how):
 def images():
     """Images, with the number of slots that they are read to have, or none."""
     yield from ((image, slots) for _, image, slots in islice(image_cases.all_cases(), 0, None, EACH))
+    yield from ((image, slots) for name, image, slots in image_cases.all_cases() if name == "the greatest number")
     yield from ((image, None) for _, image in event_rows.random_images(30, 5))
     yield from ((image, None) for _, image in islice(replay_rows.cases(), 0, None, EACH))
     yield from ((image, None) for *_, name, image in replay_rows.altered() if "trip outstanding" in name)

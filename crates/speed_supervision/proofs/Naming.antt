@@ -1,6 +1,6 @@
 -- What is found over a train gives the limit, or else doesn't.
 use Rattle.std.proofs.Common.{◌≡◌, ℕ, ℤ, ◌≤ℤ◌, ◌<ℤ◌, List, Bool, true, false, refl, ap, sym, ◌∙◌, arith}
-use Rattle.std.specs.Prelude.{Option, None, Some, ◌&&◌, ◌==◌, not, int_lt, find, filter, map, MatchOption}
+use Rattle.std.specs.Prelude.{Option, None, Some, ◌&&◌, ◌==◌, not, int_lt, find, filter, map, MatchOption, IfNone}
 use Rattle.std.specs.Int.{int_max}
 use Rattle.std.proofs.lemmas.Int.{ints, by_lt_z}
 use Rattle.std.proofs.lemmas.Bool.{and_parts, and_from, eqb-true, eq-eqb}
@@ -20,7 +20,7 @@ use Rattle.speed_profile.specs.Limit.{limiting_value, least_static}
 use Rattle.speed_profile.specs.Limit as static_limit
 use Rattle.speed_profile.proofs.Members.{one_passed}
 use Rattle.speed_supervision.specs.Over.{IsStaticSpeedOver, IsRestrictionOver, IsAreaOver}
-use Rattle.speed_supervision.proofs.Finding.{found, none_found, listed_is, other_than}
+use Rattle.speed_supervision.proofs.Finding.{found, none_found, in_from_contains, listed_is, other_than}
 
 -- ---- mode areas
 
@@ -33,6 +33,11 @@ module _ (national : NationalSpeeds) (areas : List Area) (train : Span) (limit :
       let w = found makes_it areas area h in
       let both = and_parts (is_met train area) (speed_in national area == limit) w.1 in
       (w.0, both.0, eqb-true (speed_in national area) limit both.1)
+
+  pub none_over : find makes_it areas ≡ None → (area : Area) → IsAreaOver national areas train limit area → ⊥
+  none_over none area named =
+      none_found makes_it areas none area (in_from_contains areas area named.0)
+      (and_from (is_met train area) (speed_in national area == limit) named.1 (eq-eqb (speed_in national area) limit named.2))
 
   pub no_area : find makes_it areas ≡ None → (speed : ℕ) → least_in_areas national train speed areas ≡ limit → speed ≡ limit
   no_area none speed is =
@@ -67,6 +72,21 @@ module _ (track : InForce) (train : Span) (limit : ℕ) where
       none_found (limits_so first) track.restrictions none r w.1
       (and_from (meets first train r) (r.speed == limit)
       (limits_met r.delay track.mark train at.0 r.start (end_of r) at.1 at.2 w.2) (eq-eqb r.speed limit (sym w.3))))
+
+  no_restriction_over : find (limits_so (int_max track.mark train.rear)) track.restrictions ≡ None →
+      (restriction : Restriction) → IsRestrictionOver track train limit restriction → ⊥
+  no_restriction_over none r is =
+      let first : ℤ = int_max track.mark train.rear in
+      none_found (limits_so first) track.restrictions none r (in_from_contains track.restrictions r is.0)
+      (and_from (meets first train r) (r.speed == limit)
+      (limits_met r.delay track.mark train is.2.0 r.start (end_of r) is.2.1.0 is.2.1.1 is.2.2) (eq-eqb r.speed limit is.1))
+
+  pub none_restricts : (first : ℤ) (result : Option Restriction) → first ≡ int_max track.mark train.rear →
+      result ≡ find (limits_so first) track.restrictions →
+      IfNone result ((restriction : Restriction) → IsRestrictionOver track train limit restriction → ⊥)
+  none_restricts first None at is =
+      no_restriction_over (sym (is ∙ ap (λ (z : ℤ). find (limits_so z) track.restrictions) at))
+  none_restricts first (Some restriction) at is = tt
 
   -- whichever of both it is
   pub restriction_told : (first : ℤ) (result : Option Restriction) → first ≡ int_max track.mark train.rear →

@@ -44,3 +44,36 @@ IsOver train bounds track speed over.End = speed_at_end train.max_front bounds.e
 IsOver train bounds track speed (over.StaticSpeed place) = IsStaticSpeedOver track.static bounds.category train speed place
 IsOver train bounds track speed (over.Restriction restriction) = IsRestrictionOver track.restrictions train speed restriction
 IsOver train bounds track speed (over.Area area) = IsAreaOver track.national track.areas train speed area
+
+-- ---- which of equal force is named
+
+-- no mode area over the train, or no restriction, has this speed
+abbrev pub NoAreaOver : Span → TrackSpeeds → ℕ → Type 0
+NoAreaOver train track speed = (area : Area) → IsAreaOver track.national track.areas train speed area → ⊥
+
+abbrev pub NoRestrictionOver : Span → TrackSpeeds → ℕ → Type 0
+NoRestrictionOver train track speed = (restriction : Restriction) → IsRestrictionOver track.restrictions train speed restriction → ⊥
+
+-- nor has a static speed
+abbrev pub NoneOver : Span → Bounds → TrackSpeeds → ℕ → Type 0
+NoneOver train bounds track speed =
+    NoAreaOver train track speed × NoRestrictionOver train track speed
+    × ((place : ℤ) → IsStaticSpeedOver track.static bounds.category train speed place → ⊥)
+
+-- the speed at the end of the authority is another one, or doesn't count yet; so is the authority's greatest speed
+abbrev pub EndIsOther : ℤ → Bounds → ℕ → Type 0
+EndIsOther front bounds speed = speed_at_end front bounds.end ≡ Some speed → ⊥
+
+abbrev pub MainIsOther : Bounds → ℕ → Type 0
+MainIsOther bounds speed = bounds.main ≡ Some speed → ⊥
+
+-- Nothing that comes before what is named has the speed: mode areas come first, then restrictions, static speeds, the end of
+-- the authority, its greatest speed, and the train's own.
+abbrev pub IsFirstOver : Span → Bounds → TrackSpeeds → ℕ → OverTrain → Type 0
+IsFirstOver train bounds track speed (over.Area area) = Unit {0}
+IsFirstOver train bounds track speed (over.Restriction restriction) = NoAreaOver train track speed
+IsFirstOver train bounds track speed (over.StaticSpeed place) = NoAreaOver train track speed × NoRestrictionOver train track speed
+IsFirstOver train bounds track speed over.End = NoneOver train bounds track speed
+IsFirstOver train bounds track speed over.Main = NoneOver train bounds track speed × EndIsOther train.max_front bounds speed
+IsFirstOver train bounds track speed over.Maximum =
+    NoneOver train bounds track speed × EndIsOther train.max_front bounds speed × MainIsOther bounds speed

@@ -12,7 +12,7 @@ use Rattle.speed_supervision.specs.declared.cause.SpeedCause.{SpeedCause}
 use Rattle.speed_supervision.specs.declared.cause.TargetAhead.{TargetAhead}
 use Rattle.speed_supervision.specs.declared.cause.SpeedCause.TheVariants as cause
 use Rattle.speed_supervision.specs.Limit.{the_end, release_speed, released_by}
-use Rattle.speed_supervision.specs.Over.{IsOver}
+use Rattle.speed_supervision.specs.Over.{IsOver, IsFirstOver}
 use Rattle.speed_supervision.specs.Targets.{Journey, IsTarget, fits_on}
 
 -- the limit where the train is
@@ -39,9 +39,11 @@ abbrev pub IsReleasing : Span → Journey → ℕ → ℕ → Release → End �
 IsReleasing train journey national speed release end =
     (end.release ≡ release) × (release_speed release national ≡ speed) × (permitted_to train journey (Some (the_end end)) < speed)
 
--- what is named alone gives a speed: it limits the train to it where it is, or it is a target ahead, or a release speed
+-- what is named alone gives a speed: it limits the train to it where it is, as the first of equal force, or it is a target
+-- ahead, or a release speed
 abbrev pub IsCause : Span → Journey → ℕ → ℕ → SpeedCause → Type 0
-IsCause train journey national speed (cause.OverTrain over) = IsOver train journey.bounds journey.track speed over
+IsCause train journey national speed (cause.OverTrain over) =
+    IsOver train journey.bounds journey.track speed over × IsFirstOver train journey.bounds journey.track speed over
 IsCause train journey national speed (cause.Ahead ahead) = IsDeciding journey (limit_here train journey) speed ahead
 IsCause train journey national speed (cause.Release release) =
     IsSomeAnd journey.bounds.end (IsReleasing train journey national speed release)

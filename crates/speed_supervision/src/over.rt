@@ -1,12 +1,13 @@
 //! What limits a train where it is, named.
-ghost use Rattle.std.specs.Prelude.{◌≡◌, ◌==◌, ◌&&◌, ◌≤ℤ◌, ℕ, ℤ, true, not, int_lt, Some, find, MatchOption};
+ghost use Rattle.std.specs.Prelude.{◌≡◌, ◌==◌, ◌&&◌, ◌≤ℤ◌, ℕ, ℤ, true, not, int_lt, Some, find, MatchOption, IfNone};
 ghost use Rattle.units.specs.Stretches.{Span};
 ghost use Rattle.areas.specs.Areas.{is_before, is_met, speed_in};
 ghost use Rattle.restriction.specs.Meeting.{meets};
+ghost use Rattle.restriction.specs.declared.restriction.Restriction.{Restriction as a_restriction};
 ghost use Rattle.track_store.specs.Restrictions.{least_speed};
 ghost use Rattle.speed_profile.specs.Limit.{counts_at, limiting_value, bound_speed, limit_on};
 ghost use Rattle.speed_profile.specs.Track.{TrackSpeeds, speeds_along};
-ghost use Rattle.speed_supervision.specs.Over.{IsStaticSpeedOver, IsRestrictionOver, IsOver};
+ghost use Rattle.speed_supervision.specs.Over.{IsStaticSpeedOver, IsRestrictionOver, IsOver, NoneOver, IsFirstOver};
 
 use crate::OverTrain;
 use areas::{Area, Areas, NationalSpeeds};
@@ -16,7 +17,7 @@ use units::{Cm, Mph, Stretch};
 use vars::{TrainCategory, TrainLengthDelay};
 
 /// What limits a train to the speed that `speed_profile::limit_on` answers for where it is, in metres per hour: the
-/// first area, restriction or static speed that does, else V_LOA, V_MAIN or the train's greatest speed.
+/// first area, restriction or static speed that does, else V_LOA, V_MAIN or the train's greatest speed, in this order.
 pub fn over_train<S: Profile<CategorySpeeds>>(
     train: &Stretch,
     bounds: &Bounds,
@@ -24,7 +25,8 @@ pub fn over_train<S: Profile<CategorySpeeds>>(
     limit: Mph,
 ) -> OverTrain
     requires { limit ≡ limit_on train.now bounds.now (speeds_along S.value track.now) }
-    ensures { IsOver train.now bounds.now (speeds_along S.value track.now) limit result }
+    ensures over { IsOver train.now bounds.now (speeds_along S.value track.now) limit result }
+    ensures first { IsFirstOver train.now bounds.now (speeds_along S.value track.now) limit result }
 {
     if let Some(area) = area_over(track.areas, &track.national, train, limit) {
         return OverTrain::Area(area);
@@ -52,9 +54,10 @@ pub fn restriction_over(
     train: &Stretch,
     limit: Mph,
 ) -> Option<Restriction>
-    ensures { MatchOption result
+    ensures over { MatchOption result
         ((speed : ℕ) → least_speed restrictions.now.track train.now speed ≡ limit → speed ≡ limit)
         (IsRestrictionOver restrictions.now.track train.now limit) }
+    ensures none { IfNone result ((it : a_restriction) → IsRestrictionOver restrictions.now.track train.now limit it → ⊥) }
 {
     let first = restrictions.mark().max(train.rear());
     first_met(restrictions.as_slice(), first, train, limit)
@@ -173,7 +176,9 @@ fn is_within(place: Cm, next: Option<Cm>, last: Cm) -> bool
 // Which of what holds wherever the train is limits it to a speed, its maximum safe front being at a place.
 fn bound_over(front: Cm, bounds: &Bounds, limit: Mph) -> OverTrain
     requires { limit ≡ bound_speed front bounds.now }
-    ensures { (train : Span) (track : TrackSpeeds) → train.max_front ≡ front → IsOver train bounds.now track limit result }
+    ensures over { (train : Span) (track : TrackSpeeds) → train.max_front ≡ front → IsOver train bounds.now track limit result }
+    ensures bound { (train : Span) (track : TrackSpeeds) → train.max_front ≡ front →
+        NoneOver train bounds.now track limit → IsFirstOver train bounds.now track limit result }
 {
     match bounds.end {
         Some(end) if end.place <= front && end.speed.get() > 0 && end.speed == limit => {

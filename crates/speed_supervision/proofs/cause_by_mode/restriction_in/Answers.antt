@@ -18,4 +18,4 @@ returns g c life s =
     MatchOption c.restriction_over.result ((speed : ℕ) → least_speed track train speed ≡ limit → speed ≡ limit)
     (IsRestrictionOver track train limit) in
     subst (λ (track : InForce). P track (span_of life)) held
-    (subst (λ (train : Span). P c.restrictions.result.now.track train) stretch c.restriction_over.ensures)
+    (subst (λ (train : Span). P c.restrictions.result.now.track train) stretch c.restriction_over.ensures.over)

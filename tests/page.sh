@@ -28,7 +28,7 @@ if [ -z "$page" ]; then
     grep -q 'without proof, which takes' "$folder/said" && grep -q '^made .*, unproved)$' "$folder/said" && grep -q '<title>.*, unproved)</title>' "$folder/unproved.html" ||
         { cat "$folder/said"; echo "page: an unproved page doesn't say that it is unproved"; exit 1; }
     tools/page "$page" >"$folder/said" 2>&1 && { echo "page: tools/page wrote over a file without --force"; exit 1; }
-    grep -q 'is there; --force writes over' "$folder/said" || { cat "$folder/said"; exit 1; }
+    grep -q 'already exists; --force overwrites' "$folder/said" || { cat "$folder/said"; exit 1; }
     printf 'a letter\n' >"$folder/letter"
     tools/page --force "$folder/letter" >/dev/null 2>&1 && { echo "page: tools/page wrote over a letter"; exit 1; }
     [ "$(cat "$folder/letter")" = "a letter" ] || { echo "page: the letter is gone"; exit 1; }

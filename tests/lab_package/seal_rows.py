@@ -430,10 +430,10 @@ def refuses(count, name, said, image, folder):
 def at_the_edges(count, room, image):
     """What isn't sealed, and images that are damaged or none."""
     os.mkfifo(room / "pipe")
-    refuses(count, "a pipe", "isn't a regular file", room / "pipe", room / "new")
-    refuses(count, "a folder", "isn't a regular file", room, room / "new")
+    refuses(count, "a pipe", "is neither a regular file nor a block device", room / "pipe", room / "new")
+    refuses(count, "a folder", "is neither a regular file nor a block device", room, room / "new")
     refuses(count, "no file", "No such file", room / "none", room / "new")
-    refuses(count, "a folder that is there", "is there", image, room / "bag")
+    refuses(count, "a folder that is there", "already exists", image, room / "bag")
     with image.open("r+b") as held:
         fcntl.flock(held, fcntl.LOCK_EX)
         refuses(count, "an image that a unit holds", "another program writes it", image, room / "new")

@@ -85,7 +85,7 @@ def compared(program, data, path):
 def main(count=COUNT, seed=SEED):
     numbers = random.Random(int(seed))
     data = [one for one in ((headed if numbers.randrange(2) else mutated)(numbers) for _ in range(int(count))) if one]
-    records = [{"kind": "telegram", "telegram": one.hex(), "time_ms": 7 * at} for at, one in enumerate(data)]
+    records = [{"kind": "telegram", "telegram": one.hex(), "life": 1, "time_ms": 7 * at} for at, one in enumerate(data)]
     with tempfile.TemporaryDirectory() as room:
         path = Path(room) / "told.pcap"
         path.write_bytes(dissector.capture(Journal(path, {}, records))[0])

@@ -44,8 +44,7 @@ returns-in-Some-static_speed_over-clause-first g c =
 pub returns-clause-first : goal.returns-clause-first
 returns-clause-first g c =
     let track = c.args.track.now in
-    c.bound_over.ensures.bound c.args.train.now (speeds_along g.S.Profile.value track) (sym c.max_front.ensures.value)
-    (
+    c.bound_over.ensures.bound c.args.train.now (speeds_along g.S.Profile.value track) (sym c.max_front.ensures.value) (
       none_over track.national track.areas.now c.args.train.now c.args.limit (sym c.area_over.ensures ∙ c.in_default.is),
       c.in_default-restriction_over.ensures.none,
       c.in_default-static_speed_over.ensures,

@@ -17,4 +17,4 @@ returns-in-None g c national =
     let to : ℕ → ℕ = λ limit. permitted_ahead journey.front limit (target_of c.args.last) journey.bounds journey.track journey.gradient journey.brakes in
     let same : c.limit_on-limit.result ≡ to (limit_here c.args.train.now journey) = sym c.in-None.ensures ∙ ap to c.limit_on-limit.ensures in
     subst (λ (speed : ℕ). IsOver c.args.train.now journey.bounds journey.track speed c.over_train.result
-        × IsFirstOver c.args.train.now journey.bounds journey.track speed c.over_train.result) same (c.over_train.ensures.over, c.over_train.ensures.first)
+    × IsFirstOver c.args.train.now journey.bounds journey.track speed c.over_train.result) same (c.over_train.ensures.over, c.over_train.ensures.first)

@@ -20,7 +20,7 @@ TOP = Path(__file__).resolve().parents[1]
 PROGRAMS = {name: Path(os.environ.get(name.upper()) or TOP / f"crates/{name}/out/{name}").resolve()
             for name in ("etcs", "etcs_lab")}
 COMMANDS = {"INVESTIGATING": 86, "LABORATORY": 33, "TESTING_A_TRAIN": 60, "CLOSED_LOOP": 19, "EMBEDDING": 21, "ORACLE": 9,
-            "SEARCHING": 8, "SEQUENCES": 9, "WIRESHARK": 5, "start/c": 9, "start/tests": 6, "start/investigate": 7,
+            "SEARCHING": 8, "SEQUENCES": 9, "WIRESHARK": 5, "start/c": 9, "start/tests": 6, "start/investigate": 8,
             "start/code": 8}
 """How many commands a page has, at least."""
 COMMAND = re.compile(r"^(    |)\$ ((?:.*\\\n)*.*\n(?:\1> .*\n)*)((?:(?!\1\$ |```)\1.*\n)*)", re.MULTILINE)

@@ -13,7 +13,7 @@ from typing import Any
 
 import pytest
 
-from . import case_files, cases, mode_rows, oracle, oracle_words, other_unit, playing
+from . import case_files, cases, mode_rows, oracle, oracle_words, other_unit, playing, program
 from .program import Failed
 from .reaching import REACHES, Reaches
 
@@ -188,7 +188,7 @@ class Item(pytest.Item):
         case = player.case
         self.sections = expected.sections if expected else case.sections
         self.user_properties += [("case", case.name), ("feature", case.feature), ("sections", " ".join(
-            section.replace(" packet ", "/") for section in self.sections))]
+            section.replace(" packet ", "/") for section in self.sections)), ("programs", program.PROOF[program.reader_is_proved()])]
 
     def runtest(self) -> None:
         """Judges it."""

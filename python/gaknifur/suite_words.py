@@ -6,7 +6,7 @@ import os
 import sys
 from pathlib import Path
 
-from . import coverage, files, measured_words, oracle_words, scenarios
+from . import coverage, files, measured_words, oracle_words, program, scenarios
 from .image_words import Word, add_force, out_of, write
 from .program import DEVICE, FOUND, REFUSED, WRONG_WORDS, Failed
 from .reading import Progress
@@ -80,6 +80,16 @@ def check_options(others: list[str]) -> None:
             raise Failed(f"test: unknown option {name}; did you mean {near[0]}?", WRONG_WORDS)
 
 
+def check_folder(folder: Path) -> None:
+    """What is named is a folder, or a file that pytest takes for tests."""
+    if not folder.exists():
+        raise Failed(f"{folder}: no such folder", DEVICE)
+    if not folder.is_dir() and not folder.is_file():
+        raise Failed(f"{folder}: is neither a folder nor a regular file", DEVICE)
+    if folder.is_file() and not folder.name.endswith((".case.yaml", ".py")):
+        raise Failed(f"{folder}: is no test case: its name has to end in .case.yaml", REFUSED)
+
+
 def run_tests(told: argparse.Namespace, progress: Progress) -> None:
     """The word `test`."""
     try:
@@ -89,8 +99,7 @@ def run_tests(told: argparse.Namespace, progress: Progress) -> None:
     except ImportError as error:
         raise Failed("pytest is missing; tools/python installs it by Debian's packages", DEVICE) from error
     check_options(told.others)
-    if not told.folder.exists():
-        raise Failed(f"{told.folder}: no such folder", DEVICE)
+    check_folder(told.folder)
     for word in told.others:
         if word.partition("=")[0] in WRITING:
             raise Failed(f"pytest's {word} isn't supported here, since it overwrites files", WRONG_WORDS)
@@ -102,13 +111,16 @@ def run_tests(told: argparse.Namespace, progress: Progress) -> None:
     selected = [f"--{name}={one}" for name in ("section", "feature") for one in getattr(told, name)]
     selected += [f"--keep={told.keep}"] if told.keep else []
     selected += [f"--against={told.against}", f"--answer-within={told.answer_within}"] if told.against else []
+    for name in ("etcs", "etcs_lab"):  # pytest keeps back what is said on standard error, as that they are unproved
+        program.find(name)
     with results_in_xml(out) as (words, plugins):
         status = begun(told.folder, [
             "-q", "--no-header", *PLUGIN, "-o", f"cache_dir={results_of(root)}", "-W",
             "ignore::pytest.PytestCacheWarning", f"--rootdir={root}", *([] if told.python else WITHOUT_PYTHON), *words,
             str(told.folder), *selected, *told.others], plugins + ([reaching.Reaches(reached)] if reached else []))
     if status == pytest.ExitCode.NO_TESTS_COLLECTED:
-        raise Failed(f"{told.folder}: no test matches, so none was run", REFUSED)
+        why = "no test matches these options" if selected or told.others else "it contains no test case (NAME.case.yaml)"
+        raise Failed(f"{told.folder}: {why}, so none was run", REFUSED)
     if status == pytest.ExitCode.USAGE_ERROR:
         raise Failed("pytest refuses these options, as the lines above say; no test was run", WRONG_WORDS)
     if status == pytest.ExitCode.TESTS_FAILED:

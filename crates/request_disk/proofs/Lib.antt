@@ -2,5 +2,6 @@ pub mod Carried
 pub mod Copied
 pub mod Found
 pub mod Holding
+pub mod Missing
 pub mod Noted
 pub mod Shut

@@ -5,11 +5,13 @@
 mod carrying;
 mod held;
 mod known;
+mod lent;
 mod medium;
 mod reading;
 mod requesting;
 mod requests;
 
 pub use known::MOST_KNOWN;
+pub use lent::LentDisk;
 pub use reading::Reading;
 pub use requesting::{MOST_BYTES, MOST_REQUESTS, RequestDisk};

@@ -1,11 +1,12 @@
 -- What going on with a power-up leaves in its handle and in that of the unit (this project's profile).
 use Rattle.std.specs.Prelude.{◌≡◌, ◌⊎◌, ℕ, ◌<◌, List, [], Option, Some, None, Result, Ok, Err, IfOk, IfErr, IfSome, MatchResult, false}
 use Rattle.disk.specs.State.{contents_of}
+use Rattle.unit_start.specs.Answers.{is_device}
 use Rattle.unit_start.specs.Lives.{IsOpenRefusal, HasNoCause}
 use Rattle.unit_start.specs.declared.errors.OpenError.{OpenError}
 use Rattle.unit_start.specs.declared.errors.OpenError.TheVariants as an_open
 use Rattle.relayed_unit.specs.Goings.{OnWants, OnOpen}
-use Rattle.relayed_unit.specs.Openings.{Opening, medium_state, IsGoing, IsWanted}
+use Rattle.relayed_unit.specs.Openings.{Opening, medium_state, IsGoing, IsWanted, IsFurther}
 use Rattle.relayed_unit.specs.Relayed.{WantsNothing}
 use Rattle.relayed_unit.specs.declared.powering_up.Going.{Going}
 use Rattle.relayed_unit.specs.declared.powering_up.Going.TheVariants as a_going
@@ -22,6 +23,8 @@ pub record IsGoneOn (before : Opening) (told : Result Going OpenError) : Type 0 
   -- it goes on over the same medium
   pub going : (medium : List ℕ) → IsGoing medium before → IfOk told (λ g. OnWants g (IsGoing medium))
   pub same : IfOk told (λ g. OnWants g (λ it. (it.disk.sectors ≡ before.disk.sectors) × (it.cold ≡ before.cold)))
+  -- what was found of the slots is never given up
+  pub further : IfOk told (λ g. OnWants g (λ it. IsFurther before.scan it.scan))
   -- nothing is pending, there is no moment yet, and no flush failed
   pub fresh_unit : IfOk told (λ g. OnOpen g (λ u. IfSome u.moored (λ it. (it.unit.life.records ≡ [])
       × (it.unit.life.pairs ≡ []) × (it.unit.life.moment ≡ 0) × (it.unit.journal.failed ≡ false))))
@@ -30,6 +33,8 @@ pub record IsGoneOn (before : Opening) (told : Result Going OpenError) : Type 0 
   -- the unit was powered up over a disk that holds what the medium held
   pub up : (medium : List ℕ) → IsGoing medium before →
       IfOk told (λ g. OnOpen g (IsUp (before_any medium before.disk.sectors) before.cold))
+  -- no fault of the device comes of it
+  pub no_device : IfErr told (λ e. is_device e ≡ false)
   -- each refusal but NoMemory has its cause
   pub refused : (medium : List ℕ) → IsGoing medium before → IfErr told (λ e. (e ≡ an_open.NoMemory)
       ⊎ IsOpenRefusal before.disk.sectors (contents_of (medium_state medium before.disk.sectors)) e)

@@ -79,8 +79,11 @@ def files(folder: Path) -> list[Path]:
     if folder.is_file():
         return [folder]
     if not folder.is_dir():
-        raise Failed(f"{folder}: no such folder", DEVICE)
-    return sorted(path for path in folder.rglob("*.yaml") if case_files.is_case_file(path.name))
+        raise Failed(f"{folder}: " + ("is neither a folder nor a regular file" if folder.exists() else "no such folder"), DEVICE)
+    found = sorted(path for path in folder.rglob("*.yaml") if case_files.is_case_file(path.name))
+    if not found:
+        raise Failed(f"{folder}: it contains no test case (NAME.case.yaml)", REFUSED)
+    return found
 
 
 def all_cases(folder: Path) -> list[Case]:

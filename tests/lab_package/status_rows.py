@@ -74,6 +74,8 @@ ROWS = """\
 1 lab lint bad.yaml
 1 lab report --life 9 image out.html
 1 lab test --section 3.99 good
+1 lab test hollow
+1 lab coverage hollow
 1 lab sequence table.csv unmapped.yaml
 2 etcs decode
 2 etcs nosuch
@@ -136,6 +138,7 @@ def rooms(room, etcs, env):
     run(etcs, "format", "image", "16"), run(etcs, "run", "scenario.json", "image")
     data = (room / "image").read_bytes()
     (room / "cut").write_bytes(data[:20_000])
+    (room / "hollow").mkdir()
     (room / "altered").write_bytes(data[:BRAKE_OF_7] + b"\1" + data[BRAKE_OF_7 + 1:])
     (room / "damaged").write_bytes(data[:FIRST_OF_1] + b"\xff" + data[FIRST_OF_1 + 1:])
     (room / "empty").write_bytes(bytes(len(data)))

@@ -39,7 +39,7 @@ extern "C" {
 /** The bytes of a telegram, at most. */
 #define ETCS_TELEGRAM_BYTES 104
 
-/** Why bytes carry no telegram. TOO_LONG comes before all others; else the fault that is told is the first one in the
+/** Why bytes carry no telegram. TOO_LONG comes before all others; otherwise the reported fault is the first one in the
  * order of the bits. */
 enum etcs_fault {
     ETCS_OK = 0,            /**< no fault */

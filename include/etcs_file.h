@@ -16,7 +16,7 @@
  *     etcs_file_close(&file, &unit);
  *
  * etcs_file_open_by_sectors, in place of etcs_file_open, keeps no copy of the file: it reads a sector as the unit wants it, and
- * so does each flush behind it. The unit then takes as much memory whatever the file's size; all else is the same.
+ * so does each later flush. The unit then takes as much memory whatever the file's size; all else is the same.
  *
  * Each call answers what failed (enum etcs_file_answer). Where the system failed, `error` of the file has its errno;
  * where the unit answered something else than OK, `status` has it (enum etcs_unit_status). ANY ANSWER BUT ETCS_FILE_OK
@@ -26,11 +26,11 @@
  * first call and that only these calls write to. No pointer may be null. A child of a fork shares the lock, so a
  * process that forks owes that the child closes the descriptor or runs another program (it is closed then).
  *
- * A file is settled before it is read: it is synced, and then the system's copies of its pages are dropped. Behind a
- * sync that failed, in whatever process, Linux goes on reading such copies, and no later sync writes them. What the
+ * A file is settled before it is read: it is synced, and then the system's copies of its pages are dropped. After a
+ * failed sync, in whatever process, Linux keeps reading such copies, and no later sync writes them. What the
  * system can't drop, as pages that another program has mapped or locked, is for the maker to see to (docs/SAFETY.md,
- * 20). Where a system has no posix_fadvise (macOS), nothing is dropped: behind a failed sync the machine has to be
- * started anew before the file is opened.
+ * 20). Where a system has no posix_fadvise (macOS), nothing is dropped: after a failed sync the machine has to be
+ * restarted before the file is opened.
  *
  * Whether a file keeps what was synced is a matter of the file system and the drive.
  */
@@ -326,10 +326,10 @@ static inline uint32_t etcs_file_open_by_sectors_(etcs_file *file, const char *p
 
 /* Empties a file, gives it so many bytes of zeros, and syncs its folder; a device must have just so many. */
 static inline uint32_t etcs_file_empty_(etcs_file *file, const char *path, off_t len) {
-    struct stat told;
-    if (fstat(file->descriptor, &told) != 0)
+    struct stat info;
+    if (fstat(file->descriptor, &info) != 0)
         return etcs_file_failed_(file, ETCS_FILE_CANT_READ);
-    if (S_ISREG(told.st_mode)) {
+    if (S_ISREG(info.st_mode)) {
         if (ftruncate(file->descriptor, 0) != 0 || ftruncate(file->descriptor, len) != 0)
             return etcs_file_failed_(file, ETCS_FILE_CANT_WRITE);
         return etcs_file_sync_folder_(file, path);

@@ -15,12 +15,12 @@
  *     uint32_t answer = etcs_journal_open(image, size, &journal);
  *
  *     while (answer == ETCS_UNIT_OK && (answer = etcs_journal_next(image, size, &journal, &record)) == ETCS_UNIT_OK)
- *         tell(&record);
+ *         print(&record);
  *     if (answer != ETCS_UNIT_END)
  *         complain(etcs_status_name(answer));
  *
- * Every call returns, whatever the bytes and the numbers are, and answers a number of enum etcs_unit_status. What a call
- * writes to, it writes to where it answers ETCS_UNIT_OK alone, but for etcs_journal_next behind a block that can't be
+ * Every call returns, whatever the bytes and the numbers are, and answers a number of enum etcs_unit_status. A call
+ * writes only where it answers ETCS_UNIT_OK, except etcs_journal_next after a block that can't be
  * read. A null pointer is answered with ETCS_UNIT_NULL_POINTER. What no call can test, the caller owes:
  *
  * - `size` bytes from `image` on may be read, and nobody writes to them while a call runs, this call neither: what is
@@ -29,7 +29,7 @@
  *
  * What the bytes mean is in docs/FORMAT.md. Sectors, slots, events and the records of a block are counted from 0, blocks
  * from 1. Places are centimetres, speeds metres per hour, moments milliseconds. An image may be cut off, or damaged at
- * any place; the calls tell what is there.
+ * any place; the calls report what is there.
  */
 #ifndef ETCS_IMAGE_H
 #define ETCS_IMAGE_H
@@ -53,9 +53,9 @@ enum etcs_slot_state {
     ETCS_SLOT_UNREADABLE = 2, /**< its gate is open and its head begins with this number, but they spell no block */
     ETCS_SLOT_MISPLACED = 3,  /**< its gate is open, and its head begins with this number, which belongs to another slot */
     ETCS_SLOT_FOREIGN = 4,    /**< its gate is open, and its head begins with no mark and number */
-    ETCS_SLOT_UNWRITTEN = 5,  /**< its gate is closed, behind it is the block after the newest: none of its outputs was released */
-    ETCS_SLOT_REPLACED = 6,   /**< its gate is closed, behind it is another block of this slot: one that was being replaced */
-    ETCS_SLOT_REMAINS = 7     /**< its gate is closed, and behind it are neither zeros nor a block of this slot */
+    ETCS_SLOT_UNWRITTEN = 5,  /**< its gate is closed, and after it is the block after the newest: none of its outputs was released */
+    ETCS_SLOT_REPLACED = 6,   /**< its gate is closed, and after it is another block of this slot: one that was being replaced */
+    ETCS_SLOT_REMAINS = 7     /**< its gate is closed, and after it are neither zeros nor a block of this slot */
 };
 
 /** The kind of an event. */
@@ -64,35 +64,35 @@ enum etcs_kind { ETCS_POWER_UP = 1, ETCS_TELEGRAM = 2, ETCS_ODOMETER = 3, ETCS_C
 /** Whether a datum may be relied on (SUBSET-026, 4.10). */
 enum etcs_datum { ETCS_DATUM_UNKNOWN = 0, ETCS_DATUM_VALID = 1, ETCS_DATUM_INVALID = 2 };
 
-/** What events of a life came to that were run through the kernel again, or a head. */
+/** The result of replaying some events of one life through the kernel, or of comparing a head. */
 enum etcs_verdict {
     ETCS_VERDICT_AGREES = 1,           /**< each of these records is what this kernel answers */
-    ETCS_VERDICT_RECORD_DIFFERS = 2,   /**< this record differs: what is behind it in its life isn't run */
-    ETCS_VERDICT_HEAD_DIFFERS = 3,     /**< the head of a block differs: what is behind it is run on */
-    ETCS_VERDICT_BEFORE_OLDEST = 4,    /**< not run: the power-up of their life, or the head before that, is in no slot any more */
-    ETCS_VERDICT_BEHIND_GAP = 5,       /**< not run: a block before them can't be read, or events are missing before them */
-    ETCS_VERDICT_WITHIN_BLOCK = 6,     /**< not run: their life begins within a block behind events that aren't run, so that no head tells what was kept */
-    ETCS_VERDICT_BEHIND_DIFFERENCE = 7 /**< not run: they come behind a record that differs */
+    ETCS_VERDICT_RECORD_DIFFERS = 2,   /**< this record differs: the rest of its life isn't replayed */
+    ETCS_VERDICT_HEAD_DIFFERS = 3,     /**< the head of a block differs: the replay goes on after it */
+    ETCS_VERDICT_BEFORE_OLDEST = 4,    /**< not replayed: the power-up of their life, or the head before it, is in no slot any more */
+    ETCS_VERDICT_BEHIND_GAP = 5,       /**< not replayed: a block before them can't be read, or events are missing before them */
+    ETCS_VERDICT_WITHIN_BLOCK = 6,     /**< not replayed: their life begins within a block, after events that aren't replayed, so no head contains what was kept */
+    ETCS_VERDICT_BEHIND_DIFFERENCE = 7 /**< not replayed: they come after a record that differs */
 };
 
 /** What of a record differs first, in the order in which it is compared. */
 enum etcs_record_field {
     ETCS_RECORD_EVENT = 1,       /**< the number of the event */
-    ETCS_RECORD_WORD = 2,        /**< the word of a power-up, in a format that doesn't tell it */
+    ETCS_RECORD_WORD = 2,        /**< the cold-movement value of a power-up, in a format that doesn't contain it */
     ETCS_RECORD_MOMENT = 3,      /**< its moment */
     ETCS_RECORD_MODE = 4,        /**< the mode */
     ETCS_RECORD_LEVEL = 5,       /**< the level */
     ETCS_RECORD_BRAKE = 6,       /**< the command to the brakes */
     ETCS_RECORD_INDICATIONS = 7, /**< what the driver is shown */
-    ETCS_RECORD_PLACE = 8,       /**< place and limit, which one of the two tells and the other doesn't */
-    ETCS_RECORD_FRONT = 9,       /**< where the front is thought to be */
-    ETCS_RECORD_UNCERTAINTY = 10, /**< how far that may be wrong */
+    ETCS_RECORD_PLACE = 8,       /**< place and limit, which only one of the two contains */
+    ETCS_RECORD_FRONT = 9,       /**< the estimated front */
+    ETCS_RECORD_UNCERTAINTY = 10, /**< its uncertainty */
     ETCS_RECORD_LIMIT = 11       /**< the permitted speed */
 };
 
 /** What of a head differs first, in the order in which it is compared. */
 enum etcs_kept_field {
-    ETCS_KEPT_EVENTS = 1,         /**< how many events there were: etcs_image_block tells what the head has */
+    ETCS_KEPT_EVENTS = 1,         /**< how many events there were: etcs_image_block returns what the head contains */
     ETCS_KEPT_LIVES = 2,          /**< how many lives there were */
     ETCS_KEPT_TRIP = 3,           /**< whether a trip is outstanding */
     ETCS_KEPT_IDENTITY = 4,       /**< the driver's identity */
@@ -117,18 +117,18 @@ enum etcs_trip_cause {
 /** What an image has at first sight. */
 typedef struct {
     uint64_t sectors; /**< how many whole sectors */
-    uint64_t slots;   /**< how many slots its first sector tells, 2 to 1,048,576 */
+    uint64_t slots;   /**< the number of slots in its first sector, 2 to 1,048,576 */
     uint64_t whole;   /**< how many of them are there with all their sectors */
     uint64_t newest;  /**< the greatest number of a block that is valid in these, 0 where there is none */
 } etcs_image;
 
 /** What a slot holds. */
 typedef struct {
-    uint64_t number;       /**< the number that its state tells, 0 where it tells none */
-    uint64_t fault_at;     /**< the offset of the first field that isn't one, from the first byte behind the gate; 0 where all are */
+    uint64_t number;       /**< the block number that belongs to its state, 0 where there is none */
+    uint64_t fault_at;     /**< the offset of the first invalid field, from the first byte after the gate; 0 where all are valid */
     uint32_t state;        /**< enum etcs_slot_state */
-    uint32_t is_sound;     /**< 1 where it is as a unit leaves it: empty, or a block behind its own gate; else 0 */
-    uint32_t has_fault;    /**< 1 where a field isn't one, else 0 */
+    uint32_t is_sound;     /**< 1 where it is as a unit leaves it: empty, or a block after its own gate; else 0 */
+    uint32_t has_fault;    /**< 1 where a field is invalid, else 0 */
     uint32_t fault_record; /**< in which record that field is, from 1 on; 0 where in none */
 } etcs_slot;
 
@@ -149,12 +149,12 @@ typedef struct {
     uint16_t countries[32];                 /**< NID_C of each */
 } etcs_national;
 
-/** What is kept behind a block (SUBSET-026, 4.10). What isn't known is zero. */
+/** What a power-up after a block keeps (SUBSET-026, 4.10). What isn't known is zero. */
 typedef struct {
-    int64_t distance_cm; /**< how far behind the group the estimated front lies */
+    int64_t distance_cm; /**< the distance from the group to the estimated front */
     etcs_train_data train; /**< train data, where has_train is 1 */
     uint32_t running_number; /**< where has_running_number is 1 */
-    uint32_t country;    /**< NID_C of the group that the position is told by */
+    uint32_t country;    /**< NID_C of the group that the position refers to */
     uint32_t group;      /**< NID_BG of that group */
     uint8_t identity[16];    /**< of the driver */
     uint8_t identity_len;    /**< 0 where no identity is known */
@@ -168,7 +168,7 @@ typedef struct {
     etcs_national national;  /**< the national values in force */
 } etcs_kept;
 
-/** What the head of a block tells. */
+/** The head of a block. */
 typedef struct {
     uint64_t number;      /**< its own, from 1 on */
     uint64_t first_event; /**< the number of its first event, over all lives */
@@ -177,16 +177,16 @@ typedef struct {
     uint8_t format;       /**< 1 to 3 */
     uint8_t records;      /**< how many records it has, 1 to 16 */
     uint16_t reserved;    /**< zero */
-    etcs_kept kept;       /**< what a power-up behind it finds */
+    etcs_kept kept;       /**< what a power-up after it finds */
 } etcs_block;
 
-/** A record with all that its block tells of it. */
+/** A record, with what its block says about it. */
 typedef struct {
     uint64_t event;          /**< the number of the event, over all lives */
     uint64_t block;          /**< the number of its block */
     uint64_t moment_ms;      /**< of its life */
-    int64_t front_cm;        /**< where the front was thought to be, from where its life began; 0 in format 1 */
-    uint64_t uncertainty_cm; /**< how far that may have been wrong to either side; 0 in format 1 */
+    int64_t front_cm;        /**< the estimated front, from where its life began; 0 in format 1 */
+    uint64_t uncertainty_cm; /**< its uncertainty to either side; 0 in format 1 */
     uint32_t limit_m_per_h;  /**< 0 in format 1 */
     uint32_t life;           /**< the number of its life: how many power-ups there were up to and with it */
     uint8_t format;          /**< of its block, 1 to 3 */
@@ -195,9 +195,9 @@ typedef struct {
     uint8_t level;           /**< enum etcs_level */
     uint8_t brake;           /**< enum etcs_brake */
     uint8_t indications;     /**< the sum of enum etcs_indication */
-    uint8_t has_place;       /**< 1 where place, uncertainty and limit are told: from format 2 on */
+    uint8_t has_place;       /**< 1 where the record contains front, uncertainty and limit: from format 2 on */
     uint8_t payload_len;     /**< how many bytes of the payload there are */
-    uint8_t payload[ETCS_PAYLOAD_BYTES]; /**< what the event tells (docs/FORMAT.md), and zeros behind it */
+    uint8_t payload[ETCS_PAYLOAD_BYTES]; /**< the data of the event (docs/FORMAT.md), and zeros after them */
 } etcs_record;
 
 /** How far a journal was read. Its fields are for the calls below; it may be copied, to read on from there again. */
@@ -207,7 +207,7 @@ typedef struct {
     uint64_t index; /**< which of its records comes next */
 } etcs_journal;
 
-/** A line of a replay: events of one life that follow one another, or a head that differs. What isn't told is zero. */
+/** A line of a replay: consecutive events of one life, or a head that differs. What doesn't apply is zero. */
 typedef struct {
     uint64_t first_event; /**< the number of the first event; 0 of a head */
     uint64_t last_event;  /**< that of the last one; 0 of a head */
@@ -217,22 +217,22 @@ typedef struct {
     uint32_t verdict;     /**< enum etcs_verdict */
     uint32_t field;       /**< of a record enum etcs_record_field, of a head enum etcs_kept_field */
     uint32_t reserved;    /**< zero */
-    etcs_record journal;  /**< the record that differs, as the journal tells it */
-    etcs_record kernel;   /**< the same record, as this kernel answers it */
-    etcs_kept journal_kept; /**< what the head that differs tells */
+    etcs_record journal;  /**< the record that differs, as in the journal */
+    etcs_record kernel;   /**< the same record, as this kernel computes it */
+    etcs_kept journal_kept; /**< what the head that differs contains */
     etcs_kept kernel_kept;  /**< what this kernel keeps there */
 } etcs_replay;
 
 /** Why an event was answered so, as this kernel answers it. */
 typedef struct {
     uint64_t event;                    /**< its number */
-    uint64_t since[ETCS_BRAKE_CAUSES]; /**< of each cause that holds the first event of the run behind each of which it has held */
+    uint64_t since[ETCS_BRAKE_CAUSES]; /**< for each cause that holds, the first event of the unbroken run after which it has held */
     uint64_t trip_event;               /**< by which event Trip was entered, where trip_cause isn't 0 */
     uint64_t backward_cm;              /**< how far the train has rolled backward since it stood */
     uint64_t allowed_backward_cm;      /**< D_NVROLL */
     int64_t limit_cause_cm;            /**< the place of what decides the limit, or 0 */
     uint64_t restriction;              /**< NID_TSR of a restriction that decides it, or 0 */
-    uint32_t limit_m_per_h;            /**< the permitted speed behind it */
+    uint32_t limit_m_per_h;            /**< the permitted speed after it */
     uint32_t speed_m_per_h;            /**< of the last reading */
     uint32_t limit_cause_m_per_h;      /**< of what lies ahead the speed that it asks for there, else the limit */
     uint8_t holds[ETCS_BRAKE_CAUSES];  /**< 1 of each enum etcs_brake_cause that holds, else 0 */
@@ -261,7 +261,7 @@ ETCS_UNIT_ASSERT(sizeof(etcs_why) == 160u && offsetof(etcs_why, trip_event) == 8
 /* ---- the library's own names; the calls below test pointers first, hand over the header's interface, and then call these */
 
 uint32_t etcs_image_facts_(const uint8_t *image, size_t size, uint32_t abi, etcs_image *facts);
-uint32_t etcs_image_slot_(const uint8_t *image, size_t size, uint32_t abi, uint64_t newest, uint64_t slot, etcs_slot *told);
+uint32_t etcs_image_slot_(const uint8_t *image, size_t size, uint32_t abi, uint64_t newest, uint64_t slot, etcs_slot *found);
 uint32_t etcs_image_block_(const uint8_t *image, size_t size, uint32_t abi, uint64_t number, etcs_block *block);
 uint32_t etcs_image_record_(const uint8_t *image, size_t size, uint32_t abi, uint64_t number, uint32_t index, etcs_record *record);
 uint32_t etcs_journal_open_(const uint8_t *image, size_t size, uint32_t abi, etcs_journal *journal);
@@ -335,8 +335,8 @@ static inline uint32_t etcs_image_facts(const uint8_t *image, size_t size, etcs_
 
 /** Reads what a slot holds; `newest` is the number of the newest block, from etcs_image_facts. Returns OK, OTHER_ABI,
  * IMAGE_NOT_FORMATTED, OUT_OF_RANGE (a newest number above 2^40), or NO_SUCH_SLOT. */
-static inline uint32_t etcs_image_slot(const uint8_t *image, size_t size, uint64_t newest, uint64_t slot, etcs_slot *told) {
-    return ((image != NULL) && (told != NULL)) ? etcs_image_slot_(image, size, ETCS_UNIT_ABI, newest, slot, told) : (uint32_t)ETCS_UNIT_NULL_POINTER;
+static inline uint32_t etcs_image_slot(const uint8_t *image, size_t size, uint64_t newest, uint64_t slot, etcs_slot *found) {
+    return ((image != NULL) && (found != NULL)) ? etcs_image_slot_(image, size, ETCS_UNIT_ABI, newest, slot, found) : (uint32_t)ETCS_UNIT_NULL_POINTER;
 }
 
 /** Reads the head of the block of this number. Returns OK, OTHER_ABI, IMAGE_NOT_FORMATTED, or NO_SUCH_BLOCK where its slot

@@ -42,12 +42,12 @@ extern "C" {
  *
  * - slots: of its medium, which has 1 + 6 * slots sectors; 0 where it is opened without a copy (etcs_opening_begin);
  * - packets: that the telegrams of one group have together, at most (264: eight telegrams of 33);
- * - restrictions: temporary speed restrictions in force at once, from 1 km behind the train on, with those ahead;
- * - gradients, speeds: segments of the gradient profile and of the static speed profile, from 1 km behind the train on,
+ * - restrictions: temporary speed restrictions in force at once, from 1 km behind the train onward, with those ahead;
+ * - gradients, speeds: segments of the gradient profile and of the static speed profile, from 1 km behind the train onward,
  *   with those ahead.
  *
- * A unit that got so much is never refused memory behind its opening, as long as the track keeps to these numbers:
- * docs/INTEGRATION.md tells why, and what showed it. */
+ * A unit that got so much is never refused memory after its opening, as long as the track keeps to these numbers:
+ * docs/INTEGRATION.md says why, and how it was tested. */
 #define ETCS_MEMORY_BYTES(slots, packets, restrictions, gradients, speeds)                                             \
     (UINT64_C(32768) + UINT64_C(3072) * (uint64_t)(slots) + UINT64_C(7168) * (uint64_t)(packets)                       \
      + UINT64_C(136) * (uint64_t)(restrictions) + UINT64_C(68) * (uint64_t)(gradients)                                 \
@@ -73,7 +73,7 @@ uint32_t etcs_memory_use(void *buffer, uint64_t size);
 
 /** Reports how much of the buffer is used. Call it to choose the buffer's size, or to watch it. Returns OK; NOT_OPEN where
  * no buffer is used; NULL_POINTER. */
-uint32_t etcs_memory_state(etcs_memory_told *told);
+uint32_t etcs_memory_state(etcs_memory_info *info);
 
 #ifdef __cplusplus
 }

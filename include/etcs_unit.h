@@ -5,7 +5,7 @@
  * Link with libetcs_unit.a or libetcs_unit.so, which `tools/library PREFIX` builds and installs with this header.
  *
  * The unit opens no file and calls nothing back. Its journal lies on a medium of the maker's own. The unit holds a copy
- * of the medium's sectors, or only some of them (below), and tells what is to be done on the medium: a list of requests,
+ * of the medium's sectors, or only some of them (below), and says what is to be done on the medium: a list of requests,
  * each to write some sectors or to sync. The maker carries them out in their order, says how many are done, and only then
  * gets outputs:
  *
@@ -50,12 +50,12 @@
  *     if (status != ETCS_UNIT_OK)
  *         brake();
  *
- * Its etcs_unit_prepare may answer ETCS_UNIT_SECTOR_WANTED too: then the sector that etcs_unit_wanted tells is read and
+ * Its etcs_unit_prepare may answer ETCS_UNIT_SECTOR_WANTED too: then the sector that etcs_unit_wanted returns is read and
  * handed in by etcs_unit_provide, and etcs_unit_prepare is called again. All else is as over a copy.
  *
  * ANY ANSWER BUT ETCS_UNIT_OK MEANS THE EMERGENCY BRAKE, unless it is a mistake that is put right before the next output is
- * due: etcs_status_kind parts what an answer may be. A compiler warns where such an answer is dropped (ETCS_MUST_USE); gcc
- * does so behind a cast to void too. An output reaches the train from etcs_unit_release alone.
+ * due: etcs_status_kind sorts the answers. A compiler warns where such an answer is dropped (ETCS_MUST_USE); gcc
+ * does so even after a cast to void. An output reaches the train from etcs_unit_release alone.
  *
  * Every call returns, whatever numbers it is handed, and answers a number of enum etcs_unit_status. A null pointer is
  * answered with ETCS_UNIT_NULL_POINTER. What no call can test, the caller owes:
@@ -71,8 +71,8 @@
  * - the word on movements without power is true (ETCS_COLD_UNKNOWN in doubt).
  *
  * A unit is for one call at a time. It may be handed from one task to another, as from the one that opens it to a cyclic
- * one, where a lock (or a queue, or the start of the task) orders their calls: the library keeps nothing beside its units
- * and openings, and nothing by thread. Units share nothing, so different ones may be called from different threads at
+ * one, where a lock (or a queue, or the start of the task) orders their calls: the library keeps nothing except its units
+ * and openings, and nothing per thread. Units share nothing, so different ones may be called from different threads at
  * once; but where memory is of the maker's own, see etcs_memory.h. Memory is taken by etcs_unit_open, etcs_opening_begin and
  * etcs_opening_go_on, and by the calls that take an input; close gives all of it back. No call blocks, and none is for a
  * signal handler or an interrupt.
@@ -249,7 +249,7 @@ enum etcs_indication {
 enum etcs_request_kind { ETCS_REQUEST_WRITE = 1, ETCS_REQUEST_SYNC = 2 };
 
 /** Why a brake is commanded: the rows of the brake table, by their places in etcs_unit_why and etcs_why
- * (docs/BRAKES.md, which tells how each ends). The first six command the emergency brake. */
+ * (docs/BRAKES.md, which says how each ends). The first six command the emergency brake. */
 enum etcs_brake_cause {
     ETCS_CAUSE_NOT_REVALIDATED = 0,
     ETCS_CAUSE_IN_TRIP = 1,
@@ -290,11 +290,11 @@ enum etcs_limit_cause {
     ETCS_LIMIT_NATIONAL_RELEASE_SPEED = 20
 };
 
-/** Whether the driver is waited for (SUBSET-026, 5.7, 5.9, 5.10). */
+/** Whether an acknowledgement by the driver is awaited (SUBSET-026, 5.7, 5.9, 5.10). */
 enum etcs_acknowledgement {
-    ETCS_ACKNOWLEDGEMENT_NONE = 0,  /**< he isn't */
+    ETCS_ACKNOWLEDGEMENT_NONE = 0,  /**< it isn't */
     ETCS_ACKNOWLEDGEMENT_ASKED = 1, /**< before the transition */
-    ETCS_ACKNOWLEDGEMENT_OWED = 2   /**< behind it: 5 s later the service brake comes */
+    ETCS_ACKNOWLEDGEMENT_OWED = 2   /**< after the transition: 5 s later the service brake comes */
 };
 
 /** A unit, in the caller's memory. Its fields are the library's. */
@@ -344,7 +344,7 @@ typedef struct {
     uint64_t has_failed;   /**< 1 where etcs_unit_fail was called or a flush failed, else 0 */
     uint64_t pending;      /**< how many inputs were taken since the last preparation, at most eight */
     uint64_t moment_ms;    /**< the last moment of this life that was taken; 0 before one */
-    int64_t front_cm;      /**< where the train's front is thought to be behind all inputs that were taken, from where this life began */
+    int64_t front_cm;      /**< the estimated front after all inputs that were taken, from where this life began */
     uint64_t uncertainty_cm; /**< how far that may be wrong to either side */
 } etcs_unit_state_told;
 
@@ -427,10 +427,10 @@ enum etcs_direction {
 /** Why a unit doesn't use a packet of a telegram. */
 enum etcs_unused_reason {
     ETCS_UNUSED_NOT_KNOWN = 1,       /**< the kernel doesn't know its number (docs/PACKETS.md) */
-    ETCS_UNUSED_INFILL = 2,          /**< it is a packet 136, or stands behind one */
+    ETCS_UNUSED_INFILL = 2,          /**< it is a packet 136, or comes after one */
     ETCS_UNUSED_IN_MODE = 3,         /**< the mode doesn't use its number */
     ETCS_UNUSED_OTHER_DIRECTION = 4, /**< it isn't valid in the direction in which the group is passed */
-    ETCS_UNUSED_REFUSED = 5          /**< the telegram is refused as a whole (etcs_decode tells why) */
+    ETCS_UNUSED_REFUSED = 5          /**< the telegram is refused as a whole (etcs_decode returns why) */
 };
 
 /** A packet that a unit doesn't use. */
@@ -487,9 +487,9 @@ uint32_t etcs_unit_state_(etcs_unit *unit, etcs_unit_state_told *state);
 uint32_t etcs_unit_why_(etcs_unit *unit, etcs_unit_why_told *why);
 uint32_t etcs_unit_close_(etcs_unit *unit);
 uint32_t etcs_unit_format_request_(uint32_t slots, uint32_t index, etcs_unit_request_told *request, uint8_t *bytes, size_t room);
-uint32_t etcs_telegram_adapt_(const uint8_t *bytes, size_t len, uint8_t *out, size_t room, etcs_adapted *told);
-uint32_t etcs_telegram_dropped_(const uint8_t *bytes, size_t len, uint32_t index, etcs_value_dropped *told);
-uint32_t etcs_telegram_unused_(const uint8_t *bytes, size_t len, uint32_t mode, uint32_t direction, uint32_t index, etcs_packet_unused *told);
+uint32_t etcs_telegram_adapt_(const uint8_t *bytes, size_t len, uint8_t *out, size_t room, etcs_adapted *outcome);
+uint32_t etcs_telegram_dropped_(const uint8_t *bytes, size_t len, uint32_t index, etcs_value_dropped *value);
+uint32_t etcs_telegram_unused_(const uint8_t *bytes, size_t len, uint32_t mode, uint32_t direction, uint32_t index, etcs_packet_unused *packet);
 
 /* ---- the calls */
 
@@ -917,20 +917,20 @@ static inline uint32_t etcs_unit_format_request(uint32_t slots, uint32_t index, 
  * telegram of such a track, before etcs_unit_telegram. Q_NVSRBKTRG, Q_NVEMRRLS, D_NVPOTRP, M_NVCONTACT, T_NVCONTACT,
  * M_NVDERUN and Q_NVDRIVER_ADHES of that packet are left out, its L_PACKET is 29 less, N_ITER comes before the first
  * country, and all other bits stay. It converts only where the packet fits one of its two possible layouts and not the
- * other (docs/PACKETS.md). `told` has the outcome, and where the packet stands in the telegram that was sent. That one is
- * what the track said, and the journal holds the other: keep it outside. Returns OK, or NO_ROOM where `room` is below
+ * other (docs/PACKETS.md). `outcome` has the result, and the place of the packet in the telegram that was sent. That telegram is
+ * what the track said, and the journal holds the other one: keep it outside. Returns OK, or NO_ROOM where `room` is below
  * ETCS_TELEGRAM_BYTES; then nothing is written. */
 ETCS_MUST_USE
-static inline uint32_t etcs_telegram_adapt(const uint8_t *bytes, size_t len, uint8_t *out, size_t room, etcs_adapted *told) {
-    return ((bytes != NULL) && (out != NULL) && (told != NULL)) ? etcs_telegram_adapt_(bytes, len, out, room, told) : (uint32_t)ETCS_UNIT_NULL_POINTER;
+static inline uint32_t etcs_telegram_adapt(const uint8_t *bytes, size_t len, uint8_t *out, size_t room, etcs_adapted *outcome) {
+    return ((bytes != NULL) && (out != NULL) && (outcome != NULL)) ? etcs_telegram_adapt_(bytes, len, out, room, outcome) : (uint32_t)ETCS_UNIT_NULL_POINTER;
 }
 
 /** Writes a value, from 0 on, of those that etcs_telegram_adapt leaves out of a telegram, in the order of its packet 3. Call
  * it with the bytes that the track sent. Returns OK, or END after the last one, and where etcs_telegram_adapt writes
  * nothing; then nothing is written. */
 ETCS_MUST_USE
-static inline uint32_t etcs_telegram_dropped(const uint8_t *bytes, size_t len, uint32_t index, etcs_value_dropped *told) {
-    return ((bytes != NULL) && (told != NULL)) ? etcs_telegram_dropped_(bytes, len, index, told) : (uint32_t)ETCS_UNIT_NULL_POINTER;
+static inline uint32_t etcs_telegram_dropped(const uint8_t *bytes, size_t len, uint32_t index, etcs_value_dropped *value) {
+    return ((bytes != NULL) && (value != NULL)) ? etcs_telegram_dropped_(bytes, len, index, value) : (uint32_t)ETCS_UNIT_NULL_POINTER;
 }
 
 /** Returns the name of a variable of enum etcs_dropped_variable, as SUBSET-026 has it; "unknown" for other numbers. */
@@ -954,8 +954,8 @@ static inline const char *etcs_dropped_name(uint32_t variable) {
  * sends and the unit doesn't obey, as a packet 132, 135 or 137; all other packets are used. Returns OK, END after the last
  * one, or OUT_OF_RANGE where no mode or direction has the number; nothing is written but with OK. */
 ETCS_MUST_USE
-static inline uint32_t etcs_telegram_unused(const uint8_t *bytes, size_t len, uint32_t mode, uint32_t direction, uint32_t index, etcs_packet_unused *told) {
-    return ((bytes != NULL) && (told != NULL)) ? etcs_telegram_unused_(bytes, len, mode, direction, index, told) : (uint32_t)ETCS_UNIT_NULL_POINTER;
+static inline uint32_t etcs_telegram_unused(const uint8_t *bytes, size_t len, uint32_t mode, uint32_t direction, uint32_t index, etcs_packet_unused *packet) {
+    return ((bytes != NULL) && (packet != NULL)) ? etcs_telegram_unused_(bytes, len, mode, direction, index, packet) : (uint32_t)ETCS_UNIT_NULL_POINTER;
 }
 
 #ifdef __cplusplus

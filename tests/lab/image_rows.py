@@ -206,6 +206,20 @@ def compare_swapped(program, room, compared):
     compared.same("the other one took its name", (first.read_bytes() == images[1], second.exists()), (True, False))
 
 
+def compare_changed(program, room, compared):
+    """A byte of the image changes after its digest was taken: the printed digest isn't of the bytes that were examined."""
+    hook, path = room / "flip.so", room / "changed"
+    subprocess.run(["gcc", "-shared", "-fPIC", "-o", hook, str(HERE / "flip.c")], check=True)
+    image = image_of(6, ring(6, blocks_of(11)))
+    for command in ("examine", "check"):
+        path.write_bytes(image)
+        environment = {**os.environ, "LD_PRELOAD": str(hook), "FLIP_NAME": str(path), "FLIP_AFTER": "8"}
+        _, said, status = run(program, [command, str(path)], env=environment)
+        compared.same(f"{command} of a file that changes", (said, status),
+                      (f"etcs_lab: {path}: changed while it was being read; the result is not of one image\n", 3))
+        compared.same("the byte was changed", path.read_bytes() == image[:-1] + bytes([image[-1] ^ 1]), True)
+
+
 def compare_huge(program, room, compared):
     """A terabyte of holes is refused at once, and said to be no image before it is read."""
     path = room / "huge"
@@ -340,6 +354,7 @@ def main(words):
         compare_files(program, others[0] if others else None, Path(room), compared)
         compare_cut_off(program, Path(room), compared)
         compare_swapped(program, Path(room), compared)
+        compare_changed(program, Path(room), compared)
         compare_huge(program, Path(room), compared)
         if others:
             compare_given(program, others[0], Path(room), compared)

@@ -86,6 +86,7 @@ pub(crate) fn checked<R: Files<File = File> + AllocGlobal + Eprint, W: Write>(
 ) -> Result<Status, Status> {
     let mut image = opened_whole(rt, image, is_watched)?;
     let found = check(rt, &mut image, form, out)?;
+    image.compare_digest(rt, is_watched)?;
     told(
         rt,
         image.path,

@@ -93,3 +93,14 @@ pub(crate) fn facts_of<R: Eprint, F: RawFile>(
         first,
     })
 }
+
+/// Whether the bytes of a file, read to its end, have this digest. The error is that of a read.
+pub(crate) fn has_digest<R: Eprint, F: RawFile>(
+    rt: &R,
+    file: &F,
+    digest: &[u8; 64],
+    progress: Progress,
+) -> Result<bool, DiskFault> {
+    let (_, found) = taken(rt, file, progress)?;
+    Ok(found == *digest)
+}

@@ -32,7 +32,9 @@ pub(crate) fn examined<R: Files<File = File> + Eprint, W: Write>(
     out: &mut W,
 ) -> Result<Status, Status> {
     let mut image = opened_whole(rt, image, is_watched)?;
-    match verdict_of(rt, &mut image, form, out)? {
+    let verdict = verdict_of(rt, &mut image, form, out)?;
+    image.compare_digest(rt, is_watched)?;
+    match verdict {
         Verdict::Whole => Ok(Status::Whole),
         Verdict::Refused => Ok(Status::Refused),
         Verdict::NotWhole => Ok(Status::Damaged),

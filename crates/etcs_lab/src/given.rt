@@ -71,6 +71,13 @@ impl<D: Disk> GivenSlots<D> {
             faults: 0,
         }
     }
+
+    /// The disk as it is.
+    pub(crate) fn disk(&self) -> &D
+        ensures { D.state result.now ≡ D.state self.now.disk }
+    {
+        &self.disk
+    }
 }
 
 impl<D: Disk> WriteDisk for GivenSlots<D> {

@@ -3,8 +3,9 @@ ghost use Rattle.std.specs.Prelude.{◌≤◌};
 ghost use Rattle.std.specs.Option.{ForSome};
 ghost use Rattle.blocks.specs.FirstSector.{least_slots, most_slots};
 
-use crate::digest::facts_of;
+use crate::digest::{facts_of, has_digest};
 use crate::given::GivenSlots;
+use crate::progress::Progress;
 use crate::status::{Status, fail, unread};
 use command_line::LabImage;
 use file_disk::{FileDisk, ReadError, ReadOnlyFile};
@@ -14,6 +15,9 @@ use std::rt::Files;
 
 /// The disk of an image.
 pub(crate) type ImageDisk = GivenSlots<FileDisk<ReadOnlyFile>>;
+
+// The message about a file that another program changes while it is examined.
+const CHANGED: &str = "changed while it was being read; the result is not of one image";
 
 // What is said of a file that can't be opened.
 fn sentence(error: ReadError) -> &'static str {
@@ -86,4 +90,20 @@ pub(crate) fn opened_whole<'a, R: Files<File = File> + Eprint>(
         file,
         disk,
     })
+}
+
+impl Image<'_> {
+    /// Reads the whole file once more after an examination: an error where its bytes are no longer those of the printed
+    /// digest, so that what was examined may have been other bytes. A file without a digest isn't read.
+    pub(crate) fn compare_digest<R: Eprint>(&self, rt: &R, is_watched: bool) -> Result<(), Status> {
+        let Some(digest) = &self.file.digest else {
+            return Ok(());
+        };
+        let progress = Progress::of(self.file.bytes, is_watched);
+        match has_digest(rt, self.disk.disk().file(), digest, progress) {
+            Ok(true) => Ok(()),
+            Ok(false) => Err(fail(rt, CHANGED, self.path, Status::Device)),
+            Err(_) => Err(unread(rt, self.path)),
+        }
+    }
 }

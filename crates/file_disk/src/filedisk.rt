@@ -176,6 +176,13 @@ impl<F: RawFile + Drop> FileDisk<F> {
 }
 
 impl<F: RawFile> FileDisk<F> {
+    /// The file that the disk reads and writes.
+    pub fn file(&self) -> &F
+        ensures { ⟦<FileDisk<F> as WriteDisk>⟧.state self.now ≡ disk_over (⟦<FileDisk<F> as WriteDisk>⟧.state self.now).sectors (⟦<FileDisk<F> as WriteDisk>⟧.state self.now).faults (F.state result.now) }
+    {
+        &self.file
+    }
+
     // Hands an answer on, and counts its fault.
     fn counted(&mut self, answer: Result<(), DiskFault>) -> Result<(), DiskFault>
         ensures answer { result ≡ answer }

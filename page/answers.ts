@@ -12,7 +12,7 @@ import {KEPT_FIELDS, RECORD_FIELDS, SAY, SLOTS, VERDICTS} from "./texts";
 /** What an image is. */
 export function imageTexts(name: string, digest: string, bytes: number, facts: Facts, records: Records|null,
     lives: number, unreadable: number[], isAssumed: boolean): [string, string][] {
-    const rest = bytes % SECTOR, told: [string, string][] = [
+    const rest = bytes % SECTOR, rows: [string, string][] = [
         ["file", name], ["SHA-256", digest],
         ["bytes", `${count(bytes)}${rest ? `, of which ${rest} stand after the last whole sector` : ""}`],
         ["sectors", count(facts.sectors)],
@@ -20,16 +20,16 @@ export function imageTexts(name: string, digest: string, bytes: number, facts: F
         ["newest block", facts.newest ? count(facts.newest) : "none"]
     ];
     if (records?.count) {
-        told.push([
+        rows.push([
             "events",
             `${count(records.event(0))} to ${count(records.event(records.count - 1))}, ${
                 count(records.count)} can be read`
         ]);
-        told.push(["lives", count(lives)]);
+        rows.push(["lives", count(lives)]);
     }
     if (unreadable.length)
-        told.push(["can't be read", `block${unreadable.length > 1 ? "s" : ""} ${unreadable.slice(0, 20).join(", ")}`]);
-    return told;
+        rows.push(["can't be read", `block${unreadable.length > 1 ? "s" : ""} ${unreadable.slice(0, 20).join(", ")}`]);
+    return rows;
 }
 
 /** What a slot holds, with the place of the first field that isn't one. */
@@ -98,15 +98,15 @@ export function interventionTexts(
 }
 
 /** What holds after the event of a record. */
-export function behindText(record: JournalRecord): string {
-    const told = [`After it: ${modeName(record.mode)}, level ${levelText(record.level)}, ${brakeText(record.brake)}`];
+export function outcomeText(record: JournalRecord): string {
+    const rows = [`After it: ${modeName(record.mode)}, level ${levelText(record.level)}, ${brakeText(record.brake)}`];
     if (record.hasPlace) {
         const place = `front at ${metres(record.front)} ± ${metres(record.uncertainty)}`;
-        told.push(`limit ${kmh(record.limit)} km/h, ${place}`);
+        rows.push(`limit ${kmh(record.limit)} km/h, ${place}`);
     }
-    told.push(
+    rows.push(
         `moment ${seconds(record.moment)}`, `shown: ${indicationTexts(record.indications).join(", ") || "nothing"}`);
-    return told.join("; ") + ".";
+    return rows.join("; ") + ".";
 }
 
 /** The blocks that are missing between two that are there, with their events. */

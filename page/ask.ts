@@ -1,5 +1,5 @@
 // Asking an image: what is dropped goes to the worker, and what that reports is shown.
-import {behindText, imageTexts, interventionTexts, lifeCells, lostTexts, replayText, slotText} from "./answers";
+import {imageTexts, interventionTexts, lifeCells, lostTexts, outcomeText, replayText, slotText} from "./answers";
 import {bytesOfMarks, misfit, sorted, whenChosen} from "./choosing";
 import {briefRows, counted, reasonOf} from "./brief";
 import {Day, MarksFile, utcText} from "./day";
@@ -46,7 +46,7 @@ export class Ask {
     private replays: Replay[]|null = null;
     private digest = "";
     index = 0;
-    /** Whether all is told of the image. */
+    /** Whether everything about the image is shown. */
     isDone = false;
     private isWhole: boolean|null = null;
     private asking = 0;
@@ -159,9 +159,9 @@ export class Ask {
     private showImage(): void {
         const facts = this.facts;
         if (!facts) return;
-        const told = imageTexts(this.name, this.digest, this.bytes.length, facts, this.records, this.lives.length,
+        const rows = imageTexts(this.name, this.digest, this.bytes.length, facts, this.records, this.lives.length,
             this.unreadable, this.slotsGiven !== null);
-        show("facts", ...told.flatMap(([name, value]) => [make("dt", {}, name), make("dd", {}, value)]));
+        show("facts", ...rows.flatMap(([name, value]) => [make("dt", {}, name), make("dd", {}, value)]));
     }
 
     private takeRecords({ status, bytes, unreadable, lives, speeds, interventions, trips }: RecordsReport): void {
@@ -208,12 +208,12 @@ export class Ask {
     private chooseSlot(slot: number|null): void {
         drawRing(
             at("ring") as unknown as SVGSVGElement, this.slots, this.facts?.newest ?? 0, slot, n => this.chooseSlot(n));
-        const told = slot === null ? undefined : this.slots[slot];
-        if (!told || slot === null) {
+        const found = slot === null ? undefined : this.slots[slot];
+        if (!found || slot === null) {
             say("slot-said", "");
             return;
         }
-        say("slot-said", slotText(told, slot, this.heads.get(told.number)));
+        say("slot-said", slotText(found, slot, this.heads.get(found.number)));
     }
 
     private takeReplay(lives: Replay[], unreadable: number[]): void {
@@ -328,7 +328,7 @@ export class Ask {
         const record = records.get(index), speed = this.speeds[index] ?? 0;
         say("event-said",
             `Event ${count(record.event)} of life ${record.life}, block ${count(record.block)}: ${eventText(record)}`);
-        say("ask-texts", behindText(record));
+        say("ask-texts", outcomeText(record));
         say("ask-day", this.day.text(record));
         say("ask-mode", modeName(record.mode));
         say("ask-level", `level ${levelText(record.level)}`);
@@ -341,10 +341,10 @@ export class Ask {
     private showWhy(): void {
         const { records, index } = this;
         if (!records || !records.count) return;
-        const record = records.get(index), told = this.whys.get(record.event);
+        const record = records.get(index), answer = this.whys.get(record.event);
         this.dial.show(
-            shownOf(this.speeds[index] ?? 0, record.limit, record.brake, record.indications, told?.why ?? null));
-        if (!told) {
+            shownOf(this.speeds[index] ?? 0, record.limit, record.brake, record.indications, answer?.why ?? null));
+        if (!answer) {
             show("ask-causes", make("li", {}, "…"));
             say("ask-limit", "");
             clearTimeout(this.asking);
@@ -353,7 +353,7 @@ export class Ask {
                               40) as unknown as number;
             return;
         }
-        const reason = this.replays ? reasonOf(this.replays, record.event) : null, why = reason ? null : told.why;
+        const reason = this.replays ? reasonOf(this.replays, record.event) : null, why = reason ? null : answer.why;
         show("ask-causes", ...(why ? brakeReason(why, record) : [
             reason ? SAY.whyNot(reason) : SAY.notReplayed
         ]).map(text => make("li", {}, text)));
@@ -375,8 +375,8 @@ export class Ask {
         if (records && life) this.graphs.show(records, this.speeds, life, this.interventions, index, this.day.times);
     }
 
-    /** What tests ask. */
-    get told(): object {
+    /** What tests read. */
+    get findings(): object {
         return {
             facts: this.facts,
             slots: this.slots,
@@ -391,7 +391,7 @@ export class Ask {
             count: this.records?.count ?? 0,
             newest: this.newest,
             isWhole: this.isWhole,
-            day: this.day.told,
+            day: this.day.findings,
             counted: this.records && [...counted(this.records, this.replays, this.causes)],
             events: [...this.causes.keys()].map(index => this.records?.event(index))
         };

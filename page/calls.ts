@@ -34,7 +34,7 @@ interface Exports {
     etcs_unit_close_(unit: bigint): number;
     etcs_unit_format_request_(slots: number, index: number, request: bigint, bytes: bigint, room: bigint): number;
     etcs_image_facts_(image: bigint, size: bigint, abi: number, facts: bigint): number;
-    etcs_image_slot_(image: bigint, size: bigint, abi: number, newest: bigint, slot: bigint, told: bigint): number;
+    etcs_image_slot_(image: bigint, size: bigint, abi: number, newest: bigint, slot: bigint, out: bigint): number;
     etcs_image_block_(image: bigint, size: bigint, abi: number, number: bigint, block: bigint): number;
     etcs_journal_open_(image: bigint, size: bigint, abi: number, journal: bigint): number;
     etcs_journal_next_(image: bigint, size: bigint, journal: bigint, record: bigint): number;
@@ -42,8 +42,8 @@ interface Exports {
     etcs_image_why_(image: bigint, size: bigint, abi: number, number: bigint, event: bigint, why: bigint): number;
 }
 
-/** What a call answers: its status, and where that is OK what it told. */
-export interface Told<T> {
+/** The answer of a call: its status, and where that is OK its value. */
+export interface Answer<T> {
     status: number;
     value: T|null
 }
@@ -55,12 +55,12 @@ export interface Held {
 }
 
 export class Calls {
-    private readonly told: bigint;
+    private readonly out: bigint;
     private readonly room: bigint;
 
     constructor(private readonly x: Exports) {
         if (x.etcs_abi() !== ABI) throw new Error("the library is of another interface");
-        this.told = this.take(BYTES.replay);
+        this.out = this.take(BYTES.replay);
         this.room = this.take(BYTES.room);
     }
 
@@ -93,13 +93,13 @@ export class Calls {
         } finally { this.drop(held); }
     }
 
-    private answer<T>(status: number, read: (reader: Reader, at: number) => T): Told<T> {
-        return { status, value: status === OK ? read(this.reader(), Number(this.told)) : null };
+    private answer<T>(status: number, read: (reader: Reader, at: number) => T): Answer<T> {
+        return { status, value: status === OK ? read(this.reader(), Number(this.out)) : null };
     }
 
     version(): string {
-        const status = this.x.etcs_version_(this.room, BigInt(BYTES.room), this.told);
-        const count = this.reader().u32(Number(this.told));
+        const status = this.x.etcs_version_(this.room, BigInt(BYTES.room), this.out);
+        const count = this.reader().u32(Number(this.out));
         return status === OK ? new TextDecoder().decode(this.reader().bytes(Number(this.room), count)) : "?";
     }
 
@@ -112,25 +112,25 @@ export class Calls {
 
     // ---- an image
 
-    facts(image: Held): Told<Facts> {
+    facts(image: Held): Answer<Facts> {
         return this.answer(
-            this.x.etcs_image_facts_(image.at, BigInt(image.size), ABI, this.told), (r, at) => r.facts(at));
+            this.x.etcs_image_facts_(image.at, BigInt(image.size), ABI, this.out), (r, at) => r.facts(at));
     }
 
-    slot(image: Held, newest: number, slot: number): Told<Slot> {
+    slot(image: Held, newest: number, slot: number): Answer<Slot> {
         return this.answer(
-            this.x.etcs_image_slot_(image.at, BigInt(image.size), ABI, BigInt(newest), BigInt(slot), this.told),
+            this.x.etcs_image_slot_(image.at, BigInt(image.size), ABI, BigInt(newest), BigInt(slot), this.out),
             (r, at) => r.slot(at));
     }
 
-    block(image: Held, number: number): Told<Block> {
-        return this.answer(this.x.etcs_image_block_(image.at, BigInt(image.size), ABI, BigInt(number), this.told),
+    block(image: Held, number: number): Answer<Block> {
+        return this.answer(this.x.etcs_image_block_(image.at, BigInt(image.size), ABI, BigInt(number), this.out),
             (r, at) => r.block(at));
     }
 
-    why(image: Held, block: number, event: number): Told<Why> {
+    why(image: Held, block: number, event: number): Answer<Why> {
         return this.answer(
-            this.x.etcs_image_why_(image.at, BigInt(image.size), ABI, BigInt(block), BigInt(event), this.told),
+            this.x.etcs_image_why_(image.at, BigInt(image.size), ABI, BigInt(block), BigInt(event), this.out),
             (r, at) => r.why(at));
     }
 
@@ -140,8 +140,8 @@ export class Calls {
 
     // ---- formatting, and a unit
 
-    formatRequest(slots: number, index: number): Told<{ request: Request; bytes: Uint8Array }> {
-        const status = this.x.etcs_unit_format_request_(slots, index, this.told, this.room, BigInt(BYTES.room));
+    formatRequest(slots: number, index: number): Answer<{ request: Request; bytes: Uint8Array }> {
+        const status = this.x.etcs_unit_format_request_(slots, index, this.out, this.room, BigInt(BYTES.room));
         return this.answer(status, (r, at) => this.asked(r, at));
     }
 
@@ -184,17 +184,17 @@ export class Calls {
         return this.with(new Uint8Array(view.buffer), held => this.x.etcs_unit_train_data_(unit, held.at));
     }
     prepare(unit: bigint): number { return this.x.etcs_unit_prepare_(unit); }
-    request(unit: bigint, index: number): Told<{ request: Request; bytes: Uint8Array }> {
-        const status = this.x.etcs_unit_request_(unit, index, this.told, this.room, BigInt(BYTES.room));
+    request(unit: bigint, index: number): Answer<{ request: Request; bytes: Uint8Array }> {
+        const status = this.x.etcs_unit_request_(unit, index, this.out, this.room, BigInt(BYTES.room));
         return this.answer(status, (r, at) => this.asked(r, at));
     }
     done(unit: bigint, count: number): number { return this.x.etcs_unit_done_(unit, count); }
-    state(unit: bigint): Told<State> {
-        return this.answer(this.x.etcs_unit_state_(unit, this.told), (r, at) => r.state(at));
+    state(unit: bigint): Answer<State> {
+        return this.answer(this.x.etcs_unit_state_(unit, this.out), (r, at) => r.state(at));
     }
-    release(unit: bigint): Told<Output[]> {
-        const count = this.told + BigInt(BYTES.output * OUTPUTS);
-        const status = this.x.etcs_unit_release_(unit, this.told, BigInt(OUTPUTS), count);
+    release(unit: bigint): Answer<Output[]> {
+        const count = this.out + BigInt(BYTES.output * OUTPUTS);
+        const status = this.x.etcs_unit_release_(unit, this.out, BigInt(OUTPUTS), count);
         return this.answer(
             status, (r, at) => Array.from({ length: r.u32(Number(count)) }, (_, n) => r.output(at + BYTES.output * n)));
     }
@@ -206,51 +206,51 @@ export class Journal {
     private readonly places: bigint[];
 
     constructor(private readonly x: Exports, private readonly image: Held, private readonly at: bigint,
-        private readonly told: bigint) {
-        this.places = Array.from({ length: AT_ONCE }, (_, n) => told + BigInt(BYTES.record * n));
+        private readonly out: bigint) {
+        this.places = Array.from({ length: AT_ONCE }, (_, n) => out + BigInt(BYTES.record * n));
         this.status = x.etcs_journal_open_(image.at, BigInt(image.size), ABI, at);
     }
 
     private reader(): Reader { return new Reader(new DataView(this.x.memory.buffer)); }
 
-    /** The bytes of the next record, as the call writes them. Behind DAMAGED it goes on. */
-    next(): Told<Uint8Array> {
-        const status = this.x.etcs_journal_next_(this.image.at, BigInt(this.image.size), this.at, this.told);
-        return { status, value: status === OK ? this.reader().bytes(Number(this.told), BYTES.record) : null };
+    /** The bytes of the next record, as the call writes them. After DAMAGED it goes on. */
+    next(): Answer<Uint8Array> {
+        const status = this.x.etcs_journal_next_(this.image.at, BigInt(this.image.size), this.at, this.out);
+        return { status, value: status === OK ? this.reader().bytes(Number(this.out), BYTES.record) : null };
     }
 
     /**
-     * The bytes of the next records, at most AT_ONCE, one behind the other; and where one didn't come, the status of
+     * The bytes of the next records, at most AT_ONCE, one after the other; and where one didn't come, the status of
      * its call and the block at which the journal stood before it.
      */
     nextOnes(): { bytes: Uint8Array; status: number; block: number } {
-        const { x, image, at, places, told } = this, size = BigInt(image.size);
+        const { x, image, at, places, out } = this, size = BigInt(image.size);
         let count = 0, status = OK, block = 0, stands = new BigUint64Array(0);
         for (; count < AT_ONCE && status === OK; count++) {
             if (!stands.length) stands = new BigUint64Array(x.memory.buffer, Number(at), 1);
             block = Number(stands[0]);
-            status = x.etcs_journal_next_(image.at, size, at, places[count] ?? told);
+            status = x.etcs_journal_next_(image.at, size, at, places[count] ?? out);
         }
         if (status !== OK) count--;
-        return { bytes: this.reader().bytes(Number(told), BYTES.record * count), status, block };
+        return { bytes: this.reader().bytes(Number(out), BYTES.record * count), status, block };
     }
 
     /** The number of the block at which the journal is. */
     block(): number { return this.reader().u64(Number(this.at)); }
 
     /** The next line of a replay. */
-    replay(): Told<Replay> {
-        const status = this.x.etcs_image_replay_(this.image.at, BigInt(this.image.size), ABI, this.at, this.told);
-        return { status, value: status === OK ? this.reader().replay(Number(this.told)) : null };
+    replay(): Answer<Replay> {
+        const status = this.x.etcs_image_replay_(this.image.at, BigInt(this.image.size), ABI, this.at, this.out);
+        return { status, value: status === OK ? this.reader().replay(Number(this.out)) : null };
     }
 
     drop(): void {
         this.x.etcs_memory_give(this.at);
-        this.x.etcs_memory_give(this.told);
+        this.x.etcs_memory_give(this.out);
     }
 }
 
-/** Records as the calls wrote them, one behind the other. */
+/** Records as the calls wrote them, one after the other. */
 export class Records {
     private readonly reader: Reader;
     readonly count: number;
@@ -282,7 +282,7 @@ export class Records {
     brake(index: number): number { return this.reader.u8(BYTES.record * index + 52); }
     mode(index: number): number { return this.reader.u8(BYTES.record * index + 50); }
     indications(index: number): number { return this.reader.u8(BYTES.record * index + 53); }
-    /** The speed that an odometer reading tells. */
+    /** The speed of an odometer reading. */
     readSpeed(index: number): number {
         const at = BYTES.record * index + 56 + 4;
         return this.reader.u8(at) * 0x1000000 + this.reader.u8(at + 1) * 0x10000 + this.reader.u8(at + 2) * 0x100 +

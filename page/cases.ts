@@ -69,13 +69,13 @@ function lifeLines(life: Driven, number: number): { steps: string[]; expected: s
 /** The test case; nothing where no scenario has what was driven. */
 export function caseText(name: string, lives: Driven[], slots: number): string {
     if (lives.some(life => life.isTorn) || !lives.some(life => life.outputs.length)) return "";
-    const told = lives.map((life, n) => lifeLines(life, n + 1));
+    const parsed = lives.map((life, n) => lifeLines(life, n + 1));
     const parts = lives.flatMap((life, n) => [`  - cold: ${cold[life.scenario.cold ?? 0]}`,
-                                    told[n]?.steps.length ? "    steps:" : "    steps: []", ...told[n]?.steps ?? []]);
+                                    parsed[n]?.steps.length ? "    steps:" : "    steps: []", ...parsed[n]?.steps ?? []]);
     return [
         "# Driven in the page. What is expected is what the unit answered; put in its place what a section asks for.",
         `test_case: ${name}`, "feature: Driven in the page", "sections: [\"4.6\"]",
         "rule: the unit answers as it did when this was driven", "starting_conditions: an empty journal",
-        `slots: ${slots}`, "lives:", ...parts, "expected:", ...told.flatMap(one => one.expected), ""
+        `slots: ${slots}`, "lives:", ...parts, "expected:", ...parsed.flatMap(one => one.expected), ""
     ].join("\n");
 }

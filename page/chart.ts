@@ -4,7 +4,7 @@ import {svg} from "./dom";
 import {NOTHING_TO_DRAW} from "./texts";
 
 export interface Plot {
-    /** In the unit of the axis; speeds in m/h; a limit that isn't told is null. */
+    /** In the unit of the axis; speeds in m/h; a limit that the record lacks is null. */
     x: number[];
     speed: number[];
     limit: (number|null)[];

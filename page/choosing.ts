@@ -1,4 +1,4 @@
-// Files that are dropped on the page or chosen: an image, and marks of the time of day beside it.
+// Files that are dropped on the page or chosen: an image, and marks of the time of day for it.
 import {at} from "./dom";
 import {SECTOR} from "./layouts";
 import {SAY} from "./texts";

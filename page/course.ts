@@ -1,5 +1,5 @@
 // A train on a track with a unit on board, step by step, as python/gaknifur/driving.py has it: in each time step the
-// train moves, and the unit is told the moment, the way up to each balise with its telegram, and the rest of the way.
+// train moves, and the unit is given the moment, the way up to each balise with its telegram, and the rest of the way.
 import {Calls, Held} from "./calls";
 import {Output, State} from "./layouts";
 import {Group, Life, Scenario, Step} from "./life";
@@ -51,7 +51,7 @@ export class Course {
     readonly points: Point[] = [];
     readonly heard: Heard[] = [];
     readonly motion: Motion;
-    private toldCm = 0;
+    private reportedCm = 0;
     private base = 0;
 
     constructor(
@@ -69,7 +69,7 @@ export class Course {
         this.life = new Life(this.calls, this.medium, cold);
         this.lives.push(this.life);
         this.output = BEFORE;
-        this.moment = this.toldCm = 0;
+        this.moment = this.reportedCm = 0;
         this.base = this.motion.place;
         this.points.length = 0;
         this.heard.length = 0;
@@ -98,30 +98,30 @@ export class Course {
         this.note();
     }
 
-    private told(): number { return round(this.motion.place - this.base); }
+    private travelled(): number { return round(this.motion.place - this.base); }
 
     private read(speed: number, isWanted: boolean): void {
-        const told = this.told();
-        for (let wanted = isWanted; wanted; wanted = this.toldCm !== told) {
-            const way = Math.max(-LONGEST_CM, Math.min(LONGEST_CM, told - this.toldCm));
+        const travelled = this.travelled();
+        for (let wanted = isWanted; wanted; wanted = this.reportedCm !== travelled) {
+            const way = Math.max(-LONGEST_CM, Math.min(LONGEST_CM, travelled - this.reportedCm));
             this.accept({ drive: [way, speed] });
-            this.toldCm += way;
+            this.reportedCm += way;
         }
     }
 
     private passTo(end: number, speed: number): void {
         const begun = this.motion.place;
-        let isTold = false;
+        let isReported = false;
         for (const balise of this.balises) {
             if (begun < balise.at && balise.at <= end) {
                 this.motion.place = balise.at;
-                this.read(speed, this.told() !== this.toldCm);
+                this.read(speed, this.travelled() !== this.reportedCm);
                 this.accept({ telegram: balise.telegram }, balise.origin);
-                isTold = true;
+                isReported = true;
             }
         }
         this.motion.place = end;
-        this.read(speed, !isTold || this.told() !== this.toldCm);
+        this.read(speed, !isReported || this.travelled() !== this.reportedCm);
     }
 
     /** One time step: the lever is from -1, the full service brake, to 1, full power. */
@@ -178,7 +178,7 @@ export class Course {
                 if (way > 0) this.passTo(this.motion.place + way, speed);
                 else {
                     this.motion.place += way;
-                    this.toldCm += way;
+                    this.reportedCm += way;
                     this.accept({ drive: [way, speed] });
                 }
                 this.note();
@@ -190,7 +190,7 @@ export class Course {
         if (this.life.state.pending) flush();
     }
 
-    /** Behind a loss of power the train brakes by itself until it stands; answers how far it ran, in cm. */
+    /** After a loss of power the train brakes by itself until it stands; answers how far it ran, in cm. */
     rollOut(): number {
         const way = this.motion.speed * this.motion.speed / (2 * Math.max(1, this.motion.train.emergency));
         this.motion.place += way;

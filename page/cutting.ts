@@ -34,7 +34,7 @@ export function askHow(cutting: Cutting): void {
     const not = make("button", { click: () => dialog.close() }, "Not at all");
     show("cut-choices",
         make("p", {},
-            "Power may be lost at any moment. An output leaves the unit only behind the last sync of its block."),
+            "Power may be lost at any moment. An output leaves the unit only after the last sync of its block."),
         make("div", { class: "buttons" }, now, within, not));
     dialog.showModal();
 }

@@ -1,4 +1,4 @@
-// The time of day by marks that were chosen beside an image: which file, what it says, and what is told of an event.
+// The time of day by marks that were chosen along with an image: which file, what it says, and the time of an event.
 import {Records} from "./calls";
 import {at, make, say, show} from "./dom";
 import {JournalRecord} from "./layouts";
@@ -14,8 +14,8 @@ export interface MarksFile {
 }
 
 /** A time of day with how far off it may be. */
-export function utcText(told: Utc|null): string {
-    return told ? `${iso(told.utc)} ± ${told.uncertainty.toLocaleString("en")} ms` : DAY.none;
+export function utcText(utc: Utc|null): string {
+    return utc ? `${iso(utc.utc)} ± ${utc.uncertainty.toLocaleString("en")} ms` : DAY.none;
 }
 
 export class Day {
@@ -24,7 +24,7 @@ export class Day {
     private drift = DRIFT_PPM;
     times: Times|null = null;
 
-    /** `changed` shows anew what is told by marks. */
+    /** `changed` shows again what depends on marks. */
     constructor(private readonly changed: () => void) {
         const drift = at<HTMLInputElement>("drift");
         drift.value = String(this.drift);
@@ -75,7 +75,7 @@ export class Day {
     private show(fault: string): void {
         const { times } = this;
         say("day-error", fault);
-        say("day-said", times ? `${DAY.count(times.marks.length)}. ${times.says()}. ${DAY.behind}` : DAY.noMarks);
+        say("day-said", times ? `${DAY.count(times.marks.length)}. ${times.says()}. ${DAY.after}` : DAY.noMarks);
         const faults = times?.faults() ?? [], more = faults.length - MOST_FAULTS;
         const list = more > 0 ? [...faults.slice(0, MOST_FAULTS), DAY.more(more)] : faults;
         show("day-faults", ...list.map(text => make("li", {}, text)));
@@ -84,8 +84,8 @@ export class Day {
     /** The time of day of a record's moment. */
     of(life: number, moment: number): Utc|null { return this.times?.utc(life, moment) ?? null; }
 
-    /** What tests ask: of each record the time of day and how far off it may be, and what is said of the marks. */
-    get told(): object|null {
+    /** What tests read: the time of day of each record with its uncertainty, and the sentences about the marks. */
+    get findings(): object|null {
         const { times, records } = this;
         if (!times || !records) return null;
         const all = Array.from({ length: records.count }, (_, n) => this.of(records.life(n), records.moment(n)));
@@ -99,7 +99,7 @@ export class Day {
     /** What is said of an event; nothing where there are no marks. */
     text(record: JournalRecord): string {
         if (!this.times) return "";
-        const told = this.of(record.life, record.moment);
-        return `${told ? `UTC by marks: ${utcText(told)}` : DAY.notOfLife(record.life)} (${DAY.outside}).`;
+        const utc = this.of(record.life, record.moment);
+        return `${utc ? `UTC by marks: ${utcText(utc)}` : DAY.notOfLife(record.life)} (${DAY.outside}).`;
     }
 }

@@ -60,12 +60,12 @@ export class Dial {
     setScale(most: number): void {
         if (most === this.most) return;
         this.most = most;
-        const each = most > 250 ? 20 : 10, told = most > 250 ? 100 : most > 180 ? 50 : 20;
+        const each = most > 250 ? 20 : 10, numbered = most > 250 ? 100 : most > 180 ? 50 : 20;
         const parts: Element[] = [];
         for (let v = 0; v <= most; v += each) {
-            const isTold = v % told === 0, [x1, y1] = this.point(v, 125), [x2, y2] = this.point(v, isTold ? 104 : 111);
+            const isNumbered = v % numbered === 0, [x1, y1] = this.point(v, 125), [x2, y2] = this.point(v, isNumbered ? 104 : 111);
             parts.push(svg("line", { x1, y1, x2, y2, class: "tick" }));
-            if (isTold) {
+            if (isNumbered) {
                 const [x, y] = this.point(v, 89);
                 parts.push(svg("text", { x, y: y + 5, "text-anchor": "middle", class: "tick-text" }, String(v)));
             }

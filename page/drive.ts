@@ -1,5 +1,5 @@
 // Driving: the desk, the track, time, and power. All that the desk shows is what the unit released, and what its calls
-// tell of it.
+// describe it.
 import {ask as askImage} from "./tabs";
 import {draw} from "./chart";
 import {Asker} from "./asker";
@@ -27,7 +27,7 @@ const SLOTS = 2048, TRAIN = {
     buildUp: 1500
 };
 const LEVERS: [string, number][] = [["full", 100], ["coast", 0], ["slow", -100]];
-/** How long the causes may be out of date while time runs, beside what a question takes. */
+/** How long the causes may be out of date while time runs, in addition to what a question takes. */
 const STALE_MS = 250;
 
 export class Drive {
@@ -83,7 +83,7 @@ export class Drive {
         this.track = tracks[number] ?? this.track;
         learnAll(this.track.scenario, digits => this.calls.decode(bytesOfHex(digits))[0] === 0);
         offerTracks(at<HTMLSelectElement>("track"), number);
-        say("track-tells", this.track.tells);
+        say("track-text", this.track.text);
         if (this.course && !this.isOff) this.course.life.cut();
         this.calls.drop(this.medium);
         this.medium = this.calls.hold(formatted(this.calls, SLOTS));

@@ -141,12 +141,12 @@ export class Editor {
         const said = make("p", {}), name = `telegram-${number}`, root = make("div", { class: "form" });
         const field =
             make("textarea", { id: name, rows: 3, spellcheck: "false", "aria-describedby": `${name}-said` }, text);
-        const put = (told: string): void => {
-            field.value = told;
+        const put = (text: string): void => {
+            field.value = text;
             field.dispatchEvent(new Event("input"));
         };
         const form = new Form(root, this.calls, digits => put(textOf(digits)));
-        const tell = (): void => {
+        const report = (): void => {
             const { digits, says, kind } = judge(this.calls, field.value);
             said.replaceChildren(make("strong", { class: kind }, says), digits && ` ${digits}`);
             form.show(digits);
@@ -154,10 +154,10 @@ export class Editor {
         said.id = `${name}-said`;
         field.addEventListener("input", () => {
             group.balises[number] = field.value;
-            tell();
+            report();
             this.handles[this.chosen]?.mark(this.worst(group));
         });
-        tell();
+        report();
         const remove = make("button", { click: () => this.removeBalise(group, number) }, EDIT.removeBalise(number + 1));
         return make("div", { class: "balise-text" },
             make("label",
@@ -184,7 +184,7 @@ export class Editor {
 
     // ---- driving it
 
-    /** The groups as a scenario has them; a telegram that can't be written is told. */
+    /** The groups as a scenario has them; a telegram that can't be written is reported. */
     private built(group: Edited): string[] {
         return group.balises.map((text, n) => {
             const { digits, says } = judge(this.calls, text);
@@ -202,7 +202,7 @@ export class Editor {
                     .map(group => ({ at: group.at, spacing: group.spacing, balises: this.built(group) }));
             const steps = begin ? this.built(begin).map(telegram => ({ telegram })) : [];
             const name = this.name.startsWith(EDIT.own) ? this.name : EDIT.own + this.name;
-            this.drive.board(addTrack({ name, tells: SAY.ownTells, scenario: { groups, steps }, restart: null }));
+            this.drive.board(addTrack({ name, text: SAY.ownText, scenario: { groups, steps }, restart: null }));
             this.name = name;
         } catch (error) {
             if (!(error instanceof Wrong)) throw error;

@@ -1,4 +1,4 @@
-// The variables of a telegram: each with its number, the quantity that this is, and its bits, and beside a packet its
+// The variables of a telegram: each with its number, the quantity that this is, and its bits, and next to a packet its
 // layout. Another number gives other bits: a counter or a qualifier adds variables, or takes some away.
 import {Calls} from "./calls";
 import {Child, make} from "./dom";
@@ -24,10 +24,10 @@ function linesOf(items: Item<Field>[], depth = 0): Line[] {
 
 /** The packets that may be added: as a text of their variables, or with zeros. */
 function offered(): [string, string][] {
-    const told = new Map(FORM.packets.map(text => [Number.parseInt(text), text]));
+    const titles = new Map(FORM.packets.map(text => [Number.parseInt(text), text]));
     const numbers = [...Object.keys(given.grammar.layouts), ...Object.keys(given.grammar.skipped)].map(Number);
     return numbers.sort((one, other) => one - other)
-        .map(number => [told.get(number) ?? `${number}:`, `${number}: ${given.grammar.names[number] ?? ""}`]);
+        .map(number => [titles.get(number) ?? `${number}:`, `${number}: ${given.grammar.names[number] ?? ""}`]);
 }
 
 export class Form {
@@ -65,7 +65,7 @@ export class Form {
             !isKnown && make("p", { class: "warn" }, FORM.skipped),
             make("p", {}, layout ? make("code", {}, layoutText(layout) || FORM.headAlone) : FORM.noLayout)
         ];
-        const behind = [
+        const after = [
             layout && !items && bad(FORM.tooShort),
             items && isKnown && rest !== end && bad(FORM.otherLength(rest - at)),
             rest < end && make("p", {}, FORM.rest(rest, end - 1), make("code", {}, this.bits(rest, end))),
@@ -73,17 +73,17 @@ export class Form {
         ];
         const lines = [...head.map(field => ({ field, depth: 0 })), ...body];
         return this.part(
-            `${number}: ${given.grammar.names[number] ?? FORM.noName}`, before, lines, packet, place, behind);
+            `${number}: ${given.grammar.names[number] ?? FORM.noName}`, before, lines, packet, place, after);
     }
 
     private part(title: string, before: Child[], lines: Line[], packet: ReadPacket|null, place: number,
-        behind: Child[] = []): HTMLElement {
+        after: Child[] = []): HTMLElement {
         const scale = Number(lines.find(({ field }) => field.name === "Q_SCALE")?.field.number ?? 1);
         const heads = FORM.heads.map(head => make("th", { scope: "col" }, head));
         const rows = lines.map((line, n) => this.row(line, packet, scale, `${place}.${n}`, title));
         const lists = make("table", {}, make("thead", {}, make("tr", {}, ...heads)), make("tbody", {}, ...rows));
         return make("fieldset", { class: "packet" }, make("legend", {}, title), ...before,
-            make("div", { class: "scroll" }, lists), ...behind);
+            make("div", { class: "scroll" }, lists), ...after);
     }
 
     private row(
@@ -133,7 +133,7 @@ export class Form {
         this.root.prepend(make("p", { class: "bad", role: "alert" }, `${text}.`));
     }
 
-    /** The bits with others from one on up to an end; zeros behind the end mark that only filled a byte are gone. */
+    /** The bits with others from one on up to an end; zeros after the end mark that only filled a byte are gone. */
     private spliced(from: number, to: number, others: string): string {
         const { end } = this.reading ?? { end: null }, tail = end === null ? "" : this.bits(end + 8, Infinity);
         const last = end === null || tail.includes("1") ? Infinity : end + 8;
@@ -142,7 +142,7 @@ export class Form {
 
     private altered(packet: ReadPacket|null, field: Field, text: string): string {
         if (!/^\s*[0-9]{1,20}\s*$/.test(text)) throw new Wrong(FORM.noNumber(text));
-        const number = BigInt(text), told = telegrams.bits([[field.name, number]]);
+        const number = BigInt(text), bits = telegrams.bits([[field.name, number]]);
         const take = (name: string, before: Leaf|undefined): Leaf =>
             ({ name, number: before === field ? number : before?.number ?? given.grammar.usual[name] ?? 0 });
         const items = packet?.layout && packet.items ? walk(packet.layout, take, packet.items) : null,
@@ -150,7 +150,7 @@ export class Form {
         const isAsBefore =
             leaves.length === packet?.fields.length && leaves.every(({ name }, n) => name === packet.fields[n]?.name);
         if (!items || !packet || isAsBefore)
-            return this.bits(0, field.at) + told + this.bits(field.at + field.width, Infinity);
+            return this.bits(0, field.at) + bits + this.bits(field.at + field.width, Infinity);
         const body =
             telegrams.bits(leaves.map(({ name, number }) => [name, number])) + this.bits(packet.rest, packet.end);
         const scale = packet.head.slice(3).map(({ at, width }) => this.bits(at, at + width)).join("");
@@ -170,7 +170,7 @@ export class Form {
         const body = layout && text.endsWith(":")
             ? flat(walk(layout, zeros)).map(({ name, number }) => `${name} ${number}`).join(", ")
             : "";
-        const told = telegrams.told(`NID_BG 0; ${text} ${body}`).packets[0];
-        return this.spliced(end, end, told ? telegrams.bits(told) : "");
+        const packet = telegrams.parsed(`NID_BG 0; ${text} ${body}`).packets[0];
+        return this.spliced(end, end, packet ? telegrams.bits(packet) : "");
     }
 }

@@ -3,7 +3,7 @@
 
 /**
  * A variable by its name; a variable and those that follow where it has a number; variables that stand where an
- * earlier one has a number; a list behind its counter, with a first element before that where `more`.
+ * earlier one has a number; a list after its counter, with a first element before that where `more`.
  */
 export interface Where {
     where: string;
@@ -27,7 +27,7 @@ export interface Grammar {
     units: Record<string, string>;
     /** The names of packets. */
     names: Record<string, string>;
-    /** The header in its order, with what stands where a variable isn't told; null where it has to be told. */
+    /** The header in its order, with the value of a variable that isn't given; null where it has to be given. */
     header: [string, number|null][];
     usual: Record<string, number>;
     layouts: Record<string, Part[]>;

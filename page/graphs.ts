@@ -46,9 +46,9 @@ function axisOf(times: Times|null, life: number): { unit: string; label?: (momen
     return {
         unit: DAY.axis(iso(first).slice(0, 10)),
         label: tick => {
-            const moment = Math.round(tick), told = times.utc(life, moment), isSecond = moment % 1000 === 0;
-            if (!told) return "";
-            return isSecond ? iso(Math.round(told.utc / 1000) * 1000).slice(11, 19) : iso(told.utc).slice(11, 23);
+            const moment = Math.round(tick), utc = times.utc(life, moment), isSecond = moment % 1000 === 0;
+            if (!utc) return "";
+            return isSecond ? iso(Math.round(utc.utc / 1000) * 1000).slice(11, 19) : iso(utc.utc).slice(11, 23);
         }
     };
 }

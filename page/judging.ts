@@ -9,7 +9,7 @@ import {telegrams} from "./tracks";
 /** What the unit makes of telegrams: takes all, skips something, or refuses one. */
 export type Kind = "good"|"warn"|"bad";
 export interface Judged {
-    /** In hex; empty where the text tells no telegram. */
+    /** In hex; empty where the text is no telegram. */
     digits: string;
     says: string;
     kind: Kind
@@ -23,23 +23,23 @@ const INFILL = 136, MOST_TRIED = 1024;
 
 export function isHex(text: string): boolean { return /^\s*([0-9A-Fa-f]{2}\s*)+$/.test(text); }
 
-/** The telegram that a text tells, by its variables or in hex. */
+/** The telegram that a text describes, by its variables or in hex. */
 export function digitsOfText(text: string): string {
-    return isHex(text) ? text.replace(/\s/g, "").toUpperCase() : telegrams.digits(telegrams.told(text));
+    return isHex(text) ? text.replace(/\s/g, "").toUpperCase() : telegrams.digits(telegrams.parsed(text));
 }
 
-/** A telegram in hex by its variables, where these tell all of it. */
+/** A telegram in hex by its variables, where these describe all of it. */
 export function textOf(digits: string): string {
     try {
         const text = telegrams.text(telegrams.read(digits));
-        return telegrams.digits(telegrams.told(text)) === digits.toUpperCase() ? text : digits;
+        return telegrams.digits(telegrams.parsed(text)) === digits.toUpperCase() ? text : digits;
     } catch (error) {
         if (error instanceof Wrong) return digits;
         throw error;
     }
 }
 
-/** Which packets of a telegram the unit skips, and whether it uses nothing behind one. */
+/** Which packets of a telegram the unit skips, and whether it uses nothing after one. */
 function unused(numbers: number[]): string {
     const skipped = numbers.filter(number => !telegrams.reader.isKnown(number));
     if (!skipped.length) return "";
@@ -47,7 +47,7 @@ function unused(numbers: number[]): string {
     return JUDGED.skipped(skipped) + (isBefore ? ` ${JUDGED.infill}` : "");
 }
 
-/** What the unit says of a telegram that is told by its variables, or in hex. */
+/** What the unit says of a telegram that is given by its variables, or in hex. */
 export function judge(calls: Calls, text: string): Judged {
     try {
         const digits = digitsOfText(text), [fault, count] = calls.decode(bytesOfHex(digits));
@@ -60,7 +60,7 @@ export function judge(calls: Calls, text: string): Judged {
     }
 }
 
-/** Whether the unit finds another fault, or none, with some other number of a variable and zeros behind it. */
+/** Whether the unit finds another fault, or none, with some other number of a variable and zeros after it. */
 function decides(calls: Calls, bits: string, fault: number, { at, width }: Field): boolean {
     for (let number = 0; number < Math.min(2 ** width, MOST_TRIED); number++) {
         const other = bits.slice(0, at) + number.toString(2).padStart(width, "0");
@@ -79,9 +79,9 @@ function wrongLength({ packets }: Reading): Field|null {
 }
 
 /**
- * The variable at which the unit finds a fault; null where the bits end too early, or are too many. The unit tells the
+ * The variable at which the unit finds a fault; null where the bits end too early, or are too many. The unit reports the
  * first fault in the order of the bits. So the shortest beginning of the bytes that is refused so ends with the byte in
- * which the variable ends, and no variable behind it there decides on the answer.
+ * which the variable ends, and no variable after it there decides on the answer.
  */
 export function faultAt(calls: Calls, reading: Reading): Field|null {
     const bytes = bytesOfHex(digitsOf(reading.bits)), [fault] = calls.decode(bytes);

@@ -14,7 +14,7 @@ async function open(drive: Drive, file: File): Promise<void> {
     try {
         if (file.size > MOST_BYTES) throw new NotScenario("it has more than 16 MB");
         const scenario = readScenario(new Uint8Array(await file.arrayBuffer()));
-        const track = { name: EDIT.own + file.name, tells: SAY.ownTells, scenario, restart: null };
+        const track = { name: EDIT.own + file.name, text: SAY.ownText, scenario, restart: null };
         drive.board(addTrack(track));
     } catch (error) {
         say("drive-error", error instanceof NotScenario ? SAY.notScenario(file.name, error.message) : String(error));

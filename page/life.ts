@@ -128,8 +128,8 @@ export class Life {
     }
 
     /** Records what is pending, and answers what is released. A flush of its own stands in the scenario. */
-    flush(isTold = true): Output[] {
-        if (this.pending && isTold) this.steps.push({ flush: true });
+    flush(isNoted = true): Output[] {
+        if (this.pending && isNoted) this.steps.push({ flush: true });
         must(this.calls.prepare(this.unit));
         this.pending = 0;
         return this.carryOut();
@@ -185,8 +185,8 @@ export class Life {
     }
 
     /**
-     * Power is lost within a request of a list that was prepared, a write or the sync behind it: those before it are
-     * done, and of the sectors that are open each is left as told.
+     * Power is lost within a request of a list that was prepared, a write or the sync after it: those before it are
+     * done, and of the sectors that are open each is left as given.
      */
     cutWithin(list: Asked[], index: number, left: Left[]): void {
         const open = openAt(list, index);
@@ -220,9 +220,9 @@ export function recordsOf(calls: Calls, image: Held): {status: number; bytes: Ui
     const journal = calls.journal(image), bytes: Uint8Array[] = [], unreadable: number[] = [];
     let status = journal.status;
     while (status === OK) {
-        const block = journal.block(), told = journal.next();
-        status = told.status;
-        if (told.value) bytes.push(told.value);
+        const block = journal.block(), answer = journal.next();
+        status = answer.status;
+        if (answer.value) bytes.push(answer.value);
         else if (status !== END && journal.block() !== block) {
             unreadable.push(block);
             status = OK;

@@ -61,8 +61,8 @@ function handleOf(
         element.setAttribute("transform", `translate(${x(place).toFixed(1)} ${LINE})`);
         element.setAttribute("aria-label", number ? EDIT.group(number, metres(place)) : EDIT.begin);
         if (!number) return;
-        const told = { min: 0, max: Math.round(reach / METRE), now: place / METRE, text: metres(place) };
-        for (const [name, value] of Object.entries(told)) element.setAttribute(`aria-value${name}`, String(value));
+        const values = { min: 0, max: Math.round(reach / METRE), now: place / METRE, text: metres(place) };
+        for (const [name, value] of Object.entries(values)) element.setAttribute(`aria-value${name}`, String(value));
     };
     let place = group.at;
     const set = (wanted: number): void => {

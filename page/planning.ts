@@ -1,5 +1,5 @@
-// What lies ahead, as the balises said it that this train heard: a drawing of their fields, which `etcs decode` told
-// when the page was built. The unit's own target is the one that it tells.
+// What lies ahead, as the balises said it that this train heard: a drawing of their fields, which `etcs decode` printed
+// when the page was built. The unit's own target is the one that it reports.
 import {svg} from "./dom";
 import {Heard} from "./course";
 import {SCALES, SPEED} from "./quantities";
@@ -69,8 +69,8 @@ export function aheadOf(heard: Heard[], decoded: Record<string, Decoded>): Ahead
                 const sum = packet.fields.reduce(
                     (all, [name, value]) => name === "L_SECTION" || name === "L_ENDSECTION" ? all + value : all, 0);
                 ahead.end = place + scale * sum;
-                const behind = fields.get("D_OL") ?? fields.get("D_DP") ?? 0;
-                ahead.beyond = behind ? ahead.end + scale * behind : null;
+                const length = fields.get("D_OL") ?? fields.get("D_DP") ?? 0;
+                ahead.beyond = length ? ahead.end + scale * length : null;
                 ahead.areas = [];
             } else if (packet.packet === 27) {
                 ahead.speeds = [

@@ -8,7 +8,7 @@ export interface Field extends Leaf {
     width: number
 }
 export interface ReadPacket {
-    /** Its first bit, and the one behind its last, by L_PACKET as far as there are bits. */
+    /** Its first bit, and the one after its last, by L_PACKET as far as there are bits. */
     at: number;
     end: number;
     number: number;
@@ -99,10 +99,10 @@ export class Reader {
     }
 
     /**
-     * Whether each variable of a packet is told: its layout and its L_PACKET are one, or only its beginning has a
+     * Whether each variable of a packet is known: its layout and its L_PACKET are one, or only its beginning has a
      * layout.
      */
-    isTold({ number, end, items, rest }: ReadPacket): boolean {
+    isKnownWhole({ number, end, items, rest }: ReadPacket): boolean {
         return items !== null && (rest === end || this.grammar.thenBits.includes(number));
     }
 }

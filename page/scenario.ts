@@ -56,20 +56,20 @@ function telegram(value: unknown, place: string): string {
     return value.toUpperCase();
 }
 
-function only(told: Members, wanted: string[], place: string): void {
-    if (Object.keys(told).sort().join() !== [...wanted].sort().join())
+function only(given: Members, wanted: string[], place: string): void {
+    if (Object.keys(given).sort().join() !== [...wanted].sort().join())
         throw new NotScenario(`${place || "/"}: ${wanted.join(", ")} are wanted, and nothing else`);
 }
 
 function group(value: unknown, place: string): Group {
-    const told = members(value, place);
-    only(told, ["at", "spacing", "balises"], place);
-    const balises = elements(told["balises"], `${place}/balises`);
+    const given = members(value, place);
+    only(given, ["at", "spacing", "balises"], place);
+    const balises = elements(given["balises"], `${place}/balises`);
     if (balises.length < 1 || balises.length > MOST.balises)
         throw new NotScenario(`${place}/balises: 1 to ${MOST.balises} balises are wanted`);
     return {
-        at: number(told["at"], 1, MOST.at, `${place}/at`),
-        spacing: number(told["spacing"], 1, MOST.spacing, `${place}/spacing`),
+        at: number(given["at"], 1, MOST.at, `${place}/at`),
+        spacing: number(given["spacing"], 1, MOST.spacing, `${place}/spacing`),
         balises: balises.map((one, n) => telegram(one, `${place}/balises/${n}`))
     };
 }
@@ -87,14 +87,14 @@ function action(value: unknown, place: string): (number|string)[] {
 }
 
 function step(value: unknown, place: string): Step {
-    const told = members(value, place), [word = ""] = Object.keys(told), inner = `${place}/${word}`;
-    if (Object.keys(told).length !== 1) throw new NotScenario(`${place}: a step has one word`);
-    if (word === "telegram") return { telegram: telegram(told[word], inner) };
-    if (word === "clock") return { clock: number(told[word], 0, MOST_MOMENT, inner) };
-    if (word === "driver") return { driver: action(told[word], inner) };
-    if (word === "flush" && told[word] === true) return { flush: true };
+    const given = members(value, place), [word = ""] = Object.keys(given), inner = `${place}/${word}`;
+    if (Object.keys(given).length !== 1) throw new NotScenario(`${place}: a step has one word`);
+    if (word === "telegram") return { telegram: telegram(given[word], inner) };
+    if (word === "clock") return { clock: number(given[word], 0, MOST_MOMENT, inner) };
+    if (word === "driver") return { driver: action(given[word], inner) };
+    if (word === "flush" && given[word] === true) return { flush: true };
     if (word === "drive") {
-        const [way, speed, ...more] = elements(told[word], inner);
+        const [way, speed, ...more] = elements(given[word], inner);
         if (more.length) throw new NotScenario(`${inner}: a movement and a speed are wanted`);
         return {
             drive: [number(way, -MOST.back, MOST.drive, `${inner}/0`), number(speed, 0, MOST.speed, `${inner}/1`)]
@@ -103,7 +103,7 @@ function step(value: unknown, place: string): Step {
     throw new NotScenario(`${inner}: drive, telegram, clock, driver, or flush with true is wanted`);
 }
 
-/** The line and column that a browser tells of a fault in JSON, where it tells them. */
+/** The line and column that a browser reports for a fault in JSON, where it reports them. */
 function placeIn(message: string): string {
     const found = /line (\d+) column (\d+)/.exec(message);
     return found ? ` (line ${found[1]}, column ${found[2]})` : "";
@@ -111,18 +111,18 @@ function placeIn(message: string): string {
 
 /** The scenario of a file. */
 export function readScenario(bytes: Uint8Array): Scenario {
-    let told: unknown;
+    let given: unknown;
     try {
         const text = new TextDecoder("utf-8", { fatal: true, ignoreBOM: true }).decode(bytes);
         // A number is taken as it is written: 1.0 and 1e3 are none.
-        told = JSON.parse(text, (...[, value, context]: [string, unknown, { source?: string }?]) => {
+        given = JSON.parse(text, (...[, value, context]: [string, unknown, { source?: string }?]) => {
             return typeof value === "number" && !WHOLE.test(context?.source ?? String(value)) ? NaN : value;
         });
     } catch (error) {
         throw new NotScenario(
             error instanceof SyntaxError ? `this is no JSON${placeIn(error.message)}` : "it isn't text in UTF-8");
     }
-    const it = members(told, ""), hasCold = "cold" in it;
+    const it = members(given, ""), hasCold = "cold" in it;
     only(it, hasCold ? ["cold", "groups", "steps"] : ["groups", "steps"], "");
     const cold = hasCold ? number(it["cold"], 0, 2, "/cold") : 0;
     const groups = elements(it["groups"], "/groups").map((one, n) => group(one, `/groups/${n}`));

@@ -41,7 +41,7 @@ function action(payload: Uint8Array): string {
     return PLAIN_ACTIONS[code] ?? `action ${code}`;
 }
 
-/** What an odometer reading tells: the movement in cm, and the speed in m/h. */
+/** The content of an odometer reading: the movement in cm, and the speed in m/h. */
 export function reading(payload: Uint8Array): [number, number] {
     const view = new DataView(payload.buffer, payload.byteOffset, payload.byteLength);
     return [view.getInt32(0), view.getUint32(4)];
@@ -105,7 +105,7 @@ export function keptTexts(kept: Kept): [string, string][] {
         [
             "position",
             kept.positionStatus
-                ? `${metres(kept.distance)} behind group ${kept.country}/${kept.group}, ${DATUM[kept.positionStatus]}`
+                ? `${metres(kept.distance)} beyond group ${kept.country}/${kept.group}, ${DATUM[kept.positionStatus]}`
                 : "unknown"
         ],
         ["trip", kept.tripOutstanding ? "outstanding" : "none outstanding"],

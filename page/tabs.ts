@@ -16,7 +16,7 @@ export function choose(name: Tab): void {
 export function whenAsked(use: (name: string, bytes: Uint8Array) => void): void { asked = use; }
 export function whenApart(use: (digits: string) => void): void { apart = use; }
 
-/** Shows what an image tells. */
+/** Shows what an image contains. */
 export function ask(name: string, bytes: Uint8Array): void {
     choose("ask");
     asked?.(name, bytes);

@@ -19,7 +19,7 @@ export class Telegram {
 
     private take(digits: string): void { this.show(digits, null); }
 
-    /** Shows what a text tells; the field that it is typed into stays as it is. */
+    /** Shows the meaning of a text; the field that it is typed into stays as it is. */
     private show(text: string, typed: HTMLTextAreaElement|null): void {
         const { digits, says, kind } = judge(this.calls, text);
         const hex = at<HTMLTextAreaElement>("telegram-hex"), words = at<HTMLTextAreaElement>("telegram-words");

@@ -1,10 +1,10 @@
-// Telegrams by the variables of SUBSET-026, 7.5.1, as scenarios in YAML tell them (docs/TESTING_A_TRAIN.md), and the
+// Telegrams by the variables of SUBSET-026, 7.5.1, as scenarios in YAML give them (docs/TESTING_A_TRAIN.md), and the
 // bits that they come to. Whether a telegram is one the unit says.
 import {Grammar, isChoice, isList, Leaf, Part, Wrong} from "./grammar";
 import {bitsOf, digitsOf} from "./hex";
 import {HEAD_BITS, Reader} from "./reading";
 
-/** What a text tells: a number that a `number` can't have exactly is a bigint. */
+/** The value of a text: a number that a `number` can't have exactly is a bigint. */
 export type Pairs = [string, number | bigint][];
 export interface Telegram {
     header: Pairs;
@@ -20,7 +20,7 @@ function firstOf(parts: Part[]): string {
 
 function pairsOf(leaves: Leaf[]): Pairs { return leaves.map(({ name, number }) => [name, number]); }
 
-/** The names that may be told first of an element: what a qualifier that isn't told decides, too. */
+/** The names that may come first in an element, including what a qualifier that isn't given decides. */
 function begins(element: Part[]): Set<string> {
     const found = new Set([firstOf(element)]);
     for (const part of element.slice(1)) {
@@ -33,16 +33,16 @@ function begins(element: Part[]): Set<string> {
     return found;
 }
 
-/** What a qualifier that isn't told has to be: the number of the choice behind it whose first variable is told. */
+/** The value of a qualifier that isn't given: the number of the choice after it whose first variable is given. */
 function answerOf(name: string, rest: Part[], comes: string|undefined): number|undefined {
     const choices = rest.filter(isChoice).filter(one => one.choice === name);
-    const told = choices.find(one => one.parts[0] !== undefined && firstOf(one.parts) === comes);
-    if (told) return told.number;
+    const given = choices.find(one => one.parts[0] !== undefined && firstOf(one.parts) === comes);
+    if (given) return given.number;
     if (!choices[0] || !name.startsWith("Q_")) return undefined;
     return [0, 1].find(number => choices.every(one => one.number !== number));
 }
 
-/** Takes the variables of a packet one by one: those that are told, or what stands for them. */
+/** Takes the variables of a packet one by one: those that are given, or their usual values. */
 class Writer {
     readonly written: Pairs = [];
 
@@ -51,13 +51,13 @@ class Writer {
     private get comes(): string|undefined { return this.left[0]?.[0]; }
 
     private take(name: string, usual: number|undefined): number|bigint {
-        const told = this.comes === name ? this.left.shift()?.[1] : usual;
-        if (told === undefined) {
+        const given = this.comes === name ? this.left.shift()?.[1] : usual;
+        if (given === undefined) {
             throw new Wrong(
                 `packet ${this.packet}: ${name} is missing${this.comes ? ` before ${this.comes}` : " at the end"}`);
         }
-        this.written.push([name, told]);
-        return told;
+        this.written.push([name, given]);
+        return given;
     }
 
     write(parts: Part[]): void {
@@ -110,10 +110,10 @@ export class Telegrams {
         });
     }
 
-    private packet(number: number, told: Pairs): Pairs {
-        const head = new Map(told.filter(([name]) => HEAD.includes(name)));
+    private packet(number: number, given: Pairs): Pairs {
+        const head = new Map(given.filter(([name]) => HEAD.includes(name)));
         const { layouts, skipped, thenBits, usual } = this.grammar;
-        const body = told.filter(([name]) => !HEAD.includes(name)), layout = layouts[number] ?? skipped[number];
+        const body = given.filter(([name]) => !HEAD.includes(name)), layout = layouts[number] ?? skipped[number];
         if (skipped[number]?.includes("Q_SCALE")) {
             body.unshift(["Q_SCALE", head.get("Q_SCALE") ?? usual["Q_SCALE"] ?? 1]);
             head.delete("Q_SCALE");
@@ -132,16 +132,16 @@ export class Telegrams {
         ];
     }
 
-    /** The telegram that a text tells. */
-    told(text: string): Telegram {
-        const [first = "", ...rest] = text.split(";"), told = this.pairs(first);
+    /** The telegram that a text describes. */
+    parsed(text: string): Telegram {
+        const [first = "", ...rest] = text.split(";"), given = this.pairs(first);
         const header = new Map<string, number|bigint|null>(this.grammar.header);
-        for (const [name, number] of told) {
+        for (const [name, number] of given) {
             if (!header.has(name)) throw new Wrong(`the header has no ${name}`);
             header.set(name, number);
         }
-        if (new Map(told).size !== told.length) throw new Wrong("a variable of the header stands twice");
-        if (header.get("NID_BG") === null) throw new Wrong("the header tells no NID_BG");
+        if (new Map(given).size !== given.length) throw new Wrong("a variable of the header stands twice");
+        if (header.get("NID_BG") === null) throw new Wrong("the header has no NID_BG");
         const packets = rest.map(one => {
             const [head = "", ...body] = one.trim().split(":"), number = head.trim();
             if (!/^[0-9]{1,3}$/.test(number) || Number(number) > this.grammar.endMark)
@@ -165,7 +165,7 @@ export class Telegrams {
             .join("");
     }
 
-    /** Its bytes in hex: the end mark stands behind the packets, and zeros fill the last byte. */
+    /** Its bytes in hex: the end mark comes after the packets, and zeros fill the last byte. */
     digits({ header, packets }: Telegram): string {
         const { endMark } = this.grammar;
         const bits =
@@ -181,7 +181,7 @@ export class Telegrams {
     }
 
     /**
-     * The fields of a telegram in hex that the unit doesn't refuse; a packet whose layout isn't told has its head
+     * The fields of a telegram in hex that the unit doesn't refuse; a packet whose layout isn't known has its head
      * alone.
      */
     read(digits: string): Telegram {
@@ -190,21 +190,21 @@ export class Telegrams {
         return {
             header: pairsOf(header),
             packets: packets.map(one => {
-                const isTold = this.reader.isTold(one);
-                if (!isTold && this.reader.isKnown(one.number)) throw new Wrong("a packet has another length");
-                return pairsOf(isTold ? [...one.head, ...one.fields] : one.head);
+                const isKnownWhole = this.reader.isKnownWhole(one);
+                if (!isKnownWhole && this.reader.isKnown(one.number)) throw new Wrong("a packet has another length");
+                return pairsOf(isKnownWhole ? [...one.head, ...one.fields] : one.head);
             })
         };
     }
 
-    /** A telegram as a text: what is usual, or follows from the others, isn't told. */
+    /** A telegram as a text: what is usual, or follows from the others, is left out. */
     text({ header, packets }: Telegram): string {
         const usual = new Map(this.grammar.header);
         const first = header.filter(([name, number]) => usual.get(name) !== number).map(([name, n]) => `${name} ${n}`);
         const rest = packets.map(([[, number] = ["", 0], ...pairs]) => {
-            const told = pairs.filter(([name, value]) => name !== "L_PACKET" && name !== "N_ITER" &&
+            const given = pairs.filter(([name, value]) => name !== "L_PACKET" && name !== "N_ITER" &&
                     !((name === "Q_DIR" || name === "Q_SCALE") && this.grammar.usual[name] === value));
-            return `${number}: ${told.map(([name, value]) => `${name} ${value}`).join(", ")}`;
+            return `${number}: ${given.map(([name, value]) => `${name} ${value}`).join(", ")}`;
         });
         return [first.join(", "), ...rest].join("; ");
     }

@@ -97,7 +97,7 @@ export const STATUSES: Record<number, string> = {
     22: "requests are owed",
     23: "the journal is worn out",
     31: "this isn't the image of a journal: its first sector isn't that of one, or there is none",
-    32: "the size of the image isn't that of its slots, so no journal is read; its slots are told",
+    32: "the size of the image isn't that of its slots, so no journal is read; its slots are shown",
     36: "there is no such block",
     37: "there is no such record",
     39: "the life of this event can't be run again",
@@ -109,16 +109,16 @@ export const SLOTS: [string, string][] = [
     ["unreadable", "its head has this number, but its bytes spell no block"],
     ["misplaced", "its head has a number that belongs to another slot"],
     ["foreign", "its gate is open, and its head begins with no mark and number"],
-    ["unwritten", "the block after the newest, behind a closed gate: none of its outputs was released"],
+    ["unwritten", "the block after the newest, after a closed gate: none of its outputs was released"],
     ["replaced", "an older block, whose gate was closed to write another one over it"],
-    ["remains", "its gate is closed, and behind it are neither zeros nor a block"],
+    ["remains", "its gate is closed, and after it are neither zeros nor a block"],
 ];
 export const SLOT_SYMBOLS = ["", "", "unreadable", "misplaced", "foreign", "unwritten", "replaced", "remains"];
 export const VERDICTS = [
     "", "agrees", "a record differs", "the head of a block differs",
     "can't be run again: what was kept before its power-up was overwritten",
     "can't be run again: blocks or events are missing before",
-    "can't be run again: no head tells what was kept before its power-up",
+    "can't be replayed: no head contains what was kept before its power-up",
     "can't be run again: it follows a record that differs"
 ];
 export const RECORD_FIELDS = [
@@ -151,16 +151,16 @@ export const SAY = {
         `Gaknifur ${build}. Printed at ${utc}, by the clock of this computer.`,
     noBrake: "No brake is commanded.",
     noCause: "The cause isn't known yet.",
-    notReplayed: "Why can't be told: the beginning of this life was overwritten or can't be read.",
-    whyNot: (reason: string): string => `Why can't be told: ${reason}.`,
+    notReplayed: "The cause is unknown: the beginning of this life was overwritten or can't be read.",
+    whyNot: (reason: string): string => `The cause is unknown: ${reason}.`,
     slow: (event: number): string => `As of event ${event}.`,
     refused: (what: string): string => `The unit refuses this: ${what}. Nothing changed.`,
     tooBig: (name: string): string =>
         `${name} isn't read: it has more than 256 MB, and the page reads images up to that size.`,
     tooSmall: (name: string): string => `${name} isn't an image: it has less than one sector of 512 bytes.`,
     noImage: (name: string, why: string): string => `${name}: ${why}.`,
-    oneFile: "Drop one image at a time, with the marks beside it where there are some.",
-    noImageYet: "Choose the image first: marks are for the image that they lie beside.",
+    oneFile: "Drop one image at a time, with its marks if there are some.",
+    noImageYet: "Choose the image first: marks belong to an image.",
     tooManyMarks: (name: string): string =>
         `${name} isn't read: it has more than 16 MB, and the page reads marks up to that size.`,
     bySlots: (slots: number): string => `By its size it could have ${slots.toLocaleString("en")} slots. ` +
@@ -171,7 +171,7 @@ export const SAY = {
     noCase: "There is no test case of this: nothing was driven yet, or a life ended within a write.",
     caseTooLong:
         "There is no test case of this: the ring of the desk was written over, so its lives can't be run again.",
-    ownTells: "A scenario of your own. Its groups lie on the track; its steps are its story.",
+    ownText: "A scenario of your own. Its groups lie on the track; its steps are its story.",
     reading: "The image is read.",
     progress: (done: number, all: number, what: string): string => `${what}: ${done} of ${all}`,
     whole: "Each slot is as a unit leaves it, and no block of the journal is missing.",
@@ -215,16 +215,16 @@ export const BRIEF = {
 
 /** Of the time of day by marks (docs/INVESTIGATING.md). */
 export const DAY = {
-    noMarks: "A journal has no time of day. Marks beside it may tell one, outside the journal and outside the proof.",
+    noMarks: "A journal has no time of day. Marks may give one, outside the journal and outside the proof.",
     count: (marks: number): string => marks === 1 ? "1 mark" : `${marks.toLocaleString("en")} marks`,
-    behind: "An event came at its UTC or behind it, before the next moment of its life.",
+    after: "An event came at its UTC or after it, before the next moment of its life.",
     outside: "outside the journal and outside the proof",
     byMarks: "by marks",
     column: "UTC by marks, outside the journal and the proof",
     axis: (date: string): string => `UTC by marks, from ${date} on`,
-    none: "not told",
+    none: "unknown",
     more: (faults: number): string => `${faults.toLocaleString("en")} more`,
-    notOfLife: (life: number): string => `No UTC is told of this moment of life ${life} by these marks`,
+    notOfLife: (life: number): string => `There is no UTC for this moment of life ${life} by these marks`,
 };
 
 /** The editor of tracks. */
@@ -247,7 +247,7 @@ export const JUDGED = {
     refused: (fault: number, name: string): string => `The unit refuses this telegram: ${fault} ${name}.`,
     skipped: (packets: number[]): string =>
         `The unit skips packet${packets.length > 1 ? "s" : ""} ${packets.join(", ")}.`,
-    infill: "It uses nothing behind packet 136.",
+    infill: "It uses nothing after packet 136.",
     obeyed: (packets: number): string => `The unit takes this telegram: ${packets} packet${packets === 1 ? "" : "s"}.`,
 };
 

@@ -1,4 +1,4 @@
-// The time of day of events, by marks beside a journal: what python/gaknifur/times.py tells, by the same reckoning and
+// The time of day of events, by marks for a journal: what python/gaknifur/times.py reports, by the same reckoning and
 // in the same words. Marks are outside the journal and outside the proof. Sums are in millionths of a millisecond.
 import {Records} from "./calls";
 
@@ -141,10 +141,10 @@ export function readMarks(bytes: Uint8Array): {marks: Mark[]; wrong: string[]; c
         throw new NoMarks(`line 1 isn't ${FIRST}, nor that with ,crc32 at its end`);
     lines.slice(1, -1).forEach((line, n) => {
         if (first === FIRST && (!line.replace(STRIP, "") || line.startsWith("#"))) return;
-        const text = line.replace(/\r+$/, ""), told = first === FIRST ? text : unchecked(text);
-        const mark = told === null ? null : markOf(n + 2, told.replace(/\r+$/, ""));
+        const text = line.replace(/\r+$/, ""), content = first === FIRST ? text : unchecked(text);
+        const mark = content === null ? null : markOf(n + 2, content.replace(/\r+$/, ""));
         if (mark) marks.push(mark);
-        else if (told === null) wrong.push(`line ${n + 2} isn't used: its checksum is wrong`);
+        else if (content === null) wrong.push(`line ${n + 2} isn't used: its checksum is wrong`);
         else wrong.push(`line ${n + 2} isn't used: it isn't a mark (${WANTED})`);
     });
     return { marks, wrong, cut: lines[lines.length - 1] ?? "" };
@@ -182,8 +182,8 @@ class Life {
     private readonly fast: bigint;
     private readonly earlyBefore: bigint[];
     private readonly lateBefore: bigint[];
-    private readonly earlyBehind: bigint[];
-    private readonly lateBehind: bigint[];
+    private readonly earlyAfter: bigint[];
+    private readonly lateAfter: bigint[];
     readonly contradictions: [Mark, Mark][];
 
     constructor(private readonly bounds: Bound[], drift: number) {
@@ -195,8 +195,8 @@ class Life {
         const back = [...bounds].reverse();
         this.earlyBefore = running(bounds.map(early(this.slow)), greater);
         this.lateBefore = running(bounds.map(late(this.fast)), lesser);
-        this.earlyBehind = running(back.map(early(this.fast)), greater).reverse();
-        this.lateBehind = running(back.map(late(this.slow)), lesser).reverse();
+        this.earlyAfter = running(back.map(early(this.fast)), greater).reverse();
+        this.lateAfter = running(back.map(late(this.slow)), lesser).reverse();
         this.contradictions = this.contradicting();
     }
 
@@ -229,8 +229,8 @@ class Life {
             late.push((this.lateBefore[low - 1] ?? 0n) + now * this.fast);
         }
         if (low < this.bounds.length) {
-            early.push((this.earlyBehind[low] ?? 0n) + now * this.fast);
-            late.push((this.lateBehind[low] ?? 0n) + now * this.slow);
+            early.push((this.earlyAfter[low] ?? 0n) + now * this.fast);
+            late.push((this.lateAfter[low] ?? 0n) + now * this.slow);
         }
         const least = early.reduce(greater), most = late.reduce(lesser), middle = floor(least + most, 2n * MILLION);
         const off = greater(most - middle * MILLION, middle * MILLION - least);
@@ -263,7 +263,7 @@ export class Times {
             this.lives.set(life, new Life(bounds.get(life) ?? [], drift));
     }
 
-    /** What a mark says of a moment. An event came at its moment or behind it, before the next moment of its life. */
+    /** What a mark says of a moment. An event came at its moment or after it, before the next moment of its life. */
     private bound(
         records: Records, events: Map<number, number>, laters: (number|undefined)[], mark: Mark): [number, Bound]|null {
         const early = mark.utc - mark.uncertainty, late = mark.utc + mark.uncertainty;
@@ -274,20 +274,20 @@ export class Times {
             return null;
         }
         const life = records.life(at), moment = records.moment(at);
-        let behind = 0;
+        let after = 0;
         if (records.kind(at) !== CLOCK) {
             const later = laters[at];
             if (later === undefined) {
-                this.leftOut.push(`${named(mark)}: no moment of its life follows, so nothing says how long behind ` +
+                this.leftOut.push(`${named(mark)}: no moment of its life follows, so nothing says how long after ` +
                     "its moment it came");
                 return null;
             }
-            behind = Number(ceiling(BigInt(later - moment) * (MILLION + BigInt(this.drift)), MILLION));
+            after = Number(ceiling(BigInt(later - moment) * (MILLION + BigInt(this.drift)), MILLION));
         }
-        return [life, { moment, early: early - behind, late, mark }];
+        return [life, { moment, early: early - after, late, mark }];
     }
 
-    /** The time of day of a moment of a life; null where no marks tell it, they contradict, or no year has it. */
+    /** The time of day of a moment of a life; null where no marks give it, they contradict, or no year has it. */
     utc(life: number, moment: number): Utc|null {
         const one = this.lives.get(life);
         if (!one || one.contradictions.length) return null;
@@ -297,14 +297,14 @@ export class Times {
 
     /** Marks that contradict one another, or aren't used; a sentence each. */
     faults(): string[] {
-        const told = [...this.lives].flatMap(([life, { contradictions }]) => contradictions.map(([one,
-            other]) => `${named(one)} and ${named(other)} contradict, so of life ${life} no UTC is told`));
-        return [...told, ...this.leftOut];
+        const contradictory = [...this.lives].flatMap(([life, { contradictions }]) => contradictions.map(([one,
+            other]) => `${named(one)} and ${named(other)} contradict, so life ${life} has no UTC`));
+        return [...contradictory, ...this.leftOut];
     }
 
     /** What each place says. */
     says(): string {
-        return `UTC is by marks beside the journal (${
+        return `UTC is by marks outside the journal (${
                    spelled(this.name)}), which are outside the journal and outside ` +
             `the proof; the unit's clock is taken to run off by ${this.drift} ppm at most`;
     }

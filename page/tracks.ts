@@ -8,7 +8,7 @@ import {Telegrams} from "./telegrams";
 
 export interface Track {
     name: string;
-    tells: string;
+    text: string;
     scenario: Scenario;
     restart: Scenario|null
 }
@@ -45,8 +45,8 @@ function learn(digits: string): void {
 
 /** The telegrams of a scenario that the unit doesn't refuse have fields from here on. */
 export function learnAll(scenario: Scenario, isRead: (digits: string) => boolean): void {
-    const told = scenario.steps.flatMap(step => "telegram" in step ? [step.telegram] : []);
-    for (const digits of [...scenario.groups.flatMap(group => group.balises), ...told])
+    const telegrams = scenario.steps.flatMap(step => "telegram" in step ? [step.telegram] : []);
+    for (const digits of [...scenario.groups.flatMap(group => group.balises), ...telegrams])
         if (isRead(digits)) learn(digits);
 }
 

@@ -6,8 +6,8 @@ import {Head} from "./messages";
 
 const MOST_LIVES = 0xffffffff;
 
-/** Of each block how many power-ups it tells, and whether a moment goes back within a life. */
-function told(records: Records): { powerUps: Map<number, number>; goesBack: boolean } {
+/** How many power-ups each block contains, and whether a moment goes back within a life. */
+function contents(records: Records): { powerUps: Map<number, number>; goesBack: boolean } {
     const powerUps = new Map<number, number>();
     let goesBack = false;
     for (let n = 0; n < records.count; n++) {
@@ -20,7 +20,7 @@ function told(records: Records): { powerUps: Map<number, number>; goesBack: bool
 export function isWhole(facts: Facts, slots: Slot[], heads: Head[], records: Records, status: number): boolean {
     if (status !== END || facts.whole !== facts.slots || facts.sectors !== 1 + 6 * facts.slots) return false;
     if (!slots.every(slot => slot.isSound) || heads.length !== Math.min(facts.newest, facts.slots)) return false;
-    const sorted = [...heads].sort((one, other) => one.number - other.number), { powerUps, goesBack } = told(records);
+    const sorted = [...heads].sort((one, other) => one.number - other.number), { powerUps, goesBack } = contents(records);
     return !goesBack && sorted.every((head, n) => {
         const before = sorted[n - 1], more = powerUps.get(head.number) ?? 0;
         if (!before) return head.lives >= more && (head.number > 1 || (head.firstEvent === 0 && head.lives === more));

@@ -1,4 +1,4 @@
-// Reads an image beside the page, so that the page never waits: facts, records, slots, replays and causes, in this
+// Reads an image apart from the page, so that the page never waits: facts, records, slots, replays and causes, in this
 // order.
 import {AT_ONCE, Calls, END, Held, OK, Records} from "./calls";
 import {hexOf} from "./hex";
@@ -8,7 +8,7 @@ import {Head, Order, Report, Unwritten} from "./messages";
 import {SAY} from "./texts";
 import {isWhole} from "./whole";
 
-const tell = (report: Report, transfer: Transferable[] = []): void =>
+const send = (report: Report, transfer: Transferable[] = []): void =>
     (postMessage as (message: Report, transfer: Transferable[]) => void)(report, transfer);
 const EACH_MS = 50, UNWRITTEN = 5, VERSION = 2;
 const channel = new MessageChannel();
@@ -38,7 +38,7 @@ async function pieces(
     let begun = Date.now();
     for (let done = 0; image?.id === id && work(done); done++) {
         if (Date.now() - begun < EACH_MS) continue;
-        tell({ kind: "progress", id, what, done: each * done, all });
+        send({ kind: "progress", id, what, done: each * done, all });
         await pause();
         begun = Date.now();
     }
@@ -49,18 +49,18 @@ async function readRecords(calls: Calls, id: number, held: Held): Promise<Read|n
     const journal = calls.journal(held), unreadable: number[] = [];
     let room = new Uint8Array(BYTES.record * 1024), count = 0, status = journal.status;
     const isRead = status !== OK || await pieces(id, "events", 0, () => {
-        const told = journal.nextOnes();
-        if (room.length < BYTES.record * count + told.bytes.length) {
+        const answer = journal.nextOnes();
+        if (room.length < BYTES.record * count + answer.bytes.length) {
             const more = new Uint8Array(2 * room.length);
             more.set(room);
             room = more;
         }
-        room.set(told.bytes, BYTES.record * count);
-        count += told.bytes.length / BYTES.record;
-        status = told.status;
+        room.set(answer.bytes, BYTES.record * count);
+        count += answer.bytes.length / BYTES.record;
+        status = answer.status;
         if (status === OK) return true;
-        if (status !== END && journal.block() !== told.block) {
-            unreadable.push(told.block);
+        if (status !== END && journal.block() !== answer.block) {
+            unreadable.push(answer.block);
             return true;
         }
         return false;
@@ -70,7 +70,7 @@ async function readRecords(calls: Calls, id: number, held: Held): Promise<Read|n
     const bytes = room.slice(0, BYTES.record * count), records = new Records(bytes.slice());
     const lives = livesOf(records), speeds = speedsOf(records, lives), interventions = interventionsOf(records, lives);
     const trips = tripsOf(records, lives);
-    tell({ kind: "records", id, status, bytes: bytes.buffer, unreadable, lives, speeds, interventions, trips },
+    send({ kind: "records", id, status, bytes: bytes.buffer, unreadable, lives, speeds, interventions, trips },
         [bytes.buffer, speeds.buffer]);
     return { records, status, interventions, trips };
 }
@@ -92,7 +92,7 @@ async function readSlots(calls: Calls, id: number, held: Held, facts: Facts, rea
         return false;
     const block: Block|null = newest ? calls.block(held, newest).value : null;
     const all = isWhole(facts, slots, heads, read.records, read.status);
-    tell({
+    send({
         kind: "slots",
         id,
         slots,
@@ -122,15 +122,15 @@ async function replay(calls: Calls, id: number, held: Held): Promise<boolean> {
     const journal = calls.journal(held), lives: Replay[] = [], unreadable: number[] = [];
     let status = journal.status;
     const isDone = status !== OK || await pieces(id, "lives run again", 0, () => {
-        const block = journal.block(), told = journal.replay();
-        status = told.status;
-        if (told.value) lives.push(told.value);
+        const block = journal.block(), answer = journal.replay();
+        status = answer.status;
+        if (answer.value) lives.push(answer.value);
         else if (status !== END && journal.block() !== block) unreadable.push(journal.block() - 1);
         else return false;
         return true;
     });
     journal.drop();
-    if (isDone) tell({ kind: "replay", id, lives, unreadable, status });
+    if (isDone) send({ kind: "replay", id, lives, unreadable, status });
     return isDone;
 }
 
@@ -144,12 +144,12 @@ async function causes(calls: Calls, id: number, held: Held, { records, intervent
         if (index === undefined) return false;
         found.push([index, calls.why(held, records.block(index), records.event(index)).value]);
         if (found.length >= 20) {
-            tell({ kind: "causes", id, causes: found });
+            send({ kind: "causes", id, causes: found });
             found = [];
         }
         return true;
     });
-    tell({ kind: "causes", id, causes: found });
+    send({ kind: "causes", id, causes: found });
     return isDone;
 }
 
@@ -170,16 +170,16 @@ async function read(calls: Calls, id: number, file: Blob, slots: number|null): P
     if (image) calls.drop(image.held);
     const held = calls.hold(slots === null ? bytes : withSlots(bytes, slots));
     image = { id, held };
-    tell({ kind: "bytes", id, bytes: bytes.buffer, digest }, [bytes.buffer]);
+    send({ kind: "bytes", id, bytes: bytes.buffer, digest }, [bytes.buffer]);
     const { status, value } = calls.facts(held);
-    tell({ kind: "facts", id, status, facts: value });
+    send({ kind: "facts", id, status, facts: value });
     if (value) {
         const found = await readRecords(calls, id, held);
         if (!found || !await readSlots(calls, id, held, value, found) || !await replay(calls, id, held) ||
             !await causes(calls, id, held, found))
             return;
     }
-    tell({ kind: "done", id });
+    send({ kind: "done", id });
 }
 
 async function obey(order: Order): Promise<void> {
@@ -193,7 +193,7 @@ async function obey(order: Order): Promise<void> {
     else if (order.kind === "once" || image?.id === order.id) {
         const held = order.kind === "once" ? ready.hold(new Uint8Array(order.bytes)) : (image as { held: Held }).held;
         const { status, value } = ready.why(held, order.block, order.event);
-        tell({ kind: "why", id: order.id, event: order.event, block: order.block, status, why: value });
+        send({ kind: "why", id: order.id, event: order.event, block: order.block, status, why: value });
         if (order.kind === "once") ready.drop(held);
     }
 }
@@ -201,7 +201,7 @@ async function obey(order: Order): Promise<void> {
 onmessage = (event: MessageEvent<Order>) => {
     const order = event.data;
     if (order.kind === "image") newest = order.id;
-    obey(order).catch((error: unknown) => tell({
+    obey(order).catch((error: unknown) => send({
         kind: "failed",
         id: order.kind === "module" ? 0 : order.id,
         says: error instanceof DOMException ? SAY.unreadableFile : String(error)

@@ -130,7 +130,7 @@ inside etcs format image 16 >"$room/printed" 2>&1 || fails "etcs format"
 wants "etcs run" "event 8 mode FS level 1 brake emergency limit 0 ind 64" inside etcs run "$root/usr/share/gaknifur/examples/trip/scenario.json" image
 wants "etcs journal" "block 2 event 8 odometer FS 1 emergency 64 0000271000003a98 at 30000 unc 2000 limit 0" inside etcs journal image
 wants "etcs decode" "end 58" inside etcs decode 90007F8020017FC0
-wants "etcs_lab check" "the image is whole, and the kernel would have answered so to each event that is replayed" inside etcs_lab check image
+wants "etcs_lab check" "the image is whole, and the kernel agrees with each event that is replayed" inside etcs_lab check image
 inside lab report image report.html >"$room/printed" 2>&1 || fails "lab report"
 grep -q 'generator" content="gaknifur lab"' "$room/work/report.html" || fails "lab report makes no report"
 tried=$((tried + 1))

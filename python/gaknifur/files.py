@@ -125,7 +125,7 @@ def open_to_read(path: Path) -> BinaryIO:
     except BaseException as error:
         os.close(descriptor)
         if isinstance(error, BlockingIOError):
-            raise Failed(f"{path}: another program writes it", DEVICE) from error
+            raise Failed(f"{path}: another program is writing it", DEVICE) from error
         raise
 
 
@@ -419,7 +419,7 @@ class Appended:
         except BaseException as error:
             self.close()
             if isinstance(error, BlockingIOError):
-                raise Failed(f"{path}: another program writes it", DEVICE) from error
+                raise Failed(f"{path}: another program is writing it", DEVICE) from error
             raise
 
     def __enter__(self) -> Self:

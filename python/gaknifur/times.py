@@ -248,7 +248,7 @@ class Times:
         if record["kind"] != "clock":
             later = next((one for one in itertools.islice(journal.records, at, None) if one["life"] == record["life"] and one["time_ms"] > moment), None)
             if later is None:
-                self.left_out.append(f"{mark.text()}: no moment of its life follows, so nothing says how long behind its moment it came")
+                self.left_out.append(f"{mark.text()}: no moment of its life follows, so nothing says how long after its moment it came")
                 return 0, None
             behind = -(-(int(later["time_ms"]) - moment) * (MILLION + self.drift_ppm) // MILLION)
         return int(record["life"]), Bound(moment, mark.utc_ms - mark.uncertainty_ms - behind, mark.utc_ms + mark.uncertainty_ms, mark)
@@ -262,7 +262,7 @@ class Times:
 
     def faults(self) -> list[str]:
         """Marks that contradict one another, or aren't used; a sentence each."""
-        return [f"{one.text()} and {other.text()} contradict, so of life {life} no UTC is told"
+        return [f"{one.text()} and {other.text()} contradict, so life {life} has no UTC"
                 for life, told in self.lives.items() for one, other in told.contradictions] + self.left_out
 
     def says(self) -> str:

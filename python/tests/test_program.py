@@ -90,8 +90,8 @@ class Reading(unittest.TestCase):
         self.assertEqual(self.read().replay, [])
 
     def test_events_that_are_refused(self) -> None:
-        self.says("events", [], 1, f"etcs_lab: {self.image}: can't be told: nothing can be written\n")
-        self.assertEqual((self.read().refusal, self.read().replay), ("can't be told: nothing can be written", []))
+        self.says("events", [], 1, f"etcs_lab: {self.image}: the output can't be written\n")
+        self.assertEqual((self.read().refusal, self.read().replay), ("the output can't be written", []))
 
     def test_causes(self) -> None:
         self.says("events", [{"image": {}}, record(0, brake="service"), record(1, brake="service"), {"end": "done"}])

@@ -119,7 +119,7 @@ class Contradictions(Room):
         told = self.times(LINES + "1,300000,,2026-03-01T10:05:01.000Z,50,watch\n")
         self.assertIsNone(told.utc(1, 0))
         self.assertEqual(told.faults()[0], "line 2 (life 1, 0 ms: 2026-03-01T10:00:00.000Z, by GNSS) and line 6 (life 1, 300000 ms: "
-                         "2026-03-01T10:05:01.000Z, by watch) contradict, so of life 1 no UTC is told")
+                         "2026-03-01T10:05:01.000Z, by watch) contradict, so life 1 has no UTC")
         self.assertEqual(len(told.faults()), 2)
 
     def test_in_both_directions_and_at_the_bound(self) -> None:
@@ -175,7 +175,7 @@ class Files(Room):
         path = self.room / "image.times"
         with Marks(path) as marks:
             marks.mark(1, 0, TEN_MS, 50, "GNSS")
-            self.assertRaisesRegex(Failed, "another program writes it", Marks, path)
+            self.assertRaisesRegex(Failed, "another program is writing it", Marks, path)
             for wrong in ((1, 0, TEN_MS, 50, "a,b"), (-1, 0, TEN_MS, 50, "a"), (1, 0, TEN_MS, -1, "a"), (1, 0, TEN_MS, 1, ""), (1, 0, TEN_MS, 1, "a\nb")):
                 self.assertRaises(ValueError, marks.mark, *wrong)
         with path.open("a") as file:
@@ -222,7 +222,7 @@ class Outputs(Room):
         told.times = self.times(LINES + f"2,0,,{TEN},1,a\n2,0,,2026-03-01T11:00:00.000Z,1,<b>\n")
         page = report.page(told)
         for text in ("marks beside the journal (image.times), which are outside the journal and outside the proof", "run off by 100 ppm",
-                     "2026-03-01 10:00:01.000 UTC ±51 ms", "contradict, so of life 2 no UTC is told", "by &lt;b&gt;"):
+                     "2026-03-01 10:00:01.000 UTC ±51 ms", "contradict, so life 2 has no UTC", "by &lt;b&gt;"):
             self.assertTrue(text in page, text)
 
 

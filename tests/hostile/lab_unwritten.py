@@ -15,7 +15,7 @@ from built import room
 from compared import Compared
 from lab_words import LAB, all_words, lab_ran, laid
 
-SAYS = re.compile(r"etcs_lab: [^\n]+: can't be told: nothing can be written\n")
+SAYS = re.compile(r"etcs_lab: [^\n]+: the output can't be written\n")
 LEAST = 28
 
 

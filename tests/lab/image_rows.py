@@ -131,7 +131,7 @@ def compare_words(program, room, compared):
     compared.same("the file after all", good.read_bytes() == image, True)
 
 
-STREAM = "is a FIFO, a socket or a character device, and no image"
+STREAM = "is a FIFO, a socket or a character device, not an image"
 
 
 def compare_files(program, etcs, room, compared):
@@ -146,7 +146,7 @@ def compare_files(program, etcs, room, compared):
     room.chmod(0o755)
     nobody = {"user": NOBODY} if os.geteuid() == 0 else {}
     kinds = [("none", "there is no such file"), (str(good / "in"), "there is no such file"), (str(room), "is a folder"), (str(room / "fifo"), STREAM),
-             (str(room / "socket"), STREAM), ("/dev/zero", STREAM), ("/dev/null", STREAM), (str(secret), "there is no right to read it")]
+             (str(room / "socket"), STREAM), ("/dev/zero", STREAM), ("/dev/null", STREAM), (str(secret), "permission denied")]
     for word in ("examine", "events", "replay", "check", "why"):
         for path, sentence in kinds:
             compared.same(f"{word} {path}", run(program, [word, path], **nobody), ("", f"etcs_lab: {path}: {sentence}\n", 3))
@@ -154,7 +154,7 @@ def compare_files(program, etcs, room, compared):
                       ("", "etcs_lab: a\\u{202e}\\n\\u{1b}[31m: there is no such file\n", 3))
         with open(good, "rb") as held:
             fcntl.flock(held, fcntl.LOCK_EX)
-            compared.same(f"{word} of a locked file", run(program, [word, str(good)]), ("", f"etcs_lab: {good}: another program writes it\n", 3))
+            compared.same(f"{word} of a locked file", run(program, [word, str(good)]), ("", f"etcs_lab: {good}: another program is writing it\n", 3))
     scenario = HERE.parents[1] / "examples/trip/scenario.json"
     for path in ("fifo", "socket"):
         for words in (["journal"], ["run", str(scenario)], ["format"]) if etcs else ():

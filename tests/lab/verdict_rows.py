@@ -24,10 +24,10 @@ WHOLE, REFUSED, LOST = 0, 1, 4
 NO_REPLAY = None
 # By the status of an examination and that of a replay: the status, the last line for people, and what that says as JSON.
 LAST = {
-    (WHOLE, WHOLE): (WHOLE, "the image is whole, and the kernel would have answered so to each event that is replayed", True, "nothing_differs"),
-    (WHOLE, LOST): (LOST, "the image is whole, but the kernel would have answered otherwise", True, "differs_or_lost"),
-    (LOST, WHOLE): (LOST, "the image is not whole; the kernel would have answered so to each event that is replayed", False, "nothing_differs"),
-    (LOST, LOST): (LOST, "the image is not whole; the kernel would have answered otherwise, or events are lost", False, "differs_or_lost"),
+    (WHOLE, WHOLE): (WHOLE, "the image is whole, and the kernel agrees with each event that is replayed", True, "nothing_differs"),
+    (WHOLE, LOST): (LOST, "the image is whole, but the kernel disagrees", True, "differs_or_lost"),
+    (LOST, WHOLE): (LOST, "the image is not whole; the kernel agrees with each event that is replayed", False, "nothing_differs"),
+    (LOST, LOST): (LOST, "the image is not whole; the kernel disagrees, or events are lost", False, "differs_or_lost"),
     (LOST, NO_REPLAY): (LOST, "the image is not whole; no event is replayed", False, None),
     (REFUSED, NO_REPLAY): (REFUSED, "the image is not whole; no event is replayed", False, None),
 }

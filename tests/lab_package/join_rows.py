@@ -284,7 +284,7 @@ def stays(rows, room):
     with Archive(path) as kept:
         kept.keep(image)
         before = path.read_bytes()
-        for name, said, do in (("an archive that is held", "another program writes it", lambda: Archive(path)),
+        for name, said, do in (("an archive that is held", "another program is writing it", lambda: Archive(path)),
                                ("no archive", "is not an archive of blocks", lambda: Archive(text)), ("an image", "is not an archive of blocks", lambda: Archive(image)),
                                ("no image", "is not a formatted image", lambda: Ring(text)), ("no file", "No such file", lambda: Ring(room / "none")),
                                ("a folder", "", lambda: Ring(room)), ("onto an image", "already exists", lambda: archive.join(image, [path])),

@@ -436,7 +436,7 @@ def at_the_edges(count, room, image):
     refuses(count, "a folder that is there", "already exists", image, room / "bag")
     with image.open("r+b") as held:
         fcntl.flock(held, fcntl.LOCK_EX)
-        refuses(count, "an image that a unit holds", "another program writes it", image, room / "new")
+        refuses(count, "an image that a unit holds", "another program is writing it", image, room / "new")
     data = image.read_bytes()
     for name, made, status in (("damaged", data[:2000] + b"\xff" + data[2001:], 4), ("cut", data[:5000], 4), ("none", b"text", 1), ("empty", b"", 1)):
         (room / name).write_bytes(made)

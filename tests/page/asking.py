@@ -200,7 +200,7 @@ def case(browser: Browser, page: Path, folder: Path) -> int:
     assert "IC 704" in browser.text("kept") and "Lost: block 4 with events 10 to 15." in browser.text("verdict")
     lives = browser.text("lives")
     assert "was overwritten" in lives and "are missing before" in lives
-    assert browser.text("ask-causes").startswith("Why can't be told")
+    assert browser.text("ask-causes").startswith("The cause is unknown")
     browser.run("window.gaknifur.ask.chooseEvent(12)")
     assert "is in no block" in browser.text("event-said")
     browser.run("location.hash = '#event=9'")

@@ -9,7 +9,7 @@ from gaknifur import brief, reading, tables
 
 TRIED = 50
 OUTPUT = """
-const { ask } = window.gaknifur, { told } = ask, known = new Map(told.counted.filter(([, why]) => typeof why === 'object')), { records } = ask;
+const { ask } = window.gaknifur, { findings: told } = ask, known = new Map(told.counted.filter(([, why]) => typeof why === 'object')), { records } = ask;
 const last = [...told.interventions].reverse().find(one => !one.isPowerUp), all = last ? [...Array(last.last - last.first + 1).keys()].map(n => n + last.first) : [];
 const since = new Set(all.flatMap(n => known.get(n) ? known.get(n).holds.map((is, c) => is ? c + ' ' + known.get(n).since[c] : '').filter(one => one) : []));
 const rows = [...document.querySelectorAll('#brief dt')].map(one => [one.textContent, one.nextElementSibling.textContent]);

@@ -73,12 +73,12 @@ class Browser:
         self.send(name, "\n".join(map(str, (path, *others))))
 
     def ask(self, path: Path, *others: Path, seconds: float = SECONDS) -> dict[str, Any]:
-        """Hands over an image, and perhaps marks, and answers what the page tells of it once all is told."""
+        """Hands over an image, and perhaps marks, and returns what the page shows of it once it is complete."""
         self.run("window.before = window.gaknifur.ask.id")
         self.hand(path, "file", *others)
         self.until("const a = window.gaknifur.ask; return a.id > window.before && (document.getElementById('answers').hidden"
                    " ? document.getElementById('ask-error').textContent !== '' : a.isDone)", seconds)
-        return dict(self.run("return JSON.parse(JSON.stringify(window.gaknifur.ask.told))"))
+        return dict(self.run("return JSON.parse(JSON.stringify(window.gaknifur.ask.findings))"))
 
     def image(self) -> bytes:
         """The image of the desk."""

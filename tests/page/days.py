@@ -23,7 +23,7 @@ BY_HAND = f"""\
 """At 100 ppm the mark at 180 s bounds the moment 0 by 18 ms more: -48 to 88 ms; the first one says -50 to 50. So 1 ms, 49 ms off."""
 TAKE = """
 const [name, text, done] = arguments, bytes = Uint8Array.from(atob(text), one => one.charCodeAt(0)), { ask } = window.gaknifur;
-ask.take([new File([bytes], name)]).then(() => done([JSON.parse(JSON.stringify(ask.told.day)), document.getElementById('day-error').textContent,
+ask.take([new File([bytes], name)]).then(() => done([JSON.parse(JSON.stringify(ask.findings.day)), document.getElementById('day-error').textContent,
     document.getElementById('day-said').textContent, [...document.querySelectorAll('#day-faults li')].map(one => one.textContent)]));
 """
 SOURCES = ("GNSS", "traffic log", " a clock ", '"a, b"', '"say ""so"""', "Uhr\u00e4", "\u202eright", "tab\there", "x" * 300, '"half', 'in"side', "\U0001f552", "\ud83d")
@@ -173,12 +173,12 @@ def by_hand(browser: Browser, _page: Path, folder: Path) -> int:
     browser.hand(marks, "marks-file")
     browser.until("return document.getElementById('day-faults').childElementCount === 2")
     assert browser.text("day-faults").startswith("line 2 (life 1, 0 ms: 2026-03-01T10:00:00.000Z, by GNSS) and line 5 (life 1, 54000 ms: "
-                                                 "2026-03-01T10:01:54.000Z, by <b>watch</b>) contradict, so of life 1 no UTC is told")
-    assert shown(browser, 5) == f"No UTC is told of this moment of life 1 by these marks{outside}"
+                                                 "2026-03-01T10:01:54.000Z, by <b>watch</b>) contradict, so life 1 has no UTC")
+    assert shown(browser, 5) == f"There is no UTC for this moment of life 1 by these marks{outside}"
     marks.write_text(f"{times.FIRST}\n1,0,,10:00,50,GNSS\n", encoding="utf-8")
     browser.hand(marks, "marks-file")
     browser.until('return document.getElementById("day-faults").textContent.startsWith("line 2 isn\'t used: it isn\'t a mark (life and moment_ms")')
-    assert shown(browser, 5) == f"No UTC is told of this moment of life 1 by these marks{outside}"
+    assert shown(browser, 5) == f"There is no UTC for this moment of life 1 by these marks{outside}"
     marks.write_text("life,moment_ms\n", encoding="utf-8")
     browser.hand(marks, "marks-file")
     browser.until("return document.getElementById('day-error').textContent.startsWith('timed.times: line 1 isn')")

@@ -75,7 +75,7 @@ def by_slots(browser: Browser, _page: Path, folder: Path) -> int:
         browser.run("document.getElementById('slots').value = '16'; window.before = window.gaknifur.ask.id")
         browser.click("read-slots")
         browser.until("const a = window.gaknifur.ask; return a.id > window.before && a.isDone")
-        told = browser.run("return JSON.parse(JSON.stringify(window.gaknifur.ask.told))")
+        told = browser.run("return JSON.parse(JSON.stringify(window.gaknifur.ask.findings))")
         _, [wanted] = lab("examine", "--json", "--slots", "16", str(path))
         found = {number: STATES[slot["state"]] for number, slot in enumerate(told["slots"]) if slot["state"]}
         assert found == {slot["slot"]: slot["state"] for slot in wanted["slots"]} and len(found) >= 4, (at, found)

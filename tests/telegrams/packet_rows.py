@@ -27,9 +27,9 @@ ENDS = {"end": "end_mark", "no end": "no_end", "cut": "cut_off", "length": "wron
 END_LINES = {"end_mark": "end mark at", "no_end": "no end mark at", "cut_off": "beyond the last bit goes what is at",
              "wrong_length": "an L_PACKET below 23 has what is at", "too_many": "no further packet is told from"}
 FAULTS = {"cut": "cut_off", "many": "too_many", "long": "too_long"}
-FAULT_LINES = {"cut_off": "a field goes beyond its last bit", "too_many": "a counter tells too many elements",
-               "too_long": "bits are left behind its last field"}
-WHY_LINES = {"not_known": ", not used: the kernel doesn't know it", "infill": ", not used: it is a packet 136, or stands behind one",
+FAULT_LINES = {"cut_off": "a field goes beyond its last bit", "too_many": "a counter announces too many elements",
+               "too_long": "bits are left after its last field"}
+WHY_LINES = {"not_known": ", not used: the kernel doesn't know it", "infill": ", not used: it is a packet 136, or comes after one",
              "refused": ", not used: the telegram is refused", None: ""}
 LEAST = {"telegrams": 500, "packets": 500, "faults": 50, "unused": 400}
 
@@ -65,7 +65,7 @@ def lines_of(wanted):
             fault = one["fault"]
             says = FAULT_LINES.get(fault["name"], f"the kernel refuses it, {fault['name']}")
             where = (f", {fault['variable']}" if fault["variable"] else "") + (f" at its bit {fault['bit']}" if fault["bit"] is not None else "")
-            yield f"  its fields can't be told: {says}{where}"
+            yield f"  its fields can't be decoded: {says}{where}"
     yield f"{END_LINES[wanted['end']]} {wanted['end_bit']}"
 
 
@@ -91,11 +91,11 @@ def compare_by_hand(program, compared):
     data = by_name["behind infill"].hex()
     lines = """packet 66 Temporary Speed Restriction Revocation at 50, 31 bits
   NID_PACKET=66 Q_DIR=1 L_PACKET=31 NID_TSR=1
-packet 136 Infill location reference at 81, 38 bits, not used: it is a packet 136, or stands behind one
+packet 136 Infill location reference at 81, 38 bits, not used: it is a packet 136, or comes after one
   NID_PACKET=136 Q_DIR=2 L_PACKET=38 Q_NEWCOUNTRY=0 NID_BG=3
-packet 66 Temporary Speed Restriction Revocation at 119, 31 bits, not used: it is a packet 136, or stands behind one
+packet 66 Temporary Speed Restriction Revocation at 119, 31 bits, not used: it is a packet 136, or comes after one
   NID_PACKET=66 Q_DIR=1 L_PACKET=31 NID_TSR=1
-packet 137 Stop if in Staff Responsible at 150, 24 bits, not used: it is a packet 136, or stands behind one
+packet 137 Stop if in Staff Responsible at 150, 24 bits, not used: it is a packet 136, or comes after one
   NID_PACKET=137 Q_DIR=2 L_PACKET=24 Q_SRSTOP=0
 end mark at 174
 """
@@ -104,7 +104,7 @@ end mark at 174
     lines = """packet 137 Stop if in Staff Responsible at 50, 24 bits, not used: the telegram is refused
   NID_PACKET=137 Q_DIR=2 L_PACKET=24 Q_SRSTOP=0
 packet 66 Temporary Speed Restriction Revocation at 74, 31 bits, not used: the telegram is refused
-  its fields can't be told: the kernel refuses it, Spare
+  its fields can't be decoded: the kernel refuses it, Spare
 end mark at 105
 """
     compared.same("a spare Q_DIR, by hand", run(program, ["packets", data]), (lines, "", 4))
@@ -119,7 +119,7 @@ def compare_words(program, compared):
     for words in (["packets"], ["packets", good, good], ["packets", "--all", good], ["packets", "--slots", "6", good]):
         printed, said, status = run(program, words)
         compared.same(f"words {words}", (printed, said.startswith("error: "), status), ("", True, 2))
-    compared.same("no digits", run(program, ["packets", "9"]), ("", "etcs_lab: HEX: isn't hexadecimal digits, two for each byte\n", 1))
+    compared.same("no digits", run(program, ["packets", "9"]), ("", "etcs_lab: HEX: is not hexadecimal (two digits for each byte)\n", 1))
     for words in (["packets", good], ["packets", "--json", good]):
         compared.same(f"a full device {words}", status_of_full(program, words), 1)
 

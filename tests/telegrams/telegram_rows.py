@@ -173,7 +173,7 @@ def compare_installed(program, compared):
     compared.same("of a track", answer(track), (unit + "00\n", "", 0))
     compared.same("of a unit", answer(unit), (unit + "\n", "", 0))
     compared.same("two of a track", answer(bits(HEADER, OF_TRACK, OF_TRACK, END)), ("", SAID["several"], 1))
-    compared.same("no digits", answer("9"), ("", "etcs_lab: HEX: isn't hexadecimal digits, two for each byte\n", 1))
+    compared.same("no digits", answer("9"), ("", "etcs_lab: HEX: is not hexadecimal (two digits for each byte)\n", 1))
     for words in (["telegram", "--installed"], ["telegram", "--installed", track, track], ["telegram", "--installed", "--schema", track]):
         printed, said, status = run(program, words)
         compared.same(f"words {words}", (printed, said.startswith("error: "), status), ("", True, 2))

@@ -24,19 +24,19 @@ impl Findings {
     fn last_line(self, form: Form) -> &'static str {
         let (people, json) = match (self.verdict, self.outcome) {
             (Verdict::Whole, Some(Outcome::Whole)) => (
-                "the image is whole, and the kernel would have answered so to each event that is replayed\n",
+                "the image is whole, and the kernel agrees with each event that is replayed\n",
                 "{\"check\":{\"whole\":true,\"replay\":\"nothing_differs\"}}\n",
             ),
             (Verdict::Whole, Some(Outcome::Differs)) => (
-                "the image is whole, but the kernel would have answered otherwise\n",
+                "the image is whole, but the kernel disagrees\n",
                 "{\"check\":{\"whole\":true,\"replay\":\"differs_or_lost\"}}\n",
             ),
             (_, Some(Outcome::Whole)) => (
-                "the image is not whole; the kernel would have answered so to each event that is replayed\n",
+                "the image is not whole; the kernel agrees with each event that is replayed\n",
                 "{\"check\":{\"whole\":false,\"replay\":\"nothing_differs\"}}\n",
             ),
             (_, Some(Outcome::Differs)) => (
-                "the image is not whole; the kernel would have answered otherwise, or events are lost\n",
+                "the image is not whole; the kernel disagrees, or events are lost\n",
                 "{\"check\":{\"whole\":false,\"replay\":\"differs_or_lost\"}}\n",
             ),
             (_, None) => (

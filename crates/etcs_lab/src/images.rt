@@ -23,10 +23,10 @@ const CHANGED: &str = "changed while it was being read; the result is not of one
 fn sentence(error: ReadError) -> &'static str {
     match error {
         ReadError::Missing => "there is no such file",
-        ReadError::Denied => "there is no right to read it",
+        ReadError::Denied => "permission denied",
         ReadError::Folder => "is a folder",
-        ReadError::Stream => "is a FIFO, a socket or a character device, and no image",
-        ReadError::Locked => "another program writes it",
+        ReadError::Stream => "is a FIFO, a socket or a character device, not an image",
+        ReadError::Locked => "another program is writing it",
         ReadError::Failed => "can't be opened",
     }
 }

@@ -49,7 +49,7 @@ fn why_told(form: Form, why: Fate) -> Piece {
     match (form, why) {
         (Form::Json, _) => why_piece(why),
         (_, Fate::NotKnown) => Piece::Same(", not used: the kernel doesn't know it"),
-        (_, Fate::Infill) => Piece::Same(", not used: it is a packet 136, or stands behind one"),
+        (_, Fate::Infill) => Piece::Same(", not used: it is a packet 136, or comes after one"),
         (_, Fate::Refused) => Piece::Same(", not used: the telegram is refused"),
         _ => Piece::Nothing,
     }
@@ -90,13 +90,13 @@ fn field_fault(fault: FieldFault) -> FaultTold {
             bit: Some(u64::from(place.start)),
         },
         FieldFault::TooMany(place) => FaultTold {
-            says: "a counter tells too many elements",
+            says: "a counter announces too many elements",
             word: "too_many",
             variable: Some(place.variable),
             bit: Some(u64::from(place.start)),
         },
         FieldFault::TooLong(start) => FaultTold {
-            says: "bits are left behind its last field",
+            says: "bits are left after its last field",
             word: "too_long",
             variable: None,
             bit: Some(u64::from(start)),
@@ -146,7 +146,7 @@ fn fault_pieces(fault: FaultTold) -> [Piece; 8] {
     };
     [
         Piece::Text(
-            "  its fields can't be told: ",
+            "  its fields can't be decoded: ",
             ",\"fields\":null,\"rest_bits\":null,\"fault\":{\"name\":\"",
         ),
         Piece::Text(fault.says, fault.word),
@@ -225,7 +225,7 @@ fn end_pieces(end: ListingEnd) -> [Piece; 5] {
         ListingEnd::NoEnd(at) => ("no end mark at ", "no_end", at),
         ListingEnd::CutOff(at) => ("beyond the last bit goes what is at ", "cut_off", at),
         ListingEnd::WrongLength(at) => ("an L_PACKET below 23 has what is at ", "wrong_length", at),
-        ListingEnd::TooMany(at) => ("no further packet is told from ", "too_many", at),
+        ListingEnd::TooMany(at) => ("no further packet is listed from ", "too_many", at),
     };
     [
         Piece::Text("", "],\"end\":\""),

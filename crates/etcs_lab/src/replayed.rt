@@ -14,8 +14,8 @@ pub(crate) fn stopped<R: Eprint>(rt: &R, path: &str, error: WalkError) -> Status
     let what = match error {
         WalkError::DeviceFault => return unread(rt, path),
         WalkError::NotFormatted => return unformatted(rt, path),
-        WalkError::Damaged => "has not the size that its first sector tells",
-        WalkError::NoMemory => "can't be replayed: memory is refused",
+        WalkError::Damaged => "does not have the size that its first sector says",
+        WalkError::NoMemory => "can't be replayed: out of memory",
         WalkError::Write => return unwritten(rt, path),
     };
     fail(rt, what, path, Status::Refused)

@@ -41,7 +41,7 @@ pub(crate) fn fail<R: Eprint>(rt: &R, what: &str, path: &str, status: Status) ->
 pub(crate) fn unwritten<R: Eprint>(rt: &R, path: &str) -> Status {
     fail(
         rt,
-        "can't be told: nothing can be written",
+        "the output can't be written",
         path,
         Status::Unwritten,
     )
@@ -66,7 +66,7 @@ pub(crate) fn unformatted<R: Eprint>(rt: &R, path: &str) -> Status {
 pub(crate) fn no_memory<R: Eprint>(rt: &R, path: &str) -> Status {
     fail(
         rt,
-        "can't be told: memory is refused",
+        "out of memory",
         path,
         Status::Refused,
     )

@@ -123,7 +123,7 @@ pub(crate) fn bytes_of<R: AllocGlobal + Eprint>(rt: &R, digits: &str) -> Result<
         FromHexError::OutOfMemory => no_memory(rt, "HEX"),
         _ => fail(
             rt,
-            "isn't hexadecimal digits, two for each byte",
+            "is not hexadecimal (two digits for each byte)",
             "HEX",
             Status::Refused,
         ),

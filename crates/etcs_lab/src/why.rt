@@ -22,7 +22,7 @@ pub(crate) fn why_told<R: Files<File = File> + AllocGlobal + Eprint, W: Write>(
     match tell_why(rt.alloc(), &mut disk, only, form, out) {
         Ok(walked) if only.is_some() && walked.lines == 0 => Err(fail(
             rt,
-            "has no such event whose life can be replayed",
+            "has no such event in a life that can be replayed",
             image.path,
             Status::Damaged,
         )),

@@ -1,6 +1,6 @@
 /* Writes or reads a block of eight records in format 3 so many times, by the proved crate or in plain C, and prints the sum
  * of the results, so that every result is used. The plain writer and reader look at each field and at each unused byte
- * as well. docs/FORMAT.md shows the fields. */
+ * as well. docs/reference/format.md shows the fields. */
 #include <stdint.h>
 #include <stdio.h>
 #include <stdlib.h>

@@ -1,5 +1,5 @@
 #!/usr/bin/env python3
-"""What docs/PERFORMANCE.md argues that a call takes at most, beside what was counted: of each kept scenario (bench/worst.scenarios), each row of the
+"""What docs/project/performance.md argues that a call takes at most, beside what was counted: of each kept scenario (bench/worst.scenarios), each row of the
 doubling and of the stairs, each crowd of gradients, and each reading that takes the forgetting mark past such a crowd. WHAT, COUNTED, BOUND, and the numbers that the bound goes by, a line each, tab between. It
 ends with status 1 where more was counted.
 

@@ -28,7 +28,7 @@
  *
  * A file is settled before it is read: it is synced, and then the system's copies of its pages are dropped. After a
  * failed sync, in whatever process, Linux keeps reading such copies, and no later sync writes them. What the
- * system can't drop, as pages that another program has mapped or locked, is for the maker to see to (docs/SAFETY.md,
+ * system can't drop, as pages that another program has mapped or locked, is for the maker to see to (docs/explain/safety.md,
  * 20). Where a system has no posix_fadvise (macOS), nothing is dropped: after a failed sync the machine has to be
  * restarted before the file is opened.
  *
@@ -501,8 +501,8 @@ static inline uint32_t etcs_file_format(etcs_file *file, const char *path, uint3
  *     ...
  *     etcs_archive_close(&archive);
  *
- * `./lab join` makes one image of a larger ring of the archive and the image (docs/INVESTIGATING.md). An archive grows
- * by 3,072 bytes a block; docs/EMBEDDING.md has a table.
+ * `./lab join` makes one image of a larger ring of the archive and the image (docs/howto/investigating.md). An archive grows
+ * by 3,072 bytes a block; docs/howto/embedding.md has a table.
  *
  * Both files are settled when they are opened, as a journal is: what an earlier process left half written is dropped, and
  * what is read then is what the medium has. A sync that failed is owed from then on: each later call writes again what it
@@ -520,7 +520,7 @@ extern "C" {
 /** The bytes of a block in an archive. */
 #define ETCS_ARCHIVE_ENTRY (6 * ETCS_UNIT_SECTOR)
 
-/** The greatest number of a block (docs/FORMAT.md). */
+/** The greatest number of a block (docs/reference/format.md). */
 #define ETCS_ARCHIVE_NUMBERS (UINT64_C(1) << 40)
 
 /** A mark's moment is below this one, as a unit's clock is. */
@@ -836,7 +836,7 @@ static inline uint32_t etcs_archive_keep(etcs_archive *archive, etcs_file *file,
 }
 
 /* ---- marks of the time of day: one line each, in CSV with a checksum, which ./lab reads next to the journal
- * (docs/FORMAT.md). The journal has no time of day, and nothing proves what a mark says. */
+ * (docs/reference/format.md). The journal has no time of day, and nothing proves what a mark says. */
 
 /** The first line of marks. */
 #define ETCS_TIMES_FIRST "life,moment_ms,event,utc,uncertainty_ms,source,crc32\n"

@@ -8,7 +8,7 @@
  * The image comes in as bytes: a file that was read or mapped, or a copy of the unit's medium. Nothing is held or closed,
  * so there is no handle; any thread may call, and many at once on the same bytes. The bytes are never written to. No call
  * takes memory but etcs_image_replay and etcs_image_why, which run a life through the kernel again: they take what a unit
- * takes for its track (docs/PERFORMANCE.md has the bound), and give it back before they answer.
+ * takes for its track (docs/project/performance.md has the bound), and give it back before they answer.
  *
  *     etcs_journal journal;
  *     etcs_record record;
@@ -27,7 +27,7 @@
  *   written to doesn't lie in them;
  * - each other pointer is good for what it points to, and nobody else writes there while the call runs.
  *
- * What the bytes mean is in docs/FORMAT.md. Sectors, slots, events and the records of a block are counted from 0, blocks
+ * What the bytes mean is in docs/reference/format.md. Sectors, slots, events and the records of a block are counted from 0, blocks
  * from 1. Places are centimetres, speeds metres per hour, moments milliseconds. An image may be cut off, or damaged at
  * any place; the calls report what is there.
  */
@@ -46,7 +46,7 @@ extern "C" {
 /** A time or a distance that has no end. */
 #define ETCS_ENDLESS UINT32_C(0xFFFFFFFF)
 
-/** What a slot holds (docs/FORMAT.md). */
+/** What a slot holds (docs/reference/format.md). */
 enum etcs_slot_state {
     ETCS_SLOT_EMPTY = 0,      /**< all its bytes are zero */
     ETCS_SLOT_BLOCK = 1,      /**< its gate is open, and head and records spell the block of this number, which belongs there */
@@ -104,7 +104,7 @@ enum etcs_kept_field {
     ETCS_KEPT_COUNTRIES = 10      /**< the countries that they are for */
 };
 
-/** Why Trip was entered (docs/BRAKES.md). */
+/** Why Trip was entered (docs/explain/brakes.md). */
 enum etcs_trip_cause {
     ETCS_TRIP_UNKNOWN = 0,        /**< no trip is owed, or it was entered in a life before */
     ETCS_TRIP_END_PASSED = 1,     /**< the minimum safe front was past the end of authority */
@@ -197,7 +197,7 @@ typedef struct {
     uint8_t indications;     /**< the sum of enum etcs_indication */
     uint8_t has_place;       /**< 1 where the record contains front, uncertainty and limit: from format 2 on */
     uint8_t payload_len;     /**< how many bytes of the payload there are */
-    uint8_t payload[ETCS_PAYLOAD_BYTES]; /**< the data of the event (docs/FORMAT.md), and zeros after them */
+    uint8_t payload[ETCS_PAYLOAD_BYTES]; /**< the data of the event (docs/reference/format.md), and zeros after them */
 } etcs_record;
 
 /** How far a journal was read. Its fields are for the calls below; it may be copied, to read on from there again. */
@@ -269,7 +269,7 @@ uint32_t etcs_journal_next_(const uint8_t *image, size_t size, etcs_journal *jou
 uint32_t etcs_image_replay_(const uint8_t *image, size_t size, uint32_t abi, etcs_journal *journal, etcs_replay *replay);
 uint32_t etcs_image_why_(const uint8_t *image, size_t size, uint32_t abi, uint64_t number, uint64_t event, etcs_why *why);
 
-/* ---- names of numbers, as etcs_lab prints them (docs/JSON.md) */
+/* ---- names of numbers, as etcs_lab prints them (docs/reference/json.md) */
 
 /** Returns the name of a number of enum etcs_kind; "unknown" for other numbers. */
 static inline const char *etcs_kind_name(uint32_t number) {

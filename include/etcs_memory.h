@@ -47,7 +47,7 @@ extern "C" {
  *   with those ahead.
  *
  * A unit that got so much is never refused memory after its opening, as long as the track keeps to these numbers:
- * docs/INTEGRATION.md says why, and how it was tested. */
+ * docs/explain/integration.md says why, and how it was tested. */
 #define ETCS_MEMORY_BYTES(slots, packets, restrictions, gradients, speeds)                                             \
     (UINT64_C(32768) + UINT64_C(3072) * (uint64_t)(slots) + UINT64_C(7168) * (uint64_t)(packets)                       \
      + UINT64_C(136) * (uint64_t)(restrictions) + UINT64_C(68) * (uint64_t)(gradients)                                 \

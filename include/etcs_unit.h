@@ -118,7 +118,7 @@ extern "C" {
 /** The bytes that one request writes, at most. */
 #define ETCS_UNIT_REQUEST_BYTES 8192
 
-/** What calls answer. docs/REFUSALS.md says more of each.
+/** What calls answer. docs/reference/refusals.md says more of each.
  *
  * - 1 to 6, opening: no unit was opened, and the medium is to be left as it is.
  * - 10 to 13, taking an input: nothing changed.
@@ -193,7 +193,7 @@ enum etcs_source {
 enum etcs_cold {
     ETCS_COLD_UNKNOWN = 0,  /**< nothing is sure to have watched it */
     ETCS_COLD_MOVED = 1,    /**< it was moved */
-    ETCS_COLD_NOT_MOVED = 2 /**< something watched it, and it stood (docs/SAFETY.md, 13) */
+    ETCS_COLD_NOT_MOVED = 2 /**< something watched it, and it stood (docs/explain/safety.md, 13) */
 };
 
 /** What the driver does without further values (SUBSET-026, 5). */
@@ -249,7 +249,7 @@ enum etcs_indication {
 enum etcs_request_kind { ETCS_REQUEST_WRITE = 1, ETCS_REQUEST_SYNC = 2 };
 
 /** Why a brake is commanded: the rows of the brake table, by their places in etcs_unit_why and etcs_why
- * (docs/BRAKES.md, which says how each ends). The first six command the emergency brake. */
+ * (docs/explain/brakes.md, which says how each ends). The first six command the emergency brake. */
 enum etcs_brake_cause {
     ETCS_CAUSE_NOT_REVALIDATED = 0,
     ETCS_CAUSE_IN_TRIP = 1,
@@ -266,7 +266,7 @@ enum etcs_brake_cause {
 /** How many rows the table of causes has. */
 #define ETCS_BRAKE_CAUSES 10
 
-/** What decides a limit (docs/BRAKES.md). */
+/** What decides a limit (docs/explain/brakes.md). */
 enum etcs_limit_cause {
     ETCS_LIMIT_NO_SPEED = 1,
     ETCS_LIMIT_NO_TRAIN_DATA = 2,
@@ -331,7 +331,7 @@ typedef struct {
     uint32_t length_cm;              /**< of the whole train */
     uint32_t maximum_m_per_h;        /**< the greatest speed that the train may run at */
     uint32_t deceleration_cm_per_s2; /**< what its brakes are sure to reach */
-    uint32_t reaction_ms;            /**< until they are built up, with all delays of the equipment (docs/INTEGRATION.md) */
+    uint32_t reaction_ms;            /**< until they are built up, with all delays of the equipment (docs/explain/integration.md) */
     uint32_t category;               /**< of its static speeds, 0 to 15 */
 } etcs_train_data;
 
@@ -387,7 +387,7 @@ enum etcs_adaptation {
     ETCS_ADAPTATION_NONE = 0,        /**< it has no packet 3 as a track of issue 2.3.0 sends it: hand it on as it is */
     ETCS_ADAPTATION_WRITTEN = 1,     /**< hand on what was written */
     ETCS_ADAPTATION_SEVERAL = 2,     /**< it has more than one: nothing was written, and a unit refuses the telegram */
-    ETCS_ADAPTATION_NO_LAYOUT = 3,   /**< it fits neither of the two possible layouts (docs/PACKETS.md): nothing was written, and a unit refuses the telegram */
+    ETCS_ADAPTATION_NO_LAYOUT = 3,   /**< it fits neither of the two possible layouts (docs/reference/packets.md): nothing was written, and a unit refuses the telegram */
     ETCS_ADAPTATION_AMBIGUOUS = 4    /**< it fits both, which differ in the first country: nothing was written, and a unit refuses the telegram */
 };
 
@@ -426,7 +426,7 @@ enum etcs_direction {
 
 /** Why a unit doesn't use a packet of a telegram. */
 enum etcs_unused_reason {
-    ETCS_UNUSED_NOT_KNOWN = 1,       /**< the kernel doesn't know its number (docs/PACKETS.md) */
+    ETCS_UNUSED_NOT_KNOWN = 1,       /**< the kernel doesn't know its number (docs/reference/packets.md) */
     ETCS_UNUSED_INFILL = 2,          /**< it is a packet 136, or comes after one */
     ETCS_UNUSED_IN_MODE = 3,         /**< the mode doesn't use its number */
     ETCS_UNUSED_OTHER_DIRECTION = 4, /**< it isn't valid in the direction in which the group is passed */
@@ -502,7 +502,7 @@ static inline uint32_t etcs_version(uint8_t *out, size_t room, uint32_t *len) {
     return ((out != NULL) && (len != NULL)) ? etcs_version_(out, room, len) : (uint32_t)ETCS_UNIT_NULL_POINTER;
 }
 
-/* ---- names of numbers, as etcs_lab prints them (docs/JSON.md): each text is the program's own, and never ends */
+/* ---- names of numbers, as etcs_lab prints them (docs/reference/json.md): each text is the program's own, and never ends */
 
 /* The text of a number; "unknown" where the table has none. */
 static inline const char *etcs_name_(const char *const *names, uint32_t count, uint32_t number) {
@@ -591,7 +591,7 @@ static inline const char *etcs_request_kind_name(uint32_t number) {
     return etcs_name_(names, (uint32_t)(sizeof names / sizeof names[0]), number);
 }
 
-/** Returns the name of a number of enum etcs_fault, as docs/REFUSALS.md has it; "unknown" for other numbers. */
+/** Returns the name of a number of enum etcs_fault, as docs/reference/refusals.md has it; "unknown" for other numbers. */
 static inline const char *etcs_fault_name(uint32_t number) {
     static const char *const names[] = {
         "OK", "Truncated", "WrongLength", "Spare", "OutOfRange", "WrongVersion", "NotUplink", "NotBalise", "NoEnd",
@@ -859,7 +859,7 @@ static inline uint32_t etcs_unit_release(etcs_unit *unit, etcs_unit_output *outp
 }
 
 /** Merges the outputs of one release into what the equipment obeys until the next one: the newest output, with the most
- * restrictive brake of them all (docs/INTEGRATION.md, 12). Call it after each release, with what that wrote. Answers OK, or
+ * restrictive brake of them all (docs/explain/integration.md, 12). Call it after each release, with what that wrote. Answers OK, or
  * OUT_OF_RANGE where `count` is above ETCS_UNIT_OUTPUTS or a brake is none of enum etcs_brake; then, and where `count` is 0,
  * `command` stays as it was. */
 ETCS_MUST_USE
@@ -917,7 +917,7 @@ static inline uint32_t etcs_unit_format_request(uint32_t slots, uint32_t index, 
  * telegram of such a track, before etcs_unit_telegram. Q_NVSRBKTRG, Q_NVEMRRLS, D_NVPOTRP, M_NVCONTACT, T_NVCONTACT,
  * M_NVDERUN and Q_NVDRIVER_ADHES of that packet are left out, its L_PACKET is 29 less, N_ITER comes before the first
  * country, and all other bits stay. It converts only where the packet fits one of its two possible layouts and not the
- * other (docs/PACKETS.md). `outcome` has the result, and the place of the packet in the telegram that was sent. That telegram is
+ * other (docs/reference/packets.md). `outcome` has the result, and the place of the packet in the telegram that was sent. That telegram is
  * what the track said, and the journal holds the other one: keep it outside. Returns OK, or NO_ROOM where `room` is below
  * ETCS_TELEGRAM_BYTES; then nothing is written. */
 ETCS_MUST_USE

@@ -1,4 +1,4 @@
-// Where in an image the fields of a record stand (docs/FORMAT.md), and their bytes along with what the calls read there.
+// Where in an image the fields of a record stand (docs/reference/format.md), and their bytes along with what the calls read there.
 import {Calls} from "./calls";
 import {make} from "./dom";
 import {JournalRecord, ODOMETER, POWER_UP, SECTOR, TELEGRAM} from "./layouts";

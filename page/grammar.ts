@@ -47,7 +47,7 @@ export class Wrong extends Error {}
 export function isList(part: Part): part is List { return typeof part !== "string" && "list" in part; }
 export function isChoice(part: Part): part is Choice { return typeof part !== "string" && "choice" in part; }
 
-/** A layout as docs/PACKETS.md writes it. */
+/** A layout as docs/reference/packets.md writes it. */
 export function layoutText(parts: Part[]): string {
     return parts
         .map(part => {

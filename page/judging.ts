@@ -16,7 +16,7 @@ export interface Judged {
 }
 const TRUNCATED = 1, WRONG_LENGTH = 2, NO_END = 8, TOO_LONG = 9;
 /**
- * The packet from which on the kernel uses nothing (docs/CONFORMANCE.md), and how many numbers are tried of a
+ * The packet from which on the kernel uses nothing (docs/explain/conformance.md), and how many numbers are tried of a
  * variable.
  */
 const INFILL = 136, MOST_TRIED = 1024;

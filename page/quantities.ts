@@ -1,4 +1,4 @@
-// What the number of a variable is as a quantity (SUBSET-026, 7.5.1), by the units of docs/PACKETS.md.
+// What the number of a variable is as a quantity (SUBSET-026, 7.5.1), by the units of docs/reference/packets.md.
 import {Field} from "./reading";
 import {metres} from "./shown";
 import {given} from "./tracks";

@@ -1,4 +1,4 @@
-// All texts of the page. The words of causes, trips and limits are those of `etcs_lab why` (docs/BRAKES.md).
+// All texts of the page. The words of causes, trips and limits are those of `etcs_lab why` (docs/explain/brakes.md).
 
 export const MODES: Record<number, [string, string]> = {
     0: ["FS", "Full Supervision"],
@@ -213,7 +213,7 @@ export const BRIEF = {
         "the driver has revalidated, which isn't counted as an intervention",
 };
 
-/** Of the time of day by marks (docs/INVESTIGATING.md). */
+/** Of the time of day by marks (docs/howto/investigating.md). */
 export const DAY = {
     noMarks: "A journal has no time of day. Marks may give one, outside the journal and outside the proof.",
     count: (marks: number): string => marks === 1 ? "1 mark" : `${marks.toLocaleString("en")} marks`,
@@ -283,7 +283,7 @@ export const FORM = {
     ],
 };
 
-/** The words of a test case (docs/TESTING_A_TRAIN.md), by the numbers of a scenario and of an output. */
+/** The words of a test case (docs/howto/testing-a-train.md), by the numbers of a scenario and of an output. */
 export const CASE_WORDS = {
     alone: {6: "start", 7: "choose_shunting", 8: "leave_shunting", 9: "override", 11: "close_desk"} as
         Record<number, string>,

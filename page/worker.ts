@@ -104,7 +104,7 @@ async function readSlots(calls: Calls, id: number, held: Held, facts: Facts, rea
     return true;
 }
 
-/** The block after the newest that a slot holds unwritten, by the fields of its head (docs/FORMAT.md). */
+/** The block after the newest that a slot holds unwritten, by the fields of its head (docs/reference/format.md). */
 function unwrittenOf(calls: Calls, held: Held, slots: Slot[], newest: Block|null): Unwritten|null {
     const slot = slots.findIndex(one => one.state === UNWRITTEN && newest !== null && one.number === newest.number + 1);
     if (slot < 0 || !newest) return null;
@@ -153,7 +153,7 @@ async function causes(calls: Calls, id: number, held: Held, { records, intervent
     return isDone;
 }
 
-/** A copy of an image whose first sector says so many slots (docs/FORMAT.md). */
+/** A copy of an image whose first sector says so many slots (docs/reference/format.md). */
 function withSlots(bytes: Uint8Array, slots: number): Uint8Array {
     const copy = bytes.slice(), view = new DataView(copy.buffer);
     copy.fill(0, 0, SECTOR);

@@ -1,6 +1,6 @@
 #!/bin/bash
 # Trains in a closed loop with the onboard unit (drives/), over the library that tests/unit.sh left, or one that is built: each result comes, each
-# planted fault is told, and the program answers to the same events as the library. And the commands of docs/CLOSED_LOOP.md.
+# planted fault is told, and the program answers to the same events as the library. And the commands of docs/howto/closed-loop.md.
 #
 #     tests/drive.sh [ETCS_LAB ETCS [PREFIX]]    on other programs, and on the library below PREFIX
 top=$(cd "$(dirname "$(readlink -f -- "$0")")/.." && pwd) || exit 1
@@ -27,6 +27,6 @@ fi
 export GAKNIFUR_ETCS_UNIT=$(realpath "$prefix")/lib/libetcs_unit.so
 status=0
 /usr/bin/python3 "$top/tests/suites/drive_rows.py" "$etcs" "$lab" || status=1
-ETCS=$etcs ETCS_LAB=$lab /usr/bin/python3 "$top/tests/pages.py" CLOSED_LOOP || status=1
+ETCS=$etcs ETCS_LAB=$lab /usr/bin/python3 "$top/tests/pages.py" howto/closed-loop || status=1
 GAKNIFUR_ETCS=$etcs GAKNIFUR_ETCS_LAB=$lab "$top/lab" lint "$top/drives" || { status=1; echo "lab lint finds more in drives/ than the cases say to show"; }
 exit $status

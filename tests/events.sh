@@ -1,7 +1,7 @@
 #!/bin/bash
 # The lines of `etcs_lab events`, read back as JSON and compared with what plain readers find in the same images: of the program's rows and
 # examples, whole and damaged, and of pseudo-random blocks in all three formats. And all that the program prints as JSON, compared with
-# docs/JSON.md.
+# docs/reference/json.md.
 #
 #     tests/events.sh [PROGRAM [RINGS [SEED]]]    on another program, with more or other rings
 program=$(realpath "${1:-$(dirname "$(readlink -f -- "$0")")/../crates/etcs_lab/out/etcs_lab}") || exit 1

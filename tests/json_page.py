@@ -1,5 +1,5 @@
 #!/usr/bin/env python3
-"""Compares docs/JSON.md with the JSON that `etcs_lab` prints of images, scenarios and telegrams, and `./lab against` of
+"""Compares docs/reference/json.md with the JSON that `etcs_lab` prints of images, scenarios and telegrams, and `./lab against` of
 other units.
 
     tests/json_page.py PROGRAM..
@@ -29,7 +29,7 @@ import why_rows  # noqa: E402
 from compared import Compared, run  # noqa: E402
 from images import known_telegrams, slots_of  # noqa: E402
 
-PAGE = TOP / "docs/JSON.md"
+PAGE = TOP / "docs/reference/json.md"
 LONG = 105  # bytes: more than any telegram has
 EACH = 7  # of the cases of other tests one in so many
 LEAST_OBJECTS, LEAST_TABLES = 20_000, 29
@@ -325,7 +325,7 @@ def main(program):
         all_read(page, program, Path(folder))
         other_units(page, program, Path(folder))
     page.close()
-    return page.end(f"docs/JSON.md: {len(page.tables)} tables, {page.count} comparisons")
+    return page.end(f"docs/reference/json.md: {len(page.tables)} tables, {page.count} comparisons")
 
 
 if __name__ == "__main__":

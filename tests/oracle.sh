@@ -1,5 +1,5 @@
 #!/bin/bash
-# Another unit beside the proved one, and searches (docs/ORACLE.md, docs/SEARCHING.md): a unit in C, one in Python and `./lab serve` about the
+# Another unit beside the proved one, and searches (docs/howto/oracle.md, docs/howto/searching.md): a unit in C, one in Python and `./lab serve` about the
 # journals of the examples; the whole of suites/ against the unit in C; each unit that is wrong on purpose is found out; wrong properties are
 # found and made small, the safety laws hold; what tshark shows of telegrams; and the commands of these pages and WIRESHARK.
 #
@@ -46,5 +46,5 @@ echo "suites against unit.c: ${count:-no} results came"
 [ "${count:-0}" -ge $least ] || status=1
 "$python" tests/oracle/dissector_rows.py || status=1
 "$python" tests/oracle/search_rows.py "$etcs" "$lab" "$made/unit" "${@:4}" || status=1
-ETCS=$etcs ETCS_LAB=$lab "$python" tests/pages.py ORACLE SEARCHING WIRESHARK || status=1
+ETCS=$etcs ETCS_LAB=$lab "$python" tests/pages.py howto/oracle howto/searching howto/wireshark || status=1
 exit $status

@@ -2,7 +2,7 @@
 """Runs the commands of pages of docs/ in their order and compares what each prints, on both streams, with what is below it.
 Several pages are run one after another in one folder, as a reader goes through them: none uses the names of another one.
 
-    tests/pages.py [--write] PAGE..    as LABORATORY. With --write what is printed replaces what is there
+    tests/pages.py [--write] PAGE..    as howto/laboratory. With --write what is printed replaces what is there
 
 A command stands after `$ `, indented by four or in a block of `console`; lines after `> `, or after a backslash, go on
 with it. A block of C or Python becomes the file of the HOME that the line above it names. The folder has what the
@@ -19,8 +19,8 @@ from pathlib import Path
 TOP = Path(__file__).resolve().parents[1]
 PROGRAMS = {name: Path(os.environ.get(name.upper()) or TOP / f"crates/{name}/out/{name}").resolve()
             for name in ("etcs", "etcs_lab")}
-COMMANDS = {"INVESTIGATING": 86, "LABORATORY": 33, "TESTING_A_TRAIN": 60, "CLOSED_LOOP": 19, "EMBEDDING": 21, "ORACLE": 9,
-            "SEARCHING": 8, "SEQUENCES": 9, "WIRESHARK": 5, "start/c": 9, "start/tests": 6, "start/investigate": 8,
+COMMANDS = {"howto/investigating": 86, "howto/laboratory": 33, "howto/testing-a-train": 60, "howto/closed-loop": 19, "howto/embedding": 21, "howto/oracle": 9,
+            "howto/searching": 8, "howto/sequences": 9, "howto/wireshark": 5, "start/c": 9, "start/tests": 6, "start/investigate": 8,
             "start/code": 8}
 """How many commands a page has, at least."""
 COMMAND = re.compile(r"^(    |)\$ ((?:.*\\\n)*.*\n(?:\1> .*\n)*)((?:(?!\1\$ |```)\1.*\n)*)", re.MULTILINE)

@@ -1,6 +1,6 @@
 #!/bin/bash
 # Replays of journals, on the program etcs_lab that the gate leaves behind, beside those of a plain replay; and the table of altered fields in
-# docs/TESTS.md.
+# docs/project/tests.md.
 #
 #     tests/replay.sh [PROGRAM..]    on another program, with its words
 lab=$(dirname "$(readlink -f -- "$0")")/../crates/etcs_lab/out/etcs_lab

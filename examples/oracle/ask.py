@@ -1,5 +1,5 @@
 #!/usr/bin/python3
-"""Asks a unit by the protocol of docs/ORACLE.md, of Python's own modules alone, as the bench of a laboratory may do it:
+"""Asks a unit by the protocol of docs/howto/oracle.md, of Python's own modules alone, as the bench of a laboratory may do it:
 the proved unit answers what it would do.
 
     examples/oracle/ask.py ./lab serve <EVENTS

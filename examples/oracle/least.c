@@ -1,4 +1,4 @@
-/* The least unit that speaks the protocol of docs/ORACLE.md, in C, as unit.py is in Python: it chooses a level, and brakes.
+/* The least unit that speaks the protocol of docs/howto/oracle.md, in C, as unit.py is in Python: it chooses a level, and brakes.
  *
  *     gcc -std=c99 examples/oracle/least.c -o least
  *     ./lab test suites --against ./least

@@ -1,5 +1,5 @@
 #!/usr/bin/python3
-"""The least unit that speaks the protocol of docs/ORACLE.md, of Python's own modules alone: it stands, and brakes.
+"""The least unit that speaks the protocol of docs/howto/oracle.md, of Python's own modules alone: it stands, and brakes.
 
     ./lab test suites --against examples/oracle/unit.py
 

@@ -34,7 +34,7 @@ Exit status:
   4  done, and something was found: an image is damaged or its replay differs, a test failed, lint has findings, evidence was altered
   5  an internal error of lab
 
-`lab COMMAND --help` describes a command; docs/LABORATORY.md says which page explains it. Of a damaged image everything readable is
+`lab COMMAND --help` describes a command; docs/howto/laboratory.md says which page explains it. Of a damaged image everything readable is
 printed, and standard error says what is wrong. Take a digest of an image before anything reads it, and work on a copy."""
 
 

@@ -30,7 +30,7 @@ class Fault(enum.IntEnum):
 
 
 class Status(enum.IntEnum):
-    """What calls answer. docs/REFUSALS.md says more of each."""
+    """What calls answer. docs/reference/refusals.md says more of each."""
 
     OK = 0
     OPEN_DEVICE_FAULT = 1
@@ -160,7 +160,7 @@ class RequestKind(enum.IntEnum):
 
 class BrakeCause(enum.IntEnum):
     """Why a brake is commanded: the rows of the brake table, by their places in etcs_unit_why and etcs_why
-    (docs/BRAKES.md, which tells how each ends). The first six command the emergency brake."""
+    (docs/explain/brakes.md, which tells how each ends). The first six command the emergency brake."""
 
     NOT_REVALIDATED = 0
     IN_TRIP = 1
@@ -175,7 +175,7 @@ class BrakeCause(enum.IntEnum):
 
 
 class LimitCause(enum.IntEnum):
-    """What decides a limit (docs/BRAKES.md)."""
+    """What decides a limit (docs/explain/brakes.md)."""
 
     NO_SPEED = 1
     NO_TRAIN_DATA = 2
@@ -249,7 +249,7 @@ class UnusedReason(enum.IntEnum):
 
 
 class SlotState(enum.IntEnum):
-    """What a slot holds (docs/FORMAT.md)."""
+    """What a slot holds (docs/reference/format.md)."""
 
     EMPTY = 0
     BLOCK = 1
@@ -323,7 +323,7 @@ class KeptField(enum.IntEnum):
 
 
 class TripCause(enum.IntEnum):
-    """Why Trip was entered (docs/BRAKES.md)."""
+    """Why Trip was entered (docs/explain/brakes.md)."""
 
     UNKNOWN = 0
     END_PASSED = 1

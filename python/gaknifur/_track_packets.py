@@ -1,5 +1,5 @@
 """The packets that a track sends and the kernel skips, and packet 3 as a track sends it: names, layouts, the widths of
-further variables, the units of all, and what single numbers mean (docs/PACKETS.md). Written by `tools/packets` from crates/track_packets."""
+further variables, the units of all, and what single numbers mean (docs/reference/packets.md). Written by `tools/packets` from crates/track_packets."""
 
 NAMES: dict[int, str] = {
     0: "Virtual Balise Cover marker",
@@ -275,7 +275,7 @@ MEANINGS: dict[str, dict[int, str]] = {
     "V_RELEASEOL": {126: "worked out on board", 127: "the national value"},
     "V_STATIC": {127: "the profile ends"},
 }
-"""What single numbers of a variable mean: those that are sure (docs/PACKETS.md)."""
+"""What single numbers of a variable mean: those that are sure (docs/reference/packets.md)."""
 
 LAYOUTS: dict[int, str] = {
     3: "Q_SCALE D_VALIDNV (N_ITER NID_C) V_NVSHUNT V_NVSTFF V_NVONSIGHT V_NVUNFIT V_NVREL D_NVROLL Q_NVSRBKTRG Q_NVEMRRLS V_NVALLOWOVTRP V_NVSUPOVTRP D_NVOVTRP T_NVOVTRP D_NVPOTRP M_NVCONTACT T_NVCONTACT M_NVDERUN D_NVSTFF Q_NVDRIVER_ADHES",

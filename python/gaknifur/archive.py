@@ -5,7 +5,7 @@ are joined to one image of a larger ring.
         ...                                         # at least once in as many flushes as the ring has slots, less two
         kept.keep("unit.image")
 
-An archive is a file of blocks, each as it lies in its slot, behind a first sector (docs/FORMAT.md). It is appended to alone, and
+An archive is a file of blocks, each as it lies in its slot, behind a first sector (docs/reference/format.md). It is appended to alone, and
 synced. What is kept are blocks behind their own gates; whether one can be read `etcs_lab` says.
 """
 import os

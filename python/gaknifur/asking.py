@@ -1,7 +1,7 @@
-"""What a unit is asked, and what it answers, as docs/ORACLE.md has it: the messages of the protocol, and whether a line
+"""What a unit is asked, and what it answers, as docs/howto/oracle.md has it: the messages of the protocol, and whether a line
 is one.
 
-An event is told by the members of a record of `etcs_lab events` that say what came (docs/JSON.md); an answer has those
+An event is told by the members of a record of `etcs_lab events` that say what came (docs/reference/json.md); an answer has those
 that say what the unit makes of it.
 """
 import json

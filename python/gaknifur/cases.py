@@ -1,6 +1,6 @@
 """Test cases in the words of SUBSET-076: what a case tests, how it starts, its lives, and the results that it expects.
 
-docs/TESTING_A_TRAIN.md has each word. A word that isn't there is a fault with its file, line and column, and so is a
+docs/howto/testing-a-train.md has each word. A word that isn't there is a fault with its file, line and column, and so is a
 key told twice; nothing is left out in silence.
 """
 import re
@@ -35,7 +35,7 @@ EXPECTED = ("note", "sections", "rule", "at", "expect", "row", "from", "until", 
 CASE = ("test_case", "feature", "sections", "rule", "starting_conditions", "lives")
 MORE = ("slots", "expected", "include", "telegrams", "parts", "shows")
 ADVICE, MOST_ITEM = "advice", 999
-"""What a case may say to show, beside items of docs/SAFETY.md: what `etcs_lab lint` advises."""
+"""What a case may say to show, beside items of docs/explain/safety.md: what `etcs_lab lint` advises."""
 END = "end"
 ROW = re.compile(r"([0-9]{1,4})(?: from ([A-Z]{2}))?")
 MOST_SLOTS, USUAL_SLOTS = 4096, 64
@@ -125,7 +125,7 @@ class Case:
     lives: list[Life]
     expected: list[Expected] = field(default_factory=list)
     shows: list[Value] = field(default_factory=list)
-    """The items of docs/SAFETY.md that it is there to show, so that `lab lint` doesn't tell them."""
+    """The items of docs/explain/safety.md that it is there to show, so that `lab lint` doesn't tell them."""
 
     @property
     def path(self) -> Path:

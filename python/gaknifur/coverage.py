@@ -1,6 +1,6 @@
 """Which sections of SUBSET-026 and which rows of the mode table the cases of a folder are about.
 
-The sections that the product covers are read from the tables of docs/CONFORMANCE.md, the rows from docs/TABLES.md. A
+The sections that the product covers are read from the tables of docs/explain/conformance.md, the rows from docs/TABLES.md. A
 section or a row without a case is told with its reason, from `without_cases.yaml` of the folder; one without a case
 and without a reason is a fault, and so is a reason that is no longer needed.
 """
@@ -38,7 +38,7 @@ def span(first: str, last: str) -> list[str]:
     *head, start = first.split(".")
     *other, end = last.split(".")
     if head != other:
-        raise Failed(f"docs/CONFORMANCE.md: {first} to {last} is no run of sections", REFUSED)
+        raise Failed(f"docs/explain/conformance.md: {first} to {last} is no run of sections", REFUSED)
     return [".".join([*head, str(number)]) for number in range(int(start), int(end) + 1)]
 
 
@@ -65,8 +65,8 @@ def names_of(cell: str) -> list[str]:
 
 
 def sections() -> list[Section]:
-    """The sections of docs/CONFORMANCE.md."""
-    text, found = page("CONFORMANCE.md"), []
+    """The sections of docs/explain/conformance.md."""
+    text, found = page("explain/conformance.md"), []
     for heading in ("Chapter 3", "Chapters 4 and 5", "Chapters 7 and 8"):
         for cell, subject, here, _ in table_rows(text, heading):
             for name in names_of(cell):
@@ -141,7 +141,7 @@ def fill(matrix: Matrix, found: Iterable[Case], table: Table) -> None:
         for name in sorted(named_by(case)):
             section = find_section(name, known)
             if section is None:
-                matrix.faults.append(f"{case.path}:{case.at.line}: {name} is no section of docs/CONFORMANCE.md")
+                matrix.faults.append(f"{case.path}:{case.at.line}: {name} is no section of docs/explain/conformance.md")
             elif section.is_left_out:
                 matrix.faults.append(f"{case.path}:{case.at.line}: {name} is left out by the product")
             elif case.name not in section.cases:

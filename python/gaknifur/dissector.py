@@ -2,7 +2,7 @@
 
 A capture has the link type USER0 (147, https://www.tcpdump.org/linktypes.html), which is left to who agrees on it. Here
 each packet of it is what one balise sent: the bytes of a telegram (SUBSET-026, 8.4.2) from its first bit on.
-docs/WIRESHARK.md says how both are used.
+docs/howto/wireshark.md says how both are used.
 """
 import struct
 

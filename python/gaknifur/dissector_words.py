@@ -1,4 +1,4 @@
-"""The words `dissector` and `capture` of `./lab`: Wireshark reads the telegrams of a journal (docs/WIRESHARK.md)."""
+"""The words `dissector` and `capture` of `./lab`: Wireshark reads the telegrams of a journal (docs/howto/wireshark.md)."""
 import argparse
 import sys
 from collections.abc import Callable

@@ -29,7 +29,7 @@ from .program import DEVICE, REFUSED, Failed
 from .shown import shown
 
 IMAGE_MARK = layout.MARK
-"""What an image begins with (docs/FORMAT.md)."""
+"""What an image begins with (docs/reference/format.md)."""
 FIRST_BYTES = 4096
 SQLITE, SQLITE_ID = b"SQLite format 3\0", slice(68, 72)
 WAIT_SECONDS = 60.0

@@ -1,4 +1,4 @@
-"""Where the slots of an image lie (docs/FORMAT.md): sizes, gates and the numbers of blocks, and nothing of what a block says,
+"""Where the slots of an image lie (docs/reference/format.md): sizes, gates and the numbers of blocks, and nothing of what a block says,
 which `etcs_lab` tells."""
 SECTOR, SLOT_SECTORS = 512, 6
 SLOT = SECTOR * SLOT_SECTORS

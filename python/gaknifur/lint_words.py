@@ -1,5 +1,5 @@
 """The word `lint` of `./lab`: what is wrong or weak in a track and in the steps on it, by `etcs_lab lint` and by the items of
-docs/SAFETY.md."""
+docs/explain/safety.md."""
 import argparse
 import functools
 import json
@@ -230,7 +230,7 @@ def paths_of(path: Path) -> list[Path]:
 def add_words(word: Word) -> None:
     """Adds the word."""
     lint = word("lint", "list faults and weak points of scenarios and test cases",
-                "Runs `etcs_lab lint` and then the checks of docs/SAFETY.md. A case that is meant to show an item lists it under `shows`. "
+                "Runs `etcs_lab lint` and then the checks of docs/explain/safety.md. A case that is meant to show an item lists it under `shows`. "
                 "Status 4: something was found.")
     lint.add_argument("paths", metavar="FILE", nargs="+", type=Path, help="a scenario in JSON or YAML, test cases, or a folder")
     lint.add_argument("--json", action="store_true", help="print one JSON object per line")

@@ -1,6 +1,6 @@
 """What the track says along a course: balise groups, their messages, and what is known of the track behind each event.
 
-It follows docs/CONFORMANCE.md as far as the checks of a track ask for it. Where the front is thought to be, and which mode
+It follows docs/explain/conformance.md as far as the checks of a track ask for it. Where the front is thought to be, and which mode
 holds, is read off the records of the kernel.
 """
 from collections.abc import Iterable, Sequence

@@ -1,5 +1,5 @@
 """Packets that a track sent and the unit uses in no mode and in no direction, as `etcs_lab events` tells them of each telegram (its
-member `unused`; docs/JSON.md, docs/PACKETS.md).
+member `unused`; docs/reference/json.md, docs/reference/packets.md).
 
 Nothing is worked out here but sums. Not among them are packets that a mode, a direction or their group kept from being used.
 """

@@ -2,7 +2,7 @@
 record.
 
 What is told is told as `etcs_lab replay` tells it: of each life the events that agree, and the first one that differs,
-with both answers. Events behind that aren't compared, since then both units know different things. docs/ORACLE.md has
+with both answers. Events behind that aren't compared, since then both units know different things. docs/howto/oracle.md has
 the lines.
 """
 import itertools

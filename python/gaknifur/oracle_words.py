@@ -1,4 +1,4 @@
-"""The words `serve` and `against` of `./lab`: the proved unit under the protocol of docs/ORACLE.md, and another unit
+"""The words `serve` and `against` of `./lab`: the proved unit under the protocol of docs/howto/oracle.md, and another unit
 beside a journal."""
 import argparse
 import sys
@@ -18,14 +18,14 @@ MOST_WITHIN_S = 3_600.0
 def add_words(word: Word) -> None:
     """Adds the words."""
     word("serve", "run the onboard unit as a server on standard input and output",
-         "It speaks the protocol of docs/ORACLE.md. The unit is the library that `tools/library PREFIX` makes; "
+         "It speaks the protocol of docs/howto/oracle.md. The unit is the library that `tools/library PREFIX` makes; "
          "GAKNIFUR_ETCS_UNIT names its .so.")
     against = word("against",
                    "replay a journal against another unit and compare the answers",
                    "Status 4: an answer differs, or the unit broke the protocol.")
     against.add_argument("image", metavar="IMAGE", type=Path)
     against.add_argument("command", metavar="COMMAND",
-                         help="a command with its arguments that speaks the protocol of docs/ORACLE.md")
+                         help="a command with its arguments that speaks the protocol of docs/howto/oracle.md")
     against.add_argument("--json", action="store_true", help="print one JSON object per line")
     add_within(against)
 

@@ -1,4 +1,4 @@
-"""A maker's own unit, as a program that speaks the protocol of docs/ORACLE.md over its standard streams.
+"""A maker's own unit, as a program that speaks the protocol of docs/howto/oracle.md over its standard streams.
 
 It is started once for each case or image, asked event by event, and ended. Whatever it does, each call comes back
 within the time that it has: what breaks the protocol, is late or ends before its time raises `Broken`, and no process

@@ -1,4 +1,4 @@
-"""The proved unit under the protocol of docs/ORACLE.md: the library of `unit`, over a journal in memory.
+"""The proved unit under the protocol of docs/howto/oracle.md: the library of `unit`, over a journal in memory.
 
 Each event is flushed by itself, so that each has its answer at once. The output of a power-up is never released; its
 record tells it.

@@ -20,7 +20,7 @@ from . import layout
 
 WHOLE, REFUSED, WRONG_WORDS, DEVICE, NOT_WHOLE = range(5)
 FOUND = NOT_WHOLE
-"""The exit statuses, which mean the same in each program (docs/REFUSALS.md, Exit statuses). 4 is a finding, of an image or of anything else."""
+"""The exit statuses, which mean the same in each program (docs/reference/refusals.md, Exit statuses). 4 is a finding, of an image or of anything else."""
 MEMORY, MANY, MOST_COPIED = Path("/dev/shm"), 64, 256
 """The folder that Linux keeps in memory; how many images it has room for, where it is taken for one; and the greatest number of
 slots of an image that is copied."""

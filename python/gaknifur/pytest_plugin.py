@@ -2,7 +2,7 @@
 
 `lab test FOLDER` is pytest with this plugin. A test stands below its case, and is named by its sections, its case and its
 note. `--section` and `--feature` select; `--keep FOLDER` keeps the image and the report of each case of which a test failed;
-`--against COMMAND` puts each case to another unit too (docs/ORACLE.md), and judges its answers; `-k`, `-x`, `--lf`,
+`--against COMMAND` puts each case to another unit too (docs/howto/oracle.md), and judges its answers; `-k`, `-x`, `--lf`,
 `--junitxml=FILE` and the others are pytest's own. In the JUnit XML the class of a test is its case, behind its file, and each
 test has the properties `case`, `feature` and `sections`.
 """
@@ -28,7 +28,7 @@ def pytest_addoption(parser: pytest.Parser) -> None:
                     help="only results that are about this section of SUBSET-026, or a part of it; may be told more than once")
     group.addoption("--feature", action="append", default=[], metavar="FEATURE", help="only cases of this feature")
     group.addoption("--keep", metavar="FOLDER", help="keep the image and the report of each case that failed in this new folder")
-    group.addoption("--against", metavar="COMMAND", help="another unit, whose answers are compared and judged (docs/ORACLE.md)")
+    group.addoption("--against", metavar="COMMAND", help="another unit, whose answers are compared and judged (docs/howto/oracle.md)")
     group.addoption("--answer-within", metavar="SECONDS", type=float, default=other_unit.WITHIN_S, help="how long it has for each answer")
 
 

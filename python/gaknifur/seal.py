@@ -35,7 +35,7 @@ BAG = (*(f"{bag.PAYLOAD}/{name}" for name in FILES), bag.DECLARATION, bag.INFO, 
 VERSION = 1
 """The version of `seal.json`."""
 RECORD_BYTES = {1: 128, 2: 256, 3: 256}
-"""The bytes of a record, by the format of its block (docs/FORMAT.md)."""
+"""The bytes of a record, by the format of its block (docs/reference/format.md)."""
 
 
 @dataclass

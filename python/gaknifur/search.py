@@ -1,4 +1,4 @@
-"""Looks through random scenarios for one that breaks a property, and makes it small. docs/SEARCHING.md says how it is
+"""Looks through random scenarios for one that breaks a property, and makes it small. docs/howto/searching.md says how it is
 used.
 
 A scenario is played on the programs, and judged by the records that `etcs_lab events` tells, or by another unit's

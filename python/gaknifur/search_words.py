@@ -1,4 +1,4 @@
-"""The word `search` of `./lab`: looks through random scenarios for one that breaks a property (docs/SEARCHING.md)."""
+"""The word `search` of `./lab`: looks through random scenarios for one that breaks a property (docs/howto/searching.md)."""
 import argparse
 import io
 import json
@@ -37,7 +37,7 @@ def add_words(word: Word) -> None:
     search.add_argument("--keep", metavar="FOLDER", type=Path,
                         help="write what is found into this new folder: a test case, its image and its report")
     search.add_argument("--against", metavar="COMMAND",
-                        help="check the answers of another unit: a command that speaks the protocol of docs/ORACLE.md")
+                        help="check the answers of another unit: a command that speaks the protocol of docs/howto/oracle.md")
     search.add_argument("--records", metavar="EVENTS.jsonl", type=Path,
                         help="check these records of any unit instead of searching: lines as `etcs_lab events` prints them")
     oracle_words.add_within(search)
@@ -73,11 +73,11 @@ def record_of(path: Path, number: int, line: str) -> Json | None:
         return None
     for name in (*RECORD, *NEEDED.get(str(told.get("kind")), ())):
         if name not in told:
-            raise fault(f"member {name} is missing (docs/JSON.md describes records)")
+            raise fault(f"member {name} is missing (docs/reference/json.md describes records)")
     if told["kind"] not in NEEDED:
         raise fault(f"kind has to be one of {', '.join(NEEDED)}")
     if not are_values(told):
-        raise fault("a value of this record is not one of docs/JSON.md")
+        raise fault("a value of this record is not one of docs/reference/json.md")
     return told
 
 

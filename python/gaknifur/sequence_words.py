@@ -1,4 +1,4 @@
-"""The word `sequence` of `./lab`: makes test cases of a table in the form of SUBSET-076 (docs/SEQUENCES.md)."""
+"""The word `sequence` of `./lab`: makes test cases of a table in the form of SUBSET-076 (docs/howto/sequences.md)."""
 import argparse
 import sys
 import tempfile

@@ -1,5 +1,5 @@
 """A table of test steps, in the form of SUBSET-076's sequences, as test cases: each step has an interface, an action,
-and what is expected. docs/SEQUENCES.md has the words.
+and what is expected. docs/howto/sequences.md has the words.
 
 What the texts of a table mean, no file of this product says: a laboratory owns a mapping file, in which patterns stand
 for steps and for expected results. What no pattern fits is told by its row, and is never guessed.

@@ -1,6 +1,6 @@
 """What random scenarios are made of: tracks, trains, drivers and losses of power, as strategies of hypothesis.
 
-A file of properties may say what its scenarios are made of (docs/SEARCHING.md); what it doesn't say is told here. What
+A file of properties may say what its scenarios are made of (docs/howto/searching.md); what it doesn't say is told here. What
 stands first is the simplest, so a scenario that is made small goes that way. Forward drives prevail: lives in which all
 steps are as frequent stay near their beginning.
 """

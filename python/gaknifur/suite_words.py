@@ -30,7 +30,7 @@ def add_words(word: Word) -> None:
                       "settings, test modules); they run with all your permissions")
     add_force(test)
     test.add_argument("--keep", metavar="FOLDER", help="keep the image and report of each failed case in this new folder")
-    test.add_argument("--against", metavar="COMMAND", help="also run another unit: a command that speaks the protocol of docs/ORACLE.md. "
+    test.add_argument("--against", metavar="COMMAND", help="also run another unit: a command that speaks the protocol of docs/howto/oracle.md. "
                       "Its answers are checked and compared")
     oracle_words.add_within(test)
     told = word("coverage", "list the sections and transitions that the cases of a folder cover",

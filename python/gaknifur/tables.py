@@ -290,7 +290,7 @@ def is_notable(table: pd.DataFrame) -> Any:
 
 
 def slot_of(record: Json) -> int:
-    """The slot in which a record stands, by its byte (docs/FORMAT.md)."""
+    """The slot in which a record stands, by its byte (docs/reference/format.md)."""
     return int(record["byte"] // SECTOR - 1) // SLOT_SECTORS
 
 

@@ -4,9 +4,9 @@ A telegram is told as its header and its packets, one behind another:
 
     NID_BG 2; 12: V_MAIN 24, L_ENDSECTION 300; 65: NID_TSR 7, D_TSR 100, L_TSR 50, Q_FRONT 1, V_TSR 4
 
-The variables of a packet stand in the order of its layout (docs/CONFORMANCE.md). What follows from the others is worked
+The variables of a packet stand in the order of its layout (docs/explain/conformance.md). What follows from the others is worked
 out where it isn't told: L_PACKET, a counter, and a Q_ that says whether further variables follow. `USUAL` is what stands
-for other variables that aren't told. A packet that the kernel skips has the layout of docs/PACKETS.md; one without a
+for other variables that aren't told. A packet that the kernel skips has the layout of docs/reference/packets.md; one without a
 layout has its head and any variables behind it.
 """
 import re
@@ -112,7 +112,7 @@ LAYOUTS: dict[int, tuple[Part, ...]] = {
 
 
 def read_layout(text: str) -> tuple[Part, ...]:
-    """The layout of a text, as docs/PACKETS.md has it: `(N_ITER ..)` is a list, `[Q_SCALE=1 ..]` a choice."""
+    """The layout of a text, as docs/reference/packets.md has it: `(N_ITER ..)` is a list, `[Q_SCALE=1 ..]` a choice."""
     stack: list[list[Part]] = [[]]
     heads: list[str] = []
     for word in re.findall(r"[(\[][A-Z_=0-9]+|[A-Z_0-9]+|[)\]]", text):

@@ -1,7 +1,7 @@
-"""Checks of a track and of the steps of a train on it, by the items of docs/SAFETY.md.
+"""Checks of a track and of the steps of a train on it, by the items of docs/explain/safety.md.
 
 Each check has the number of its item. It looks at the course of a life (`messages`), and finds what the item warns of,
-with the numbers that decide it. docs/TESTING_A_TRAIN.md has the list, and says which items no track can show.
+with the numbers that decide it. docs/howto/testing-a-train.md has the list, and says which items no track can show.
 """
 from collections.abc import Callable, Iterator
 from dataclasses import dataclass
@@ -33,7 +33,7 @@ TRIP_MODES = ("FS", "OS", "SR")
 
 @dataclass(frozen=True)
 class Finding:
-    """What an item of docs/SAFETY.md warns of: where, what is so, and what to do."""
+    """What an item of docs/explain/safety.md warns of: where, what is so, and what to do."""
 
     safety: int
     pointer: str
@@ -604,13 +604,13 @@ def packet_3_of_installed_tracks(judged: Judged) -> Iterator[Finding]:
     """A telegram that is refused since its packet 3 has more variables."""
     for event in judged.walked.events:
         for number, bits in packets_sent(event.record) if is_refused(event.record) else ():
-            # N_ITER is before the first NID_C, or after it (docs/PACKETS.md).
+            # N_ITER is before the first NID_C, or after it (docs/reference/packets.md).
             length, counts = int(bits[10:23], 2), (int(bits[40:45] or "0", 2), 1 + int(bits[50:55] or "0", 2))
             count = next((one for one in counts if length == INSTALLED + WIDTH["NID_C"] * one), None)
             if number == 3 and count is not None:
                 yield Finding(39, event.pointer, f"the telegram has a packet 3 of an installed track: {INSTALLED + 10 * count} bits, and "
                               f"{147 + 10 * count} are read here; the whole telegram is refused",
-                              "send a packet 3 of this profile (docs/CONFORMANCE.md)")
+                              "send a packet 3 of this profile (docs/explain/conformance.md)")
 
 
 @dataclass(frozen=True)
@@ -635,7 +635,7 @@ OBEYED = {
     135: Obeyed("doesn't go on with Shunting when the desk is opened", "let the driver close the desk, which leads to Stand By"),
     137: Obeyed("trips in Staff Responsible", "let the equipment around the unit brake there", 23),
 }
-"""Such packets. Where the bits are is in docs/PACKETS.md."""
+"""Such packets. Where the bits are is in docs/reference/packets.md."""
 
 
 def skipped_by(judged: Judged, message: Message, read: Read) -> Iterator[int]:
@@ -703,4 +703,4 @@ def findings(judged: Judged) -> list[Finding]:
 
 
 ITEMS = sorted({number for number, _ in CHECKS})
-"""The items of docs/SAFETY.md that have a check."""
+"""The items of docs/explain/safety.md that have a check."""

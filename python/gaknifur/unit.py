@@ -136,7 +136,7 @@ class UnitWhy:
 @dataclass(frozen=True, slots=True)
 class Record:
     """A record of a journal with all that its block tells of it. Place, uncertainty and limit are None in format 1. The
-    payload is what the event tells (docs/FORMAT.md)."""
+    payload is what the event tells (docs/reference/format.md)."""
 
     event: int
     block: int
@@ -175,7 +175,7 @@ class Slot:
 
 
 class Refused(Exception):
-    """A call that answered something else than OK: `number`, and `name` as in docs/REFUSALS.md."""
+    """A call that answered something else than OK: `number`, and `name` as in docs/reference/refusals.md."""
 
     def __init__(self, number: int) -> None:
         self.number = number
@@ -439,7 +439,7 @@ def decode(digits: str) -> tuple[int, int]:
 
 @dataclass(frozen=True)
 class Adapted:
-    """What came of a telegram that may be of an installed track (docs/PACKETS.md)."""
+    """What came of a telegram that may be of an installed track (docs/reference/packets.md)."""
 
     outcome: Adaptation
     telegram: bytes

@@ -1,4 +1,4 @@
-"""The words of `etcs_lab` as people say them (docs/GLOSSARY.md), and texts of events, telegrams and actions."""
+"""The words of `etcs_lab` as people say them (docs/reference/glossary.md), and texts of events, telegrams and actions."""
 from decimal import Decimal
 from typing import Any
 

@@ -1,4 +1,4 @@
-"""Another unit under the protocol of docs/ORACLE.md, and properties of records (docs/SEARCHING.md)."""
+"""Another unit under the protocol of docs/howto/oracle.md, and properties of records (docs/howto/searching.md)."""
 import json
 import os
 import resource

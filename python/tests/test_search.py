@@ -1,4 +1,4 @@
-"""The word `search`: what is kept of what is found (docs/SEARCHING.md)."""
+"""The word `search`: what is kept of what is found (docs/howto/searching.md)."""
 import unittest
 
 from gaknifur.search_words import names_of

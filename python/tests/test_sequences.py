@@ -1,4 +1,4 @@
-"""Tables of steps as test cases (docs/SEQUENCES.md), and the dissector for Wireshark (docs/WIRESHARK.md)."""
+"""Tables of steps as test cases (docs/howto/sequences.md), and the dissector for Wireshark (docs/howto/wireshark.md)."""
 import struct
 import tempfile
 import unittest

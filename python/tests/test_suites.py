@@ -371,7 +371,7 @@ class Coverage(InFiles):
 
     def test_what_another_train_does(self) -> None:
         """Each section that isn't left out says what a train of issue 2.3.0 does, each difference with its sign and how sure it is."""
-        text, told = page("CONFORMANCE.md"), 0
+        text, told = page("explain/conformance.md"), 0
         for heading in ("Chapter 3", "Chapters 4 and 5", "Chapters 7 and 8"):
             for name, _, here, otherwise in table_rows(text, heading):
                 if otherwise or not here.startswith("left out"):
@@ -384,7 +384,7 @@ class Coverage(InFiles):
     def test_what_is_missing(self) -> None:
         self.write(CASE.replace("[3.10]", "[3.8.1, 3.99]") + "  - {note: x, at: {mode: FS}, row: 2 from OS}\n")
         faults = "\n".join(coverage.matrix(self.path.parent).faults)
-        for said in ("3.99 is no section of docs/CONFORMANCE.md", "3.8.3 has no case, and no reason why", "16 from SB has no case"):
+        for said in ("3.99 is no section of docs/explain/conformance.md", "3.8.3 has no case, and no reason why", "16 from SB has no case"):
             self.assertIn(said, faults)
         for said in ("3.8.1 has no case", "2 from OS has no case"):
             self.assertNotIn(said, faults)

@@ -45,11 +45,11 @@ class Names(unittest.TestCase):
                 self.assertTrue(name.endswith(f"_{member.name}"), name)
 
     def test_the_texts_of_statuses(self) -> None:
-        """The header's text of each status is its name, and docs/REFUSALS.md explains each."""
+        """The header's text of each status is its name, and docs/reference/refusals.md explains each."""
         text = HEADER.read_text()
         told = dict(re.findall(r'case \(uint32_t\)ETCS_UNIT_(\w+): text = "(\w+)";', text))
         self.assertEqual(told, {one.name: one.name for one in Status})
-        page = (INCLUDE.parent / "docs" / "REFUSALS.md").read_text()
+        page = (INCLUDE.parent / "docs/reference/refusals.md").read_text()
         part = page[page.index("## The unit from C"):page.index("## The program")]
         rows = re.findall(r"^\| (\d+) \| ([A-Z_]+) \|(?:[^|\n]*\|){3}$", part, re.MULTILINE)
         self.assertEqual({(int(number), name) for number, name in rows},
@@ -89,7 +89,7 @@ class Noted(MemoryMedium):
 
 
 def gates(slots: range) -> list[int]:
-    """The sectors of the gates of these slots (docs/FORMAT.md)."""
+    """The sectors of the gates of these slots (docs/reference/format.md)."""
     return [1 + 6 * slot for slot in slots]
 
 

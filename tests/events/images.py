@@ -1,5 +1,5 @@
 """Images for `etcs_lab events`: those of the program's rows and examples, as the plain unit leaves them, damaged ones, and images of
-pseudo-random blocks in all three formats, which the plain writer of docs/FORMAT.md makes.
+pseudo-random blocks in all three formats, which the plain writer of docs/reference/format.md makes.
 """
 import json
 import struct

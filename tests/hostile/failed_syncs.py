@@ -8,7 +8,7 @@ A life is recorded with one of its syncs failing, each in turn, and two more liv
 - as Linux does: what was written may have reached the medium or not, or in part; later syncs write it no more; and reads find what was written
   until the system drops its copies of the pages. What is read then is what the medium has (record.c hands it out).
 
-Behind the failed sync the image is settled, as docs/REFUSALS.md asks for (tools/settle), before it is opened again; then a listing is to list
+Behind the failed sync the image is settled, as docs/reference/refusals.md asks for (tools/settle), before it is opened again; then a listing is to list
 what a loss of power would leave. So that this test can fail, the same is tried with a Linux whose pages nobody drops: there some event has to
 be lost.
 """

@@ -1,6 +1,6 @@
 """Images of each state of a slot, cut off, altered and by chance, each with a name; some with a number of slots that they are read to have.
 
-They are written from docs/FORMAT.md (tests/plain/blocks.py).
+They are written from docs/reference/format.md (tests/plain/blocks.py).
 """
 import random
 import sys

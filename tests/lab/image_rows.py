@@ -4,7 +4,7 @@
     tests/lab/image_rows.py PROGRAM [ETCS]      runs the program on each image, and compares; with the program etcs, times of both on big images
     tests/lab/image_rows.py --cases FOLDER      lays the images, their words and what is to be printed into a folder, for rt try --cases
 
-The images are written from docs/FORMAT.md (tests/plain/blocks.py), and what is to be printed is worked out by examined.py, which was written
+The images are written from docs/reference/format.md (tests/plain/blocks.py), and what is to be printed is worked out by examined.py, which was written
 from the pages too. Both forms are compared: lines as they stand, JSON as a value.
 """
 import fcntl

@@ -5,7 +5,7 @@ is worked out by the plain replay (tests/plain/replay.py).
 
     tests/lab/replay_rows.py PROGRAM..          runs the program on each image, as people and as programs read it, and compares
     tests/lab/replay_rows.py --cases FOLDER WORD..     lays images, words and what is to be printed into a folder, for rt try --cases
-    tests/lab/replay_rows.py --table            prints which altered fields are found, as docs/TESTS.md has it
+    tests/lab/replay_rows.py --table            prints which altered fields are found, as docs/project/tests.md has it
 """
 import json
 import subprocess
@@ -244,7 +244,7 @@ def table():
 
 
 def compare_page(page):
-    """The table of docs/TESTS.md is that of these rows."""
+    """The table of docs/project/tests.md is that of these rows."""
     missing = [line for line in table() if line not in page.read_text().splitlines()]
     print("\n".join([f"{page.name} doesn't have: {line}" for line in missing] or [f"{page.name} has the table of altered fields"]))
     return bool(missing)
@@ -308,7 +308,7 @@ def main(words):
         print("\n".join(table()))
         return 0
     failed = compare(words)
-    return int(compare_page(TOP / "docs/TESTS.md") or failed)
+    return int(compare_page(TOP / "docs/project/tests.md") or failed)
 
 
 if __name__ == "__main__":

@@ -1,5 +1,5 @@
 #!/usr/bin/env python3
-"""The exit statuses of the programs, compared with the two tables of docs/REFUSALS.md (Exit statuses).
+"""The exit statuses of the programs, compared with the two tables of docs/reference/refusals.md (Exit statuses).
 
     tests/lab_package/status_rows.py ETCS ETCS_LAB
 
@@ -178,7 +178,7 @@ def status_of(room, words, programs, env):
 
 def tables():
     """The marks of the first table, as pairs of status and program; and the commands of the second one."""
-    text = (TOP / "docs/REFUSALS.md").read_text().split("## Exit statuses", 1)[1].split("\n## ", 1)[0]
+    text = (TOP / "docs/reference/refusals.md").read_text().split("## Exit statuses", 1)[1].split("\n## ", 1)[0]
     rows = [[cell.strip() for cell in line.strip("|").split("|")] for line in text.splitlines() if line.startswith("|")]
     programs = [name.strip("`") for name in rows[0][2:]]
     marks = {(int(row[0]), name) for row in rows if row[0].isdigit() for name, mark in zip(programs, row[2:]) if mark == "yes"}

@@ -25,7 +25,7 @@ from gaknifur.reading import read  # noqa: E402
 
 WITHIN_S, HANGS_S, LEAST = 60.0, 8.0, 30
 AT = "event 8: "
-# What is told of each kind. By hand, from docs/ORACLE.md and what the example does: it is made ready by event 5, too
+# What is told of each kind. By hand, from docs/howto/oracle.md and what the example does: it is made ready by event 5, too
 # fast at event 8.
 FOUND = {
     "brake_late": "differs in brake", "other_mode": "differs in mode",

@@ -1,5 +1,5 @@
 #!/usr/bin/env python3
-"""The packets that a track of issue 2.3.0 sends, as `track_packets` tells them (SUBSET-026, 7.4.2; docs/PACKETS.md): where they stand in
+"""The packets that a track of issue 2.3.0 sends, as `track_packets` tells them (SUBSET-026, 7.4.2; docs/reference/packets.md): where they stand in
 a telegram, by L_PACKET alone, and the fields of each; and a telegram with its packet 3 in this project's order, as `installed_values`
 writes it.
 
@@ -13,12 +13,12 @@ from decoded import LONGEST, Fault, Fields, packet
 from named import INSTALLED, WIDTH
 
 HEADER_BITS, HEAD_BITS, MOST = 50, 23, 34
-PAGE = Path(__file__).resolve().parents[2] / "docs/PACKETS.md"
+PAGE = Path(__file__).resolve().parents[2] / "docs/reference/packets.md"
 
 
 @cache
 def names():
-    """The names of packets by their numbers, as docs/PACKETS.md has them."""
+    """The names of packets by their numbers, as docs/reference/packets.md has them."""
     section = PAGE.read_text(encoding="utf-8").split("## Names")[1].split("\n## ")[0]
     rows = [[cell.strip() for cell in line.strip("|").split("|")] for line in section.splitlines() if line.startswith("|")]
     return {int(row[0]): row[1] for row in rows if row[0].isdigit()}

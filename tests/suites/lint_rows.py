@@ -4,7 +4,7 @@ same track mended; what else the word prints, and its status; and what it finds 
 
     tests/suites/lint_rows.py ETCS ETCS_LAB
 
-The formulas are those of docs/SAFETY.md. The train of the rows is 200 m long and brakes with 70 cm/s2 at once: 2,592 * 70 = 181,440.
+The formulas are those of docs/explain/safety.md. The train of the rows is 200 m long and brakes with 70 cm/s2 at once: 2,592 * 70 = 181,440.
 """
 import json
 import os

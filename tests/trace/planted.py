@@ -1,6 +1,6 @@
 #!/usr/bin/env python3
-"""Whether tools/trace --check tells of each fault that is planted in a copy of what it reads: of each its own line. An
-unaltered copy passes.
+"""Whether tools/trace --check and tools/docs --check report each fault that is planted in a copy of what they read, each
+with its own line. An unaltered copy passes.
 
     tests/trace/planted.py
 """
@@ -17,14 +17,20 @@ WHOLE = (
     "crates.txt",
     ".ci/run",
     "docs",
-    "include",
     "suites",
     "drives",
     "tools",
     "python/gaknifur",
     "tests",
+    "CHANGELOG.md",
+    "SECURITY.md",
+    "bench",
+    "examples",
+    "include",
+    "page",
+    "surroundings",
 )
-LEAST = 33
+LEAST = 39
 
 # Each plant: the file, what stands there, what is put in its place, and what has to be told.
 PLANTS = (
@@ -93,43 +99,43 @@ PLANTS = (
     ),
     (
         "a promise without a requirement",
-        "docs/PROMISES.md",
+        "docs/explain/promises.md",
         "\n## The premises\n",
         "\n- That it is blue.\n\n## The premises\n",
         'no requirement is of the promise "That it is blue.',
     ),
     (
         "a promise that names another clause",
-        "docs/PROMISES.md",
+        "docs/explain/promises.md",
         "`Onboard::accept` (`accepted`)",
         "`Onboard::accept` (`quiet`)",
-        "docs/PROMISES.md names `quiet` in P-1",
+        "docs/explain/promises.md names `quiet` in P-1",
     ),
     (
         "a clause that a promise names no more",
-        "docs/PROMISES.md",
+        "docs/explain/promises.md",
         "covers `run` from",
         "covers `ran` from",
-        "P-13 names run, and docs/PROMISES.md doesn't",
+        "P-13 names run, and docs/explain/promises.md doesn't",
     ),
     (
         "a premise that is gone",
-        "docs/PROMISES.md",
+        "docs/explain/promises.md",
         "- **Memory is there.**",
         "- **Room is there.**",
-        'docs/PROMISES.md has 0 sentences that begin "Memory is there"',
+        'docs/explain/promises.md has 0 sentences that begin "Memory is there"',
     ),
     (
         "a premise without an identity",
-        "docs/PROMISES.md",
+        "docs/explain/promises.md",
         "- **Memory is there.**",
         "- **Room is there.**",
         'the premise "Room is there.',
     ),
-    ("an item that is gone", "docs/SAFETY.md", "\n12. **Backward", "\n12. Backward", "docs/SAFETY.md has no item 12"),
+    ("an item that is gone", "docs/explain/safety.md", "\n12. **Backward", "\n12. Backward", "docs/explain/safety.md has no item 12"),
     (
         "an item that names what isn't there",
-        "docs/SAFETY.md",
+        "docs/explain/safety.md",
         "(`waiting` in",
         "(`waits` in",
         "item 4 names `waits` of national.InForce",
@@ -139,32 +145,32 @@ PLANTS = (
         "crates/reader/src/errors.rt",
         "Damaged = 32",
         "Damaged = 35",
-        "docs/REFUSALS.md has ListingError Damaged with 32",
+        "docs/reference/refusals.md has ListingError Damaged with 32",
     ),
     (
         "a refusal without a row",
         "include/etcs_unit.h",
         "ETCS_UNIT_CLOCK_BACK = 11,",
         "ETCS_UNIT_CLOCK_BACK = 11,\n    ETCS_UNIT_LATE = 14,",
-        "docs/REFUSALS.md has no row for etcs_unit_status LATE",
+        "docs/reference/refusals.md has no row for etcs_unit_status LATE",
     ),
     (
         "a section without a requirement",
-        "docs/CONFORMANCE.md",
+        "docs/explain/conformance.md",
         "| 3.9 | infill | left out",
         "| 3.9 | infill | standard",
         "has the section 3.9, and no requirement",
     ),
     (
         "a sentence of the standard in a section that has none",
-        "docs/CONFORMANCE.md",
+        "docs/explain/conformance.md",
         "| 7.4.2, packet 255 | end mark | standard: eight bits alone",
         "| 7.4.2, packet 255 | end mark | profile: eight bits alone",
         "R-7.4.2.p255-1 is of the standard",
     ),
     (
         "a constant of no definition",
-        "docs/CONFORMANCE.md",
+        "docs/explain/conformance.md",
         "`mark_behind`",
         "`mark_before`",
         "names `mark_before` of track_picture",
@@ -192,14 +198,14 @@ PLANTS = (
     ),
     (
         "a number that its runner doesn't have",
-        "docs/TESTS.md",
+        "docs/project/tests.md",
         "2,758 rows",
         "2,759 rows",
         '"parts: 2,759 rows" isn\'t what tests/rows.sh has: it has 2,758',
     ),
     (
         "a number that nothing holds",
-        "docs/TESTS.md",
+        "docs/project/tests.md",
         "## Requirements\n",
         "## Requirements\n\nIt tries 77 images.\n",
         "nothing holds the number in",
@@ -244,15 +250,41 @@ ALONE = (  # planted by themselves: pages are compared where nothing else is wro
         "A, of B, 2026-12-01, **outdated**",
     ),
 )
+PAGES = (  # for tools/docs --check
+    ("a dead link", "docs/README.md", "(start/c.md)", "(start/d.md)", "docs/README.md: there is no docs/start/d.md"),
+    (
+        "a dead anchor",
+        "docs/start/investigate.md",
+        "refusals.md#exit-statuses",
+        "refusals.md#exit-status",
+        "docs/start/investigate.md: docs/reference/refusals.md has no heading for #exit-status",
+    ),
+    (
+        "a line that isn't there",
+        "docs/REVIEW.md",
+        "/Output.antt#L",
+        "/Output.antt#L9",
+        "docs/REVIEW.md: crates/kernel/specs/Output.antt has no line 9",
+    ),
+    (
+        "a page for nobody",
+        "docs/howto/oracle.md",
+        "How-to for makers",
+        "Of makers",
+        'docs/howto/oracle.md: the first line below the title has to begin with "How-to for "',
+    ),
+    ("a misspelt page", "docs/explain/safety.md", "different", "diffrent", "diffrent ==> different"),
+    ("a misspelt help text", "python/gaknifur/__main__.py", "internal", "interal", "interal ==> internal"),
+)
 
 
 def copy(top):
-    """A copy of what the tool reads."""
+    """A copy of what the tools read."""
     for name in WHOLE:
         source, target = TOP / name, top / name
         target.parent.mkdir(parents=True, exist_ok=True)
         if source.is_dir():
-            shutil.copytree(source, target, ignore=shutil.ignore_patterns("__pycache__", "*.png", "out"))
+            shutil.copytree(source, target, ignore=shutil.ignore_patterns("__pycache__", "out"))
         else:
             shutil.copy2(source, target)
     for crate in (TOP / "crates").iterdir():
@@ -277,9 +309,9 @@ def plant(top, path, old, new):
         file.write_text(text.replace(old, new, 1), encoding="utf-8")
 
 
-def checked(top):
-    """What the tool tells of the copy."""
-    return subprocess.run([top / "tools/trace", "--check"], capture_output=True, text=True, check=False)
+def checked(top, tool="trace"):
+    """What a tool says of the copy."""
+    return subprocess.run([top / "tools" / tool, "--check"], capture_output=True, text=True, check=False)
 
 
 def review(top):
@@ -302,12 +334,13 @@ def main():
         copy(top)
         if not review(top):
             sys.exit("tests/trace/planted.py: a review that was made doesn't stand on its page")
-        if (run := checked(top)).returncode:
-            sys.exit(f"tests/trace/planted.py: an unaltered copy doesn't pass:\n{run.stdout}{run.stderr}")
-        for plants in (ALONE, PLANTS):
+        for tool in ("trace", "docs"):
+            if (run := checked(top, tool)).returncode:
+                sys.exit(f"tests/trace/planted.py: an unaltered copy doesn't pass:\n{run.stdout}{run.stderr}")
+        for tool, plants in (("docs", PAGES), ("trace", ALONE), ("trace", PLANTS)):
             for _, path, old, new, _ in plants:
                 plant(top, path, old, new)
-            run = checked(top)
+            run = checked(top, tool)
             wrong += [
                 f"{name} isn't told: {says}"
                 for name, *_, says in plants

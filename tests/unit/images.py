@@ -1,6 +1,6 @@
 #!/usr/bin/env python3
 """Images read from C (listing.c) beside `etcs journal`, line for line: those that are handed in, and those of all examples. And altered ones
-of all three formats, beside what the plain reader of docs/FORMAT.md tells (tests/lab/examined.py): which records can be read, what each slot
+of all three formats, beside what the plain reader of docs/reference/format.md tells (tests/lab/examined.py): which records can be read, what each slot
 holds, and what each head keeps.
 
     tests/unit/images.py LISTING.. IMAGE..    LISTING are programs whose names begin with "listing"; $ETCS names the program

@@ -4,7 +4,7 @@
     tests/unit/names.py LIBRARY SYMBOL..    SYMBOL.. are the names that the library shows
 
 Each number of each enum has a name. It is the enumerator in small letters, or another word that is listed here by hand; and the names of an enum
-are the words of the program that docs/JSON.md and docs/REFUSALS.md list, which tests/json_page.py compares with what the program prints. Other
+are the words of the program that docs/reference/json.md and docs/reference/refusals.md list, which tests/json_page.py compares with what the program prints. Other
 numbers are "unknown". That the names are those that `etcs journal`, `etcs_lab replay` and `etcs_lab why` print, images.py, again.py and
 explained.py compare event by event.
 """
@@ -24,7 +24,7 @@ MODES = {"FULL_SUPERVISION": "FS", "ON_SIGHT": "OS", "STAFF_RESPONSIBLE": "SR", 
 VERDICTS = {"BEFORE_OLDEST": "before_oldest_block", "BEHIND_GAP": "gap"}
 RECORD_FIELDS = {"MOMENT": "time_ms", "FRONT": "place_cm", "UNCERTAINTY": "uncertainty_cm", "LIMIT": "limit_m_per_h"}
 KEPT_FIELDS = {"TRIP": "trip_outstanding", "NATIONAL": "national_values"}
-# Of each enum the words that aren't the enumerator in small letters, and of docs/JSON.md the section, the member and the words that it hasn't.
+# Of each enum the words that aren't the enumerator in small letters, and of docs/reference/json.md the section, the member and the words that it hasn't.
 ENUMS = {
     "mode": (MODES, ("Record", "mode"), ()),
     "level": ({"LEVEL_0": "0", "LEVEL_1": "1", "INVALID": "-"}, None, ()),
@@ -50,7 +50,7 @@ LEAST = 24
 
 
 def words_of(page, section, member):
-    """The words of a member's value in docs/JSON.md; those of a member that is one of several are the members."""
+    """The words of a member's value in docs/reference/json.md; those of a member that is one of several are the members."""
     text = re.search(rf"^#+ {re.escape(section)}\n(.*?)(?=^#|\Z)", page, re.MULTILINE | re.DOTALL)[1]
     row = next(line for line in text.splitlines() if line.startswith(f"| `{member}`"))
     members, values, *_ = (re.findall("`(.+?)`", cell.split(" - ")[0]) for cell in row.split(" | "))
@@ -63,7 +63,7 @@ def short(name, enum):
 
 
 def main(words):
-    rows, library, page = Compared(), ctypes.CDLL(words[0]), (TOP / "docs/JSON.md").read_text()
+    rows, library, page = Compared(), ctypes.CDLL(words[0]), (TOP / "docs/reference/json.md").read_text()
     tried = {"status", "dropped"}
 
     def name_of(enum, number):
@@ -76,12 +76,12 @@ def main(words):
         found = [name_of(enum, member.value) for member in members.values()]
         rows.same(enum, found, [others.get(name, short(name, enum)) for name in members])
         if place:
-            rows.same(f"{enum} in docs/JSON.md", set(found) - set(more), words_of(page, *place))
+            rows.same(f"{enum} in docs/reference/json.md", set(found) - set(more), words_of(page, *place))
         values = {member.value for member in members.values()}
         rows.same(f"other numbers than those of {enum}", {name_of(enum, n) for n in (*range(300), 2**32 - 1) if n not in values}, {"unknown"})
         tried.add(enum)
     both = [{name_of(enum, n) for n in range(1, 12)} - {"unknown"} for enum in FIELDS]
-    rows.same("fields in docs/JSON.md", both[0] | both[1], words_of(page, "Replay", "field"))
+    rows.same("fields in docs/reference/json.md", both[0] | both[1], words_of(page, "Replay", "field"))
     for enum, names in (("status", _header.Status), ("dropped", _header.DroppedVariable)):
         for name, member in names.__members__.items():
             rows.same(f"{enum} {member.value}", name_of(enum, member.value), name)

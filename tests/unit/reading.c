@@ -260,7 +260,7 @@ static void heads(const medium *on) {
     is("no level", block.kept.level_status, ETCS_DATUM_UNKNOWN);
     is("no position", block.kept.position_status, ETCS_DATUM_UNKNOWN);
     is("no trip", block.kept.trip_outstanding, 0);
-    /* the defaults of docs/CONFORMANCE.md */
+    /* the defaults of docs/explain/conformance.md */
     is("shunting", block.kept.national.shunting_m_per_h, 30000);
     is("staff responsible", block.kept.national.staff_responsible_m_per_h, 40000);
     is("on sight", block.kept.national.on_sight_m_per_h, 30000);

@@ -4,7 +4,7 @@ over a copy.
 
     tests/unit/sized.py MALLOC BUFFER    sized.c with the library, and with the one without malloc
 
-What is to be read stands in docs/FORMAT.md and crates/relayed_unit/README.md: the first sector; of each slot the gate, and the head, since a ring that
+What is to be read stands in docs/reference/format.md and crates/relayed_unit/README.md: the first sector; of each slot the gate, and the head, since a ring that
 was written over has no closed gate; the six sectors of the newest block's slot; and the gate of the next one. 16 sectors are held: so of the small
 ring three of these are known by then, and of the great one none.
 """

@@ -118,7 +118,7 @@ def page(case):
         yield from table(("Leaf", "What", "Where"), evidence(case, claim))
         yield ""
     yield "## The premises\n"
-    yield "What happens where one doesn't hold stands in [PROMISES.md](PROMISES.md#the-premises).\n"
+    yield "What happens where one doesn't hold stands in [PROMISES](explain/promises.md#the-premises).\n"
     premises = case.reader.premises.items()
     yield from table(
         ("Premise", "Says", "To be met by"), ((name, said.split(". ")[0], by) for name, (said, by, _) in premises)

@@ -23,7 +23,7 @@ TITLE = re.compile(r"^(?:row |case |# | *rows\.comment\(f?\"| *made\.say\(\"# )?
 
 @dataclass
 class TestCase:
-    """A test case: its sections, the sentence that it tests, and the items of SAFETY.md that it shows."""
+    """A test case: its sections, the sentence that it tests, and the items of SAFETY that it shows."""
 
     name: str
     rule: str

@@ -99,14 +99,14 @@ def add_sections(gaps, reader):
                 gaps.sections.append((section.name, reasons[section.name]))
             else:
                 gaps.faults.append(
-                    f"docs/CONFORMANCE.md: the section {section.name} has no test case: write one in suites/, "
+                    f"docs/explain/conformance.md: the section {section.name} has no test case: write one in suites/, "
                     "or say why in suites/without_cases.yaml"
                 )
     gaps.transitions = {name: why for name, why in reasons.items() if " from " in name}
     known = {one.name: one for one in reader.sections}
     for case in reader.cases:
         gaps.faults += [
-            f"{case.place}: {name} is no section of docs/CONFORMANCE.md: mend the case, or the page"
+            f"{case.place}: {name} is no section of docs/explain/conformance.md: mend the case, or the page"
             for name in sorted(case.sections)
             if coverage.find_section(name, known) is None
         ]

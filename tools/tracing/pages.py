@@ -61,8 +61,8 @@ def blocks(path, heading):
 
 
 def items():
-    """The items of SAFETY.md by number, with the definitions that each names."""
-    path, found = "docs/SAFETY.md", {}
+    """The items of SAFETY by number, with the definitions that each names."""
+    path, found = "docs/explain/safety.md", {}
     text = read(path)
     for one in ITEM.finditer(text):
         body = " ".join(one[3].split())
@@ -76,8 +76,8 @@ def items():
 
 
 def refusals():
-    """The rows of REFUSALS.md that have a number: what refuses, number, name and meaning."""
-    path, found, title, head, types = "docs/REFUSALS.md", [], "", [], []
+    """The rows of REFUSALS that have a number: what refuses, number, name and meaning."""
+    path, found, title, head, types = "docs/reference/refusals.md", [], "", [], []
     for number, line in enumerate(read(path).splitlines(), 1):
         if line.startswith("#"):
             title = line.lstrip("# ")
@@ -102,8 +102,8 @@ def refusals():
 
 
 def texts(heading):
-    """The rows of a table of REFUSALS.md that begin with a text: a name made of it, the text, and what it means."""
-    path, title, is_head, found = "docs/REFUSALS.md", "", True, []
+    """The rows of a table of REFUSALS that begin with a text: a name made of it, the text, and what it means."""
+    path, title, is_head, found = "docs/reference/refusals.md", "", True, []
     for number, line in enumerate(read(path).splitlines(), 1):
         if line.startswith("#"):
             title, is_head = line.lstrip("# "), True
@@ -125,13 +125,13 @@ def variants(kind, path):
 
 
 def sections():
-    """The sections of CONFORMANCE.md that the product has something of, and those that it leaves out."""
+    """The sections of CONFORMANCE that the product has something of, and those that it leaves out."""
     return coverage.sections()
 
 
 def questions():
-    """The rows of "In one sentence each" and of the constants of CONFORMANCE.md: sentence, definitions, crates."""
-    text = read("docs/CONFORMANCE.md")
+    """The rows of "In one sentence each" and of the constants of CONFORMANCE: sentence, definitions, crates."""
+    text = read("docs/explain/conformance.md")
     for heading, at in (("In one sentence each", 2), ("Constants of this profile", 2)):
         for cells in table_rows(text, heading):
             for part in cells[at].split(";"):

@@ -13,8 +13,8 @@ from tracing import evidence, pages
 from tracing.sources import Place
 
 PAGE = Path("docs/requirements.yaml")
-CONDITIONS = Path("docs/INTEGRATION.md")
-PROMISES = "docs/PROMISES.md"
+CONDITIONS = Path("docs/explain/integration.md")
+PROMISES = "docs/explain/promises.md"
 PARTS = ("introductions", "sections", "promises", "premises", "not_promised", "own", "safety", "refusals", "alone")
 HELD = ("defined", "clauses", "laws", "edits", "rows", "tests", "premises", "rests_on", "words", "unnamed", "why_none")
 KINDS = ("standard", "profile", "own")
@@ -185,13 +185,13 @@ class Reader:
             if name not in named:
                 self.fault(
                     at,
-                    f"docs/CONFORMANCE.md has the section {name}, and no requirement is of it: write one, R-{name}-1",
+                    f"docs/explain/conformance.md has the section {name}, and no requirement is of it: write one, R-{name}-1",
                 )
         for name, sentences in named.items():
             if name not in here:
                 self.fault(
                     sentences,
-                    f"docs/CONFORMANCE.md has no section {name}, or leaves it out: take its requirements out, or mend "
+                    f"docs/explain/conformance.md has no section {name}, or leaves it out: take its requirements out, or mend "
                     "the page",
                 )
             for identity, one in sentences.entries().items():
@@ -207,7 +207,7 @@ class Reader:
                 if it.kind == "standard" and name in here and "standard" not in here[name].here:
                     self.fault(
                         told["kind"],
-                        f"{identity} is of the standard, and docs/CONFORMANCE.md has nothing of {name} as the standard "
+                        f"{identity} is of the standard, and docs/explain/conformance.md has nothing of {name} as the standard "
                         "has it: make it profile, or mend the page",
                     )
                 short = name.replace(" packet ", ".p").replace(" all others", ".others")
@@ -320,7 +320,7 @@ class Reader:
             )
 
     def read_safety(self, at):
-        """The items of SAFETY.md, both ways."""
+        """The items of SAFETY, both ways."""
         items, named = pages.items(), at.entries()
         for number, (said, _) in items.items():
             if f"S-{number}" not in named:
@@ -328,7 +328,7 @@ class Reader:
         for identity, one in named.items():
             told = one.members(("by",), HELD)
             if identity[2:] not in map(str, items) or not identity.startswith("S-"):
-                self.fault(one, f"docs/SAFETY.md has no item {identity[2:]}: take {identity} out")
+                self.fault(one, f"docs/explain/safety.md has no item {identity[2:]}: take {identity} out")
                 continue
             said, defined = items[int(identity[2:])]
             it = Requirement(identity, "safety", said.text, "own", said.place, by=told["by"].text())
@@ -368,7 +368,7 @@ class Reader:
         rows = pages.texts(told["heading"].text())
         if not rows:
             self.fault(
-                told["heading"], f"docs/REFUSALS.md has no table under {told['heading'].text()}: name its heading"
+                told["heading"], f"docs/reference/refusals.md has no table under {told['heading'].text()}: name its heading"
             )
         for name, text, said in rows:
             self.hold(Requirement(f"E-{kind}-{name}", "refusals", f"{text}: {said.text}", "own", said.place), told)
@@ -378,12 +378,12 @@ class Reader:
         there, here = pages.variants(kind, at.text()), {name: number for _, number, name, _ in rows}
         for name, number in there.items():
             if here.get(name) is None and not (kind == "etcs_file_answer" and name == "OK"):
-                self.fault(at, f"docs/REFUSALS.md has no row for {kind} {name}: add it")
+                self.fault(at, f"docs/reference/refusals.md has no row for {kind} {name}: add it")
             elif number is not None and name in here and here[name] != number:
-                self.fault(at, f"docs/REFUSALS.md has {kind} {name} with {here[name]}, and the source has {number}")
+                self.fault(at, f"docs/reference/refusals.md has {kind} {name} with {here[name]}, and the source has {number}")
         for name in here:
             if name not in there:
-                self.fault(at, f"docs/REFUSALS.md has {kind} {name}, and the source doesn't")
+                self.fault(at, f"docs/reference/refusals.md has {kind} {name}, and the source doesn't")
 
     def read_laws(self):
         """The laws, each as a requirement of its own: its sentence stands where it is declared."""
@@ -439,7 +439,7 @@ class Reader:
                     page.split(".")[0] == crate and name in one.definitions for page, one in self.sources.pages.items()
                 ):
                     self.faults.append(
-                        f'docs/CONFORMANCE.md: "{sentence}" names `{name}` of {crate}, which isn\'t there: mend '
+                        f'docs/explain/conformance.md: "{sentence}" names `{name}` of {crate}, which isn\'t there: mend '
                         "the page"
                     )
         return self

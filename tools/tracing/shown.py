@@ -10,7 +10,7 @@ PARTS = {
     "sections": "Sections of SUBSET-026",
     "promises": "Promises",
     "own": "Beyond both",
-    "safety": "Items of SAFETY.md",
+    "safety": "Items of SAFETY",
     "refusals": "Refusals",
     "laws": "Laws",
 }
@@ -38,7 +38,7 @@ HEAD = """# What is required, and what holds it
 
 Written by `tools/trace` from [requirements.yaml](requirements.yaml), the sources, the rows and the test cases. A
 requirement is a sentence with an identity that stays: of a section of SUBSET-026, a promise of
-[PROMISES.md](PROMISES.md), an item of [SAFETY.md](SAFETY.md), a refusal, or of this product alone. It names the
+[PROMISES](explain/promises.md), an item of [SAFETY](explain/safety.md), a refusal, or of this product alone. It names the
 definitions that say it, and what shows that it holds: clauses of public calls and laws, which are proved; must-fail
 edits, which the prover refuses; rows and test cases, which are run. The sentences of sections are this project's words: nobody who wrote them had a copy.
 
@@ -168,7 +168,7 @@ def page_of_gaps(reader, gaps):
     yield from table(("Requirement", "Why"), grouped(gaps.without["definitions"]))
     yield "\n## Sections and transitions without a test case\n"
     yield from table(("Name", "Why"), [*gaps.sections, *gaps.transitions.items()])
-    yield "\n" + wrapped(f"Left out by the product ([CONFORMANCE.md](CONFORMANCE.md)): {'; '.join(gaps.left_out)}.")
+    yield "\n" + wrapped(f"Left out by the product ([CONFORMANCE](explain/conformance.md)): {'; '.join(gaps.left_out)}.")
     for kind in ("definitions", "clauses"):
         yield f"\n## {kind.capitalize()} of no requirement\n"
         yield from table(("Crates", "Why"), of_crates(reader, gaps, kind))

@@ -1,4 +1,4 @@
-//! Blocks of six sectors (docs/FORMAT.md).
+//! Blocks of six sectors (docs/reference/format.md).
 
 use crate::disk::SECTOR;
 use crate::driver::{Action, DriverId, TrainData};

@@ -1,4 +1,4 @@
--- The numbers by which C sees what isn't a number (this project's profile; docs/BRAKES.md has what decides a limit at length).
+-- The numbers by which C sees what isn't a number (this project's profile; docs/explain/brakes.md has what decides a limit at length).
 -- What isn't known is 0.
 use Rattle.std.specs.Prelude.{ℕ, ℤ, pos, Bool, if◌then◌else◌, Option, Some, None}
 use Rattle.reasons.specs.declared.limit_words.LimitKind.{LimitKind}

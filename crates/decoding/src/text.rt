@@ -37,7 +37,7 @@ fn show<W: Write>(bytes: &[u8], out: &mut W) -> io::Result<Status>
 }
 
 /// Writes the telegram that hex digits carry, two a byte, and answers Done. Else it writes why they carry none, and
-/// answers Refused: `refused hex`, `refused memory`, or number and name of the fault (`docs/REFUSALS.md`). Done exactly
+/// answers Refused: `refused hex`, `refused memory`, or number and name of the fault (`docs/reference/refusals.md`). Done exactly
 /// where they carry one, unless memory is refused, which is never asked for an odd number of digits. The error is that
 /// of a write.
 pub fn decode_text<W: Write>(alloc: Global, text: &str, out: &mut W) -> io::Result<Status>

@@ -1,4 +1,4 @@
--- The numbers by which C is told why (this project's profile; docs/BRAKES.md tells each cause at length).
+-- The numbers by which C is told why (this project's profile; docs/explain/brakes.md tells each cause at length).
 use Rattle.std.specs.Prelude.{ℕ, List, map, Option, Some, None, is_some}
 use Rattle.c_numbers.specs.Numbers.{or_zero, flag_of}
 use Rattle.kernel.specs.Causes.{all_causes}

@@ -1,4 +1,4 @@
-//! What a program asks an image that it has mapped (this project's profile; `docs/FORMAT.md`): its slots, its blocks and
+//! What a program asks an image that it has mapped (this project's profile; `docs/reference/format.md`): its slots, its blocks and
 //! their records, the journal from the oldest record to the newest, whether the journal agrees with the kernel, and why an
 //! event was answered so. A call that runs a life through the kernel again takes memory, and gives it back before it
 //! answers; no other does. Nothing is kept, and nothing is written to the image. Slots and events are numbered from 0,

@@ -1,4 +1,4 @@
--- The words of states and fields, and the numbers of formats (this project's profile; docs/FORMAT.md).
+-- The words of states and fields, and the numbers of formats (this project's profile; docs/reference/format.md).
 use Rattle.std.specs.Prelude.{ℕ, List, codes}
 use Rattle.blocks.specs.declared.format.Format.{Format}
 use Rattle.blocks.specs.declared.format.Format.TheVariants.{One, Two, Three}

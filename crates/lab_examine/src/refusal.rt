@@ -1,6 +1,6 @@
 //! Why a power-up would be refused.
 
-/// Why a power-up would be refused (`docs/REFUSALS.md`).
+/// Why a power-up would be refused (`docs/reference/refusals.md`).
 #[derive(Clone, Copy)]
 pub(crate) enum Refusal {
     /// The first sector doesn't give a number of slots, or there is none.

@@ -32,7 +32,7 @@ pub(crate) fn format_number(format: Format) -> u8
     }
 }
 
-/// The name of a field, as `docs/FORMAT.md` has it.
+/// The name of a field, as `docs/reference/format.md` has it.
 pub(crate) fn field_word(field: FieldName) -> &'static str
     ensures { result.now ≡ field_text field }
 {

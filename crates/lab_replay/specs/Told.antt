@@ -1,5 +1,5 @@
 -- All that a replay tells of an image, from the oldest block that is retained to the last line (this project's profile;
--- docs/FORMAT.md). Blocks are numbered from 1.
+-- docs/reference/format.md). Blocks are numbered from 1.
 use Rattle.std.specs.Prelude.{◌≡◌, ℕ, ◌≤◌, ◌++◌, false, List, Option}
 use Rattle.std.specs.Io.KnownBytes.{Appends}
 use Rattle.blocks.specs.declared.block.Block.{Block}

@@ -1,4 +1,4 @@
--- All that is told of the events of an image, and why they were answered so (this project's profile; docs/FORMAT.md).
+-- All that is told of the events of an image, and why they were answered so (this project's profile; docs/reference/format.md).
 use Rattle.std.specs.Prelude.{◌≡◌, ℕ, false, Option, List}
 use Rattle.std.specs.Io.KnownBytes.{Appends}
 use Rattle.lives.specs.Walks.{IsWalked}

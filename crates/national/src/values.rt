@@ -37,7 +37,7 @@ pub struct Values {
 
 impl Values {
     /// The defaults, which hold until others come into force (SUBSET-026, 3.18.2; the numbers: this project's profile,
-    /// in `docs/CONFORMANCE.md`).
+    /// in `docs/explain/conformance.md`).
     pub fn defaults() -> Values
         ensures { result ≡ defaults }
     {

@@ -1,4 +1,4 @@
--- What decides a limit, as a kind with its words, a place, a speed and a number (this project's profile; docs/BRAKES.md
+-- What decides a limit, as a kind with its words, a place, a speed and a number (this project's profile; docs/explain/brakes.md
 -- tells each kind at length). Places are centimetres, speeds metres per hour.
 use Rattle.std.specs.Prelude.{ℕ, ℤ, Option, Some, None, List, codes}
 use Rattle.authority.specs.declared.answers.Release.{Release}

@@ -1,4 +1,4 @@
--- The words of each cause of a brake (this project's profile; docs/BRAKES.md tells them at length): as JSON has it, in
+-- The words of each cause of a brake (this project's profile; docs/explain/brakes.md tells them at length): as JSON has it, in
 -- a sentence, and how it ends.
 use Rattle.std.specs.Prelude.{ℕ, List, codes}
 use Rattle.kernel.specs.declared.causes.BrakeCause.{BrakeCause}

@@ -10,7 +10,7 @@ use track_store::Restriction;
 use units::{Cm, Mph};
 use vars::Variable;
 
-/// A kind of what decides a limit (this project's profile; docs/BRAKES.md tells each).
+/// A kind of what decides a limit (this project's profile; docs/explain/brakes.md tells each).
 #[derive(Clone, Copy)]
 pub enum LimitKind {
     /// The mode lets no train run.

@@ -36,7 +36,7 @@ fn write_back<W: Write>(output: &Output, out: &mut W) -> io::Result<()>
 }
 
 /// Writes the line of an event's output (this project's profile): `event N mode M level L brake B limit V ind I`. N
-/// counts from 0, V is in metres per hour, I is the sum of the indications' bits (`docs/GLOSSARY.md`). The error is
+/// counts from 0, V is in metres per hour, I is the sum of the indications' bits (`docs/reference/glossary.md`). The error is
 /// that of a write.
 pub fn write_line<W: Write>(number: u64, output: &Output, out: &mut W) -> io::Result<()>
     ensures { OnOk result (Appends (W.contents out.old) (W.contents out.new) (line_of number output.now)) }

@@ -1,5 +1,5 @@
 //! The layouts of packets behind L_PACKET, as SUBSET-026, 7.4.2 has them in issue 2.3.0: a row a variable. How sure each
-//! is stands in `docs/PACKETS.md`.
+//! is stands in `docs/reference/packets.md`.
 ghost use Rattle.std.specs.Prelude.{◌≡◌};
 ghost use Rattle.track_packets.specs.Layouts.{rows_of as rows_told};
 

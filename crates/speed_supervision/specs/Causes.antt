@@ -6,6 +6,7 @@ use Rattle.driver.specs.declared.datum.Datum.TheVariants.{Unknown, Valid, Invali
 use Rattle.driver.specs.Limits.{Train}
 use Rattle.mode_table.specs.declared.mode.Mode.{Mode}
 use Rattle.mode_table.specs.declared.mode.Mode.TheVariants.{FullSupervision, OnSight, StaffResponsible, Shunting, Unfitted, StandBy, Trip, PostTrip, SystemFailure}
+use Rattle.restriction.specs.declared.restriction.Restriction.{Restriction}
 use Rattle.track_picture.specs.History.{restrictions_of, gradients_of}
 use Rattle.mode_control.specs.Conditions.{is_overridden}
 use Rattle.mode_control.specs.History.{tracks, mode_of}
@@ -31,7 +32,17 @@ journey_of life train = record {
   brakes = train.brakes;
 }
 
--- ---- in Staff Responsible and in Unfitted
+-- ---- in Staff Responsible and in Unfitted: of those of equal force a restriction in force over the train is named first,
+-- then the speed of an active override, the train's greatest speed, and the mode's national value
+
+abbrev pub IsRestrictedBy : Life → ℕ → Restriction → Type 0
+IsRestrictedBy life limit restriction = IsRestrictionOver (restrictions_of (tracks life.entries)) (span_of life) limit restriction
+
+abbrev pub IsUnrestricted : Life → ℕ → Type 0
+IsUnrestricted life limit = (restriction : Restriction) → IsRestrictedBy life limit restriction → ⊥
+
+abbrev pub IsOverride : Life → ℕ → Type 0
+IsOverride life limit = (is_overridden life ≡ true) × ((values_of life).override_speed ≡ limit)
 
 -- the greatest speed of a train whose data are valid
 abbrev pub IsMaximum : ℕ → Datum Train → Type 0
@@ -39,22 +50,23 @@ IsMaximum limit Unknown = ⊥
 IsMaximum limit (Valid train) = train.maximum ≡ limit
 IsMaximum limit (Invalid train) = ⊥
 
--- what both modes have in common: the train's greatest speed, or a restriction in force over it
-abbrev pub IsOwnCause : Life → ℕ → LimitCause → Type 0
-IsOwnCause life limit (cause.Speed (speed.OverTrain over.Maximum)) = IsMaximum limit (driver_of life).train_data
-IsOwnCause life limit (cause.Speed (speed.OverTrain (over.Restriction restriction))) =
-    IsRestrictionOver (restrictions_of (tracks life.entries)) (span_of life) limit restriction
-IsOwnCause life limit other = ⊥
-
 abbrev pub IsResponsibleCause : Life → ℕ → LimitCause → Type 0
-IsResponsibleCause life limit (cause.National national.StaffResponsible) = (values_of life).staff_responsible ≡ limit
-IsResponsibleCause life limit (cause.National national.Override) =
-    (is_overridden life ≡ true) × ((values_of life).override_speed ≡ limit)
-IsResponsibleCause life limit other = IsOwnCause life limit other
+IsResponsibleCause life limit (cause.Speed (speed.OverTrain (over.Restriction restriction))) = IsRestrictedBy life limit restriction
+IsResponsibleCause life limit (cause.National national.Override) = IsOverride life limit × IsUnrestricted life limit
+IsResponsibleCause life limit (cause.Speed (speed.OverTrain over.Maximum)) =
+    IsMaximum limit (driver_of life).train_data × IsUnrestricted life limit × (IsOverride life limit → ⊥)
+IsResponsibleCause life limit (cause.National national.StaffResponsible) =
+    ((values_of life).staff_responsible ≡ limit) × IsUnrestricted life limit × (IsOverride life limit → ⊥)
+    × (IsMaximum limit (driver_of life).train_data → ⊥)
+IsResponsibleCause life limit other = ⊥
 
 abbrev pub IsUnfittedCause : Life → ℕ → LimitCause → Type 0
-IsUnfittedCause life limit (cause.National national.Unfitted) = (values_of life).unfitted ≡ limit
-IsUnfittedCause life limit other = IsOwnCause life limit other
+IsUnfittedCause life limit (cause.Speed (speed.OverTrain (over.Restriction restriction))) = IsRestrictedBy life limit restriction
+IsUnfittedCause life limit (cause.Speed (speed.OverTrain over.Maximum)) =
+    IsMaximum limit (driver_of life).train_data × IsUnrestricted life limit
+IsUnfittedCause life limit (cause.National national.Unfitted) =
+    ((values_of life).unfitted ≡ limit) × IsUnrestricted life limit × (IsMaximum limit (driver_of life).train_data → ⊥)
+IsUnfittedCause life limit other = ⊥
 
 -- ---- in Full Supervision and On Sight
 

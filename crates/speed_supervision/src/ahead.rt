@@ -1,9 +1,11 @@
 //! The first target ahead that a speed doesn't fit.
-ghost use Rattle.std.specs.Prelude.{◌≡◌, true, false, Some, MatchOption};
+ghost use Rattle.std.specs.Prelude.{◌≡◌, ◌≤◌, true, false, Some, MatchOption, IfSome};
 ghost use Rattle.track_store.specs.Profiles.{listed};
 ghost use Rattle.speed_profile.specs.Ahead.{over_ahead, static_targets, restriction_targets, area_targets};
 ghost use Rattle.braking.specs.Braking.{fits, fits_all};
-ghost use Rattle.speed_supervision.specs.Targets.{journey_by, course_by, along_track, fits_all_on, static_kind, IsUnfit};
+ghost use Rattle.speed_supervision.specs.declared.cause.TargetAhead.{TargetAhead as a_target};
+ghost use Rattle.speed_supervision.specs.Targets.{journey_by, course_by, along_track, fits_on, fits_all_on, static_kind, IsTarget, IsUnfit};
+ghost use Rattle.speed_supervision.specs.Supervised.{order_of};
 
 use crate::{TargetAhead, TargetKind};
 use braking::{Approach, Target};
@@ -19,9 +21,12 @@ pub fn first_unfit<S: Profile<CategorySpeeds>, G: Profile<Permille>>(
     ahead: &Ahead<'_, S, G>,
     speed: Mph,
 ) -> Option<TargetAhead>
-    ensures { let journey = journey_by S.value G.value ahead.now in
+    ensures found { let journey = journey_by S.value G.value ahead.now in
         MatchOption result (fits_all_on journey (along_track journey) speed ≡ true)
         (IsUnfit journey speed) }
+    ensures first { let journey = journey_by S.value G.value ahead.now in
+        IfSome result (λ found. (other : a_target) → IsTarget journey other → fits_on journey other.target speed ≡ false
+        → order_of found.kind ≤ order_of other.kind) }
 {
     let mut approach = Approach::new(ahead.front, speed, ahead.gradient, ahead.brakes);
     if let Some(found) = unfit_static_speed(ahead, &mut approach) {
@@ -59,6 +64,7 @@ fn unfit_static_speed<S: Profile<CategorySpeeds>, G: Profile<Permille>>(
         MatchOption result
         (fits_all_on journey (over_ahead journey.front (static_targets journey.bounds journey.track.static)) approach.old.speed ≡ true)
         (IsUnfit journey approach.old.speed) }
+    ensures kind { IfSome result (λ found. order_of found.kind ≡ 0) }
     ensures same { approach.new ≡ approach.old }
 {
     let mut start = next_after(ahead.front);
@@ -96,6 +102,7 @@ fn unfit_restriction<S: Profile<CategorySpeeds>, G: Profile<Permille>>(
         MatchOption result
         (fits_all_on journey (over_ahead journey.front (restriction_targets held.mark held.restrictions)) approach.old.speed ≡ true)
         (IsUnfit journey approach.old.speed) }
+    ensures kind { IfSome result (λ found. order_of found.kind ≡ 1) }
     ensures same { approach.new ≡ approach.old }
 {
     let mark = ahead.track.restrictions.mark();
@@ -120,6 +127,7 @@ fn unfit_area<S: Profile<CategorySpeeds>, G: Profile<Permille>>(
         MatchOption result
         (fits_all_on journey (over_ahead journey.front (area_targets journey.track.national journey.track.areas)) approach.old.speed ≡ true)
         (IsUnfit journey approach.old.speed) }
+    ensures kind { IfSome result (λ found. order_of found.kind ≡ 2) }
     ensures same { approach.new ≡ approach.old }
 {
     let areas = ahead.track.areas.as_slice();

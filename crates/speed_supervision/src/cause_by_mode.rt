@@ -1,15 +1,12 @@
 //! What decides the limit, by the mode.
-ghost use Rattle.std.specs.Prelude.{◌≡◌, ◌==◌, ◌&&◌, ℕ, MatchOption, MatchBool};
-ghost use Rattle.track_picture.specs.History.{restrictions_of};
+ghost use Rattle.std.specs.Prelude.{◌≡◌, ◌==◌, ◌&&◌, ℕ, MatchOption, IfNone, MatchBool};
 ghost use Rattle.mode_control.specs.Conditions.{is_overridden};
-ghost use Rattle.mode_control.specs.History.{tracks};
 ghost use Rattle.mode_control.specs.Life.{Life, driver_of};
 ghost use Rattle.mode_control.specs.Sentences.{values_of, span_of};
 ghost use Rattle.mode_control.specs.StandsFor.{StandsForLife};
 ghost use Rattle.speed_supervision.specs.Limit.{within_maximum, restricted, responsible_limit, unfitted_limit, permitted_speed, permitted_for, limit as limit_of};
-ghost use Rattle.speed_supervision.specs.Over.{IsRestrictionOver};
 ghost use Rattle.speed_supervision.specs.Supervised.{IsCause};
-ghost use Rattle.speed_supervision.specs.Causes.{journey_of, IsMaximum, IsResponsibleCause, IsUnfittedCause, IsPermittedCause, IsLimitCause};
+ghost use Rattle.speed_supervision.specs.Causes.{journey_of, IsRestrictedBy, IsUnrestricted, IsMaximum, IsResponsibleCause, IsUnfittedCause, IsPermittedCause, IsLimitCause};
 
 use crate::{
     LimitCause, NationalValue, OverTrain, SpeedCause, along, bounds, limit, restriction_over,
@@ -100,9 +97,9 @@ fn restriction_in<T: ProfileStores>(
     supervision: &SupervisionOver<T>,
     limit: Mph,
 ) -> Option<Restriction>
-    ensures { (life : Life) → StandsForLife T.stores supervision.now life
-        → MatchOption result ((speed : ℕ) → restricted life speed ≡ limit → speed ≡ limit)
-        (IsRestrictionOver (restrictions_of (tracks life.entries)) (span_of life) limit) }
+    ensures over { (life : Life) → StandsForLife T.stores supervision.now life
+        → MatchOption result ((speed : ℕ) → restricted life speed ≡ limit → speed ≡ limit) (IsRestrictedBy life limit) }
+    ensures none { (life : Life) → StandsForLife T.stores supervision.now life → IfNone result (IsUnrestricted life limit) }
 {
     let stretch = supervision.stretch();
     restriction_over(supervision.track().restrictions(), &stretch, limit)
@@ -118,7 +115,8 @@ fn is_override<T: ProfileStores>(supervision: &SupervisionOver<T>, limit: Mph) -
 
 // Whether this is the greatest speed of a train whose data are valid.
 fn is_maximum(train: &Datum<TrainData>, limit: Mph) -> bool
-    ensures { MatchBool result (IsMaximum limit train.now) ((speed : ℕ) → within_maximum train.now speed ≡ limit → speed ≡ limit) }
+    ensures { MatchBool result (IsMaximum limit train.now)
+        (((speed : ℕ) → within_maximum train.now speed ≡ limit → speed ≡ limit) × (IsMaximum limit train.now → ⊥)) }
 {
     match train {
         Datum::Valid(train) => train.maximum() == limit,

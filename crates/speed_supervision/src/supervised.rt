@@ -2,8 +2,8 @@
 ghost use Rattle.std.specs.Prelude.{◌≡◌, ◌<◌, ◌+◌, ℕ, IfSome, MatchOption};
 ghost use Rattle.speed_profile.specs.Ahead.{permitted_ahead};
 ghost use Rattle.speed_supervision.specs.declared.cause.TargetKind.TheVariants.{EndOfAuthority, SupervisedLocation};
-ghost use Rattle.speed_supervision.specs.Targets.{journey_by, target_of, IsTarget};
-ghost use Rattle.speed_supervision.specs.Supervised.{permitted_to, permitted_on, IsDeciding, IsCause};
+ghost use Rattle.speed_supervision.specs.Targets.{journey_by, target_of};
+ghost use Rattle.speed_supervision.specs.Supervised.{limit_here, permitted_to, permitted_on, IsDeciding, IsLast, IsCause};
 
 use crate::ahead::first_unfit;
 use crate::release::release_speed;
@@ -16,8 +16,8 @@ use units::{Mph, Permille, Stretch};
 
 /// What decides the permitted speed of a train, with the national release speed in metres per hour: what limits it
 /// where it is; else the first target ahead that no greater speed fits, along the track, then the last one; or the
-/// release speed. What limits it where it is goes before what lies ahead, the end of authority before the supervised
-/// location.
+/// release speed. Of those of equal force the first is named: what limits it where it is, then of what lies ahead a
+/// static speed, a restriction, a mode area, the end of authority, and the supervised location.
 pub fn supervised_cause<S: Profile<CategorySpeeds>, G: Profile<Permille>>(
     train: &Stretch,
     ahead: &Ahead<'_, S, G>,
@@ -78,7 +78,8 @@ fn cause_to<S: Profile<CategorySpeeds>, G: Profile<Permille>>(
     ahead: &Ahead<'_, S, G>,
     last: Option<TargetAhead>,
 ) -> SpeedCause
-    requires { IfSome last (IsTarget (journey_by S.value G.value ahead.now)) }
+    requires { let journey = journey_by S.value G.value ahead.now in
+        IfSome last (IsLast journey (limit_here train.now journey) (permitted_to train.now journey (target_of last))) }
     ensures { let journey = journey_by S.value G.value ahead.now in
         (national : ℕ) → IsCause train.now journey national (permitted_to train.now journey (target_of last)) result }
 {
@@ -95,7 +96,9 @@ fn deciding<S: Profile<CategorySpeeds>, G: Profile<Permille>>(
     limit: Mph,
     last: Option<TargetAhead>,
 ) -> Option<TargetAhead>
-    requires { IfSome last (IsTarget (journey_by S.value G.value ahead.now)) }
+    requires { let journey = journey_by S.value G.value ahead.now in
+        let permitted = permitted_ahead journey.front limit (target_of last) journey.bounds journey.track journey.gradient journey.brakes in
+        IfSome last (IsLast journey limit permitted) }
     ensures { let journey = journey_by S.value G.value ahead.now in
         let permitted = permitted_ahead journey.front limit (target_of last) journey.bounds journey.track journey.gradient journey.brakes in
         MatchOption result (permitted ≡ limit) (IsDeciding journey limit permitted) }

@@ -1,4 +1,4 @@
-use Rattle.std.proofs.Common.{◌≡◌, ◌≤◌, ◌<◌, ◌+◌, ◌++◌, ℕ, false, ap, sym, ◌∙◌, arith}
+use Rattle.std.proofs.Common.{◌≡◌, ◌≤◌, ◌<◌, ◌+◌, ◌++◌, ℕ, false, refl, ap, sym, ◌∙◌, arith}
 use Rattle.std.specs.Prelude.{Option}
 use Rattle.std.proofs.lemmas.Bool.Decides.{nat_tests}
 use Rattle.braking.specs.declared.target.Target.{Target}
@@ -8,7 +8,7 @@ use Rattle.braking.proofs.Greatest.{greatest_within}
 use Rattle.speed_profile.proofs.Members.{in_left}
 use Rattle.speed_supervision.specs.Targets.{journey_by, along_track, fits_on, fits_all_on, target_of}
 use Rattle.speed_supervision.proofs.Finding.{in_from_contains}
-use Rattle.speed_supervision.proofs.Deciding.{decides, last_decides}
+use Rattle.speed_supervision.proofs.Deciding.{decides, lowers_unfit, last_decides}
 use Rattle.speed_supervision.proofs.supervised.deciding.Goals as goal
 
 pub returns-then-le : goal.returns-then-le
@@ -31,12 +31,16 @@ returns-in-Some g c =
     let low : c.permitted-permitted.result < c.args.limit = grind (arith, nat_tests) in
     let less : v < c.args.limit = omega (arith, is, low) in
     let next : c.one_faster-faster.result ≡ v + 1 = omega (arith, is) in
-    let unfit = c.in-Some.ensures in
+    let unfit = c.in-Some.ensures.found in
     let target = c.in-Some.found.target in
     let fail : fits_on journey target (v + 1) ≡ false = ap (fits_on journey target) (sym next) ∙ unfit.2 in (
-      unfit.0,
-      decides journey c.args.limit targets target
-          (in_left target (along_track journey) (listed (target_of c.args.last)) (in_from_contains (along_track journey) target unfit.1)) less fail,
+      (
+        unfit.0,
+        less,
+        decides journey c.args.limit targets target
+            (in_left target (along_track journey) (listed (target_of c.args.last)) (in_from_contains (along_track journey) target unfit.1)) less fail,
+      ),
+      λ other lowers. c.in-Some.ensures.first other lowers.0 (lowers_unfit journey c.args.limit v c.one_faster-faster.result other next lowers),
     )
 
 pub returns : goal.returns
@@ -48,5 +52,5 @@ returns g c =
     let low : c.permitted-permitted.result < c.args.limit = grind (arith, nat_tests) in
     let less : v < c.args.limit = omega (arith, is, low) in
     let next : c.one_faster-faster.result ≡ v + 1 = omega (arith, is) in
-    last_decides journey c.args.limit (along_track journey) c.args.last c.requires less
-    (ap (fits_all_on journey (along_track journey)) (sym next) ∙ c.in_default.ensures)
+    last_decides journey c.args.limit c.args.last v refl c.requires less
+    (ap (fits_all_on journey (along_track journey)) (sym next) ∙ c.in_default.ensures.found)

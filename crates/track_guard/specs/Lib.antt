@@ -1,0 +1,5 @@
+pub mod Demands
+pub mod Findings
+pub mod Guarding
+pub mod Laws
+pub mod Table

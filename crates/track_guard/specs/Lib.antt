@@ -3,3 +3,4 @@ pub mod Findings
 pub mod Guarding
 pub mod Laws
 pub mod Table
+pub mod Worked

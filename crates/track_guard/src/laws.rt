@@ -1,6 +1,7 @@
 //! Laws of the table and of the guard.
 ghost use Rattle.track_guard.specs.Guarding.{OnlyAdds, TripIsHeld, WarningChangesNothing};
 ghost use Rattle.track_guard.specs.Laws.{EachByItself, RefusedIsNeverSilent, RowsAreDemanded, UsedDemandsNothing};
+ghost use Rattle.track_guard.specs.Worked.{Worked};
 
 /// A law: what packets demand is each row of the table that applies to one of them, and no other demand.
 pub fn rows_are_demanded_and_no_others()
@@ -28,4 +29,9 @@ pub fn guard_only_adds_braking()
     ensures adds { OnlyAdds }
     ensures warns { WarningChangesNothing }
     ensures holds { TripIsHeld }
+{}
+
+/// A law: what the rows of the table demand, worked by hand.
+pub fn rows_worked_by_hand()
+    ensures { Worked }
 {}

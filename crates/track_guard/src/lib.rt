@@ -14,5 +14,5 @@ pub use finding::{Action, Finding, Section, Sureness};
 pub use guard::{Guard, Policy};
 pub use laws::{
     each_packet_is_judged_by_itself, guard_only_adds_braking, refused_telegrams_are_never_silent,
-    rows_are_demanded_and_no_others, used_in_full_demands_nothing,
+    rows_are_demanded_and_no_others, rows_worked_by_hand, used_in_full_demands_nothing,
 };

@@ -1,3 +1,4 @@
+pub mod Calls
 pub mod Demands
 pub mod Findings
 pub mod Guarding

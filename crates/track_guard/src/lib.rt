@@ -2,6 +2,7 @@
 //! skips or refuses. The table is this project's reading of the issue (`specs/Table.antt`). No call takes memory.
 #![tactic(auto)]
 
+mod calls;
 mod demanding;
 mod finding;
 mod guard;
@@ -9,6 +10,7 @@ mod laws;
 mod packet;
 mod table;
 
+pub use calls::{EtcsDemand, EtcsGuard, EtcsSituation, acknowledge_call, begin_call, command_call, demand_call, hear_call};
 pub use demanding::{Demand, MOST_DEMANDS, Situation, Source, demands};
 pub use finding::{Action, Finding, Section, Sureness};
 pub use guard::{Guard, Policy};

@@ -40,10 +40,6 @@ pub extern "C" fn etcs_guard_acknowledge_(guard: &mut EtcsGuard, speed: u32) -> 
 
 /// Writes the brake to command.
 #[unsafe(no_mangle)]
-pub extern "C" fn etcs_guard_command_(
-    guard: &EtcsGuard,
-    unit_brake: u32,
-    brake: &mut u32,
-) -> u32 {
+pub extern "C" fn etcs_guard_command_(guard: &EtcsGuard, unit_brake: u32, brake: &mut u32) -> u32 {
     command_call(guard, unit_brake, brake)
 }

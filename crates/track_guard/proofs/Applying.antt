@@ -1,10 +1,10 @@
 -- A demand is in the list exactly where a row of the table applies to a packet.
-use Rattle.std.proofs.Common.{◌≡◌, ◌↔◌, ℕ, zero, suc, ◌<◌, Bool, true, false, if◌then◌else◌, List, [], ◌∷◌, ◌++◌, length, drop, Option, Some, None, refl, sym, ap, ◌∙◌, arith, ◌⊎◌, inl, inr}
+use Rattle.std.proofs.Common.{◌≡◌, ℕ, zero, suc, Bool, true, false, if◌then◌else◌, List, [], ◌∷◌, Option, Some, None, refl, sym, ap, ◌∙◌, arith, ◌⊎◌, inl, inr}
 use Rattle.std.specs.List.{Contains, cons_option, filter_map}
 use Rattle.std.specs.Option.{option_map}
-use Rattle.std.proofs.lemmas.List.Elements.{Contains-append_right, Contains-append_left, Contains-append_cases}
+use Rattle.std.proofs.lemmas.List.Elements.{Contains-append_right, Contains-append_cases}
 use Rattle.track_packets.specs.declared.listing.PacketPlace.{PacketPlace}
-use Rattle.track_guard.specs.Demands.{before_infill, concerns, demand_found, demand_of_packet, demands_in, with_action}
+use Rattle.track_guard.specs.Demands.{before_infill, concerns, demand_found, demand_of_packet, with_action}
 use Rattle.track_guard.specs.Findings.{finding_in}
 use Rattle.track_guard.specs.Laws.{Applies, RowsAreDemanded, bits_from}
 use Rattle.track_guard.specs.Table.{action_by, table}
@@ -85,9 +85,9 @@ at_first : (h : PacketPlace → Option Demand) (p : PacketPlace) (ps : List Pack
 at_first h p ps d None e rest c = further h p ps d (rest c)
 at_first h p ps d (Some x) e rest c = by_place (Contains-append_cases (x ∷ []) (filter_map h ps) d c)
   where
-  by_place : Contains (x ∷ []) d ⊎ Contains (filter_map h ps) d → CameOf h (p ∷ ps) d
-  by_place (inl here) = (p, first p ps, e ∙ ap (λ y. Some y) (only x d here))
-  by_place (inr there) = further h p ps d (rest there)
+    by_place : Contains (x ∷ []) d ⊎ Contains (filter_map h ps) d → CameOf h (p ∷ ps) d
+    by_place (inl here) = (p, first p ps, e ∙ ap (λ y. Some y) (only x d here))
+    by_place (inr there) = further h p ps d (rest there)
 
 came_of : (h : PacketPlace → Option Demand) (ps : List PacketPlace) (d : Demand) → Contains (filter_map h ps) d → CameOf h ps d
 came_of h [] d c = absurd (none d c)
@@ -112,6 +112,7 @@ comes h q [] d e c = absurd (none q c)
 comes h q (p ∷ ps) d e c = by_packet h p q ps d e (comes h q ps d e) (Contains-append_cases (p ∷ []) ps q c)
 
 pub rows_are_demanded : RowsAreDemanded
-rows_are_demanded s bytes packets d =
-    ( (λ c. let (p, there, e) = came_of (demand_of_packet s bytes) (before_infill packets) d c in (p, there, applies s bytes p d e))
-    , (λ (p, there, a). comes (demand_of_packet s bytes) p (before_infill packets) d (is_demanded_by s bytes p d a) there) )
+rows_are_demanded s bytes packets d = (
+  (λ c. let (p, there, e) = came_of (demand_of_packet s bytes) (before_infill packets) d c in (p, there, applies s bytes p d e)),
+  (λ (p, there, a). comes (demand_of_packet s bytes) p (before_infill packets) d (is_demanded_by s bytes p d a) there),
+)

@@ -1,6 +1,6 @@
 -- Packets that the kernel uses demand nothing.
-use Rattle.std.proofs.Common.{◌≡◌, ℕ, ◌==◌, Bool, true, false, if◌then◌else◌, List, [], ◌∷◌, Option, Some, None, refl, sym, ap, ◌∙◌}
-use Rattle.std.specs.List.{AllByRecursion as Each, cons_option, filter_map}
+use Rattle.std.proofs.Common.{◌≡◌, ℕ, ◌==◌, Bool, true, false, if◌then◌else◌, List, [], ◌∷◌, Option, None, refl, ap, ◌∙◌}
+use Rattle.std.specs.List.{cons_option, filter_map}
 use Rattle.std.proofs.lemmas.Bool.{eqb-true}
 use Rattle.mode_table.specs.Packets.{uses}
 use Rattle.mode_table.specs.declared.mode.Mode.{Mode}
@@ -58,9 +58,17 @@ in_authority n bits true e ends = ap endless (ends (eqb-true n 12 e))
 finds_nothing : (mode : Mode) (n length : ℕ) (bits : List Bool) → uses mode n ≡ true → (n ≡ 12 → is_endless bits ≡ false) → finding_in n length bits ≡ None
 finds_nothing mode n length bits u ends =
     let no = unused mode in
-    rw (is_other mode n 137 u no.no_137, is_other mode n 132 u no.no_132, is_other mode n 49 u no.no_49, is_other mode n 135 u no.no_135,
-        is_other mode n 16 u no.no_16, is_other mode n 46 u no.no_46, is_other mode n 51 u no.no_51, is_other mode n 70 u no.no_70,
-        is_other mode n 71 u no.no_71)
+    rw (
+      is_other mode n 137 u no.no_137,
+      is_other mode n 132 u no.no_132,
+      is_other mode n 49 u no.no_49,
+      is_other mode n 135 u no.no_135,
+      is_other mode n 16 u no.no_16,
+      is_other mode n 46 u no.no_46,
+      is_other mode n 51 u no.no_51,
+      is_other mode n 70 u no.no_70,
+      is_other mode n 71 u no.no_71,
+    )
     (in_authority n bits (n == 12) refl ends)
 
 not_found : (s : Situation) (source : Source) (valid : Bool) (found : Option Finding) → found ≡ None

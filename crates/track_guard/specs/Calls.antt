@@ -10,7 +10,7 @@ use Rattle.telegram.specs.Faults.{number_of_fault}
 use Rattle.vars.specs.declared.linking.LinkOrientation.{LinkOrientation}
 use Rattle.vars.specs.declared.linking.LinkOrientation.TheVariants.{Reverse, Nominal}
 use Rattle.track_guard.specs.Demands.{Demanded}
-use Rattle.track_guard.specs.Guarding.{acknowledged, commanded, empty, heard}
+use Rattle.track_guard.specs.Guarding.{commanded, heard}
 use Rattle.track_guard.specs.Table.{table}
 use Rattle.track_guard.specs.declared.calls.EtcsDemand.{EtcsDemand}
 use Rattle.track_guard.specs.declared.calls.EtcsGuard.{EtcsGuard}

@@ -1,5 +1,5 @@
 -- Laws of the demands (the table: this project's profile).
-use Rattle.std.specs.Prelude.{◌≡◌, ◌↔◌, ℕ, ◌==◌, Bool, true, false, List, [], ◌∷◌, ◌++◌, drop, Option, Some, None}
+use Rattle.std.specs.Prelude.{◌≡◌, ◌↔◌, ℕ, ◌==◌, Bool, true, false, List, [], ◌∷◌, ◌++◌, drop, Some}
 use Rattle.std.specs.List.{AllByRecursion as Each, Contains}
 use Rattle.bits.specs.Bits.{bits_of}
 use Rattle.mode_table.specs.Packets.{uses}

@@ -1,6 +1,6 @@
 -- Rows of the table, worked by hand (SUBSET-026, 4.6.3 and the sections of `Table.antt`): each equation is a packet, or a
 -- refused telegram, in one mode and direction, and what it demands. Those that demand nothing are worked too.
-use Rattle.std.specs.Prelude.{◌≡◌, ℕ, ◌+◌, Bool, true, false, List, [], ◌∷◌, ◌++◌, length, Option, Some, None}
+use Rattle.std.specs.Prelude.{◌≡◌, ℕ, ◌+◌, Bool, true, false, List, [], ◌++◌, length, Option, Some, None}
 use Rattle.std.specs.Option.{option_map}
 use Rattle.bits.specs.Bits.{number_bits}
 use Rattle.mode_table.specs.declared.mode.Mode.{Mode}
@@ -74,6 +74,7 @@ pub record Worked : Type 0 where
   pub clear_in_sh : of_packet SH (Some Nominal) (packet 132 2 (number_bits 1 1)) ≡ None
   -- what is reported: 49 where the train may move, 135 in SH and SB, 46 as the kernel uses 41, the others as it uses 12
   pub list_in_sh : of_packet SH (Some Nominal) (packet 49 2 (number_bits 5 0)) ≡ Some NotObeyed
+  pub list_in_fs : of_packet FS (Some Nominal) (packet 49 2 (number_bits 5 0)) ≡ Some NotObeyed
   pub list_in_sb : of_packet SB (Some Nominal) (packet 49 2 (number_bits 5 0)) ≡ None
   pub desk_in_sh : of_packet SH (Some Nominal) (packet 135 2 []) ≡ Some NotObeyed
   pub desk_in_sb : of_packet SB (Some Nominal) (packet 135 2 []) ≡ Some NotObeyed

@@ -252,12 +252,7 @@ fn answer_in(bytes: &[u8], situation: Situation, index: u32, out: &mut EtcsDeman
 
 /// Writes the demand of this index, from 0 on, that a telegram makes in a situation: 0, or 38 where the list ends before it,
 /// or 255 where no mode, direction or truth value has the number; then nothing is written.
-pub fn demand_call(
-    bytes: &[u8],
-    situation: &EtcsSituation,
-    index: u32,
-    out: &mut EtcsDemand,
-) -> u32
+pub fn demand_call(bytes: &[u8], situation: &EtcsSituation, index: u32, out: &mut EtcsDemand) -> u32
     ensures { AnswersDemand bytes.now (situation_by situation.now) index out.old out.new result }
 {
     match situation_of(situation) {

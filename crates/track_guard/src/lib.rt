@@ -10,7 +10,10 @@ mod laws;
 mod packet;
 mod table;
 
-pub use calls::{EtcsDemand, EtcsGuard, EtcsSituation, acknowledge_call, begin_call, command_call, demand_call, hear_call};
+pub use calls::{
+    EtcsDemand, EtcsGuard, EtcsSituation, acknowledge_call, begin_call, command_call, demand_call,
+    hear_call,
+};
 pub use demanding::{Demand, MOST_DEMANDS, Situation, Source, demands};
 pub use finding::{Action, Finding, Section, Sureness};
 pub use guard::{Guard, Policy};

@@ -99,9 +99,8 @@ pub(crate) fn action_of(finding: Finding) -> Action
     ensures { result ≡ (table finding).action }
 {
     match finding {
-        Finding::StopInStaffResponsible
-        | Finding::DangerForShunting
-        | Finding::GreaterVersion => Action::Trip,
+        Finding::StopInStaffResponsible | Finding::DangerForShunting | Finding::GreaterVersion =>
+            Action::Trip,
         Finding::RefusedUnlinked => Action::ServiceBrake,
         Finding::ShuntingBalises
         | Finding::StopShunting
@@ -111,8 +110,7 @@ pub(crate) fn action_of(finding: Finding) -> Action
         | Finding::RouteSuitability
         | Finding::SlipperyRail
         | Finding::EndlessEndSpeed => Action::NotObeyed,
-        Finding::SameVersion | Finding::LesserVersion | Finding::Refused =>
-            Action::Unreadable,
+        Finding::SameVersion | Finding::LesserVersion | Finding::Refused => Action::Unreadable,
     }
 }
 
@@ -166,8 +164,9 @@ impl Finding {
             Finding::AxleLoadSpeeds => section(3, 11, 4),
             Finding::RouteSuitability => section(3, 12, 2),
             Finding::SlipperyRail => section(3, 18, 4),
-            Finding::GreaterVersion | Finding::SameVersion | Finding::LesserVersion =>
-                section(3, 17, 0),
+            Finding::GreaterVersion | Finding::SameVersion | Finding::LesserVersion => section(
+                3, 17, 0,
+            ),
             Finding::RefusedUnlinked | Finding::Refused => section(3, 16, 2),
         }
     }

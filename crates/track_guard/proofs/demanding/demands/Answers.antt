@@ -1,4 +1,4 @@
-use Rattle.std.proofs.Common.{◌≡◌, ℕ, Bool, true, false, if◌then◌else◌, List, [], ◌++◌, Option, None, Some, refl, sym, ap, ◌∙◌}
+use Rattle.std.proofs.Common.{◌≡◌, ℕ, Bool, true, false, if◌then◌else◌, List, [], ◌++◌, Option, None, Some, sym, ap, ◌∙◌}
 use Rattle.std.proofs.lemmas.List.{append-nil}
 use Rattle.bits.specs.Bits.{bits_of}
 use Rattle.telegram.specs.declared.fault.TelegramFault.{TelegramFault}
@@ -36,7 +36,7 @@ returns-then-has_known_packets c =
     let known = c.has_known_packets.ensures in
     let yes = c.if-has_known_packets.true in
     let packets = c.as_slice.ensures.value ∙ ap (λ (l : Listing). l.packets.items) c.packets_in_order-listing.ensures
-        ∙ looked_at bytes true (sym yes ∙ known) in
+    ∙ looked_at bytes true (sym yes ∙ known) in
     record {
       carried = λ t carries.
           all_of s bytes None c.add_refused.new.demands.items c.add_packets.new.demands.items c.as_slice.result.now

@@ -1,9 +1,8 @@
-use Rattle.std.proofs.Common.{◌≡◌, ℕ, ◌==◌, Bool, true, false, if◌then◌else◌, List, [], ◌∷◌, ◌++◌, refl, sym, ap, ◌∙◌}
+use Rattle.std.proofs.Common.{◌≡◌, ◌==◌, false, List, [], ◌∷◌, ◌++◌, refl, sym, ap, ◌∙◌}
 use Rattle.std.specs.List.{AllByRecursion as Each, filter_map}
 use Rattle.std.proofs.lemmas.List.Elements.{filter_map-append}
 use Rattle.track_packets.specs.declared.listing.PacketPlace.{PacketPlace}
 use Rattle.track_guard.specs.Demands.{before_infill, demand_of_packet}
-use Rattle.track_guard.specs.declared.demanding.Demand.{Demand}
 use Rattle.track_guard.proofs.laws.each_packet_is_judged_by_itself.Goals as goal
 
 kept : (first others : List PacketPlace) → Each (λ p. (p.number == 136) ≡ false) first → before_infill (first ++ others) ≡ first ++ before_infill others

@@ -1,8 +1,8 @@
-use Rattle.std.proofs.Common.{◌≡◌, ◌≤◌, ◌<◌, ℕ, zero, suc, Bool, true, false, List, [], ◌∷◌, length, slice_index_or, refl, sym, ap, ◌∙◌, arith}
+use Rattle.std.proofs.Common.{◌≡◌, ◌≤◌, ◌<◌, ℕ, zero, suc, true, false, List, [], ◌∷◌, length, slice_index_or, refl, ap, ◌∙◌, arith}
 use Rattle.std.specs.List.{AllByRecursion as Each, Contains}
 use Rattle.events.specs.declared.output.Brake.{Brake}
 use Rattle.events.specs.declared.output.Brake.TheVariants as brakes
-use Rattle.track_guard.specs.Guarding.{Event, after, after_all, brake_of, brake_of_all, commanded, empty, heard, is_no_release, strength, stronger, OnlyAdds, TripIsHeld, WarningChangesNothing}
+use Rattle.track_guard.specs.Guarding.{Event, after, after_all, brake_of, brake_of_all, empty, heard, is_no_release, strength, stronger}
 use Rattle.track_guard.specs.declared.demanding.Demand.{Demand}
 use Rattle.track_guard.specs.declared.finding.Action.TheVariants as actions
 use Rattle.track_guard.specs.declared.guard.Guard.{Guard}

@@ -5,7 +5,7 @@ use Rattle.mode_table.specs.Modes.{is_one_of}
 use Rattle.telegram.specs.declared.fault.TelegramFault.{TelegramFault}
 use Rattle.telegram.specs.declared.fault.TelegramFault.TheVariants as faults
 use Rattle.track_guard.specs.Demands.{demand_in, list_of, with_action}
-use Rattle.track_guard.specs.Findings.{field_at, finding_of_fault, is_number, refused_found, version_found}
+use Rattle.track_guard.specs.Findings.{field_at, finding_of_fault, is_number, version_found}
 use Rattle.track_guard.specs.Table.{moving}
 use Rattle.track_guard.specs.declared.demanding.Demand.{Demand}
 use Rattle.track_guard.specs.declared.demanding.Situation.{Situation}

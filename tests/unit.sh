@@ -45,9 +45,9 @@ sanitizers=(-fsanitize=address,undefined -fno-sanitize-recover=all -static-libas
 
 # ---- the headers alone, in each language
 
-printf '#include "etcs.h"\n#include "etcs_unit.h"\n#include "etcs_image.h"\n' >"$made/all.c"
+printf '#include "etcs.h"\n#include "etcs_unit.h"\n#include "etcs_image.h"\n#include "etcs_guard.h"\n' >"$made/all.c"
 tried=0
-for header in etcs etcs_unit etcs_file etcs_image etcs_memory; do
+for header in etcs etcs_unit etcs_file etcs_image etcs_guard etcs_memory; do
     echo "#include \"$header.h\"" >"$made/alone"
     echo "typedef int something;" >>"$made/alone"
     for words in "c -std=c99" "c -std=c11" "c -std=c17" "c++ -std=c++17" "c++ -std=c++20"; do
@@ -58,7 +58,7 @@ for header in etcs etcs_unit etcs_file etcs_image etcs_memory; do
         done
     done
 done
-counted "headers alone" $tried 25
+counted "headers alone" $tried 30
 # a dropped answer that may mean the brake is a warning
 dropped=$top/tests/unit/dropped.c
 sed -n '/from here on/,/up to here/=' "$dropped" | sed '1d;$d' >"$made/drops"
@@ -91,7 +91,7 @@ nm --defined-only --extern-only "$static" | sed -n 's/^[0-9a-f]* . //p' | LC_ALL
 diff "$made/names" "$made/in_archive" || fails "the library without malloc shows other names than the headers declare"
 asked=$(nm -u "$static" | sed -n 's/^ *U //p' | LC_ALL=C sort -u | tr '\n' ' ')
 [ "$asked" = "memcpy memmove memset " ] || fails "the library without malloc asks for $asked"
-counted "names of the library" "$(wc -l <"$made/shown")" 102
+counted "names of the library" "$(wc -l <"$made/shown")" 116
 "$python" "$top/tests/unit/symbols.py" "$shared" $(cat "$made/shown") || fails "the calls as symbols"
 "$python" "$top/tests/unit/names.py" "$shared" $(cat "$made/shown") || fails "names of numbers"
 needed=$(objdump -p "$shared" | sed -n 's/^ *NEEDED *//p' | tr '\n' ' ')
@@ -111,13 +111,13 @@ build() {
 built=0
 link=("$archive")
 "$python" "$top/tests/unit/layout.py" --program >"$made/places.c" || fails "layout.py prints no program"
-for name in layout misuse sectors files kept two life reading listing again explained telegrams; do
+for name in layout misuse sectors files kept two life reading listing again explained telegrams guard; do
     source=$top/tests/unit/$name.c
     [ "$name" != layout ] || source=$made/places.c
     for compiler in "${compilers[@]}"; do build "$name.$compiler" "$source" "$compiler" -x c -std=c99 -O2; done
     build "$name.cpp" "$source" g++ -x c++ -std=c++17 -O2 -Wno-missing-field-initializers
 done
-for name in misuse sectors files kept two life reading listing again explained telegrams; do
+for name in misuse sectors files kept two life reading listing again explained telegrams guard; do
     build "$name.checked" "$top/tests/unit/$name.c" gcc -x c -std=c99 -O1 "${sanitizers[@]}"
 done
 for name in brake flash why; do
@@ -136,7 +136,7 @@ link=(-L "$prefix/lib" -letcs_unit)
 for name in misuse two reading; do build "$name.shared" "$top/tests/unit/$name.c" gcc -x c -std=c99 -O2; done
 rustc --edition 2021 -D warnings -O -L "$prefix/lib" -l static=etcs_unit "$top/examples/embedding/rust/brake.rs" -o "$made/brake.rs" &&
     built=$((built + 1)) || fails "examples/embedding/rust doesn't compile"
-counted "programs built" $built 46
+counted "programs built" $built 49
 
 # ---- what they answer
 
@@ -148,7 +148,7 @@ runs_well() {
 }
 
 "$python" "$top/tests/unit/layout.py" "$made"/layout.* || fails "sizes and places differ"
-for program in "$made"/misuse.* "$made"/sectors.* "$made"/two.* "$made"/reading.* "$made"/telegrams.*; do runs_well "$program"; done
+for program in "$made"/misuse.* "$made"/sectors.* "$made"/two.* "$made"/reading.* "$made"/telegrams.* "$made"/guard.*; do runs_well "$program"; done
 for program in "$made"/files.* "$made"/kept.*; do
     rm -rf "$made/room"
     mkdir "$made/room"
@@ -156,14 +156,14 @@ for program in "$made"/files.* "$made"/kept.*; do
 done
 for program in "$made"/flash.*; do runs_well "$program"; done
 mv "$made/said" "$made/flash"
-for program in misuse.gcc sectors.gcc two.gcc reading.gcc telegrams.gcc "files.gcc $made/room" "kept.gcc $made/room" "brake.gcc $made/image.valgrind" flash.gcc "why.gcc $made/image.valgrind" \
+for program in misuse.gcc sectors.gcc two.gcc reading.gcc telegrams.gcc guard.gcc "files.gcc $made/room" "kept.gcc $made/room" "brake.gcc $made/image.valgrind" flash.gcc "why.gcc $made/image.valgrind" \
     "again.gcc $made/image.valgrind why 7"; do
     rm -rf "$made/room"
     mkdir "$made/room"
     # shellcheck disable=SC2086
     runs_well valgrind -q --error-exitcode=9 --leak-check=full --errors-for-leak-kinds=all --show-leak-kinds=all $(echo "$made/$program")
 done
-counted "runs of them, 11 of them under valgrind" $runs 37
+counted "runs of them, 12 of them under valgrind" $runs 41
 
 # ---- the examples: the same train in each language, over the same file
 

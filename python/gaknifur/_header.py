@@ -1,4 +1,4 @@
-"""What include/etcs.h, etcs_unit.h and etcs_image.h declare, for ctypes. Written by `tools/bindings`."""
+"""What include/etcs.h, etcs_unit.h, etcs_image.h and etcs_guard.h declare, for ctypes. Written by `tools/bindings`."""
 import enum
 from ctypes import POINTER, Structure, c_char_p, c_int64, c_size_t, c_uint8, c_uint16, c_uint32, c_uint64, c_void_p
 
@@ -11,6 +11,7 @@ REQUEST_BYTES = 8192
 BRAKE_CAUSES = 10
 PAYLOAD_BYTES = 104
 ENDLESS = 0xFFFFFFFF
+NO_PACKET = 256
 
 
 class Fault(enum.IntEnum):
@@ -333,6 +334,50 @@ class TripCause(enum.IntEnum):
     LEVEL = 5
 
 
+class GuardPolicy(enum.IntEnum):
+    """What the guard does with demands: its maker's choice."""
+
+    STRICT = 1
+    WARN = 2
+
+
+class Demanded(enum.IntEnum):
+    """What is demanded of the equipment around the unit."""
+
+    TRIP = 1
+    SERVICE_BRAKE = 2
+    NOT_OBEYED = 3
+    UNREADABLE = 4
+
+
+class Finding(enum.IntEnum):
+    """What was found: the rows of the table (crates/track_guard/specs/Table.antt)."""
+
+    STOP_IN_STAFF_RESPONSIBLE = 1
+    DANGER_FOR_SHUNTING = 2
+    SHUNTING_BALISES = 3
+    STOP_SHUNTING = 4
+    REPOSITIONING = 5
+    CONDITIONAL_LEVEL = 6
+    AXLE_LOAD_SPEEDS = 7
+    ROUTE_SUITABILITY = 8
+    SLIPPERY_RAIL = 9
+    ENDLESS_END_SPEED = 10
+    GREATER_VERSION = 11
+    SAME_VERSION = 12
+    LESSER_VERSION = 13
+    REFUSED_UNLINKED = 14
+    REFUSED = 15
+
+
+class Sureness(enum.IntEnum):
+    """How sure it is that issue 2.3.0 says so: nobody who wrote the table had a copy of it."""
+
+    SURE = 1
+    FAIRLY_SURE = 2
+    TO_BE_LOOKED_UP = 3
+
+
 class etcs_unit(Structure):
     _fields_ = [("at", c_void_p), ("is_open", c_uint64)]
 
@@ -441,6 +486,20 @@ class etcs_why(Structure):
                 ("has_place", c_uint8), ("has_restriction", c_uint8), ("reserved", c_uint8 * 5)]
 
 
+class etcs_situation(Structure):
+    _fields_ = [("mode", c_uint32), ("direction", c_uint32), ("overridden", c_uint32)]
+
+
+class etcs_demand(Structure):
+    _fields_ = [("demanded", c_uint32), ("finding", c_uint32), ("packet", c_uint32), ("start", c_uint32),
+                ("bits", c_uint32), ("fault", c_uint32), ("chapter", c_uint32), ("section", c_uint32),
+                ("clause", c_uint32), ("sureness", c_uint32)]
+
+
+class etcs_guard(Structure):
+    _fields_ = [("policy", c_uint32), ("brake", c_uint32), ("has_heard", c_uint32)]
+
+
 CALLS: dict[str, tuple[object, ...]] = {
     "etcs_decode": (c_char_p, c_size_t),
     "etcs_packet_count": (c_char_p, c_size_t),
@@ -481,4 +540,9 @@ CALLS: dict[str, tuple[object, ...]] = {
     "etcs_journal_next_": (c_char_p, c_size_t, POINTER(etcs_journal), POINTER(etcs_record)),
     "etcs_image_replay_": (c_char_p, c_size_t, c_uint32, POINTER(etcs_journal), POINTER(etcs_replay)),
     "etcs_image_why_": (c_char_p, c_size_t, c_uint32, c_uint64, c_uint64, POINTER(etcs_why)),
+    "etcs_guard_begin_": (POINTER(etcs_guard), c_uint32),
+    "etcs_guard_hear_": (POINTER(etcs_guard), c_char_p, c_size_t, POINTER(etcs_situation), POINTER(c_uint32)),
+    "etcs_guard_demand_": (c_char_p, c_size_t, POINTER(etcs_situation), c_uint32, POINTER(etcs_demand)),
+    "etcs_guard_acknowledge_": (POINTER(etcs_guard), c_uint32),
+    "etcs_guard_command_": (POINTER(etcs_guard), c_uint32, POINTER(c_uint32)),
 }

@@ -15,6 +15,7 @@ from gaknifur import _header  # noqa: E402
 LEAST = 180
 PROGRAM = """#include <stddef.h>
 #include <stdio.h>
+#include "etcs_guard.h"
 #include "etcs_image.h"
 int main(void) {
 %s    return 0;

@@ -44,9 +44,10 @@ ENUMS = {
     "unused_reason": ({"IN_MODE": "not_in_mode"}, None, ()),
     "direction": ({}, ("Balise group", "direction"), ("not_known",)),
     "acknowledgement": ({}, None, ()), "action": ({}, None, ()), "status_kind": ({}, None, ()), "request_kind": ({}, None, ()), "adaptation": ({}, None, ()),
+    "guard_policy": ({}, None, ()), "demanded": ({}, None, ()), "finding": ({}, None, ()), "sureness": ({}, None, ()),
 }
 FIELDS = ("record_field", "kept_field")
-LEAST = 24
+LEAST = 28
 
 
 def words_of(page, section, member):

@@ -13,7 +13,7 @@ ROWS = {
     "programs": ["tests/programs"],
     **{
         name: [f"tests/rows/test_{name}.row"]
-        for name in ("parts", "decode", "modes", "journal", "disk", "track")
+        for name in ("parts", "decode", "modes", "journal", "disk", "track", "guard")
     },
     "onboard": ["tests/rows/test_onboard.row", "tests/plain/onboard_lives.py"],
     "blocks": ["tests/plain/blocks.py"],

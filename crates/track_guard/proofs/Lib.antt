@@ -1,0 +1,2 @@
+mod Applying
+mod Using

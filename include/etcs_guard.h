@@ -18,7 +18,7 @@
  *     etcs_guard_acknowledge(&guard, speed_m_per_h);                              (the driver acknowledges)
  *
  * With ETCS_GUARD_STRICT a demand of a trip is the emergency brake, and one of the service brake the service brake, until the
- * driver acknowledges at standstill. With ETCS_GUARD_WARN demands are only reported. docs/SAFETY.md (45) and
+ * driver acknowledges at standstill. With ETCS_GUARD_WARN demands are only reported. docs/explain/safety.md (45) and
  * crates/track_guard/README.md have the table of what is demanded, and why.
  *
  * The mode is that of the last output before the telegram. The direction is that in which the train passes the group: of two

@@ -26,6 +26,9 @@
 #include "etcs_image.h"
 #include "lines.h"
 
+static void add_number(uint64_t number, size_t size);
+#include "members.h" /* for each struct what adds its members (scripts.py members) */
+
 #define SECTORS (1 + 6 * 64)
 
 static uint8_t media[2][SECTORS * ETCS_UNIT_SECTOR];
@@ -34,7 +37,7 @@ static etcs_unit units[2];
 static etcs_opening openings[2];
 static unsigned by_sectors;
 static etcs_journal journal;
-static size_t reads_at_most;
+static uint64_t reads_at_most;
 static unsigned on, which, line_number;
 
 /* ---- answers */
@@ -45,6 +48,14 @@ static void add(const void *from, size_t length) {
     const uint8_t *const bytes = (const uint8_t *)from;
     for (size_t i = 0; i < length; i++)
         digest = (digest ^ bytes[i]) * UINT64_C(0x100000001B3);
+}
+
+/* A number, the lowest byte first, whatever the machine's order is. */
+static void add_number(uint64_t number, size_t size) {
+    for (; size > 0; size--, number >>= 8) {
+        const uint8_t byte = (uint8_t)(number & 255u);
+        add(&byte, 1);
+    }
 }
 
 static void answer(uint32_t status) {
@@ -152,7 +163,7 @@ static uint32_t carry_out(uint64_t most, uint64_t rest) {
     uint32_t count = 0, status;
     while ((status = etcs_unit_request(unit(), count, &request, bytes, sizeof bytes)) == ETCS_UNIT_OK) {
         const size_t length = (size_t)request.sectors * ETCS_UNIT_SECTOR;
-        add(&request, sizeof request);
+        add_etcs_unit_request_told(&request);
         add(bytes, length);
         if (count == most) {
             carries_out(&request, bytes, rest < length ? (size_t)rest : length);
@@ -164,10 +175,10 @@ static uint32_t carry_out(uint64_t most, uint64_t rest) {
     return status == ETCS_UNIT_NO_SUCH_REQUEST ? etcs_unit_done(unit(), count) : status;
 }
 
-static uint32_t release(size_t room) {
+static uint32_t release(uint64_t room) {
     etcs_unit_output outputs[ETCS_UNIT_OUTPUTS];
     uint32_t count = 0;
-    const uint32_t status = etcs_unit_release(unit(), outputs, room < ETCS_UNIT_OUTPUTS ? room : ETCS_UNIT_OUTPUTS, &count);
+    const uint32_t status = etcs_unit_release(unit(), outputs, room < ETCS_UNIT_OUTPUTS ? (size_t)room : ETCS_UNIT_OUTPUTS, &count);
     if (status == ETCS_UNIT_OK)
         tell(outputs, count);
     return status;
@@ -190,7 +201,7 @@ static uint32_t format(uint32_t slots) {
 }
 
 static size_t size(void) {
-    return reads_at_most < lengths[on] ? reads_at_most : lengths[on];
+    return reads_at_most < lengths[on] ? (size_t)reads_at_most : lengths[on];
 }
 
 /* ---- each word */
@@ -233,7 +244,7 @@ static int about_units(uint32_t *status) {
         second = (uint32_t)number();
         *status = etcs_unit_request(unit(), first, &request, bytes, second < sizeof bytes ? second : sizeof bytes);
         if (*status == ETCS_UNIT_OK) {
-            add(&request, sizeof request);
+            add_etcs_unit_request_told(&request);
             add(bytes, (size_t)request.sectors * ETCS_UNIT_SECTOR);
         }
     } else if (word("done")) {
@@ -241,11 +252,11 @@ static int about_units(uint32_t *status) {
     } else if (word("fail")) {
         *status = etcs_unit_fail(unit());
     } else if (word("release")) {
-        *status = release((size_t)number());
+        *status = release(number());
     } else if (word("state")) {
         *status = etcs_unit_state(unit(), &state);
         if (*status == ETCS_UNIT_OK)
-            add(&state, sizeof state);
+            add_etcs_unit_state_told(&state);
     } else {
         return 0;
     }
@@ -270,10 +281,10 @@ static int about_sectors(uint32_t *status) {
         *status = goes_on(opening(), number());
     } else if (word("wanted")) {
         *status = etcs_opening_wanted(opening(), &sector);
-        add(&sector, sizeof sector);
+        add_number(sector, sizeof sector);
     } else if (word("wants")) {
         *status = etcs_unit_wanted(unit(), &sector);
-        add(&sector, sizeof sector);
+        add_number(sector, sizeof sector);
     } else if (word("provide")) {
         sector = number();
         size = limited(number());
@@ -309,9 +320,9 @@ static int about_media(uint32_t *status) {
     } else if (word("image")) {
         add(media[on], lengths[on]);
     } else if (word("whole")) {
-        reads_at_most = SIZE_MAX;
+        reads_at_most = UINT64_MAX;
     } else if (word("size")) {
-        reads_at_most = (size_t)number();
+        reads_at_most = number();
     } else if (word("flip")) {
         const uint64_t offset = number();
         media[on][offset % sizeof media[0]] ^= (uint8_t)number();
@@ -325,7 +336,7 @@ static int about_media(uint32_t *status) {
         const uint64_t room = number();
         *status = etcs_unit_format_request(first, second, &request, bytes, room < sizeof bytes ? (size_t)room : sizeof bytes);
         if (*status == ETCS_UNIT_OK) {
-            add(&request, sizeof request);
+            add_etcs_unit_request_told(&request);
             add(bytes, (size_t)request.sectors * ETCS_UNIT_SECTOR);
         }
     } else if (word("version")) {
@@ -337,7 +348,7 @@ static int about_media(uint32_t *status) {
         const size_t count = bytes_of_line(bytes, sizeof bytes);
         *status = etcs_decode(bytes, count);
         length = etcs_packet_count(bytes, count);
-        add(&length, sizeof length);
+        add_number(length, sizeof length);
     } else {
         return 0;
     }
@@ -351,35 +362,41 @@ static int about_images(uint32_t *status) {
     etcs_slot slot;
     etcs_record record;
     etcs_why why;
-    const void *told = NULL;
-    size_t length = 0;
     if (word("facts")) {
         *status = etcs_image_facts(media[on], size(), &facts);
-        told = &facts, length = sizeof facts;
+        if (*status == ETCS_UNIT_OK)
+            add_etcs_image(&facts);
     } else if (word("slot")) {
         const uint64_t newest = number();
         *status = etcs_image_slot(media[on], size(), newest, number(), &slot);
-        told = &slot, length = sizeof slot;
+        if (*status == ETCS_UNIT_OK)
+            add_etcs_slot(&slot);
     } else if (word("block")) {
         *status = etcs_image_block(media[on], size(), number(), &block);
-        told = &block, length = sizeof block;
+        if (*status == ETCS_UNIT_OK)
+            add_etcs_block(&block);
     } else if (word("record")) {
         const uint64_t of = number();
         *status = etcs_image_record(media[on], size(), of, (uint32_t)number(), &record);
-        told = &record, length = sizeof record;
+        if (*status == ETCS_UNIT_OK)
+            add_etcs_record(&record);
     } else if (word("why")) {
         const uint64_t of = number();
         *status = etcs_image_why(media[on], size(), of, number(), &why);
-        told = &why, length = sizeof why;
+        if (*status == ETCS_UNIT_OK)
+            add_etcs_why(&why);
     } else if (word("journal")) {
         *status = etcs_journal_open(media[on], size(), &journal);
-        told = &journal, length = sizeof journal;
+        if (*status == ETCS_UNIT_OK)
+            add_etcs_journal(&journal);
     } else if (word("next")) {
         *status = etcs_journal_next(media[on], size(), &journal, &record);
-        told = &record, length = sizeof record;
+        if (*status == ETCS_UNIT_OK)
+            add_etcs_record(&record);
     } else if (word("replay")) {
         *status = etcs_image_replay(media[on], size(), &journal, &replay);
-        told = &replay, length = sizeof replay;
+        if (*status == ETCS_UNIT_OK)
+            add_etcs_replay(&replay);
     } else if (word("cursor")) {
         journal.block = number();
         journal.last = number();
@@ -388,8 +405,6 @@ static int about_images(uint32_t *status) {
     } else {
         return 0;
     }
-    if (*status == ETCS_UNIT_OK && told != NULL)
-        add(told, length);
     return 1;
 }
 
@@ -442,7 +457,7 @@ static uint32_t nulls(void) {
 }
 
 void drive(void) {
-    reads_at_most = SIZE_MAX;
+    reads_at_most = UINT64_MAX;
     while (read_line()) {
         uint32_t status = 0;
         line_number++;

@@ -2,10 +2,12 @@
 """A script of calls for the driver (driver.c), the same in every run, and the comparison of what two machines answer.
 
     tests/targets/scripts.py script LIVES CALLS TELEGRAMS [SEED]    prints lives with cuts, calls in any order with wild numbers, and telegrams
+    tests/targets/scripts.py members                                prints C that adds each member of each struct to a digest, whatever the order of its bytes
     tests/targets/scripts.py compare SCRIPT WANTED FOUND..          whether the answers in FOUND are those in WANTED; tells how much was compared
 
 A comparison fails too where the answers show too few lives, cuts, outputs, statuses or telegrams for the lines of the script.
 """
+import ctypes
 import random
 import sys
 from collections import Counter
@@ -16,6 +18,7 @@ sys.path[:0] = [str(TESTS), str(TESTS / "unit"), str(TESTS / "hostile"), str(TES
 
 from compared import Compared  # noqa: E402
 from lives import LIVES, scenario_of, slots_of, word_of  # noqa: E402
+from gaknifur import _header  # noqa: E402
 from program import inputs_of  # noqa: E402
 from random_inputs import headed, mutated  # noqa: E402
 
@@ -103,6 +106,22 @@ def script(lives, calls, telegrams, seed=2026):
     return lines + ["decode " + (headed if r.randrange(2) else mutated)(r)[:256].hex() for _ in range(telegrams)]
 
 
+def members():
+    """The functions of C, in the order of the headers. An array is added member by member, a struct within a struct by its own function."""
+    for name, kind in vars(_header).items():
+        if not (isinstance(kind, type) and issubclass(kind, ctypes.Structure) and kind is not ctypes.Structure) or name in ("etcs_unit", "etcs_opening"):
+            continue
+        yield f"static inline void add_{name}(const {name} *of) {{"
+        for field, of, *_ in kind._fields_:
+            is_array = hasattr(of, "_length_")
+            at = f"of->{field}" + "[i]" * is_array
+            inner = of._type_ if is_array else of
+            if is_array:
+                yield f"    for (size_t i = 0; i < sizeof of->{field} / sizeof of->{field}[0]; i++)"
+            yield "    " * (1 + is_array) + (f"add_{inner.__name__}(&{at});" if issubclass(inner, ctypes.Structure) else f"add_number((uint64_t){at}, sizeof {at});")
+        yield "}"
+
+
 def with_kinds(lines):
     """Each word of a script with the kind by which a unit is opened then."""
     kind = "0"
@@ -145,5 +164,7 @@ def compare(asked, wanted, *found):
 if __name__ == "__main__":
     if sys.argv[1] == "script":
         print("\n".join(script(*map(int, sys.argv[2:]))))
+    elif sys.argv[1] == "members":
+        print("\n".join(members()))
     else:
         sys.exit(compare(*sys.argv[2:]))

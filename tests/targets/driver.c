@@ -19,7 +19,8 @@
  *     flip OFFSET BITS             alters a byte of the medium
  *     facts, slot NEWEST SLOT, block NUMBER, record NUMBER INDEX, why NUMBER EVENT
  *     journal, next, replay, cursor BLOCK LAST INDEX
- *     decode HEX
+ *     explain                      why the newest released output is what it is
+ *     decode HEX, adapt HEX, dropped INDEX HEX, unused MODE DIRECTION INDEX HEX  the calls on telegrams
  *     null                         each call once with each of its pointers null
  *
  * Each line is answered by its number, the status, and a digest of what was written (FNV-1a); released outputs each have a line. */
@@ -210,6 +211,7 @@ static int about_units(uint32_t *status) {
     static uint8_t bytes[ETCS_UNIT_REQUEST_BYTES];
     etcs_unit_request_told request;
     etcs_unit_state_told state;
+    etcs_unit_why_told why;
     uint32_t first, second;
     if (word("open")) {
         *status = opens((uint32_t)number());
@@ -257,6 +259,10 @@ static int about_units(uint32_t *status) {
         *status = etcs_unit_state(unit(), &state);
         if (*status == ETCS_UNIT_OK)
             add_etcs_unit_state_told(&state);
+    } else if (word("explain")) {
+        *status = etcs_unit_why(unit(), &why);
+        if (*status == ETCS_UNIT_OK)
+            add_etcs_unit_why_told(&why);
     } else {
         return 0;
     }
@@ -344,11 +350,38 @@ static int about_media(uint32_t *status) {
         *status = etcs_version(bytes, room < sizeof bytes ? (size_t)room : sizeof bytes, &length);
         if (*status == ETCS_UNIT_OK)
             add(bytes, length);
-    } else if (word("decode")) {
+    } else {
+        return 0;
+    }
+    return 1;
+}
+
+static int about_telegrams(uint32_t *status) {
+    static uint8_t bytes[256], out[ETCS_TELEGRAM_BYTES];
+    etcs_adapted adapted;
+    etcs_value_dropped value;
+    etcs_packet_unused packet;
+    if (word("decode")) {
         const size_t count = bytes_of_line(bytes, sizeof bytes);
+        const uint32_t packets = etcs_packet_count(bytes, count);
         *status = etcs_decode(bytes, count);
-        length = etcs_packet_count(bytes, count);
-        add_number(length, sizeof length);
+        add_number(packets, sizeof packets);
+    } else if (word("adapt")) {
+        *status = etcs_telegram_adapt(bytes, bytes_of_line(bytes, sizeof bytes), out, sizeof out, &adapted);
+        if (*status == ETCS_UNIT_OK) {
+            add_etcs_adapted(&adapted);
+            add(out, adapted.len);
+        }
+    } else if (word("dropped")) {
+        const uint32_t index = (uint32_t)number();
+        *status = etcs_telegram_dropped(bytes, bytes_of_line(bytes, sizeof bytes), index, &value);
+        if (*status == ETCS_UNIT_OK)
+            add_etcs_value_dropped(&value);
+    } else if (word("unused")) {
+        const uint32_t mode = (uint32_t)number(), direction = (uint32_t)number(), index = (uint32_t)number();
+        *status = etcs_telegram_unused(bytes, bytes_of_line(bytes, sizeof bytes), mode, direction, index, &packet);
+        if (*status == ETCS_UNIT_OK)
+            add_etcs_packet_unused(&packet);
     } else {
         return 0;
     }
@@ -464,7 +497,8 @@ void drive(void) {
         digest = UINT64_C(0xCBF29CE484222325);
         if (word("null"))
             status = nulls();
-        else if (!about_units(&status) && !about_sectors(&status) && !about_inputs(&status) && !about_media(&status) && !about_images(&status))
+        else if (!about_units(&status) && !about_sectors(&status) && !about_inputs(&status) && !about_media(&status) && !about_images(&status)
+                 && !about_telegrams(&status))
             put("no such word\n");
         answer(status);
     }

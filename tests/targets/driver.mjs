@@ -6,7 +6,7 @@ import fs from 'node:fs';
 const { instance } = await WebAssembly.instantiate(fs.readFileSync(process.argv[2]), {});
 const x = instance.exports;
 const SECTOR = 512, SECTORS = 1 + 6 * 64, MOST = SECTOR * SECTORS, OUTPUTS = 8, REQUEST = 8192, OK = 0, FAILED = 21, SECTOR_WANTED = 24, NO_SUCH_REQUEST = 249;
-const SIZE = { request: 24, output: 16, state: 80, facts: 32, slot: 32, block: 208, record: 160, journal: 24, replay: 720, why: 160, train: 20 };
+const SIZE = { request: 24, output: 16, state: 80, facts: 32, slot: 32, block: 208, record: 160, journal: 24, replay: 720, why: 160, train: 20, explained: 144, adapted: 16, dropped: 16, unused: 24 };
 
 const bytesAt = (at, length) => new Uint8Array(x.memory.buffer, Number(at), Number(length));
 const take = size => {
@@ -209,6 +209,16 @@ const CALLS = {
         new DataView(x.memory.buffer).setUint32(Number(count), x.etcs_packet_count(bytes, length), true);
         add(count, 4);
         return status;
+    },
+    explain: () => tells(x.etcs_unit_why(unit(), told), told, SIZE.explained),
+    adapt: () => {
+        const status = x.etcs_telegram_adapt(bytes, hex(256), some, 104n, told);
+        return status === OK ? (add(told, SIZE.adapted), tells(status, some, new DataView(x.memory.buffer).getUint32(Number(told) + 4, true))) : status;
+    },
+    dropped: () => { const index = small(); return tells(x.etcs_telegram_dropped(bytes, hex(256), index, told), told, SIZE.dropped); },
+    unused: () => {
+        const mode = small(), direction = small(), index = small();
+        return tells(x.etcs_telegram_unused(bytes, hex(256), mode, direction, index, told), told, SIZE.unused);
     },
     facts: () => image('etcs_image_facts', SIZE.facts),
     slot: () => image('etcs_image_slot', SIZE.slot, number(), number()),

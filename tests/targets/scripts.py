@@ -27,6 +27,10 @@ CUT_KINDS, LEAST_STATUSES, NULL_CALLS, WANTED = 21, 24, 58, 24
 EDGES = (0, 1, 2, 7, 8, 9, 104, 105, 255, 256, 511, 512, 8_191, 8_192, 10_000, 10_001, 600_000, 600_001, 99_999_999, 100_000_000, (1 << 31) - 1, 1 << 31,
          (1 << 32) - 1, 1 << 32, (1 << 40) - 1, 1 << 40, (1 << 63) - 1, 1 << 63, (1 << 64) - 1)
 
+# The header of a group, and its packet 3 (tests/unit/telegrams.c).
+INSTALLED = ("1 0010000 0 000 000 00 11111111 0000000001 00000000000010 1 00000011 10 0000010111010 01 111111111111111 00001 0000000111 0000110 0001000 "
+             "0000110 0010100 0001000 000000000000010 1 0 0000000 0000110 000000011001000 00111100 000000011001000 01 11111111 1 111111111111111 0")
+
 
 def wild(r):
     return r.choice((r.choice(EDGES), r.randrange(16), r.randrange(1 << r.randrange(1, 65))))
@@ -53,7 +57,7 @@ def life(r):
     if r.randrange(2):
         at = r.choice([place for place, one in enumerate(lines) if one == "flush"])
         return [*lines[:at], f"cut {r.randrange(9)} {r.randrange(4_097)}", "image"]
-    return [*lines, "state", "close", "image"]
+    return [*lines, "state", "explain", "close", "image"]
 
 
 def reading(r):
@@ -77,7 +81,7 @@ def call(r):
                          f"telegram {r.randbytes(r.choice((0, 1, 104, 105, 250))).hex()}"))
     if kind < 24:
         return r.choice((f"request {r.randrange(5)} {r.choice((0, 511, 512, 8_192))}", f"request {wild(r)} {wild(r)}", f"done {wild(r)}", f"release {wild(r)}",
-                         "state", f"version {wild(r)}", f"format {wild(r)} {wild(r)} {wild(r)}", f"unit {r.randrange(2)}", f"medium {r.randrange(2)}"))
+                         "state", "explain", f"version {wild(r)}", f"format {wild(r)} {wild(r)} {wild(r)}", f"unit {r.randrange(2)}", f"medium {r.randrange(2)}"))
     if kind < 28:
         return r.choice((f"begins {r.randrange(3)}", f"begins {r.randrange(3)}", "goes 0", f"goes {r.randrange(40)}", f"goes {1 << 10}", f"goes {1 << 10}", "wanted",
                          f"kind {r.randrange(2)}", f"open {r.randrange(3)}", "wants"))
@@ -94,6 +98,16 @@ def call(r):
                      f"slots {r.choice((0, 1, 2, 3, 8, MOST_SLOTS, 65, 1 << 20, (1 << 20) + 1))}", f"slots {r.randrange(2, 9)}", "cut 1 100"))
 
 
+def installed(r):
+    """A telegram whose packet 3 is as a track of issue 2.3.0 sends it for one country, and then bits of any kind; at times one bit is turned."""
+    bits = INSTALLED.replace(" ", "") + (f"{r.randrange(1 << 40):040b}" if r.randrange(2) else "1" * 8)
+    bits += "0" * (-len(bits) % 8)
+    data = bytearray(int(bits, 2).to_bytes(len(bits) // 8, "big"))
+    if r.randrange(3) == 0:
+        data[r.randrange(6, len(data))] ^= 1 << r.randrange(8)
+    return bytes(data)
+
+
 def script(lives, calls, telegrams, seed=2026):
     r, lines = random.Random(seed), ["null", "version 32"]
     for number in range(lives):
@@ -103,7 +117,10 @@ def script(lives, calls, telegrams, seed=2026):
         if r.randrange(4) == 0:
             lines += reading(r)
     lines += ["slots 4", *(call(r) for _ in range(calls)), "unit 0", "close", "give_up", "unit 1", "close", "give_up", "null"]
-    return lines + ["decode " + (headed if r.randrange(2) else mutated)(r)[:256].hex() for _ in range(telegrams)]
+    for _ in range(telegrams):
+        data = r.choice((headed, mutated, installed))(r)[:256].hex()
+        lines += [f"decode {data}", f"adapt {data}", f"dropped {r.randrange(8)} {data}", f"unused {r.choice((0, 1, 2, 3, 4, 5, 6, 7, 8, 9))} {r.choice((0, 1, 2, 2, 3))} {r.randrange(4)} {data}"]
+    return lines
 
 
 def members():

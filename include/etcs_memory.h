@@ -40,7 +40,7 @@ extern "C" {
 
 /** The bytes of a buffer that the library as C source (`tools/library --c`) takes for itself, on top of what units need: for
  * its stack and its tables. */
-#define ETCS_MEMORY_OF_SOURCE UINT64_C(196608)
+#define ETCS_MEMORY_OF_SOURCE UINT64_C(262144)
 
 /** What one unit, alone on a buffer, needs at most, in bytes, of:
  *

@@ -53,9 +53,9 @@
  * Its etcs_unit_prepare may answer ETCS_UNIT_SECTOR_WANTED too: then the sector that etcs_unit_wanted tells is read and
  * handed in by etcs_unit_provide, and etcs_unit_prepare is called again. All else is as over a copy.
  *
- * ANY ANSWER BUT ETCS_UNIT_OK MEANS THE EMERGENCY BRAKE, unless it is a mistake that is put right before the next output is
- * due: etcs_status_kind parts what an answer may be. A compiler warns where such an answer is dropped (ETCS_MUST_USE); gcc
- * does so behind a cast to void too. An output reaches the train from etcs_unit_release alone.
+ * ANY ANSWER BUT ETCS_UNIT_OK MEANS THE EMERGENCY BRAKE, unless it is a mistake that is put right before the next
+ * output is due: etcs_status_classify parts what an answer may be. A compiler warns where such an answer is dropped
+ * (ETCS_MUST_USE); gcc does so behind a cast to void too. An output reaches the train from etcs_unit_release alone.
  *
  * Every call returns, whatever numbers it is handed, and answers a number of enum etcs_unit_status. A null pointer is
  * answered with ETCS_UNIT_NULL_POINTER. What no call can test, the caller owes:
@@ -174,7 +174,7 @@ enum etcs_unit_status {
     ETCS_UNIT_OUT_OF_RANGE = 255     /**< a number or a length is outside its limits */
 };
 
-/** What an answer is (etcs_status_kind). */
+/** What an answer is (etcs_status_classify). */
 enum etcs_status_kind {
     ETCS_KIND_OK = 0,      /**< the call did what it was asked */
     ETCS_KIND_MISTAKE = 1, /**< the driver or the program asked what can't be done: nothing changed; put it right, and call again */
@@ -663,7 +663,7 @@ static inline const char *etcs_status_name(uint32_t status) {
  * and a fault of a sensor, the clock or a reader of balises. A mistake of the program, such as PENDING_FULL, is one as long
  * as it is put right at once; a reading that is never handed in counts as a sensor that failed. */
 ETCS_MUST_USE
-static inline uint32_t etcs_status_kind(uint32_t status, uint32_t source) {
+static inline uint32_t etcs_status_classify(uint32_t status, uint32_t source) {
     uint32_t kind = (uint32_t)ETCS_KIND_FAULT;
     switch (status) {
     case (uint32_t)ETCS_UNIT_OK:

@@ -67,7 +67,7 @@ class Status(enum.IntEnum):
 
 
 class StatusKind(enum.IntEnum):
-    """What an answer is (etcs_status_kind)."""
+    """What an answer is (etcs_status_classify)."""
 
     OK = 0
     MISTAKE = 1

@@ -19,6 +19,7 @@
  *     flip OFFSET BITS             alters a byte of the medium
  *     facts, slot NEWEST SLOT, block NUMBER, record NUMBER INDEX, why NUMBER EVENT
  *     journal, next, replay, cursor BLOCK LAST INDEX
+ *     cause                        why of the event that `next` read last
  *     explain                      why the newest released output is what it is
  *     decode HEX, adapt HEX, dropped INDEX HEX, unused MODE DIRECTION INDEX HEX  the calls on telegrams
  *     null                         each call once with each of its pointers null
@@ -391,6 +392,7 @@ static int about_telegrams(uint32_t *status) {
 static int about_images(uint32_t *status) {
     static etcs_replay replay;
     static etcs_block block;
+    static uint64_t last_block, last_event;
     etcs_image facts;
     etcs_slot slot;
     etcs_record record;
@@ -424,8 +426,15 @@ static int about_images(uint32_t *status) {
             add_etcs_journal(&journal);
     } else if (word("next")) {
         *status = etcs_journal_next(media[on], size(), &journal, &record);
-        if (*status == ETCS_UNIT_OK)
+        if (*status == ETCS_UNIT_OK) {
             add_etcs_record(&record);
+            last_block = record.block;
+            last_event = record.event;
+        }
+    } else if (word("cause")) {
+        *status = etcs_image_why(media[on], size(), last_block, last_event, &why);
+        if (*status == ETCS_UNIT_OK)
+            add_etcs_why(&why);
     } else if (word("replay")) {
         *status = etcs_image_replay(media[on], size(), &journal, &replay);
         if (*status == ETCS_UNIT_OK)

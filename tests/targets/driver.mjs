@@ -20,7 +20,7 @@ const media = [take(MOST), take(MOST)], lengths = [0, 0], units = [take(16), tak
 const journal = take(SIZE.journal), bytes = take(REQUEST), request = take(SIZE.request), outputs = take(OUTPUTS * SIZE.output), count = take(8);
 const state = take(SIZE.state), train = take(SIZE.train), told = take(SIZE.replay), none = take(16);
 const openings = [take(16), take(16)], begun = take(16), sector = take(8), some = take(2 * SECTOR);
-let on = 0, which = 0, bySectors = false, readsAtMost = MOST, digest = 0n, words = [], answers = [];
+let on = 0, which = 0, bySectors = false, readsAtMost = MOST, digest = 0n, words = [], answers = [], last = [0n, 0n];
 
 const U64 = (1n << 64n) - 1n;
 const add = (at, length) => {
@@ -226,7 +226,12 @@ const CALLS = {
     record: () => image('etcs_image_record', SIZE.record, number(), small()),
     why: () => image('etcs_image_why', SIZE.why, number(), number()),
     journal: () => tells(x.etcs_journal_open(media[on], size(), journal), journal, SIZE.journal),
-    next: () => image('etcs_journal_next', SIZE.record, journal),
+    next: () => {
+        const status = image('etcs_journal_next', SIZE.record, journal);
+        if (status === OK) last = [told64(told, 1), told64(told, 0)];
+        return status;
+    },
+    cause: () => image('etcs_image_why', SIZE.why, ...last),
     replay: () => image('etcs_image_replay', SIZE.replay, journal),
     cursor: () => { for (let i = 0; i < 3; i++) { const value = number(); new DataView(x.memory.buffer).setBigUint64(Number(journal) + 8 * i, value, true); } return 0; },
     null: nulls,

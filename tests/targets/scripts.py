@@ -62,7 +62,7 @@ def life(r):
 
 def reading(r):
     """What is asked of the image behind a life."""
-    asked = ["facts", "journal", *["next"] * r.randrange(12), "journal", *["replay"] * r.randrange(1, 5)]
+    asked = ["facts", "journal", *["next", "cause"] * r.randrange(12), "journal", *["replay"] * r.randrange(1, 5)]
     return [*asked, *(f"why {r.randrange(1, 40)} {r.randrange(120)}" for _ in range(2)), *(f"slot {r.randrange(40)} {r.randrange(10)}" for _ in range(2)),
             f"block {r.randrange(1, 40)}", f"record {r.randrange(1, 40)} {r.randrange(9)}"]
 
@@ -157,6 +157,7 @@ def compare(asked, wanted, *found):
     compared.unless(len(answers) == len(lines) and told[-1:] == ["end"], f"{wanted}: {len(answers)} answers to {len(lines)} lines")
     statuses = Counter(int(status) for _, status, _ in answers)
     words = [line.split()[0] for line in lines]
+    causes = sum(word == "cause" and int(status) == 0 for word, (_, status, _) in zip(words, answers))
     cuts = sum(word in ("cut", "dies") and int(status) == CUT_KINDS for word, (_, status, _) in zip(words, answers))
     stopped = sum(word == "stops" and int(status) == WANTED for word, (_, status, _) in zip(words, answers))
     outputs, lives = sum(line.startswith("event ") for line in told), words.count("open")
@@ -167,6 +168,7 @@ def compare(asked, wanted, *found):
     compared.unless(outputs >= 4 * lives // 3 and cuts >= words.count("cut") // 4 > 0, f"{outputs} outputs of {lives} lives, {cuts} of them cut off")
     compared.unless(min(by_sectors["0"], by_sectors["1"]) >= lives // 4 and stopped >= words.count("stops") // 4 > 0,
                     f"openings by kind {dict(by_sectors)}, {stopped} cut off while a sector was wanted")
+    compared.unless(causes * 10 >= words.count("cause") > 0, f"{causes} of {words.count('cause')} causes are told")
     compared.unless(len(statuses) >= LEAST_STATUSES, f"{len(statuses)} kinds of answers")
     compared.unless(decoded.count(0) * 10 >= len(decoded) > 0, f"{decoded.count(0)} of {len(decoded)} telegrams can be read")
     for path in found:
@@ -175,7 +177,7 @@ def compare(asked, wanted, *found):
         compared.same(path, [pair for pair in zip(other, told) if pair[0] != pair[1]][:5], [])
     return compared.end(f"{len(found)} machines beside the first: {len(lines)} calls with {outputs} outputs, {lives} openings, {by_sectors['1']} of them by sectors, "
                         f"{cuts} losses of power and {stopped} more while a sector was wanted, "
-                        f"{len(statuses)} kinds of answers, {len(decoded)} telegrams")
+                        f"{causes} causes, {len(statuses)} kinds of answers, {len(decoded)} telegrams")
 
 
 if __name__ == "__main__":

@@ -19,10 +19,6 @@
 #include <stddef.h>
 #include <stdint.h>
 
-#if (UINTPTR_MAX != UINT64_MAX) || (defined(__BYTE_ORDER__) && (__BYTE_ORDER__ != __ORDER_LITTLE_ENDIAN__))
-#error "the library is for machines with pointers of 64 bits and the lowest byte of a number first, and for no others"
-#endif
-
 #ifdef __cplusplus
 extern "C" {
 #endif
@@ -58,11 +54,11 @@ enum etcs_fault {
  * needs no such check. Returns ETCS_OK, or the number of the fault (enum etcs_fault). The bits of each byte count from its
  * highest one. What follows the end mark is free. */
 ETCS_MUST_USE
-uint32_t etcs_decode(const uint8_t *bytes, size_t len);
+uint32_t etcs_decode(const uint8_t *bytes, uint64_t len);
 
 /** Counts the packets before the end mark: 0 to 33. Returns 0 where the bytes carry no telegram, and also where they carry
  * one with no packet; etcs_decode distinguishes the two. */
-uint32_t etcs_packet_count(const uint8_t *bytes, size_t len);
+uint32_t etcs_packet_count(const uint8_t *bytes, uint64_t len);
 
 #ifdef __cplusplus
 }

@@ -118,8 +118,8 @@ ETCS_UNIT_ASSERT(sizeof(etcs_guard) == 12u && offsetof(etcs_guard, brake) == 4u 
 /* ---- the library's own names; the calls below test pointers first, and then call these */
 
 uint32_t etcs_guard_begin_(etcs_guard *guard, uint32_t policy);
-uint32_t etcs_guard_hear_(etcs_guard *guard, const uint8_t *bytes, size_t len, const etcs_situation *situation, uint32_t *count);
-uint32_t etcs_guard_demand_(const uint8_t *bytes, size_t len, const etcs_situation *situation, uint32_t index, etcs_demand *demand);
+uint32_t etcs_guard_hear_(etcs_guard *guard, const uint8_t *bytes, uint64_t len, const etcs_situation *situation, uint32_t *count);
+uint32_t etcs_guard_demand_(const uint8_t *bytes, uint64_t len, const etcs_situation *situation, uint32_t index, etcs_demand *demand);
 uint32_t etcs_guard_acknowledge_(etcs_guard *guard, uint32_t speed_m_per_h);
 uint32_t etcs_guard_command_(const etcs_guard *guard, uint32_t unit_brake, uint32_t *brake);
 

@@ -260,14 +260,14 @@ ETCS_UNIT_ASSERT(sizeof(etcs_why) == 160u && offsetof(etcs_why, trip_event) == 8
 
 /* ---- the library's own names; the calls below test pointers first, hand over the header's interface, and then call these */
 
-uint32_t etcs_image_facts_(const uint8_t *image, size_t size, uint32_t abi, etcs_image *facts);
-uint32_t etcs_image_slot_(const uint8_t *image, size_t size, uint32_t abi, uint64_t newest, uint64_t slot, etcs_slot *found);
-uint32_t etcs_image_block_(const uint8_t *image, size_t size, uint32_t abi, uint64_t number, etcs_block *block);
-uint32_t etcs_image_record_(const uint8_t *image, size_t size, uint32_t abi, uint64_t number, uint32_t index, etcs_record *record);
-uint32_t etcs_journal_open_(const uint8_t *image, size_t size, uint32_t abi, etcs_journal *journal);
-uint32_t etcs_journal_next_(const uint8_t *image, size_t size, etcs_journal *journal, etcs_record *record);
-uint32_t etcs_image_replay_(const uint8_t *image, size_t size, uint32_t abi, etcs_journal *journal, etcs_replay *replay);
-uint32_t etcs_image_why_(const uint8_t *image, size_t size, uint32_t abi, uint64_t number, uint64_t event, etcs_why *why);
+uint32_t etcs_image_facts_(const uint8_t *image, uint64_t size, uint32_t abi, etcs_image *facts);
+uint32_t etcs_image_slot_(const uint8_t *image, uint64_t size, uint32_t abi, uint64_t newest, uint64_t slot, etcs_slot *found);
+uint32_t etcs_image_block_(const uint8_t *image, uint64_t size, uint32_t abi, uint64_t number, etcs_block *block);
+uint32_t etcs_image_record_(const uint8_t *image, uint64_t size, uint32_t abi, uint64_t number, uint32_t index, etcs_record *record);
+uint32_t etcs_journal_open_(const uint8_t *image, uint64_t size, uint32_t abi, etcs_journal *journal);
+uint32_t etcs_journal_next_(const uint8_t *image, uint64_t size, etcs_journal *journal, etcs_record *record);
+uint32_t etcs_image_replay_(const uint8_t *image, uint64_t size, uint32_t abi, etcs_journal *journal, etcs_replay *replay);
+uint32_t etcs_image_why_(const uint8_t *image, uint64_t size, uint32_t abi, uint64_t number, uint64_t event, etcs_why *why);
 
 /* ---- names of numbers, as etcs_lab prints them (docs/reference/json.md) */
 

@@ -38,6 +38,10 @@ extern "C" {
 /** The bytes of a buffer, at most. */
 #define ETCS_MEMORY_MOST UINT64_C(0x400000000)
 
+/** The bytes of a buffer that the library as C source (`tools/library --c`) takes for itself, on top of what units need: for
+ * its stack and its tables. */
+#define ETCS_MEMORY_OF_SOURCE UINT64_C(262144)
+
 /** What one unit, alone on a buffer, needs at most, in bytes, of:
  *
  * - slots: of its medium, which has 1 + 6 * slots sectors; 0 where it is opened without a copy (etcs_opening_begin);

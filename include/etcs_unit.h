@@ -53,9 +53,9 @@
  * Its etcs_unit_prepare may answer ETCS_UNIT_SECTOR_WANTED too: then the sector that etcs_unit_wanted returns is read and
  * handed in by etcs_unit_provide, and etcs_unit_prepare is called again. All else is as over a copy.
  *
- * ANY ANSWER BUT ETCS_UNIT_OK MEANS THE EMERGENCY BRAKE, unless it is a mistake that is put right before the next output is
- * due: etcs_status_kind sorts the answers. A compiler warns where such an answer is dropped (ETCS_MUST_USE); gcc
- * does so even after a cast to void. An output reaches the train from etcs_unit_release alone.
+ * ANY ANSWER BUT ETCS_UNIT_OK MEANS THE EMERGENCY BRAKE, unless it is a mistake that is put right before the next
+ * output is due: etcs_status_classify sorts the answers. A compiler warns where such an answer is dropped
+ * (ETCS_MUST_USE); gcc does so even after a cast to void. An output reaches the train from etcs_unit_release alone.
  *
  * Every call returns, whatever numbers it is handed, and answers a number of enum etcs_unit_status. A null pointer is
  * answered with ETCS_UNIT_NULL_POINTER. What no call can test, the caller owes:
@@ -92,9 +92,7 @@
 extern "C" {
 #endif
 
-#if UINTPTR_MAX != UINT64_MAX
-#define ETCS_UNIT_ASSERT(what) extern char etcs_unit_assert_[1] /* etcs.h said so already */
-#elif defined(__cplusplus)
+#if defined(__cplusplus)
 #define ETCS_UNIT_ASSERT(what) static_assert(what, "the layout that the library has")
 #elif defined(__STDC_VERSION__) && (__STDC_VERSION__ >= 201112L)
 #define ETCS_UNIT_ASSERT(what) _Static_assert(what, "the layout that the library has")
@@ -176,7 +174,7 @@ enum etcs_unit_status {
     ETCS_UNIT_OUT_OF_RANGE = 255     /**< a number or a length is outside its limits */
 };
 
-/** What an answer is (etcs_status_kind). */
+/** What an answer is (etcs_status_classify). */
 enum etcs_status_kind {
     ETCS_KIND_OK = 0,      /**< the call did what it was asked */
     ETCS_KIND_MISTAKE = 1, /**< the driver or the program asked what can't be done: nothing changed; put it right, and call again */
@@ -441,8 +439,8 @@ typedef struct {
     uint32_t why;    /**< enum etcs_unused_reason */
 } etcs_packet_unused;
 
-ETCS_UNIT_ASSERT((sizeof(void *) == 8u) && (sizeof(size_t) == 8u));
-ETCS_UNIT_ASSERT(sizeof(etcs_unit) == 16u && offsetof(etcs_unit, is_open) == 8u);
+/* (where a pointer has fewer than 64 bits, a number of 64 bits may stand at other places: such a machine has the C source alone) */
+ETCS_UNIT_ASSERT((sizeof(void *) < 8u) || ((sizeof(etcs_unit) == 16u) && (offsetof(etcs_unit, is_open) == 8u)));
 ETCS_UNIT_ASSERT(sizeof(etcs_unit_output) == 16u && offsetof(etcs_unit_output, limit_m_per_h) == 8u && offsetof(etcs_unit_output, mode) == 12u
                  && offsetof(etcs_unit_output, level) == 13u && offsetof(etcs_unit_output, brake) == 14u && offsetof(etcs_unit_output, indications) == 15u);
 ETCS_UNIT_ASSERT(sizeof(etcs_unit_request_told) == 24u && offsetof(etcs_unit_request_told, sectors) == 8u && offsetof(etcs_unit_request_told, kind) == 16u);
@@ -460,36 +458,36 @@ ETCS_UNIT_ASSERT(sizeof(etcs_value_dropped) == 16u && offsetof(etcs_value_droppe
 ETCS_UNIT_ASSERT(sizeof(etcs_packet_unused) == 24u && offsetof(etcs_packet_unused, bits) == 8u && offsetof(etcs_packet_unused, number) == 16u
                  && offsetof(etcs_packet_unused, why) == 20u);
 
-/* ---- the library's own names; the calls below test pointers first, and then call these */
+/* ---- the library's own names; the calls below test pointers first, and then call these. Lengths have 64 bits in each library */
 
-uint32_t etcs_version_(uint8_t *out, size_t room, uint32_t *len);
-uint32_t etcs_unit_open_(etcs_unit *unit, const uint8_t *image, size_t len, uint32_t cold, uint32_t abi);
-uint32_t etcs_unit_telegram_(etcs_unit *unit, const uint8_t *bytes, size_t len);
+uint32_t etcs_version_(uint8_t *out, uint64_t room, uint32_t *len);
+uint32_t etcs_unit_open_(etcs_unit *unit, const uint8_t *image, uint64_t len, uint32_t cold, uint32_t abi);
+uint32_t etcs_unit_telegram_(etcs_unit *unit, const uint8_t *bytes, uint64_t len);
 uint32_t etcs_unit_odometer_(etcs_unit *unit, int64_t movement_cm, uint32_t speed_m_per_h);
 uint32_t etcs_unit_clock_(etcs_unit *unit, uint64_t moment_ms);
 uint32_t etcs_unit_action_(etcs_unit *unit, uint32_t action);
-uint32_t etcs_unit_identity_(etcs_unit *unit, const uint8_t *bytes, size_t len);
+uint32_t etcs_unit_identity_(etcs_unit *unit, const uint8_t *bytes, uint64_t len);
 uint32_t etcs_unit_running_number_(etcs_unit *unit, uint32_t number);
 uint32_t etcs_unit_train_data_(etcs_unit *unit, const etcs_train_data *data);
 uint32_t etcs_opening_begin_(etcs_opening *opening, uint64_t sectors, uint32_t cold, uint32_t abi);
 uint32_t etcs_opening_go_on_(etcs_opening *opening, etcs_unit *unit);
 uint32_t etcs_opening_wanted_(etcs_opening *opening, uint64_t *sector);
-uint32_t etcs_opening_provide_(etcs_opening *opening, uint64_t sector, const uint8_t *bytes, size_t size);
+uint32_t etcs_opening_provide_(etcs_opening *opening, uint64_t sector, const uint8_t *bytes, uint64_t size);
 uint32_t etcs_opening_close_(etcs_opening *opening);
 uint32_t etcs_unit_wanted_(etcs_unit *unit, uint64_t *sector);
-uint32_t etcs_unit_provide_(etcs_unit *unit, uint64_t sector, const uint8_t *bytes, size_t size);
+uint32_t etcs_unit_provide_(etcs_unit *unit, uint64_t sector, const uint8_t *bytes, uint64_t size);
 uint32_t etcs_unit_prepare_(etcs_unit *unit);
-uint32_t etcs_unit_request_(etcs_unit *unit, uint32_t index, etcs_unit_request_told *request, uint8_t *bytes, size_t room);
+uint32_t etcs_unit_request_(etcs_unit *unit, uint32_t index, etcs_unit_request_told *request, uint8_t *bytes, uint64_t room);
 uint32_t etcs_unit_done_(etcs_unit *unit, uint32_t count);
 uint32_t etcs_unit_fail_(etcs_unit *unit);
-uint32_t etcs_unit_release_(etcs_unit *unit, etcs_unit_output *outputs, size_t room, uint32_t *count);
+uint32_t etcs_unit_release_(etcs_unit *unit, etcs_unit_output *outputs, uint64_t room, uint32_t *count);
 uint32_t etcs_unit_state_(etcs_unit *unit, etcs_unit_state_told *state);
 uint32_t etcs_unit_why_(etcs_unit *unit, etcs_unit_why_told *why);
 uint32_t etcs_unit_close_(etcs_unit *unit);
-uint32_t etcs_unit_format_request_(uint32_t slots, uint32_t index, etcs_unit_request_told *request, uint8_t *bytes, size_t room);
-uint32_t etcs_telegram_adapt_(const uint8_t *bytes, size_t len, uint8_t *out, size_t room, etcs_adapted *outcome);
-uint32_t etcs_telegram_dropped_(const uint8_t *bytes, size_t len, uint32_t index, etcs_value_dropped *value);
-uint32_t etcs_telegram_unused_(const uint8_t *bytes, size_t len, uint32_t mode, uint32_t direction, uint32_t index, etcs_packet_unused *packet);
+uint32_t etcs_unit_format_request_(uint32_t slots, uint32_t index, etcs_unit_request_told *request, uint8_t *bytes, uint64_t room);
+uint32_t etcs_telegram_adapt_(const uint8_t *bytes, uint64_t len, uint8_t *out, uint64_t room, etcs_adapted *told);
+uint32_t etcs_telegram_dropped_(const uint8_t *bytes, uint64_t len, uint32_t index, etcs_value_dropped *value);
+uint32_t etcs_telegram_unused_(const uint8_t *bytes, uint64_t len, uint32_t mode, uint32_t direction, uint32_t index, etcs_packet_unused *packet);
 
 /* ---- the calls */
 
@@ -665,7 +663,7 @@ static inline const char *etcs_status_name(uint32_t status) {
  * and a fault of a sensor, the clock or a reader of balises. A mistake of the program, such as PENDING_FULL, is one as long
  * as it is put right at once; a reading that is never handed in counts as a sensor that failed. */
 ETCS_MUST_USE
-static inline uint32_t etcs_status_kind(uint32_t status, uint32_t source) {
+static inline uint32_t etcs_status_classify(uint32_t status, uint32_t source) {
     uint32_t kind = (uint32_t)ETCS_KIND_FAULT;
     switch (status) {
     case (uint32_t)ETCS_UNIT_OK:

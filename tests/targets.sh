@@ -43,14 +43,15 @@ board() {
 
 # ---- the same script everywhere
 
+"$python" "$here/scripts.py" members >"$made/members.h" || fails "there are no members"
 for one in "gcc here $here_prefix/lib/libetcs_unit.a" "gcc here_static $here_prefix/lib/libetcs_unit_static.a -DOWN_MEMORY" \
     "$cross aarch64 $arm/lib/libetcs_unit.a -static" "$cross aarch64_static $arm/lib/libetcs_unit_static.a -static -DOWN_MEMORY"; do
     read -r compiler name library words <<<"$one"
     # shellcheck disable=SC2086
-    "$compiler" -std=c99 -O2 "${strict[@]}" $words -I "$here_prefix/include" -I "$here" "$here/driver.c" "$here/hosted.c" "$library" -o "$made/$name" ||
+    "$compiler" -std=c99 -O2 "${strict[@]}" $words -I "$made" -I "$here_prefix/include" -I "$here" "$here/driver.c" "$here/hosted.c" "$library" -o "$made/$name" ||
         fails "the driver doesn't compile: $name"
 done
-"$cross" -std=c11 -O2 "${strict[@]}" "${bare_words[@]}" -I "$here" "$here/driver.c" "$here/bare.c" "$bare/lib/libetcs_unit_static.a" -o "$made/board.elf" ||
+"$cross" -std=c11 -O2 "${strict[@]}" "${bare_words[@]}" -I "$made" -I "$here" "$here/driver.c" "$here/bare.c" "$bare/lib/libetcs_unit_static.a" -o "$made/board.elf" ||
     fails "the driver doesn't compile for the board"
 "$python" "$here/scripts.py" script "$lives" "$calls" "$telegrams" >"$made/script" || fails "there is no script"
 "$made/here" <"$made/script" >"$made/told.x86_64" || fails "the driver ends with another status than 0"

@@ -69,10 +69,8 @@ for words in "gcc -x c -std=c99" "gcc -x c -std=c11" "g++ -x c++ -std=c++17" "g+
     diff "$made/drops" "$made/warned" >"$made/said" || { cat "$made/said"; fails "$words doesn't warn just of each answer that may mean the brake"; }
 done
 counted "answers that aren't dropped" "$(wc -l <"$made/drops")" 32
-# a machine of 32 bits is told so in one sentence
-told=$(gcc -m32 -ffreestanding -I "$include" -fsyntax-only "$made/all.c" 2>&1 | grep -c 'error:')
-said=$(gcc -m32 -ffreestanding -I "$include" -fsyntax-only "$made/all.c" 2>&1 | grep -c 'error: #error "the library is for machines with pointers of 64 bits')
-[ "$told $said" = "1 1" ] || fails "a machine of 32 bits is told other things: $told errors"
+# so do they for a machine of 32 bits, where a length of C has 32 too (etcs_file.h is for POSIX, and wants its headers)
+gcc -m32 -std=c99 -ffreestanding "${strict[@]}" -I "$include" -fsyntax-only "$made/all.c" || fails "the headers don't compile for a machine of 32 bits"
 
 # ---- the names that the library shows are those that the headers declare or define, as gcc reads them
 

@@ -55,7 +55,7 @@ static void fail(uint32_t status) {
 
 /* Whether a call of the equipment did what it was asked; else the brake. */
 static int did(uint32_t status) {
-    if (etcs_status_kind(status, ETCS_OF_EQUIPMENT) != ETCS_KIND_OK)
+    if (etcs_status_classify(status, ETCS_OF_EQUIPMENT) != ETCS_KIND_OK)
         fail(status);
     return status == ETCS_UNIT_OK;
 }
@@ -63,7 +63,7 @@ static int did(uint32_t status) {
 /* The driver enters his identity: where it is none, he is asked again, and nothing has changed. */
 static uint32_t enter(const char *identity) {
     const uint32_t status = etcs_unit_identity(&our.unit, (const uint8_t *)identity, strlen(identity));
-    if (etcs_status_kind(status, ETCS_OF_DRIVER) == ETCS_KIND_MISTAKE)
+    if (etcs_status_classify(status, ETCS_OF_DRIVER) == ETCS_KIND_MISTAKE)
         printf("the driver enters \"%s\": %s, once more\n", identity, etcs_status_name(status));
     else
         (void)did(status);

@@ -1,6 +1,6 @@
 """What include/etcs.h, etcs_unit.h, etcs_image.h and etcs_guard.h declare, for ctypes. Written by `tools/bindings`."""
 import enum
-from ctypes import POINTER, Structure, c_char_p, c_int64, c_size_t, c_uint8, c_uint16, c_uint32, c_uint64, c_void_p
+from ctypes import POINTER, Structure, c_char_p, c_int64, c_uint8, c_uint16, c_uint32, c_uint64, c_void_p
 
 TELEGRAM_BYTES = 104
 ABI = 5
@@ -15,7 +15,7 @@ NO_PACKET = 256
 
 
 class Fault(enum.IntEnum):
-    """Why bytes carry no telegram. TOO_LONG comes before all others; else the fault that is told is the first one in
+    """Why bytes carry no telegram. TOO_LONG comes before all others; otherwise the reported fault is the first one in
     the order of the bits."""
 
     OK = 0
@@ -68,7 +68,7 @@ class Status(enum.IntEnum):
 
 
 class StatusKind(enum.IntEnum):
-    """What an answer is (etcs_status_kind)."""
+    """What an answer is (etcs_status_classify)."""
 
     OK = 0
     MISTAKE = 1
@@ -161,7 +161,7 @@ class RequestKind(enum.IntEnum):
 
 class BrakeCause(enum.IntEnum):
     """Why a brake is commanded: the rows of the brake table, by their places in etcs_unit_why and etcs_why
-    (docs/explain/brakes.md, which tells how each ends). The first six command the emergency brake."""
+    (docs/explain/brakes.md, which says how each ends). The first six command the emergency brake."""
 
     NOT_REVALIDATED = 0
     IN_TRIP = 1
@@ -201,7 +201,7 @@ class LimitCause(enum.IntEnum):
 
 
 class Acknowledgement(enum.IntEnum):
-    """Whether the driver is waited for (SUBSET-026, 5.7, 5.9, 5.10)."""
+    """Whether an acknowledgement by the driver is awaited (SUBSET-026, 5.7, 5.9, 5.10)."""
 
     NONE = 0
     ASKED = 1
@@ -281,7 +281,7 @@ class Datum(enum.IntEnum):
 
 
 class Verdict(enum.IntEnum):
-    """What events of a life came to that were run through the kernel again, or a head."""
+    """The result of replaying some events of one life through the kernel, or of comparing a head."""
 
     AGREES = 1
     RECORD_DIFFERS = 2
@@ -501,48 +501,48 @@ class etcs_guard(Structure):
 
 
 CALLS: dict[str, tuple[object, ...]] = {
-    "etcs_decode": (c_char_p, c_size_t),
-    "etcs_packet_count": (c_char_p, c_size_t),
-    "etcs_version_": (c_char_p, c_size_t, POINTER(c_uint32)),
-    "etcs_unit_open_": (POINTER(etcs_unit), c_char_p, c_size_t, c_uint32, c_uint32),
-    "etcs_unit_telegram_": (POINTER(etcs_unit), c_char_p, c_size_t),
+    "etcs_decode": (c_char_p, c_uint64),
+    "etcs_packet_count": (c_char_p, c_uint64),
+    "etcs_version_": (c_char_p, c_uint64, POINTER(c_uint32)),
+    "etcs_unit_open_": (POINTER(etcs_unit), c_char_p, c_uint64, c_uint32, c_uint32),
+    "etcs_unit_telegram_": (POINTER(etcs_unit), c_char_p, c_uint64),
     "etcs_unit_odometer_": (POINTER(etcs_unit), c_int64, c_uint32),
     "etcs_unit_clock_": (POINTER(etcs_unit), c_uint64),
     "etcs_unit_action_": (POINTER(etcs_unit), c_uint32),
-    "etcs_unit_identity_": (POINTER(etcs_unit), c_char_p, c_size_t),
+    "etcs_unit_identity_": (POINTER(etcs_unit), c_char_p, c_uint64),
     "etcs_unit_running_number_": (POINTER(etcs_unit), c_uint32),
     "etcs_unit_train_data_": (POINTER(etcs_unit), POINTER(etcs_train_data)),
     "etcs_opening_begin_": (POINTER(etcs_opening), c_uint64, c_uint32, c_uint32),
     "etcs_opening_go_on_": (POINTER(etcs_opening), POINTER(etcs_unit)),
     "etcs_opening_wanted_": (POINTER(etcs_opening), POINTER(c_uint64)),
-    "etcs_opening_provide_": (POINTER(etcs_opening), c_uint64, c_char_p, c_size_t),
+    "etcs_opening_provide_": (POINTER(etcs_opening), c_uint64, c_char_p, c_uint64),
     "etcs_opening_close_": (POINTER(etcs_opening),),
     "etcs_unit_wanted_": (POINTER(etcs_unit), POINTER(c_uint64)),
-    "etcs_unit_provide_": (POINTER(etcs_unit), c_uint64, c_char_p, c_size_t),
+    "etcs_unit_provide_": (POINTER(etcs_unit), c_uint64, c_char_p, c_uint64),
     "etcs_unit_prepare_": (POINTER(etcs_unit),),
-    "etcs_unit_request_": (POINTER(etcs_unit), c_uint32, POINTER(etcs_unit_request_told), c_char_p, c_size_t),
+    "etcs_unit_request_": (POINTER(etcs_unit), c_uint32, POINTER(etcs_unit_request_told), c_char_p, c_uint64),
     "etcs_unit_done_": (POINTER(etcs_unit), c_uint32),
     "etcs_unit_fail_": (POINTER(etcs_unit),),
-    "etcs_unit_release_": (POINTER(etcs_unit), POINTER(etcs_unit_output), c_size_t, POINTER(c_uint32)),
+    "etcs_unit_release_": (POINTER(etcs_unit), POINTER(etcs_unit_output), c_uint64, POINTER(c_uint32)),
     "etcs_unit_state_": (POINTER(etcs_unit), POINTER(etcs_unit_state_told)),
     "etcs_unit_why_": (POINTER(etcs_unit), POINTER(etcs_unit_why_told)),
     "etcs_unit_close_": (POINTER(etcs_unit),),
-    "etcs_unit_format_request_": (c_uint32, c_uint32, POINTER(etcs_unit_request_told), c_char_p, c_size_t),
-    "etcs_telegram_adapt_": (c_char_p, c_size_t, c_char_p, c_size_t, POINTER(etcs_adapted)),
-    "etcs_telegram_dropped_": (c_char_p, c_size_t, c_uint32, POINTER(etcs_value_dropped)),
-    "etcs_telegram_unused_": (c_char_p, c_size_t, c_uint32, c_uint32, c_uint32, POINTER(etcs_packet_unused)),
+    "etcs_unit_format_request_": (c_uint32, c_uint32, POINTER(etcs_unit_request_told), c_char_p, c_uint64),
+    "etcs_telegram_adapt_": (c_char_p, c_uint64, c_char_p, c_uint64, POINTER(etcs_adapted)),
+    "etcs_telegram_dropped_": (c_char_p, c_uint64, c_uint32, POINTER(etcs_value_dropped)),
+    "etcs_telegram_unused_": (c_char_p, c_uint64, c_uint32, c_uint32, c_uint32, POINTER(etcs_packet_unused)),
     "etcs_abi": (),
-    "etcs_image_facts_": (c_char_p, c_size_t, c_uint32, POINTER(etcs_image)),
-    "etcs_image_slot_": (c_char_p, c_size_t, c_uint32, c_uint64, c_uint64, POINTER(etcs_slot)),
-    "etcs_image_block_": (c_char_p, c_size_t, c_uint32, c_uint64, POINTER(etcs_block)),
-    "etcs_image_record_": (c_char_p, c_size_t, c_uint32, c_uint64, c_uint32, POINTER(etcs_record)),
-    "etcs_journal_open_": (c_char_p, c_size_t, c_uint32, POINTER(etcs_journal)),
-    "etcs_journal_next_": (c_char_p, c_size_t, POINTER(etcs_journal), POINTER(etcs_record)),
-    "etcs_image_replay_": (c_char_p, c_size_t, c_uint32, POINTER(etcs_journal), POINTER(etcs_replay)),
-    "etcs_image_why_": (c_char_p, c_size_t, c_uint32, c_uint64, c_uint64, POINTER(etcs_why)),
+    "etcs_image_facts_": (c_char_p, c_uint64, c_uint32, POINTER(etcs_image)),
+    "etcs_image_slot_": (c_char_p, c_uint64, c_uint32, c_uint64, c_uint64, POINTER(etcs_slot)),
+    "etcs_image_block_": (c_char_p, c_uint64, c_uint32, c_uint64, POINTER(etcs_block)),
+    "etcs_image_record_": (c_char_p, c_uint64, c_uint32, c_uint64, c_uint32, POINTER(etcs_record)),
+    "etcs_journal_open_": (c_char_p, c_uint64, c_uint32, POINTER(etcs_journal)),
+    "etcs_journal_next_": (c_char_p, c_uint64, POINTER(etcs_journal), POINTER(etcs_record)),
+    "etcs_image_replay_": (c_char_p, c_uint64, c_uint32, POINTER(etcs_journal), POINTER(etcs_replay)),
+    "etcs_image_why_": (c_char_p, c_uint64, c_uint32, c_uint64, c_uint64, POINTER(etcs_why)),
     "etcs_guard_begin_": (POINTER(etcs_guard), c_uint32),
-    "etcs_guard_hear_": (POINTER(etcs_guard), c_char_p, c_size_t, POINTER(etcs_situation), POINTER(c_uint32)),
-    "etcs_guard_demand_": (c_char_p, c_size_t, POINTER(etcs_situation), c_uint32, POINTER(etcs_demand)),
+    "etcs_guard_hear_": (POINTER(etcs_guard), c_char_p, c_uint64, POINTER(etcs_situation), POINTER(c_uint32)),
+    "etcs_guard_demand_": (c_char_p, c_uint64, POINTER(etcs_situation), c_uint32, POINTER(etcs_demand)),
     "etcs_guard_acknowledge_": (POINTER(etcs_guard), c_uint32),
     "etcs_guard_command_": (POINTER(etcs_guard), c_uint32, POINTER(c_uint32)),
 }

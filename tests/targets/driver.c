@@ -19,12 +19,17 @@
  *     flip OFFSET BITS             alters a byte of the medium
  *     facts, slot NEWEST SLOT, block NUMBER, record NUMBER INDEX, why NUMBER EVENT
  *     journal, next, replay, cursor BLOCK LAST INDEX
- *     decode HEX
+ *     cause                        why of the event that `next` read last
+ *     explain                      why the newest released output is what it is
+ *     decode HEX, adapt HEX, dropped INDEX HEX, unused MODE DIRECTION INDEX HEX  the calls on telegrams
  *     null                         each call once with each of its pointers null
  *
  * Each line is answered by its number, the status, and a digest of what was written (FNV-1a); released outputs each have a line. */
 #include "etcs_image.h"
 #include "lines.h"
+
+static void add_number(uint64_t number, size_t size);
+#include "members.h" /* for each struct what adds its members (scripts.py members) */
 
 #define SECTORS (1 + 6 * 64)
 
@@ -34,7 +39,7 @@ static etcs_unit units[2];
 static etcs_opening openings[2];
 static unsigned by_sectors;
 static etcs_journal journal;
-static size_t reads_at_most;
+static uint64_t reads_at_most;
 static unsigned on, which, line_number;
 
 /* ---- answers */
@@ -45,6 +50,14 @@ static void add(const void *from, size_t length) {
     const uint8_t *const bytes = (const uint8_t *)from;
     for (size_t i = 0; i < length; i++)
         digest = (digest ^ bytes[i]) * UINT64_C(0x100000001B3);
+}
+
+/* A number, the lowest byte first, whatever the machine's order is. */
+static void add_number(uint64_t number, size_t size) {
+    for (; size > 0; size--, number >>= 8) {
+        const uint8_t byte = (uint8_t)(number & 255u);
+        add(&byte, 1);
+    }
 }
 
 static void answer(uint32_t status) {
@@ -152,7 +165,7 @@ static uint32_t carry_out(uint64_t most, uint64_t rest) {
     uint32_t count = 0, status;
     while ((status = etcs_unit_request(unit(), count, &request, bytes, sizeof bytes)) == ETCS_UNIT_OK) {
         const size_t length = (size_t)request.sectors * ETCS_UNIT_SECTOR;
-        add(&request, sizeof request);
+        add_etcs_unit_request_told(&request);
         add(bytes, length);
         if (count == most) {
             carries_out(&request, bytes, rest < length ? (size_t)rest : length);
@@ -164,10 +177,10 @@ static uint32_t carry_out(uint64_t most, uint64_t rest) {
     return status == ETCS_UNIT_NO_SUCH_REQUEST ? etcs_unit_done(unit(), count) : status;
 }
 
-static uint32_t release(size_t room) {
+static uint32_t release(uint64_t room) {
     etcs_unit_output outputs[ETCS_UNIT_OUTPUTS];
     uint32_t count = 0;
-    const uint32_t status = etcs_unit_release(unit(), outputs, room < ETCS_UNIT_OUTPUTS ? room : ETCS_UNIT_OUTPUTS, &count);
+    const uint32_t status = etcs_unit_release(unit(), outputs, room < ETCS_UNIT_OUTPUTS ? (size_t)room : ETCS_UNIT_OUTPUTS, &count);
     if (status == ETCS_UNIT_OK)
         tell(outputs, count);
     return status;
@@ -190,7 +203,7 @@ static uint32_t format(uint32_t slots) {
 }
 
 static size_t size(void) {
-    return reads_at_most < lengths[on] ? reads_at_most : lengths[on];
+    return reads_at_most < lengths[on] ? (size_t)reads_at_most : lengths[on];
 }
 
 /* ---- each word */
@@ -199,6 +212,7 @@ static int about_units(uint32_t *status) {
     static uint8_t bytes[ETCS_UNIT_REQUEST_BYTES];
     etcs_unit_request_told request;
     etcs_unit_state_told state;
+    etcs_unit_why_told why;
     uint32_t first, second;
     if (word("open")) {
         *status = opens((uint32_t)number());
@@ -233,7 +247,7 @@ static int about_units(uint32_t *status) {
         second = (uint32_t)number();
         *status = etcs_unit_request(unit(), first, &request, bytes, second < sizeof bytes ? second : sizeof bytes);
         if (*status == ETCS_UNIT_OK) {
-            add(&request, sizeof request);
+            add_etcs_unit_request_told(&request);
             add(bytes, (size_t)request.sectors * ETCS_UNIT_SECTOR);
         }
     } else if (word("done")) {
@@ -241,11 +255,15 @@ static int about_units(uint32_t *status) {
     } else if (word("fail")) {
         *status = etcs_unit_fail(unit());
     } else if (word("release")) {
-        *status = release((size_t)number());
+        *status = release(number());
     } else if (word("state")) {
         *status = etcs_unit_state(unit(), &state);
         if (*status == ETCS_UNIT_OK)
-            add(&state, sizeof state);
+            add_etcs_unit_state_told(&state);
+    } else if (word("explain")) {
+        *status = etcs_unit_why(unit(), &why);
+        if (*status == ETCS_UNIT_OK)
+            add_etcs_unit_why_told(&why);
     } else {
         return 0;
     }
@@ -270,10 +288,10 @@ static int about_sectors(uint32_t *status) {
         *status = goes_on(opening(), number());
     } else if (word("wanted")) {
         *status = etcs_opening_wanted(opening(), &sector);
-        add(&sector, sizeof sector);
+        add_number(sector, sizeof sector);
     } else if (word("wants")) {
         *status = etcs_unit_wanted(unit(), &sector);
-        add(&sector, sizeof sector);
+        add_number(sector, sizeof sector);
     } else if (word("provide")) {
         sector = number();
         size = limited(number());
@@ -309,9 +327,9 @@ static int about_media(uint32_t *status) {
     } else if (word("image")) {
         add(media[on], lengths[on]);
     } else if (word("whole")) {
-        reads_at_most = SIZE_MAX;
+        reads_at_most = UINT64_MAX;
     } else if (word("size")) {
-        reads_at_most = (size_t)number();
+        reads_at_most = number();
     } else if (word("flip")) {
         const uint64_t offset = number();
         media[on][offset % sizeof media[0]] ^= (uint8_t)number();
@@ -325,7 +343,7 @@ static int about_media(uint32_t *status) {
         const uint64_t room = number();
         *status = etcs_unit_format_request(first, second, &request, bytes, room < sizeof bytes ? (size_t)room : sizeof bytes);
         if (*status == ETCS_UNIT_OK) {
-            add(&request, sizeof request);
+            add_etcs_unit_request_told(&request);
             add(bytes, (size_t)request.sectors * ETCS_UNIT_SECTOR);
         }
     } else if (word("version")) {
@@ -333,11 +351,38 @@ static int about_media(uint32_t *status) {
         *status = etcs_version(bytes, room < sizeof bytes ? (size_t)room : sizeof bytes, &length);
         if (*status == ETCS_UNIT_OK)
             add(bytes, length);
-    } else if (word("decode")) {
+    } else {
+        return 0;
+    }
+    return 1;
+}
+
+static int about_telegrams(uint32_t *status) {
+    static uint8_t bytes[256], out[ETCS_TELEGRAM_BYTES];
+    etcs_adapted adapted;
+    etcs_value_dropped value;
+    etcs_packet_unused packet;
+    if (word("decode")) {
         const size_t count = bytes_of_line(bytes, sizeof bytes);
+        const uint32_t packets = etcs_packet_count(bytes, count);
         *status = etcs_decode(bytes, count);
-        length = etcs_packet_count(bytes, count);
-        add(&length, sizeof length);
+        add_number(packets, sizeof packets);
+    } else if (word("adapt")) {
+        *status = etcs_telegram_adapt(bytes, bytes_of_line(bytes, sizeof bytes), out, sizeof out, &adapted);
+        if (*status == ETCS_UNIT_OK) {
+            add_etcs_adapted(&adapted);
+            add(out, adapted.len);
+        }
+    } else if (word("dropped")) {
+        const uint32_t index = (uint32_t)number();
+        *status = etcs_telegram_dropped(bytes, bytes_of_line(bytes, sizeof bytes), index, &value);
+        if (*status == ETCS_UNIT_OK)
+            add_etcs_value_dropped(&value);
+    } else if (word("unused")) {
+        const uint32_t mode = (uint32_t)number(), direction = (uint32_t)number(), index = (uint32_t)number();
+        *status = etcs_telegram_unused(bytes, bytes_of_line(bytes, sizeof bytes), mode, direction, index, &packet);
+        if (*status == ETCS_UNIT_OK)
+            add_etcs_packet_unused(&packet);
     } else {
         return 0;
     }
@@ -347,39 +392,53 @@ static int about_media(uint32_t *status) {
 static int about_images(uint32_t *status) {
     static etcs_replay replay;
     static etcs_block block;
+    static uint64_t last_block, last_event;
     etcs_image facts;
     etcs_slot slot;
     etcs_record record;
     etcs_why why;
-    const void *told = NULL;
-    size_t length = 0;
     if (word("facts")) {
         *status = etcs_image_facts(media[on], size(), &facts);
-        told = &facts, length = sizeof facts;
+        if (*status == ETCS_UNIT_OK)
+            add_etcs_image(&facts);
     } else if (word("slot")) {
         const uint64_t newest = number();
         *status = etcs_image_slot(media[on], size(), newest, number(), &slot);
-        told = &slot, length = sizeof slot;
+        if (*status == ETCS_UNIT_OK)
+            add_etcs_slot(&slot);
     } else if (word("block")) {
         *status = etcs_image_block(media[on], size(), number(), &block);
-        told = &block, length = sizeof block;
+        if (*status == ETCS_UNIT_OK)
+            add_etcs_block(&block);
     } else if (word("record")) {
         const uint64_t of = number();
         *status = etcs_image_record(media[on], size(), of, (uint32_t)number(), &record);
-        told = &record, length = sizeof record;
+        if (*status == ETCS_UNIT_OK)
+            add_etcs_record(&record);
     } else if (word("why")) {
         const uint64_t of = number();
         *status = etcs_image_why(media[on], size(), of, number(), &why);
-        told = &why, length = sizeof why;
+        if (*status == ETCS_UNIT_OK)
+            add_etcs_why(&why);
     } else if (word("journal")) {
         *status = etcs_journal_open(media[on], size(), &journal);
-        told = &journal, length = sizeof journal;
+        if (*status == ETCS_UNIT_OK)
+            add_etcs_journal(&journal);
     } else if (word("next")) {
         *status = etcs_journal_next(media[on], size(), &journal, &record);
-        told = &record, length = sizeof record;
+        if (*status == ETCS_UNIT_OK) {
+            add_etcs_record(&record);
+            last_block = record.block;
+            last_event = record.event;
+        }
+    } else if (word("cause")) {
+        *status = etcs_image_why(media[on], size(), last_block, last_event, &why);
+        if (*status == ETCS_UNIT_OK)
+            add_etcs_why(&why);
     } else if (word("replay")) {
         *status = etcs_image_replay(media[on], size(), &journal, &replay);
-        told = &replay, length = sizeof replay;
+        if (*status == ETCS_UNIT_OK)
+            add_etcs_replay(&replay);
     } else if (word("cursor")) {
         journal.block = number();
         journal.last = number();
@@ -388,8 +447,6 @@ static int about_images(uint32_t *status) {
     } else {
         return 0;
     }
-    if (*status == ETCS_UNIT_OK && told != NULL)
-        add(told, length);
     return 1;
 }
 
@@ -442,14 +499,15 @@ static uint32_t nulls(void) {
 }
 
 void drive(void) {
-    reads_at_most = SIZE_MAX;
+    reads_at_most = UINT64_MAX;
     while (read_line()) {
         uint32_t status = 0;
         line_number++;
         digest = UINT64_C(0xCBF29CE484222325);
         if (word("null"))
             status = nulls();
-        else if (!about_units(&status) && !about_sectors(&status) && !about_inputs(&status) && !about_media(&status) && !about_images(&status))
+        else if (!about_units(&status) && !about_sectors(&status) && !about_inputs(&status) && !about_media(&status) && !about_images(&status)
+                 && !about_telegrams(&status))
             put("no such word\n");
         answer(status);
     }

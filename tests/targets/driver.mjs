@@ -6,7 +6,7 @@ import fs from 'node:fs';
 const { instance } = await WebAssembly.instantiate(fs.readFileSync(process.argv[2]), {});
 const x = instance.exports;
 const SECTOR = 512, SECTORS = 1 + 6 * 64, MOST = SECTOR * SECTORS, OUTPUTS = 8, REQUEST = 8192, OK = 0, FAILED = 21, SECTOR_WANTED = 24, NO_SUCH_REQUEST = 249;
-const SIZE = { request: 24, output: 16, state: 80, facts: 32, slot: 32, block: 208, record: 160, journal: 24, replay: 720, why: 160, train: 20 };
+const SIZE = { request: 24, output: 16, state: 80, facts: 32, slot: 32, block: 208, record: 160, journal: 24, replay: 720, why: 160, train: 20, explained: 144, adapted: 16, dropped: 16, unused: 24 };
 
 const bytesAt = (at, length) => new Uint8Array(x.memory.buffer, Number(at), Number(length));
 const take = size => {
@@ -20,7 +20,7 @@ const media = [take(MOST), take(MOST)], lengths = [0, 0], units = [take(16), tak
 const journal = take(SIZE.journal), bytes = take(REQUEST), request = take(SIZE.request), outputs = take(OUTPUTS * SIZE.output), count = take(8);
 const state = take(SIZE.state), train = take(SIZE.train), told = take(SIZE.replay), none = take(16);
 const openings = [take(16), take(16)], begun = take(16), sector = take(8), some = take(2 * SECTOR);
-let on = 0, which = 0, bySectors = false, readsAtMost = MOST, digest = 0n, words = [], answers = [];
+let on = 0, which = 0, bySectors = false, readsAtMost = MOST, digest = 0n, words = [], answers = [], last = [0n, 0n];
 
 const U64 = (1n << 64n) - 1n;
 const add = (at, length) => {
@@ -210,13 +210,28 @@ const CALLS = {
         add(count, 4);
         return status;
     },
+    explain: () => tells(x.etcs_unit_why(unit(), told), told, SIZE.explained),
+    adapt: () => {
+        const status = x.etcs_telegram_adapt(bytes, hex(256), some, 104n, told);
+        return status === OK ? (add(told, SIZE.adapted), tells(status, some, new DataView(x.memory.buffer).getUint32(Number(told) + 4, true))) : status;
+    },
+    dropped: () => { const index = small(); return tells(x.etcs_telegram_dropped(bytes, hex(256), index, told), told, SIZE.dropped); },
+    unused: () => {
+        const mode = small(), direction = small(), index = small();
+        return tells(x.etcs_telegram_unused(bytes, hex(256), mode, direction, index, told), told, SIZE.unused);
+    },
     facts: () => image('etcs_image_facts', SIZE.facts),
     slot: () => image('etcs_image_slot', SIZE.slot, number(), number()),
     block: () => image('etcs_image_block', SIZE.block, number()),
     record: () => image('etcs_image_record', SIZE.record, number(), small()),
     why: () => image('etcs_image_why', SIZE.why, number(), number()),
     journal: () => tells(x.etcs_journal_open(media[on], size(), journal), journal, SIZE.journal),
-    next: () => image('etcs_journal_next', SIZE.record, journal),
+    next: () => {
+        const status = image('etcs_journal_next', SIZE.record, journal);
+        if (status === OK) last = [told64(told, 1), told64(told, 0)];
+        return status;
+    },
+    cause: () => image('etcs_image_why', SIZE.why, ...last),
     replay: () => image('etcs_image_replay', SIZE.replay, journal),
     cursor: () => { for (let i = 0; i < 3; i++) { const value = number(); new DataView(x.memory.buffer).setBigUint64(Number(journal) + 8 * i, value, true); } return 0; },
     null: nulls,

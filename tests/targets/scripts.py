@@ -2,10 +2,12 @@
 """A script of calls for the driver (driver.c), the same in every run, and the comparison of what two machines answer.
 
     tests/targets/scripts.py script LIVES CALLS TELEGRAMS [SEED]    prints lives with cuts, calls in any order with wild numbers, and telegrams
+    tests/targets/scripts.py members                                prints C that adds each member of each struct to a digest, whatever the order of its bytes
     tests/targets/scripts.py compare SCRIPT WANTED FOUND..          whether the answers in FOUND are those in WANTED; tells how much was compared
 
 A comparison fails too where the answers show too few lives, cuts, outputs, statuses or telegrams for the lines of the script.
 """
+import ctypes
 import random
 import sys
 from collections import Counter
@@ -16,6 +18,7 @@ sys.path[:0] = [str(TESTS), str(TESTS / "unit"), str(TESTS / "hostile"), str(TES
 
 from compared import Compared  # noqa: E402
 from lives import LIVES, scenario_of, slots_of, word_of  # noqa: E402
+from gaknifur import _header  # noqa: E402
 from program import inputs_of  # noqa: E402
 from random_inputs import headed, mutated  # noqa: E402
 
@@ -23,6 +26,10 @@ PENDING, MOST_SLOTS = 8, 64
 CUT_KINDS, LEAST_STATUSES, NULL_CALLS, WANTED = 21, 24, 58, 24
 EDGES = (0, 1, 2, 7, 8, 9, 104, 105, 255, 256, 511, 512, 8_191, 8_192, 10_000, 10_001, 600_000, 600_001, 99_999_999, 100_000_000, (1 << 31) - 1, 1 << 31,
          (1 << 32) - 1, 1 << 32, (1 << 40) - 1, 1 << 40, (1 << 63) - 1, 1 << 63, (1 << 64) - 1)
+
+# The header of a group, and its packet 3 (tests/unit/telegrams.c).
+INSTALLED = ("1 0010000 0 000 000 00 11111111 0000000001 00000000000010 1 00000011 10 0000010111010 01 111111111111111 00001 0000000111 0000110 0001000 "
+             "0000110 0010100 0001000 000000000000010 1 0 0000000 0000110 000000011001000 00111100 000000011001000 01 11111111 1 111111111111111 0")
 
 
 def wild(r):
@@ -50,12 +57,12 @@ def life(r):
     if r.randrange(2):
         at = r.choice([place for place, one in enumerate(lines) if one == "flush"])
         return [*lines[:at], f"cut {r.randrange(9)} {r.randrange(4_097)}", "image"]
-    return [*lines, "state", "close", "image"]
+    return [*lines, "state", "explain", "close", "image"]
 
 
 def reading(r):
     """What is asked of the image behind a life."""
-    asked = ["facts", "journal", *["next"] * r.randrange(12), "journal", *["replay"] * r.randrange(1, 5)]
+    asked = ["facts", "journal", *["next", "cause"] * r.randrange(12), "journal", *["replay"] * r.randrange(1, 5)]
     return [*asked, *(f"why {r.randrange(1, 40)} {r.randrange(120)}" for _ in range(2)), *(f"slot {r.randrange(40)} {r.randrange(10)}" for _ in range(2)),
             f"block {r.randrange(1, 40)}", f"record {r.randrange(1, 40)} {r.randrange(9)}"]
 
@@ -74,7 +81,7 @@ def call(r):
                          f"telegram {r.randbytes(r.choice((0, 1, 104, 105, 250))).hex()}"))
     if kind < 24:
         return r.choice((f"request {r.randrange(5)} {r.choice((0, 511, 512, 8_192))}", f"request {wild(r)} {wild(r)}", f"done {wild(r)}", f"release {wild(r)}",
-                         "state", f"version {wild(r)}", f"format {wild(r)} {wild(r)} {wild(r)}", f"unit {r.randrange(2)}", f"medium {r.randrange(2)}"))
+                         "state", "explain", f"version {wild(r)}", f"format {wild(r)} {wild(r)} {wild(r)}", f"unit {r.randrange(2)}", f"medium {r.randrange(2)}"))
     if kind < 28:
         return r.choice((f"begins {r.randrange(3)}", f"begins {r.randrange(3)}", "goes 0", f"goes {r.randrange(40)}", f"goes {1 << 10}", f"goes {1 << 10}", "wanted",
                          f"kind {r.randrange(2)}", f"open {r.randrange(3)}", "wants"))
@@ -91,6 +98,16 @@ def call(r):
                      f"slots {r.choice((0, 1, 2, 3, 8, MOST_SLOTS, 65, 1 << 20, (1 << 20) + 1))}", f"slots {r.randrange(2, 9)}", "cut 1 100"))
 
 
+def installed(r):
+    """A telegram whose packet 3 is as a track of issue 2.3.0 sends it for one country, and then bits of any kind; at times one bit is turned."""
+    bits = INSTALLED.replace(" ", "") + (f"{r.randrange(1 << 40):040b}" if r.randrange(2) else "1" * 8)
+    bits += "0" * (-len(bits) % 8)
+    data = bytearray(int(bits, 2).to_bytes(len(bits) // 8, "big"))
+    if r.randrange(3) == 0:
+        data[r.randrange(6, len(data))] ^= 1 << r.randrange(8)
+    return bytes(data)
+
+
 def script(lives, calls, telegrams, seed=2026):
     r, lines = random.Random(seed), ["null", "version 32"]
     for number in range(lives):
@@ -100,7 +117,26 @@ def script(lives, calls, telegrams, seed=2026):
         if r.randrange(4) == 0:
             lines += reading(r)
     lines += ["slots 4", *(call(r) for _ in range(calls)), "unit 0", "close", "give_up", "unit 1", "close", "give_up", "null"]
-    return lines + ["decode " + (headed if r.randrange(2) else mutated)(r)[:256].hex() for _ in range(telegrams)]
+    for _ in range(telegrams):
+        data = r.choice((headed, mutated, installed))(r)[:256].hex()
+        lines += [f"decode {data}", f"adapt {data}", f"dropped {r.randrange(8)} {data}", f"unused {r.choice((0, 1, 2, 3, 4, 5, 6, 7, 8, 9))} {r.choice((0, 1, 2, 2, 3))} {r.randrange(4)} {data}"]
+    return lines
+
+
+def members():
+    """The functions of C, in the order of the headers. An array is added member by member, a struct within a struct by its own function."""
+    for name, kind in vars(_header).items():
+        if not (isinstance(kind, type) and issubclass(kind, ctypes.Structure) and kind is not ctypes.Structure) or name in ("etcs_unit", "etcs_opening"):
+            continue
+        yield f"static inline void add_{name}(const {name} *of) {{"
+        for field, of, *_ in kind._fields_:
+            is_array = hasattr(of, "_length_")
+            at = f"of->{field}" + "[i]" * is_array
+            inner = of._type_ if is_array else of
+            if is_array:
+                yield f"    for (size_t i = 0; i < sizeof of->{field} / sizeof of->{field}[0]; i++)"
+            yield "    " * (1 + is_array) + (f"add_{inner.__name__}(&{at});" if issubclass(inner, ctypes.Structure) else f"add_number((uint64_t){at}, sizeof {at});")
+        yield "}"
 
 
 def with_kinds(lines):
@@ -121,6 +157,7 @@ def compare(asked, wanted, *found):
     compared.unless(len(answers) == len(lines) and told[-1:] == ["end"], f"{wanted}: {len(answers)} answers to {len(lines)} lines")
     statuses = Counter(int(status) for _, status, _ in answers)
     words = [line.split()[0] for line in lines]
+    causes = sum(word == "cause" and int(status) == 0 for word, (_, status, _) in zip(words, answers))
     cuts = sum(word in ("cut", "dies") and int(status) == CUT_KINDS for word, (_, status, _) in zip(words, answers))
     stopped = sum(word == "stops" and int(status) == WANTED for word, (_, status, _) in zip(words, answers))
     outputs, lives = sum(line.startswith("event ") for line in told), words.count("open")
@@ -131,6 +168,7 @@ def compare(asked, wanted, *found):
     compared.unless(outputs >= 4 * lives // 3 and cuts >= words.count("cut") // 4 > 0, f"{outputs} outputs of {lives} lives, {cuts} of them cut off")
     compared.unless(min(by_sectors["0"], by_sectors["1"]) >= lives // 4 and stopped >= words.count("stops") // 4 > 0,
                     f"openings by kind {dict(by_sectors)}, {stopped} cut off while a sector was wanted")
+    compared.unless(causes * 10 >= words.count("cause") > 0, f"{causes} of {words.count('cause')} causes are told")
     compared.unless(len(statuses) >= LEAST_STATUSES, f"{len(statuses)} kinds of answers")
     compared.unless(decoded.count(0) * 10 >= len(decoded) > 0, f"{decoded.count(0)} of {len(decoded)} telegrams can be read")
     for path in found:
@@ -139,11 +177,13 @@ def compare(asked, wanted, *found):
         compared.same(path, [pair for pair in zip(other, told) if pair[0] != pair[1]][:5], [])
     return compared.end(f"{len(found)} machines beside the first: {len(lines)} calls with {outputs} outputs, {lives} openings, {by_sectors['1']} of them by sectors, "
                         f"{cuts} losses of power and {stopped} more while a sector was wanted, "
-                        f"{len(statuses)} kinds of answers, {len(decoded)} telegrams")
+                        f"{causes} causes, {len(statuses)} kinds of answers, {len(decoded)} telegrams")
 
 
 if __name__ == "__main__":
     if sys.argv[1] == "script":
         print("\n".join(script(*map(int, sys.argv[2:]))))
+    elif sys.argv[1] == "members":
+        print("\n".join(members()))
     else:
         sys.exit(compare(*sys.argv[2:]))

@@ -31,9 +31,11 @@ MOST_ANEW = 72_000
 MOST_TWICE = 140_000
 # A reading with twice the restrictions, or twice the gradients, takes at most twice as much, and a little for the call itself.
 MOST_DOUBLED = 2.05
-# Bytes of stack: of the calls that power up, and of any other one.
+# Bytes of stack: of some calls, and of any other one.
 POWER_UPS = ("etcs_unit_open_", "etcs_opening_go_on_")
-MOST_STACK_OF_OPEN, MOST_STACK, LEAST_CALLS = 16_384, 11_776, 22
+MOST_STACK_OF = dict.fromkeys(POWER_UPS, 16_384) | {"etcs_image_why_": 176_128, "etcs_image_replay_": 67_584, "etcs_telegram_unused_": 20_992,
+                                                 **dict.fromkeys(("etcs_image_block_", "etcs_image_record_", "etcs_image_slot_", "etcs_journal_next_"), 12_544)}
+MOST_STACK, LEAST_CALLS = 11_776, 35
 
 
 def rows():
@@ -66,9 +68,9 @@ def counted(scenarios):
 
 
 def stacks(program):
-    """The bytes of stack that each call of a unit, or of an opening, takes at most, by its name."""
+    """The bytes of stack that each call takes at most, by its name."""
     functions = stack_bound.functions_of(program)
-    return {name: stack_bound.deepest(functions, name)[0] for name in functions if re.fullmatch("etcs_(unit|opening)_.*_", name)}
+    return {name: stack_bound.deepest(functions, name)[0] for name in functions if re.fullmatch("etcs_(unit|opening|image|journal|telegram)_.*_", name)}
 
 
 def main(program, *words):
@@ -95,9 +97,9 @@ def main(program, *words):
               ("a reading each of whose sums begins anew", anew, MOST_ANEW), ("a reading with two sums and two ways back", twice, MOST_TWICE)]
     faults += [f"{what}: {number} instructions, and {most:.0f} are its bound" for what, number, most in bounds if number > most]
     taken = stacks(program)
-    most = {name: MOST_STACK_OF_OPEN if name in POWER_UPS else MOST_STACK for name in taken}
+    most = {name: MOST_STACK_OF.get(name, MOST_STACK) for name in taken}
     faults += [f"{name}: {number} bytes of stack, and {most[name]} are its bound" for name, number in taken.items() if number > most[name]]
-    if len(taken) < LEAST_CALLS or not set(POWER_UPS) <= set(taken):
+    if len(taken) < LEAST_CALLS or not set(MOST_STACK_OF) <= set(taken):
         faults.append(f"the stack of {len(taken)} calls is known: {sorted(taken)}")
     for fault in faults:
         print(fault)

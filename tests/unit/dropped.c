@@ -12,7 +12,7 @@ void drops(etcs_unit *unit, etcs_opening *opening, etcs_file *file, etcs_unit_ou
     static const etcs_train_data train = {20000, 160000, 70, 0, 15};
     /* from here on */
     etcs_decode(bytes, 8);
-    etcs_status_kind(*count, ETCS_OF_DRIVER);
+    etcs_status_classify(*count, ETCS_OF_DRIVER);
     etcs_unit_open(unit, bytes, 512, ETCS_COLD_UNKNOWN);
     etcs_opening_begin(opening, 25, ETCS_COLD_UNKNOWN);
     etcs_opening_go_on(opening, unit);

@@ -541,9 +541,9 @@ static void kinds(void) {
         equipment = driver;
         if (status == 255)
             driver = ETCS_KIND_MISTAKE;
-        is("kind of an answer to the driver", etcs_status_kind(status, ETCS_OF_DRIVER), driver);
-        is("kind of an answer to the equipment", etcs_status_kind(status, ETCS_OF_EQUIPMENT), equipment);
-        is("kind of an answer to who knows", etcs_status_kind(status, 7), equipment);
+        is("kind of an answer to the driver", etcs_status_classify(status, ETCS_OF_DRIVER), driver);
+        is("kind of an answer to the equipment", etcs_status_classify(status, ETCS_OF_EQUIPMENT), equipment);
+        is("kind of an answer to who knows", etcs_status_classify(status, 7), equipment);
     }
 }
 

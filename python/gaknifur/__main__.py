@@ -8,21 +8,21 @@ from difflib import get_close_matches
 from importlib import import_module
 from typing import TYPE_CHECKING, NoReturn, Protocol, cast
 
-from .last_net import caught, say
+from .cli.progress import Terminal
+from .errors import caught, say
+from .escaping import shown
 from .program import Failed, version
-from .progress import Terminal
-from .shown import shown
 
 if TYPE_CHECKING:
-    from .reading import Progress
+    from .journal.reading import Progress
 
 Word = Callable[[str, str, str], argparse.ArgumentParser]
 PARTS: dict[str, tuple[str, ...]] = {
-    "image_words": ("table", "timeline", "database", "report"), "check_words": ("check",), "seal_words": ("seal", "verify"),
-    "difference_words": ("diff",), "archive_words": ("join", "follow"), "suite_words": ("build", "test", "coverage"),
-    "lint_words": ("lint",), "drive_words": ("drive",), "sweep_words": ("sweep",), "campaign_words": ("campaign", "compare"),
-    "oracle_words": ("serve", "against"), "search_words": ("search",), "sequence_words": ("sequence",),
-    "dissector_words": ("dissector", "capture")}
+    "cli.image_commands": ("table", "timeline", "database", "report"), "cli.check_commands": ("check",), "cli.seal_commands": ("seal", "verify"),
+    "cli.difference_commands": ("diff",), "cli.archive_commands": ("join", "follow"), "cli.suite_commands": ("build", "test", "coverage"),
+    "testing.lint": ("lint",), "cli.drive_commands": ("drive",), "cli.sweep_commands": ("sweep",), "cli.campaign_commands": ("campaign", "compare"),
+    "cli.oracle_commands": ("serve", "against"), "cli.search_commands": ("search",), "cli.sequence_commands": ("sequence",),
+    "cli.dissector_commands": ("dissector", "capture")}
 """The modules that have words, in the order of the help, and their words."""
 
 NEXT = """\

@@ -18,7 +18,7 @@ def begin() -> int:
               "packages", file=sys.stderr)
         return MISSING
     sys.path.insert(0, str(Path(__file__).resolve().parents[1]))
-    from gaknifur.last_net import caught, hold_streams
+    from gaknifur.errors import caught, hold_streams
 
     def do() -> int:
         from gaknifur.__main__ import main

@@ -15,14 +15,15 @@ from typing import Any
 from unittest.mock import patch
 
 from gaknifur import __main__ as lab
-from gaknifur import image_words, measured, playing
-from gaknifur.cases import Case
-from gaknifur.causes import CAUSES
-from gaknifur.playing import Keep, Played, with_speeds
-from gaknifur.unit import BrakeCause, Indication
-from gaknifur.words import INDICATIONS
+from gaknifur.cli import image_commands
+from gaknifur.journal.causes import CAUSES
+from gaknifur.journal.reading import Json
+from gaknifur.journal.wording import INDICATIONS
 from gaknifur.program import Failed
-from gaknifur.reading import Json
+from gaknifur.testing import case_runner, measured_coverage
+from gaknifur.testing.case_runner import Keep, Played, with_speeds
+from gaknifur.testing.cases import Case
+from gaknifur.unit import BrakeCause, Indication
 
 from .samples import journal, record
 
@@ -111,7 +112,7 @@ class Sets(unittest.TestCase):
     def test_of_indications(self) -> None:
         wanted, top = {int(one): str(one.name).lower() for one in Indication}, Path(__file__).parents[2]
         self.assertEqual(list(INDICATIONS), list(wanted.values()))
-        columns = re.findall(r"^ +shows_(\w+) ", (top / "python/gaknifur/schema.sql").read_text(encoding="utf-8"), re.MULTILINE)
+        columns = re.findall(r"^ +shows_(\w+) ", (top / "python/gaknifur/journal/schema.sql").read_text(encoding="utf-8"), re.MULTILINE)
         self.assertEqual(columns, list(wanted.values()))
         lists = re.findall(r"indications: \[\n(.*?)\n +\] as|INDICATIONS: [^=]*= \[\n(.*?)\n\];",
                            (top / "page/texts.ts").read_text(encoding="utf-8"), re.DOTALL)
@@ -130,7 +131,7 @@ class Names(unittest.TestCase):
         with tempfile.TemporaryDirectory() as room:
             out = Path(room) / "out.parquet"
             with self.assertRaisesRegex(Failed, "Parquet isn't supported"):
-                image_words.write_table(lab.understood(["table", "image", str(out)]), lambda *_: None)
+                image_commands.write_table(lab.understood(["table", "image", str(out)]), lambda *_: None)
             self.assertFalse(out.exists())
 
 
@@ -188,7 +189,7 @@ class Suites(unittest.TestCase):
         (self.room / "suite").mkdir()
         for name in ("one", "two of a/kind"):
             (self.room / "suite" / f"{name[:3]}.case.yaml").write_text(SUITE.format(name))
-        self.enterContext(patch.object(playing, "play", plays))
+        self.enterContext(patch.object(case_runner, "play", plays))
         self.enterContext(patch.dict(os.environ, {"XDG_CACHE_HOME": str(self.room / "cache")}))
 
     def lab(self, *words: str) -> tuple[int, str]:
@@ -213,7 +214,7 @@ class Suites(unittest.TestCase):
 
     def test_image_and_report_are_kept(self) -> None:
         kept = self.room / "kept"
-        with patch("gaknifur.reading.read", lambda path, **words: self.told(path)):
+        with patch("gaknifur.journal.reading.read", lambda path, **words: self.told(path)):
             self.assertEqual(self.lab("--keep", str(kept))[0], 4)
         self.assertEqual(sorted(str(path.relative_to(kept)) for path in kept.rglob("*")),
                          ["one", "one/image", "one/report.html", "two_of_a_kind", "two_of_a_kind/image", "two_of_a_kind/report.html"])
@@ -230,7 +231,7 @@ class Suites(unittest.TestCase):
     def test_what_is_reached(self) -> None:
         out = self.room / "reached.json"
         self.assertEqual(self.lab("--reached", str(out), "-k", "comes")[0], 0)
-        self.assertEqual(measured.read(out), {name: {"power-up words": ["unknown"]} for name in ("one", "two of a/kind")})
+        self.assertEqual(measured_coverage.read(out), {name: {"power-up words": ["unknown"]} for name in ("one", "two of a/kind")})
         status, told = self.lab("--reached", str(out))
         self.assertEqual((status, "--force overwrites what lab made" in told), (1, True))
         self.assertEqual(self.lab("--reached", str(out), "--force", "-k", "comes")[0], 0)

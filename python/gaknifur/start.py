@@ -7,7 +7,7 @@ import sys
 from importlib.util import find_spec
 from pathlib import Path
 
-NEEDED = ("pandas", "matplotlib", "jinja2", "yaml")
+NEEDED = ("click", "rich", "pandas", "matplotlib", "jinja2", "yaml")
 MISSING = 3
 
 

@@ -1,5 +1,4 @@
 """Campaigns: how jobs are handed out, and what comes of those whose worker is lost."""
-import argparse
 import json
 import os
 import pickle
@@ -13,6 +12,7 @@ import unittest
 from collections import Counter
 from collections.abc import Callable, Iterator
 from pathlib import Path
+from types import SimpleNamespace
 from typing import Any, Self
 from unittest.mock import patch
 
@@ -94,7 +94,7 @@ class Folders(unittest.TestCase):
 
     def test_a_folder_of_nothing_is_refused(self) -> None:
         (empty := self.folder / "empty").mkdir()
-        told = argparse.Namespace(folder=empty, out=self.out, slots=64, random=3, seed=1, csv=None, scheduler=None, workers=1)
+        told = SimpleNamespace(folder=empty, out=self.out, slots=64, random=3, seed=1, csv=None, scheduler=None, workers=1)
         with patch.object(campaign_table, "settings_of", dict), self.assertRaisesRegex(Failed, "empty: contains no test case and no scenario"):
             campaign_commands.play_campaign(told, lambda what, done, whole: None)
         self.assertFalse(self.out.exists())
@@ -105,7 +105,7 @@ class Folders(unittest.TestCase):
             shutil.rmtree(self.folder)
             next(jobs)
 
-        told = argparse.Namespace(folder=self.folder, out=self.out, slots=64, random=0, seed=1, csv=None, scheduler=None, workers=1)
+        told = SimpleNamespace(folder=self.folder, out=self.out, slots=64, random=0, seed=1, csv=None, scheduler=None, workers=1)
         with patch.object(campaign, "here", here), patch.object(campaign_table, "settings_of", dict), self.assertRaises(FileNotFoundError):
             campaign_commands.play_campaign(told, lambda what, done, whole: None)
         self.assertEqual(list(campaign_table.rows_of(self.out)), ["0/a/c.json"])

@@ -1,5 +1,4 @@
 """Files that lab makes: nothing that stands under a name is lost, and each is whole or isn't there."""
-import argparse
 import contextlib
 import io
 import multiprocessing
@@ -11,6 +10,7 @@ import tempfile
 import unittest
 from collections.abc import Callable
 from pathlib import Path
+from types import SimpleNamespace
 from unittest.mock import patch
 
 from gaknifur import files
@@ -191,16 +191,16 @@ class Words(Room):
 
     def test_of_a_drive(self) -> None:
         image, yaml = self.file("image", IMAGE), self.file("a.yaml", b"")
-        given = argparse.Namespace(yaml=yaml, image=image, csv=None, scenario=None, picture=None, force=True)
+        given = SimpleNamespace(yaml=yaml, image=image, csv=None, scenario=None, picture=None, force=True)
         for name, path in (("csv", image), ("scenario", yaml), ("picture", self.file("a.svg", b"<svg/>"))):
             with self.assertRaises(Failed) as caught:
-                drive_commands.outs_of(argparse.Namespace(**vars(given) | {name: path}))
+                drive_commands.outs_of(SimpleNamespace(**vars(given) | {name: path}))
             self.assertEqual(caught.exception.status, REFUSED)
         with self.assertRaisesRegex(Failed, "is named twice"):
-            drive_commands.outs_of(argparse.Namespace(**vars(given) | {"csv": self.room / "b", "scenario": self.room / "b"}))
+            drive_commands.outs_of(SimpleNamespace(**vars(given) | {"csv": self.room / "b", "scenario": self.room / "b"}))
         with self.assertRaisesRegex(Failed, "is named twice"):
-            drive_commands.outs_of(argparse.Namespace(**vars(given) | {"csv": self.room / "b", "image": self.room / "b"}))
-        self.assertEqual(list(drive_commands.outs_of(argparse.Namespace(**vars(given) | {"csv": self.room / "b"}))), ["csv"])
+            drive_commands.outs_of(SimpleNamespace(**vars(given) | {"csv": self.room / "b", "image": self.room / "b"}))
+        self.assertEqual(list(drive_commands.outs_of(SimpleNamespace(**vars(given) | {"csv": self.room / "b"}))), ["csv"])
 
 
 DRIVE = """\

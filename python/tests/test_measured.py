@@ -2,11 +2,11 @@
 import tempfile
 import unittest
 from pathlib import Path
+from types import SimpleNamespace
 from typing import Any
 from unittest.mock import patch
 
-from gaknifur.__main__ import understood
-from gaknifur.cli import measured_commands
+from gaknifur.cli import testing_commands
 from gaknifur.journal.causes import Known as Causes, Trip
 from gaknifur.journal.reading import Json
 from gaknifur.program import Failed
@@ -96,14 +96,15 @@ class Reaching(unittest.TestCase):
 
 
 class Words(unittest.TestCase):
-    """The words of `lab coverage` that measure."""
+    """The options of `lab coverage` that measure."""
 
     def test_words_that_ask_for_another(self) -> None:
-        for word in (["--reached", "x"], ["--cases"]):
-            with self.assertRaisesRegex(Failed, f"{word[0]} needs --measured") as found:
-                measured_commands.check(understood(["coverage", "suites", *word]))
+        for name in ("reached", "cases"):
+            given = {"reached": None, "cases": False, "measured": False, name: "x"}
+            with self.assertRaisesRegex(Failed, f"--{name} needs --measured") as found:
+                testing_commands.check_measured(SimpleNamespace(**given))
             self.assertEqual(found.exception.status, 2)
-        measured_commands.check(understood(["coverage", "suites", "--measured", "--cases"]))
+            testing_commands.check_measured(SimpleNamespace(**given | {"measured": True}))
 
 
 class Floors(unittest.TestCase):

@@ -16,7 +16,7 @@ from gaknifur.program import DEVICE, Failed
 from gaknifur.simulation import campaign_table
 
 TOP = Path(__file__).resolve().parents[2]
-MODULES = ("pandas", "numpy", "yaml", "jinja2", "importlib", "argparse", "sitecustomize", "usercustomize", "pytest", "gaknifur", "plugged",
+MODULES = ("pandas", "numpy", "yaml", "jinja2", "importlib", "click", "rich", "sitecustomize", "usercustomize", "pytest", "gaknifur", "plugged",
            "csv", "sqlite3", "json")
 CASE = """\
 test_case: a
@@ -92,11 +92,12 @@ class Beginning(unittest.TestCase):
     """What is loaded where a command begins."""
 
     def test_is_nothing_that_takes_long(self) -> None:
-        asked = ("import sys; sys.path.insert(0, sys.argv[1]); import gaknifur.__main__; gaknifur.__main__.words(); "
+        asked = ("import sys; sys.path.insert(0, sys.argv[1]); import gaknifur.__main__; gaknifur.__main__.main(['--help']); "
                  "print(*sorted(sys.modules))")
         done = subprocess.run([sys.executable, "-I", "-B", "-c", asked, TOP / "python"], capture_output=True, text=True, check=True)
-        found = {name.partition(".")[0] for name in done.stdout.split()}
-        self.assertEqual(found & {"pandas", "numpy", "matplotlib", "jinja2", "openpyxl", "hypothesis", "pytest", "distributed"}, set())
+        found = {name.partition(".")[0] for name in done.stdout.splitlines()[-1].split()}
+        self.assertIn("click", found)
+        self.assertEqual(found & {"pandas", "numpy", "matplotlib", "jinja2", "openpyxl", "hypothesis", "pytest", "distributed", "rich", "yaml"}, set())
 
 
 class Folders(Room):
@@ -203,13 +204,13 @@ class Nets(Room):
         self.assertEqual(self.caught(OSError(28, "No space left on device", "out")), (3, "out: No space left on device"))
 
     def test_no_traceback_of_a_fault(self) -> None:
-        started = ("import sys; sys.path.insert(0, sys.argv[1])\nfrom gaknifur import __main__, errors\n"
-                   "__main__.part('cli.image_commands').WORDS['table'] = lambda told, progress: {}['a']\nsys.exit(__main__.main(['table', 'x']))")
+        started = ("import sys; sys.path.insert(0, sys.argv[1])\nfrom gaknifur import __main__\nfrom gaknifur.cli import journal_commands\n"
+                   "journal_commands.write_table = lambda given, progress: {}['a']\nsys.exit(__main__.main(['table', 'x']))")
         for asked in (False, True):
             done = subprocess.run([sys.executable, "-I", "-c", started, str(TOP / "python")], capture_output=True, text=True,
                                   env=os.environ | ({errors.TRACEBACK: "1"} if asked else {}))
             self.assertEqual((done.returncode, "Traceback" in done.stderr), (5, asked))
-            self.assertRegex(done.stderr, r"^lab: internal error: KeyError: 'a' at __main__.py:\d+; docs/LABORATORY.md says how")
+            self.assertRegex(done.stderr, r"^lab: internal error: KeyError: 'a' at commands.py:\d+; docs/LABORATORY.md says how")
 
     def test_streams_that_are_full_or_closed(self) -> None:
         (self.work / "a.yaml").write_text("steps: [start]\n")

@@ -1,10 +1,10 @@
-"""The word `drive` of `./lab`: plays a drive in a closed loop over the onboard unit's library, and tells what came of it."""
-import argparse
+"""The command `drive`: runs a train in a closed loop over the onboard unit's library, and prints the results."""
 import csv
 import io
 from collections.abc import Callable
 from dataclasses import asdict
 from pathlib import Path
+from types import SimpleNamespace
 
 from .. import files
 from ..escaping import shown
@@ -17,26 +17,11 @@ from ..testing import scenarios, sweeps
 from ..unit import FileMedium
 from ..yaml_files import BadFile
 
-Word = Callable[[str, str, str], argparse.ArgumentParser]
 COLUMNS = ("time_ms", "first_event", "event", "place_cm", "speed_m_per_h", "limit_m_per_h", "above_m_per_h", "brake", "mode",
            "braking_cm_per_s2")
 
 
-def add_words(word: Word) -> None:
-    """Adds the word."""
-    drive = word("drive", "run a simulated train in a closed loop with the onboard unit",
-                 "The unit is the library that `tools/library PREFIX` makes; GAKNIFUR_ETCS_UNIT names its .so.")
-    drive.add_argument("yaml", metavar="FILE.yaml", type=Path, help="a scenario with a drive")
-    drive.add_argument("--csv", metavar="OUT.csv", type=Path, help="write one row per time step")
-    drive.add_argument("--picture", metavar="OUT", type=Path, help="draw speed and limit over the place (.svg or .png)")
-    drive.add_argument("--image", metavar="IMAGE", type=Path, help="keep the journal here; an existing image gets one more life")
-    drive.add_argument("--scenario", metavar="OUT.json", type=Path, help="write the inputs of the unit as a scenario for `etcs run`")
-    drive.add_argument("--force", action="store_true", help="overwrite files that lab made (no option overwrites others)")
-    drive.add_argument("--build-up", metavar="TIMES", help="print instead a table of this drive with each of these brake "
-                       "build-up times, such as \"0 s, 1 s, 2 s\"")
-
-
-# ---- what is told
+# ---- results
 
 def km(m_per_h: int) -> str:
     """A speed in km/h."""
@@ -102,14 +87,14 @@ BUILD_UP = """\
 def tell_build_ups(path: Path, build_ups: list[str], progress: Progress) -> None:
     """The drive with each of these build-up times, as the sweep that it is."""
     from ..testing import sweep_tables
-    from . import sweep_commands
+    from . import testing_commands
     sweep = sweeps.of_train(path, "build_up", build_ups, BUILD_UP)
     found = sweeps.play_all(sweep, progress=progress)
     print(sweep_tables.as_text(sweep, found), end="")
-    sweep_commands.check(path, found)
+    testing_commands.check_points(path, found)
 
 
-# ---- the word
+# ---- the command
 
 def on_file(path: Path, scenario: scenarios.Scenario, drive: Drive) -> driving.Driven:
     """A life on the image of a file. One that isn't there is made, with its first life. One that is there goes on under its
@@ -147,7 +132,7 @@ def picture(driven: driving.Driven, name: str, suffix: str) -> bytes:
     return drive_picture.drawn(driven, ends_of(driven), name, suffix)
 
 
-def outs_of(given: argparse.Namespace) -> dict[str, files.Out]:
+def outs_of(given: SimpleNamespace) -> dict[str, files.Out]:
     """The files that a drive is to make, by their words; looked at before anything is played."""
     kinds = {"csv": files.DRIVE_TABLE, "scenario": scenarios.FILE, "picture": picture_kind(given.picture)}
     outs = {name: files.Out(path, kind, given.force) for name, kind in kinds.items()
@@ -168,8 +153,8 @@ def build_ups_of(text: str, drive: Drive) -> list[str]:
     return found
 
 
-def play_drive(given: argparse.Namespace, progress: Progress) -> None:
-    """The word `drive`. The library is looked for first, since telegrams may take a while where `etcs` isn't built."""
+def play_drive(given: SimpleNamespace, progress: Progress) -> None:
+    """Runs `lab drive`. The library is looked for first, since telegrams may take a while where `etcs` isn't built."""
     check_library()
     scenario, drive = read(given.yaml)
     if drive is None:
@@ -184,6 +169,3 @@ def play_drive(given: argparse.Namespace, progress: Progress) -> None:
     for name, out in outs.items():
         files.write(out, makers[name](), [given.yaml])
     print("\n".join(told(driven)))
-
-
-WORDS = {"drive": play_drive}

@@ -1,10 +1,10 @@
-"""The word `search` of `./lab`: looks through random scenarios for one that breaks a property (docs/SEARCHING.md)."""
-import argparse
+"""The command `search`: searches random scenarios for one that breaks a property (docs/SEARCHING.md)."""
 import io
 import json
 import secrets
 from collections.abc import Callable, Sequence
 from pathlib import Path
+from types import SimpleNamespace
 from typing import Any
 
 from .. import files
@@ -15,34 +15,13 @@ from ..testing import case_runner, properties
 from ..testing.properties import Property, Told, Violated
 from ..units.other_unit import words_of
 from ..yaml_files import BadFile
-from . import oracle_commands
+from . import unit_commands
 
-Word = Callable[[str, str, str], argparse.ArgumentParser]
 EXAMPLES, MOST_EXAMPLES, SEEDS = 200, 100_000, 1 << 32
 NEEDED = {"powerup": (), "telegram": (), "odometer": ("movement_cm", "speed_m_per_h"), "clock": (),
           "driver": ("action",)}
 RECORD = ("event", "life", "kind", "time_ms", "mode", "level", "brake", "indications", "place_cm", "uncertainty_cm",
           "limit_m_per_h")
-
-
-def add_words(word: Word) -> None:
-    """Adds the word."""
-    search = word("search", "search random scenarios for one that breaks a property, and shrink it",
-                  "Status 4: one was found, or a property was never judged.")
-    search.add_argument("yaml", metavar="FILE.yaml", type=Path, help="the file with the properties")
-    search.add_argument("--examples", metavar="N", type=int, default=EXAMPLES,
-                        help=f"number of scenarios to try (default: {EXAMPLES})")
-    search.add_argument("--seed", metavar="N", type=int,
-                        help="the same seed gives the same scenarios (default: a random one, which is printed)")
-    search.add_argument("--only", metavar="NOTE", action="append", default=[],
-                        help="only properties whose note contains this text")
-    search.add_argument("--keep", metavar="FOLDER", type=Path,
-                        help="write what is found into this new folder: a test case, its image and its report")
-    search.add_argument("--against", metavar="COMMAND",
-                        help="check the answers of another unit: a command that speaks the protocol of docs/ORACLE.md")
-    search.add_argument("--records", metavar="EVENTS.jsonl", type=Path,
-                        help="check these records of any unit instead of searching: lines as `etcs_lab events` prints them")
-    oracle_commands.add_within(search)
 
 
 # ---- records that are there
@@ -165,7 +144,7 @@ def chosen(told: Told, only: list[str]) -> list[Property]:
     return found
 
 
-def check(given: argparse.Namespace) -> None:
+def check(given: SimpleNamespace) -> None:
     """What the words ask can be done."""
     if not 1 <= given.examples <= MOST_EXAMPLES:
         raise Failed(f"--examples: has to be 1 to {MOST_EXAMPLES:,}", WRONG_WORDS)
@@ -175,13 +154,13 @@ def check(given: argparse.Namespace) -> None:
         raise Failed("--records can't be combined with --against or --keep", WRONG_WORDS)
     if given.keep and given.keep.exists() and (not given.keep.is_dir() or any(given.keep.iterdir())):
         raise Failed(f"--keep {given.keep}: already exists and isn't an empty folder. Nothing was run.", REFUSED)
-    oracle_commands.within_of(given.answer_within)
+    unit_commands.within_of(given.answer_within)
     if given.against:
         words_of(given.against)
 
 
-def search(given: argparse.Namespace, progress: Progress) -> int:
-    """The word `search`. (hypothesis takes a while to load.)"""
+def search(given: SimpleNamespace, progress: Progress) -> int:
+    """Runs `lab search`. (hypothesis takes a while to load.)"""
     check(given)
     told = properties.read(given.yaml)
     looked_at = chosen(told, given.only)
@@ -214,6 +193,3 @@ def search(given: argparse.Namespace, progress: Progress) -> int:
         else:
             print(indented(text), flush=True)
     return FOUND if wrong else 0
-
-
-WORDS: dict[str, Callable[[argparse.Namespace, Progress], int | None]] = {"search": search}

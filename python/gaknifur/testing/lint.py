@@ -1,14 +1,12 @@
-"""The word `lint` of `./lab`: what is wrong or weak in a track and in the steps on it, by `etcs_lab lint` and by the items of
-docs/SAFETY.md."""
-import argparse
+"""The command `lint`: faults and weak points of a track and of the steps on it, by `etcs_lab lint` and by the items of docs/SAFETY.md."""
 import functools
 import json
 import sys
 import tempfile
-from collections.abc import Callable, Iterator
+from collections.abc import Iterator
 from dataclasses import dataclass, replace
 from pathlib import Path
-from typing import Any
+from types import SimpleNamespace
 
 from .. import files
 from ..errors import say
@@ -21,9 +19,6 @@ from . import case_files, cases, track_checks
 from .course import DRIVE, Life, of_case, played, scenario_of
 from .track_checks import Finding, Judged
 from .track_messages import Known, walk
-
-Word = Callable[[str, str, str], argparse.ArgumentParser]
-
 
 
 @dataclass(frozen=True)
@@ -227,18 +222,7 @@ def paths_of(path: Path) -> list[Path]:
     return [path / name for name in (*found, *others)]
 
 
-# ---- the word
-
-def add_words(word: Word) -> None:
-    """Adds the word."""
-    lint = word("lint", "list faults and weak points of scenarios and test cases",
-                "Runs `etcs_lab lint` and then the checks of docs/SAFETY.md. A case that is meant to show an item lists it under `shows`. "
-                "Status 4: something was found.")
-    lint.add_argument("paths", metavar="FILE", nargs="+", type=Path, help="a scenario in JSON or YAML, test cases, or a folder")
-    lint.add_argument("--json", action="store_true", help="print one JSON object per line")
-    lint.add_argument("--without", metavar="ITEM", action="append", default=[], help="skip this check: "
-                      f"{cases.ADVICE}, {', '.join(map(str, track_checks.ITEMS))}")
-
+# ---- the command
 
 def check_items(items: list[str]) -> None:
     """The items of a word are those that have a check."""
@@ -248,19 +232,19 @@ def check_items(items: list[str]) -> None:
             raise Failed(f"--without {one}: no such check; lab lint --help lists them", 2)
 
 
-def lint(told: argparse.Namespace, progress: Progress) -> int:
-    """The word `lint`."""
-    check_items(told.without)
+def lint(given: SimpleNamespace, progress: Progress) -> int:
+    """Runs `lab lint`."""
+    check_items(given.without)
     found = refused = False
-    paths = [path for one in told.paths for path in paths_of(one)]
+    paths = [path for one in given.paths for path in paths_of(one)]
     for done, path in enumerate(paths):
         progress("lint", done, len(paths))
         try:
             for subject in of_file(path):
                 for line in kept_lines(subject, list(lines_of(subject))):
-                    if line.item not in told.without:
+                    if line.item not in given.without:
                         found = True
-                        sys.stdout.write((line.as_json() if told.json else line.for_people()) + "\n")
+                        sys.stdout.write((line.as_json() if given.json else line.for_people()) + "\n")
         except Failed as failed:
             if failed.status != REFUSED:
                 raise
@@ -268,6 +252,3 @@ def lint(told: argparse.Namespace, progress: Progress) -> int:
             say(str(failed))
     sys.stdout.flush()
     return REFUSED if refused else FOUND if found else 0
-
-
-WORDS: dict[str, Callable[[argparse.Namespace, Progress], Any]] = {"lint": lint}

@@ -14,7 +14,7 @@ from typing import Any
 import pytest
 
 from .. import program
-from ..cli import oracle_commands
+from ..cli import unit_commands
 from ..program import Failed
 from ..units import oracle, other_unit
 from . import case_files, case_runner, cases, mode_table
@@ -38,7 +38,7 @@ def pytest_addoption(parser: pytest.Parser) -> None:
 def pytest_configure(config: pytest.Config) -> None:
     """Where cases are kept nothing may be there yet, so that nothing is written over."""
     try:
-        oracle_commands.within_of(config.getoption("--answer-within"))
+        unit_commands.within_of(config.getoption("--answer-within"))
         other_unit.words_of(config.getoption("--against") or "none")
     except Failed as failed:
         raise pytest.UsageError(str(failed)) from None

@@ -63,7 +63,7 @@ import sys
 from pathlib import Path
 
 sys.path.insert(0, sys.argv[1])
-from gaknifur import random_lives
+from gaknifur.simulation import random_lives
 
 STEP_MS, STEPS = 200, 1000
 
@@ -132,7 +132,7 @@ spent() {
 # A scheduler with so many workers, whose processes stand in dask$1, and its address in address$1.
 start_dask() {
     local number
-    export PYTHONPATH=$top/python DASK_CONFIG=$top/python/gaknifur/dask.yaml
+    export PYTHONPATH=$top/python DASK_CONFIG=$top/python/gaknifur/simulation/dask.yaml
     "$python" -m distributed.cli.dask_scheduler --host 127.0.0.1 --port 0 --no-dashboard --no-show --scheduler-file "told$1" >/dev/null 2>&1 &
     echo $! >"dask$1"
     for ((number = 0; number < 600; number++)); do [ -s "told$1" ] && break; sleep 0.1; done

@@ -1,4 +1,4 @@
-// A train on a track with a unit on board, step by step, as python/gaknifur/driving.py has it: in each time step the
+// A train on a track with a unit on board, step by step, as python/gaknifur/simulation/driving.py has it: in each time step the
 // train moves, and the unit is given the moment, the way up to each balise with its telegram, and the rest of the way.
 import {Calls, Held} from "./calls";
 import {Output, State} from "./layouts";
@@ -201,7 +201,7 @@ export class Course {
 }
 
 /**
- * A driver who heeds the limit, as python/gaknifur/driving.py has him: he aims below the limit as it will be in some
+ * A driver who heeds the limit, as python/gaknifur/simulation/driving.py has him: he aims below the limit as it will be in some
  * seconds.
  */
 export class Heeding {

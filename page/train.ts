@@ -1,4 +1,4 @@
-// The train of a closed loop: a point that moves on level track. The same numbers as python/gaknifur/driving.py,
+// The train of a closed loop: a point that moves on level track. The same numbers as python/gaknifur/simulation/driving.py,
 // operation by operation. Nothing of it is proved.
 
 export interface Train {

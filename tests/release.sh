@@ -169,18 +169,23 @@ fi
 # ---- manual pages and completion have each word
 for name in etcs etcs_lab lab; do
     case $name in
-        lab) told=$(inside lab --help | sed -n 's/^    \([a-z]*\) .*/\1/p') ;;
-        etcs_lab) told=$(inside etcs_lab --help 2>/dev/null | sed -n 's/^  \([a-z]*\)  *[A-Z].*/\1/p') ;;
+        lab | etcs_lab) told=$(inside $name --help 2>/dev/null | sed -n 's/^  \([a-z]*\)  *[A-Z].*/\1/p') ;;
         *) told=$(inside $name --help 2>/dev/null | sed -n "s/^  $name \([a-z]*\) .*/\1/p" | sort -u) ;;
     esac
     [ "$(wc -w <<<"$told")" -ge 4 ] || fails "$name --help tells only \"$told\""
-    completed=$(bash -c '. "$1"; COMP_WORDS=("$2" ""); COMP_CWORD=1; _gaknifur; echo "${COMPREPLY[@]}"' bash "$root/usr/share/bash-completion/completions/$name" $name)
+    completed=$(inside bash -c '. "$1"; COMP_WORDS=("$2" ""); COMP_CWORD=1; $(complete -p "$2" | sed "s/.*-F \([^ ]*\).*/\1/") "$2"; echo "${COMPREPLY[@]}"' \
+        bash "$root/usr/share/bash-completion/completions/$name" $name 2>/dev/null)
     manual=$(zcat "$root/usr/share/man/man1/$name.1.gz")
     for word in $told; do
         tried=$((tried + 1))
         case " $completed " in *" $word "*) ;; *) fails "$name $word isn't completed" ;; esac
         grep -q "\b$word\b" <<<"$manual" || fails "the manual page of $name doesn't tell $word"
     done
+done
+
+for one in zsh/vendor-completions/_lab fish/vendor_completions.d/lab.fish; do
+    tried=$((tried + 1))
+    grep -q "_LAB_COMPLETE=${one%%/*}_complete" "$root/usr/share/$one" || fails "there is no completion for ${one%%/*}"
 done
 
 # ---- the tarball has the same, wherever it is unpacked

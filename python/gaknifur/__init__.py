@@ -7,6 +7,8 @@ image nothing is read here but the gates and numbers of its blocks (`layout`), w
     import gaknifur
     events = gaknifur.journal("image")
     events[events["brake"] == "emergency"]
+
+Public are this module, `gaknifur.unit` and `gaknifur.lives`. The folders hold what the package itself uses.
 """
 from pathlib import Path
 from typing import TYPE_CHECKING, Any
@@ -32,7 +34,7 @@ def journal(path: str | Path, other_blocks: bool = False) -> "pd.DataFrame":
 
     With `other_blocks` also the records that aren't of the journal, which column `source` tells.
     """
-    from . import reading, tables  # (pandas takes a while to load, which the words of ./lab that have no table needn't)
+    from .journal import reading, tables  # (pandas takes a while to load, which the words of ./lab that have no table needn't)
     return tables.frame(reading.read(path, other_blocks=other_blocks, replay=True, why=True))
 
 
@@ -41,5 +43,5 @@ def brake_causes(path: str | Path) -> "pd.DataFrame":
     says and how it ends."""
     import pandas as pd
 
-    from . import causes, reading
+    from .journal import causes, reading
     return pd.DataFrame(causes.rows(reading.read(path, replay=True, why=True)), columns=causes.ROW)

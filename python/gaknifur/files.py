@@ -22,11 +22,12 @@ from types import TracebackType
 from typing import BinaryIO, Self
 from urllib.parse import quote
 
-from . import evidence, layout
-from .last_net import say
+from .errors import say
+from .escaping import shown
+from .evidence import formats
+from .journal import layout
 from .locks import lock
 from .program import DEVICE, REFUSED, Failed
-from .shown import shown
 
 IMAGE_MARK = layout.MARK
 """What an image begins with (docs/reference/format.md)."""
@@ -373,11 +374,11 @@ def remove_one_left(path: Path, names: Collection[str]) -> None:
     descriptor = os.open(path, os.O_RDONLY | os.O_DIRECTORY | os.O_NOFOLLOW | os.O_CLOEXEC)
     try:
         lock(descriptor)
-        plain, others = evidence.names_in(path)
+        plain, others = formats.names_in(path)
         if os.fstat(descriptor).st_uid == os.geteuid() and set(others) <= folders_of(names) and set(plain) <= set(names):
             shutil.rmtree(path)
             say(f"{path}: removed, since it was the unfinished output of a run that was killed")
-    except (OSError, Failed, evidence.Unfit):
+    except (OSError, Failed, formats.Unfit):
         pass
     finally:
         os.close(descriptor)

@@ -7,7 +7,7 @@ import sys
 from importlib.util import find_spec
 from pathlib import Path
 
-NEEDED = ("pandas", "matplotlib", "jinja2", "yaml")
+NEEDED = ("click", "rich", "pandas", "matplotlib", "jinja2", "yaml")
 MISSING = 3
 
 
@@ -18,7 +18,7 @@ def begin() -> int:
               "packages", file=sys.stderr)
         return MISSING
     sys.path.insert(0, str(Path(__file__).resolve().parents[1]))
-    from gaknifur.last_net import caught, hold_streams
+    from gaknifur.errors import caught, hold_streams
 
     def do() -> int:
         from gaknifur.__main__ import main

@@ -29,12 +29,12 @@ from pathlib import Path
 from types import TracebackType
 from typing import Protocol, Self
 
-from . import _header
-from ._header import (ABI, OUTPUTS, REQUEST_BYTES, SECTOR, TELEGRAM_BYTES, VERSION_BYTES, Acknowledgement, Action, Adaptation,
-                      Brake, BrakeCause, Cold, Direction, DroppedVariable, Indication, Kind, Level, LimitCause, Mode, RequestKind, SlotState,
-                      Status, UnusedReason)
 from .locks import lock
 from .program import TOP
+from .units import _header
+from .units._header import (ABI, OUTPUTS, REQUEST_BYTES, SECTOR, TELEGRAM_BYTES, VERSION_BYTES, Acknowledgement, Action, Adaptation,
+                            Brake, BrakeCause, Cold, Direction, DroppedVariable, Indication, Kind, Level, LimitCause, Mode, RequestKind,
+                            SlotState, Status, UnusedReason)
 
 __all__ = ["ABI", "OUTPUTS", "REQUEST_BYTES", "SECTOR", "VERSION_BYTES", "Acknowledgement", "Action", "AnyUnit", "Brake",
            "BrakeCause", "Cold", "Facts", "FileMedium", "Indication", "Kind", "Level", "LimitCause", "Medium", "MemoryMedium",

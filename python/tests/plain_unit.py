@@ -4,7 +4,7 @@ import sys
 from pathlib import Path
 from typing import Any
 
-from gaknifur.driving import MODES
+from gaknifur.simulation.driving import MODES
 from gaknifur.unit import Action, Brake, Indication, Level, Output, TrainData
 
 sys.path.append(str(Path(__file__).resolve().parents[2] / "tests/plain"))

@@ -1,5 +1,4 @@
 """Campaigns: how jobs are handed out, and what comes of those whose worker is lost."""
-import argparse
 import json
 import os
 import pickle
@@ -13,13 +12,16 @@ import unittest
 from collections import Counter
 from collections.abc import Callable, Iterator
 from pathlib import Path
+from types import SimpleNamespace
 from typing import Any, Self
 from unittest.mock import patch
 
-from gaknifur import campaign, campaign_jobs, campaign_table, campaign_words, outputs, scheduled, sound
-from gaknifur.campaign import MOST_AT_ONCE, Batches, Job, Row
-from gaknifur.reading import Json
+from gaknifur.cli import campaign_commands
+from gaknifur.journal.reading import Json
 from gaknifur.program import Failed
+from gaknifur.simulation import campaign, campaign_jobs, campaign_table, dask_scheduler
+from gaknifur.simulation.campaign import MOST_AT_ONCE, Batches, Job, Row
+from gaknifur.testing import outputs, soundness
 
 from .samples import AUTHORITY, journal, record
 
@@ -92,9 +94,9 @@ class Folders(unittest.TestCase):
 
     def test_a_folder_of_nothing_is_refused(self) -> None:
         (empty := self.folder / "empty").mkdir()
-        told = argparse.Namespace(folder=empty, out=self.out, slots=64, random=3, seed=1, csv=None, scheduler=None, workers=1)
+        told = SimpleNamespace(folder=empty, out=self.out, slots=64, random=3, seed=1, csv=None, scheduler=None, workers=1)
         with patch.object(campaign_table, "settings_of", dict), self.assertRaisesRegex(Failed, "empty: contains no test case and no scenario"):
-            campaign_words.play_campaign(told, lambda what, done, whole: None)
+            campaign_commands.play_campaign(told, lambda what, done, whole: None)
         self.assertFalse(self.out.exists())
 
     def test_a_file_that_goes_meanwhile(self) -> None:
@@ -103,9 +105,9 @@ class Folders(unittest.TestCase):
             shutil.rmtree(self.folder)
             next(jobs)
 
-        told = argparse.Namespace(folder=self.folder, out=self.out, slots=64, random=0, seed=1, csv=None, scheduler=None, workers=1)
+        told = SimpleNamespace(folder=self.folder, out=self.out, slots=64, random=0, seed=1, csv=None, scheduler=None, workers=1)
         with patch.object(campaign, "here", here), patch.object(campaign_table, "settings_of", dict), self.assertRaises(FileNotFoundError):
-            campaign_words.play_campaign(told, lambda what, done, whole: None)
+            campaign_commands.play_campaign(told, lambda what, done, whole: None)
         self.assertEqual(list(campaign_table.rows_of(self.out)), ["0/a/c.json"])
 
 
@@ -201,7 +203,7 @@ class Scheduled(unittest.TestCase):
         taken: list[Row] = []
         dask = Scheduler({"0", "20", "40"})
         with patch.dict(sys.modules, dask=dask.module(), distributed=dask.module()), patch.object(campaign_jobs, "play", played_of):
-            scheduled.by_scheduler(jobs_of(80, 100), 80, "tcp://none", taken.extend)
+            dask_scheduler.by_scheduler(jobs_of(80, 100), 80, "tcp://none", taken.extend)
         self.assertEqual(sorted(int(row["name"]) for row in taken), list(range(80)))
         self.assertEqual({row["name"]: row["ended"] for row in taken if row["ended"] != "carried out"},
                          dict.fromkeys(LOST, f"failed: its worker was lost {campaign.MOST_LOSSES} times"))
@@ -289,15 +291,15 @@ class OutputsAlone(unittest.TestCase):
         numbers, found = random.Random(1), Counter[bool]()
         for _ in range(2000):
             records = random_records(numbers)
-            older = [sound.output_text(record(event)) for event in range(numbers.randrange(3), records[0]["event"])]
-            printed = altered([*older, *map(sound.output_text, records)], numbers)
+            older = [soundness.output_text(record(event)) for event in range(numbers.randrange(3), records[0]["event"])]
+            printed = altered([*older, *map(soundness.output_text, records)], numbers)
             told = outputs.of_lines(lines_of(*records))
             assert told is not None
             self.assertEqual(campaign_jobs.told_of(told.changes()) | {"events": len(records)}, campaign_jobs.told_of(records))
             try:
-                sound.check_released(printed, records)
+                soundness.check_released(printed, records)
                 is_sound = True
-            except sound.Missed:
+            except soundness.Missed:
                 is_sound = False
             self.assertEqual(told.are_those(printed), is_sound, (printed, records))
             found[is_sound] += 1
@@ -305,9 +307,9 @@ class OutputsAlone(unittest.TestCase):
 
     def test_one_that_is_told_twice_is_left_to_the_records(self) -> None:
         records = [record(event) for event in (5, 6)]
-        told, lines = outputs.of_lines(lines_of(*records)), list(map(sound.output_text, records))
+        told, lines = outputs.of_lines(lines_of(*records)), list(map(soundness.output_text, records))
         assert told is not None
-        for others, wanted in ((lines[:0], True), ([sound.output_text(record(4))], True), (lines[:1], False)):
+        for others, wanted in ((lines[:0], True), ([soundness.output_text(record(4))], True), (lines[:1], False)):
             self.assertEqual(told.are_those([*others, *lines]), wanted)
 
     def test_lines_of_another_form(self) -> None:

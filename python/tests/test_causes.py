@@ -1,9 +1,9 @@
 """Causes of brakes: those that are told, and those that aren't known."""
 import unittest
 
-from gaknifur import causes, tables
-from gaknifur.causes import DIFFERS, OTHER_BLOCK, REASONS, Held
-from gaknifur.reading import Journal
+from gaknifur.journal import causes, tables
+from gaknifur.journal.causes import DIFFERS, OTHER_BLOCK, REASONS, Held
+from gaknifur.journal.reading import Journal
 
 from .samples import journal, line, reading, record
 

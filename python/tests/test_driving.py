@@ -11,14 +11,17 @@ from types import SimpleNamespace
 from typing import Any
 from unittest.mock import patch
 
-from gaknifur import cases, closed_loop, drive_words, drives, driving, files, playing
-from gaknifur.drives import Drive, Driver, Train
-from gaknifur.driving import Driven, Driving, Loop, Motion, Row
-from gaknifur.located import document
-from gaknifur.playing import Missed, Played, with_speeds, with_trains
+from gaknifur import files
+from gaknifur.cli import drive_commands
 from gaknifur.program import Failed
-from gaknifur.scenarios import Scenario
+from gaknifur.simulation import closed_loop, drives, driving
+from gaknifur.simulation.drives import Drive, Driver, Train
+from gaknifur.simulation.driving import Driven, Driving, Loop, Motion, Row
+from gaknifur.testing import case_runner, cases
+from gaknifur.testing.case_runner import Missed, Played, with_speeds, with_trains
+from gaknifur.testing.scenarios import Scenario
 from gaknifur.unit import Brake, Indication, Level, Mode, Output
+from gaknifur.yaml_files import document
 
 from .plain_unit import PlainUnit
 from .samples import record
@@ -79,7 +82,7 @@ def played(driven: Driven, case: cases.Case) -> Played:
         kind = {"drive": "odometer", "driver": "driver", "telegram": "telegram", "clock": "clock"}[word]
         records.append(record(output.event, kind, **output_told(output), **more))
     trains = with_trains(with_speeds(records), [driven])
-    return Played(trains, playing.marked(case, trains, [driven]))
+    return Played(trains, case_runner.marked(case, trains, [driven]))
 
 
 class Trains(unittest.TestCase):
@@ -201,7 +204,7 @@ class Loops(unittest.TestCase):
         missed = set()
         for expected in case.expected:
             try:
-                playing.judge(expected, told, {})
+                case_runner.judge(expected, told, {})
             except Missed:
                 missed.add(expected.note)
         return missed
@@ -285,12 +288,12 @@ class Loops(unittest.TestCase):
     def test_what_is_told(self) -> None:
         scenario, drive = self.written()
         driven = driving.play(PlainUnit(), scenario, drive)
-        lines, last = drive_words.told(driven), driven.rows[-1]
+        lines, last = drive_commands.told(driven), driven.rows[-1]
         self.assertEqual(closed_loop.ends_of(driven), (30_000, 30_000))
         self.assertTrue(lines[0].startswith("FS, brake none: at 0.08 m after 0.5 s, speed 1.1, limit "))
         self.assertTrue(lines[-2].startswith(f"stands: at {last.place_cm / 100:.2f} m after {last.time_ms / 1000:g} s, speed 0.0, limit "))
         self.assertEqual(lines[-1], f"the end of authority is at 300.00 m: {(30_000 - last.place_cm) / 100:.2f} m before it")
-        text = drive_words.csv_text(driven).splitlines()
+        text = drive_commands.csv_text(driven).splitlines()
         self.assertEqual(text[0], "time_ms,first_event,event,place_cm,speed_m_per_h,limit_m_per_h,above_m_per_h,brake,mode,braking_cm_per_s2")
         self.assertEqual(len(text), 1 + len(driven.rows))
 
@@ -341,7 +344,7 @@ class Loops(unittest.TestCase):
         case, = cases.read(self.folder / "x.case.yaml")
         for number in (1, 4):
             with self.assertRaisesRegex(Missed, "records to be judged\nfound:    there is none of a drive"):
-                playing.judge(case.expected[number], Played(with_speeds([record(1)]), {"started": 0}), {})
+                case_runner.judge(case.expected[number], Played(with_speeds([record(1)]), {"started": 0}), {})
 
 
 def rows(*told: tuple[str, str]) -> Driven:
@@ -353,11 +356,11 @@ class Pictures(unittest.TestCase):
     """The picture of a drive."""
 
     def test_runs(self) -> None:
-        drive_picture: Any = importlib.import_module("gaknifur.drive_picture")
+        drive_picture: Any = importlib.import_module("gaknifur.simulation.drive_picture")
         self.assertEqual(drive_picture.runs(rows(("FS", "none"), ("FS", "service"), ("FS", "service"), ("FS", "none"))), [(0, 1), (1, 3), (3, 3)])
 
     def test_files(self) -> None:
-        drive_picture: Any = importlib.import_module("gaknifur.drive_picture")
+        drive_picture: Any = importlib.import_module("gaknifur.simulation.drive_picture")
         drawn: Callable[..., bytes] = drive_picture.drawn
         told = rows(("FS", "none"), ("FS", "service"), ("FS", "emergency"), ("TR", "emergency"))
         for ends, count in ((None, 0), ((300, 300), 1), ((300, 400), 2)):
@@ -366,7 +369,7 @@ class Pictures(unittest.TestCase):
             self.assertEqual(sum(text in svg for text in (b"end of authority", b"supervised location")), count)
         self.assertTrue(drawn(told, None, "a drive", ".png").startswith(b"\x89PNG"))
         with self.assertRaisesRegex(Failed, "--picture: the file name has to end in .svg or .png"):
-            drive_words.picture_kind(Path("drive.gif"))
+            drive_commands.picture_kind(Path("drive.gif"))
         self.assertTrue(files.SVG.is_own(svg[:files.FIRST_BYTES]))
         self.assertTrue(files.PNG.is_own(drawn(told, None, "a drive", ".png")[:files.FIRST_BYTES]))
 
@@ -381,7 +384,7 @@ class Library(unittest.TestCase):
             with self.subTest(mark=mark), tempfile.TemporaryDirectory() as folder, contextlib.redirect_stderr(io.StringIO()) as said:
                 path = Path(folder, "libetcs_unit.so")
                 path.write_bytes(b"\x7fELF" + mark + b"\0")
-                with patch("gaknifur.closed_loop.library", lambda: SimpleNamespace(_name=str(path))):
+                with patch("gaknifur.simulation.closed_loop.library", lambda: SimpleNamespace(_name=str(path))):
                     closed_loop.check_library.__wrapped__()
                 self.assertEqual(said.getvalue(), f"lab: this run is unproved: {path} was compiled without proof\n" if is_named else "")
 

@@ -1,5 +1,4 @@
 """Files that lab makes: nothing that stands under a name is lost, and each is whole or isn't there."""
-import argparse
 import contextlib
 import io
 import multiprocessing
@@ -11,14 +10,19 @@ import tempfile
 import unittest
 from collections.abc import Callable
 from pathlib import Path
+from types import SimpleNamespace
 from unittest.mock import patch
 
-from gaknifur import campaign_table, closed_loop, database, drive_words, drives, files, scenarios, tables
+from gaknifur import files
 from gaknifur.__main__ import main
-from gaknifur.driving import Driven
+from gaknifur.cli import drive_commands
 from gaknifur.files import Out
+from gaknifur.journal import database, tables
 from gaknifur.program import DEVICE, REFUSED, Failed
-from gaknifur.scenarios import Scenario
+from gaknifur.simulation import campaign_table, closed_loop, drives
+from gaknifur.simulation.driving import Driven
+from gaknifur.testing import scenarios
+from gaknifur.testing.scenarios import Scenario
 from gaknifur.unit import Medium, MemoryMedium
 
 from .samples import journal, record
@@ -178,7 +182,7 @@ class Words(Room):
                 forces: list[list[str]] = [[], ["--force"] if words[0] != "database" else []]
                 for force in forces:
                     said = io.StringIO()
-                    with contextlib.redirect_stderr(said), patch("gaknifur.campaign_table.settings_of", dict):
+                    with contextlib.redirect_stderr(said), patch("gaknifur.simulation.campaign_table.settings_of", dict):
                         self.assertEqual(main([*words, *force]), REFUSED, words)
                     self.assertEqual(len(said.getvalue().splitlines()), 1)
                     tried += 1
@@ -187,16 +191,16 @@ class Words(Room):
 
     def test_of_a_drive(self) -> None:
         image, yaml = self.file("image", IMAGE), self.file("a.yaml", b"")
-        given = argparse.Namespace(yaml=yaml, image=image, csv=None, scenario=None, picture=None, force=True)
+        given = SimpleNamespace(yaml=yaml, image=image, csv=None, scenario=None, picture=None, force=True)
         for name, path in (("csv", image), ("scenario", yaml), ("picture", self.file("a.svg", b"<svg/>"))):
             with self.assertRaises(Failed) as caught:
-                drive_words.outs_of(argparse.Namespace(**vars(given) | {name: path}))
+                drive_commands.outs_of(SimpleNamespace(**vars(given) | {name: path}))
             self.assertEqual(caught.exception.status, REFUSED)
         with self.assertRaisesRegex(Failed, "is named twice"):
-            drive_words.outs_of(argparse.Namespace(**vars(given) | {"csv": self.room / "b", "scenario": self.room / "b"}))
+            drive_commands.outs_of(SimpleNamespace(**vars(given) | {"csv": self.room / "b", "scenario": self.room / "b"}))
         with self.assertRaisesRegex(Failed, "is named twice"):
-            drive_words.outs_of(argparse.Namespace(**vars(given) | {"csv": self.room / "b", "image": self.room / "b"}))
-        self.assertEqual(list(drive_words.outs_of(argparse.Namespace(**vars(given) | {"csv": self.room / "b"}))), ["csv"])
+            drive_commands.outs_of(SimpleNamespace(**vars(given) | {"csv": self.room / "b", "image": self.room / "b"}))
+        self.assertEqual(list(drive_commands.outs_of(SimpleNamespace(**vars(given) | {"csv": self.room / "b"}))), ["csv"])
 
 
 DRIVE = """\
@@ -241,31 +245,31 @@ class Images(Room):
             sync(number)
 
         with patch("os.pwrite", noted_write), patch("os.fsync", noted_sync), \
-                patch.object(drive_words, "on_medium", self.on_medium):
-            drive_words.on_file(image, self.scenario, self.drive)
+                patch.object(drive_commands, "on_medium", self.on_medium):
+            drive_commands.on_file(image, self.scenario, self.drive)
         self.assertEqual([one for one in told if one != "sync"], [(1024, 512), (512, 512)])
         self.assertEqual(told[-4:], [(1024, 512), "sync", (512, 512), "sync"])
         self.assertEqual(image.read_bytes(), IMAGE + b"\1" * 512 + b"\2" * 512)
 
     def test_a_cut_within_it_loses_nothing_that_was_there(self) -> None:
         image = self.file("image", IMAGE * 3)
-        with patch("os.pwrite", side_effect=OSError(5, "Input/output error")), patch.object(drive_words, "on_medium", self.on_medium), \
+        with patch("os.pwrite", side_effect=OSError(5, "Input/output error")), patch.object(drive_commands, "on_medium", self.on_medium), \
                 self.assertRaisesRegex(Failed, "Input/output error"):
-            drive_words.on_file(image, self.scenario, self.drive)
+            drive_commands.on_file(image, self.scenario, self.drive)
         self.assertEqual(image.read_bytes(), IMAGE * 3)
 
     def test_one_that_is_new_comes_whole(self) -> None:
         image = self.room / "image"
-        with patch.object(drive_words, "fresh", lambda *given: b""), \
-                patch.object(drive_words, "over_image", lambda *given: (Driven(), IMAGE * 2)):
-            drive_words.on_file(image, self.scenario, self.drive)
+        with patch.object(drive_commands, "fresh", lambda *given: b""), \
+                patch.object(drive_commands, "over_image", lambda *given: (Driven(), IMAGE * 2)):
+            drive_commands.on_file(image, self.scenario, self.drive)
         self.assertEqual((image.read_bytes(), self.names()), (IMAGE * 2, ["a.yaml", "image"]))
 
     def test_no_image(self) -> None:
         os.mkfifo(self.room / "pipe")
         for path in (self.room / "pipe", self.room, Path("/dev/null"), self.room / "a.yaml"):
             with self.assertRaises(Failed) as caught:
-                drive_words.on_file(path, self.scenario, self.drive)
+                drive_commands.on_file(path, self.scenario, self.drive)
             self.assertEqual(caught.exception.status, REFUSED)
 
     def test_the_unit_s_library_is_looked_for_first(self) -> None:

@@ -4,9 +4,9 @@ import unittest
 from pathlib import Path
 from typing import Any
 
-from gaknifur import course
-from gaknifur.located import document
-from gaknifur.scenarios import Scenario
+from gaknifur.testing import course
+from gaknifur.testing.scenarios import Scenario
+from gaknifur.yaml_files import document
 
 TRACK = Scenario(groups=[{"at": 150, "spacing": 300, "balises": ["AA", "BB"]}, {"at": 10_300, "spacing": 1, "balises": ["CC"]}],
                  steps=[{"drive": [150, 1_000]}, {"drive": [-10, 1_000]}, {"drive": [12_000, 1_000]}, {"flush": True}, {"telegram": "DD"},

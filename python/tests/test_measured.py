@@ -2,18 +2,18 @@
 import tempfile
 import unittest
 from pathlib import Path
+from types import SimpleNamespace
 from typing import Any
 from unittest.mock import patch
 
-from gaknifur import measured, measured_words, measures
-from gaknifur.__main__ import understood
-from gaknifur.causes import Known as Causes
-from gaknifur.causes import Trip
-from gaknifur.measured import Measured, add_floors, check_floors
-from gaknifur.measuring import Driver, Reached, follow, measure_causes
-from gaknifur.messages import Known
+from gaknifur.cli import testing_commands
+from gaknifur.journal.causes import Known as Causes, Trip
+from gaknifur.journal.reading import Json
 from gaknifur.program import Failed
-from gaknifur.reading import Json
+from gaknifur.testing import coverage_sets, measured_coverage
+from gaknifur.testing.measured_coverage import Measured, add_floors, check_floors
+from gaknifur.testing.record_coverage import Driver, Reached, follow, measure_causes
+from gaknifur.testing.track_messages import Known
 
 from .samples import action, reading, record
 
@@ -81,7 +81,7 @@ class Reaching(unittest.TestCase):
         self.assertEqual(ends("in_system_failure", moving, power_up), {"in_system_failure: at a power-up alone"})
 
     def test_members_are_those_of_the_tables(self) -> None:
-        members = measures.members()
+        members = coverage_sets.members()
         # By hand: 46 transitions; 10 causes; 20 kinds; 5 causes and one of before; 9 packets in 9 modes; 9 x 5 directions.
         self.assertEqual([len(members[name]) for name in ("mode rows", "brake causes", "limit kinds", "trip causes", "packets by mode",
                                                           "packets by direction")], [46, 10, 20, 6, 81, 45])
@@ -89,21 +89,22 @@ class Reaching(unittest.TestCase):
             self.assertEqual(len(told), len(set(told)), name)
 
     def test_a_row_that_nothing_recognises_is_a_fault(self) -> None:
-        measures.actions.cache_clear()
-        self.addCleanup(measures.actions.cache_clear)
-        with patch.object(measures, "table", lambda heading: ((), ("leave the cab", "FS", "yes", "", ""))):
-            self.assertRaisesRegex(Failed, '"leave the cab" isn\'t recognised', measures.actions)
+        coverage_sets.actions.cache_clear()
+        self.addCleanup(coverage_sets.actions.cache_clear)
+        with patch.object(coverage_sets, "table", lambda heading: ((), ("leave the cab", "FS", "yes", "", ""))):
+            self.assertRaisesRegex(Failed, '"leave the cab" isn\'t recognised', coverage_sets.actions)
 
 
 class Words(unittest.TestCase):
-    """The words of `lab coverage` that measure."""
+    """The options of `lab coverage` that measure."""
 
     def test_words_that_ask_for_another(self) -> None:
-        for word in (["--reached", "x"], ["--cases"]):
-            with self.assertRaisesRegex(Failed, f"{word[0]} needs --measured") as found:
-                measured_words.check(understood(["coverage", "suites", *word]))
+        for name in ("reached", "cases"):
+            given = {"reached": None, "cases": False, "measured": False, name: "x"}
+            with self.assertRaisesRegex(Failed, f"--{name} needs --measured") as found:
+                testing_commands.check_measured(SimpleNamespace(**given))
             self.assertEqual(found.exception.status, 2)
-        measured_words.check(understood(["coverage", "suites", "--measured", "--cases"]))
+            testing_commands.check_measured(SimpleNamespace(**given | {"measured": True}))
 
 
 class Floors(unittest.TestCase):
@@ -112,7 +113,7 @@ class Floors(unittest.TestCase):
     def found(self, text: str) -> Measured:
         """Floors and reasons over two sets of which two members are reached."""
         with tempfile.TemporaryDirectory() as name:
-            (Path(name) / measured.FLOORS).write_text(text, encoding="utf-8")
+            (Path(name) / measured_coverage.FLOORS).write_text(text, encoding="utf-8")
             told = Measured(1, {"a": {"x 1": ["one"], "x 2": [], "y": []}, "b": {"z": ["one", "two"]}})
             add_floors(told, Path(name))
             check_floors(told)
@@ -137,7 +138,7 @@ class Floors(unittest.TestCase):
 
     def test_what_is_told(self) -> None:
         told = self.found("floors: {a: 1}\nout_of_reach: {a: {y: so}}")
-        self.assertEqual(measured.told(told, True), "a: 1 of 3, floor 1\n  missing: x 2; no reason is told\n  missing: y; so\n"
+        self.assertEqual(measured_coverage.told(told, True), "a: 1 of 3, floor 1\n  missing: x 2; no reason is told\n  missing: y; so\n"
                          "  x 1: one\nb: 1 of 1\n  z: one and 1 more\n1 cases reach 2 of 4.\n")
 
 

@@ -10,10 +10,12 @@ import unittest
 from pathlib import Path
 from unittest.mock import patch
 
-from gaknifur import asking, cases, confined, oracle, playing, properties, search_words
-from gaknifur.other_unit import Broken, OtherUnit, words_of
+from gaknifur.cli import search_commands
+from gaknifur.journal.reading import Json
 from gaknifur.program import Failed
-from gaknifur.reading import Json
+from gaknifur.testing import case_runner, cases, properties
+from gaknifur.units import oracle, protocol, sandbox
+from gaknifur.units.other_unit import Broken, OtherUnit, words_of
 
 from .samples import action, reading, record
 
@@ -30,28 +32,28 @@ def line(told: object) -> bytes:
 class Messages(unittest.TestCase):
     """What is a message, and what isn't."""
 
-    def wrong(self, told: object, tells: tuple[str, ...] = asking.ANSWER) -> str:
+    def wrong(self, told: object, tells: tuple[str, ...] = protocol.ANSWER) -> str:
         """What is said of an answer that isn't one."""
-        with self.assertRaises(asking.Wrong) as found:
-            asking.checked(told if isinstance(told, bytes) else line(told), 3, tells)
+        with self.assertRaises(protocol.Wrong) as found:
+            protocol.checked(told if isinstance(told, bytes) else line(told), 3, tells)
         return str(found.exception)
 
     def test_an_event_is_all_but_the_answer(self) -> None:
-        self.assertEqual(asking.event_of(reading(4, 5)),
+        self.assertEqual(protocol.event_of(reading(4, 5)),
                          {"life": 1, "event": 4, "kind": "odometer", "movement_cm": 100, "speed_m_per_h": 5})
-        told = asking.event_of(action(4, "confirm", confirmed="level"))
+        told = protocol.event_of(action(4, "confirm", confirmed="level"))
         self.assertEqual(told, {"life": 1, "event": 4, "kind": "driver", "action": "confirm", "confirmed": "level"})
 
     def test_an_answer(self) -> None:
-        self.assertEqual(asking.checked(line(ANSWER), 3, asking.ANSWER), ANSWER)
-        self.assertEqual(asking.checked(line({"event": 3, "mode": "SB", "brake": "none"}), 3,
+        self.assertEqual(protocol.checked(line(ANSWER), 3, protocol.ANSWER), ANSWER)
+        self.assertEqual(protocol.checked(line({"event": 3, "mode": "SB", "brake": "none"}), 3,
                                         ("mode", "brake"))["mode"], "SB")
 
     def test_values_at_their_limits(self) -> None:
         for name, good, bad in (("place_cm", -(1 << 62) + 1, -(1 << 62)), ("uncertainty_cm", 0, -1),
                                 ("limit_m_per_h", (1 << 62) - 1, 1 << 62),
                                 ("level", None, 2), ("indications", ["trip", "overspeed"], ["trip", "trip"])):
-            self.assertEqual(asking.checked(line(ANSWER | {name: good}), 3, asking.ANSWER)[name], good)
+            self.assertEqual(protocol.checked(line(ANSWER | {name: good}), 3, protocol.ANSWER)[name], good)
             self.assertIn(name, self.wrong(ANSWER | {name: bad}))
 
     def test_what_is_no_answer(self) -> None:
@@ -64,14 +66,14 @@ class Messages(unittest.TestCase):
         self.assertIn("is given twice", self.wrong(line(ANSWER)[:-1] + b', "mode": "FS"}'))
 
     def test_a_greeting(self) -> None:
-        told = asking.greeting_of(line({"protocol": 1, "unit": "x", "tells": ["brake", "mode"]}))
+        told = protocol.greeting_of(line({"protocol": 1, "unit": "x", "tells": ["brake", "mode"]}))
         self.assertEqual(told.tells, ("mode", "brake"))
         self.assertEqual(told.leaves_out, ("level", "indications", "place_cm", "uncertainty_cm", "limit_m_per_h"))
         told_wrong: list[Json] = [{"protocol": True}, {"protocol": "1"}, {"tells": []},
                                   {"tells": ["mode", "brake", "mode"]}, {"unit": "x" * 201}]
         for wrong in told_wrong:
-            with self.assertRaises(asking.Wrong):
-                asking.greeting_of(line({"protocol": 1, "unit": "x", "tells": ["brake", "mode"]} | wrong))
+            with self.assertRaises(protocol.Wrong):
+                protocol.greeting_of(line({"protocol": 1, "unit": "x", "tells": ["brake", "mode"]} | wrong))
 
 
 class Processes(unittest.TestCase):
@@ -204,7 +206,7 @@ time.sleep(600)
         self.fail("its process is left")
 
     def test_the_sandbox(self) -> None:
-        if confined.bubblewrap() is None:
+        if sandbox.bubblewrap() is None:
             self.skipTest("bubblewrap doesn't work here")
         text = """def tried(does):
     try:
@@ -231,21 +233,21 @@ greet("; ".join((tried(lambda: open(WRITTEN, "w")), tried(lambda: open(scratch +
     def test_its_name_is_spelled(self) -> None:
         for name, wanted in (("good\nnothing differs\x1b[8m", "good\\x0anothing differs\\x1b[8m"), ("\ud800", "\\ud800"),
                              ("a\u202eb", "a\\u202eb")):
-            told = oracle.Asked([], asking.Greeting(name, asking.ANSWER))
+            told = oracle.Asked([], protocol.Greeting(name, protocol.ANSWER))
             self.assertEqual(next(oracle.lines(told)).text, f"the unit {wanted}")
 
     def test_many_names_take_linear_time(self) -> None:
         told = line({f"n{number}": 0 for number in range(12_000)})
         begun = time.process_time()
-        with self.assertRaises(asking.Wrong):
-            asking.greeting_of(told)
+        with self.assertRaises(protocol.Wrong):
+            protocol.greeting_of(told)
         self.assertLess(time.process_time() - begun, 1)
 
 
 def asked(records: list[Json], **changes: Json) -> oracle.Asked:
     """What a unit answers that tells all, with some answers that are other ones: `e3={..}` of event 3."""
-    answers = [asking.answer_of(one, asking.ANSWER) | changes.get(f"e{one['event']}", {}) for one in records]
-    return oracle.Asked(records, asking.Greeting("x", asking.ANSWER), answers)
+    answers = [protocol.answer_of(one, protocol.ANSWER) | changes.get(f"e{one['event']}", {}) for one in records]
+    return oracle.Asked(records, protocol.Greeting("x", protocol.ANSWER), answers)
 
 
 class Compared(unittest.TestCase):
@@ -306,7 +308,7 @@ class Properties(unittest.TestCase):
             path = Path(room) / "x.search.yaml"
             path.write_text(f"search: x\nproperties:\n  - {{note: a, {told}}}\n", encoding="utf-8")
             one, = properties.read(path).properties
-        found = properties.derived(playing.with_speeds(records))
+        found = properties.derived(case_runner.with_speeds(records))
         try:
             return properties.judge(one, found)
         except properties.Violated as violated:
@@ -375,7 +377,7 @@ class Records(unittest.TestCase):
             path = Path(room) / "events"
             path.write_text(text, encoding="utf-8")
             with self.assertRaises(Failed) as found:
-                search_words.records_of(path)
+                search_commands.records_of(path)
             return str(found.exception).removeprefix(f"{path}:")
 
     def test_faults(self) -> None:

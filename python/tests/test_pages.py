@@ -9,12 +9,12 @@ from pathlib import Path
 
 import pandas as pd
 
-import gaknifur.tables as tables
-from gaknifur import brief, chart, database, following, report, words
-from gaknifur.causes import CAUSES
-from gaknifur.extent import Extent, bound
+import gaknifur.journal.tables as tables
+from gaknifur.journal import charts, database, follow, report, summary, wording
+from gaknifur.journal.causes import CAUSES
+from gaknifur.journal.extent import Extent, bound
+from gaknifur.journal.reading import Journal, Json
 from gaknifur.program import Failed
-from gaknifur.reading import Journal, Json
 
 from .samples import AUTHORITY, action, journal, line, reading, record
 
@@ -111,9 +111,9 @@ class Trips(unittest.TestCase):
 class Briefs(unittest.TestCase):
     """The box at the top."""
 
-    def brief(self, told: Journal) -> brief.Brief:
+    def brief(self, told: Journal) -> summary.Brief:
         table = tables.frame(told)
-        return brief.brief(told, table, tables.interventions(table))
+        return summary.brief(told, table, tables.interventions(table))
 
     def test_of_lives(self) -> None:
         found = self.brief(tripped())
@@ -177,7 +177,7 @@ class Briefs(unittest.TestCase):
         for replay, told, wanted in rows:
             one = journal(*RUN, **told)
             one.replay = replay
-            self.assertEqual(brief.faults(one), wanted)
+            self.assertEqual(summary.faults(one), wanted)
 
 
 class Forms(unittest.TestCase):
@@ -202,9 +202,9 @@ class Forms(unittest.TestCase):
 
     def test_each_colour_of_a_chart_has_one_for_dark_screens(self) -> None:
         dark = self.CSS.partition("@media screen and (prefers-color-scheme: dark)")[2].partition("@media print")[0]
-        drawn = {chart.INK, chart.SPEED, chart.ABOVE, chart.END, chart.QUIET, *chart.BRAKES.values(), *chart.MODES.values()}
+        drawn = {charts.INK, charts.SPEED, charts.ABOVE, charts.END, charts.QUIET, *charts.BRAKES.values(), *charts.MODES.values()}
         self.assertEqual([colour for colour in drawn if f'[style*="fill: {colour.lower()}"]' not in dark], [])
-        self.assertEqual([colour for colour in (chart.INK, chart.SPEED, chart.ABOVE, chart.END)
+        self.assertEqual([colour for colour in (charts.INK, charts.SPEED, charts.ABOVE, charts.END)
                           if f'[style*="stroke: {colour.lower()}"]' not in dark], [])
 
     def test_on_paper(self) -> None:
@@ -221,25 +221,25 @@ class Charts(unittest.TestCase):
     """What charts keep of long runs."""
 
     def test_many_telegrams_are_no_black_bar(self) -> None:
-        for count, is_many in ((chart.MOST_SIGNS, False), (1_000, True)):
+        for count, is_many in ((charts.MOST_SIGNS, False), (1_000, True)):
             records = [record(n, "telegram", telegram="90", decoded=AUTHORITY) for n in range(count)]
             table = tables.frame(journal(*records))
-            svg = chart.draw(table, chart.Picture("distance", "a", "x", groups=report.groups_of(table)))
+            svg = charts.draw(table, charts.Picture("distance", "a", "x", groups=report.groups_of(table)))
             self.assertEqual(("telegrams read," in svg, ">telegram read<" in svg), (is_many, not is_many))
             # a sign has the ink's colour, and a bar covers three fifths of its part of the way
-            self.assertEqual(len(re.findall(f"fill: {chart.QUIET}", svg)), chart.BARS + 1 if is_many else 0)
+            self.assertEqual(len(re.findall(f"fill: {charts.QUIET}", svg)), charts.BARS + 1 if is_many else 0)
 
     def test_each_brake_is_kept(self) -> None:
         records = [reading(n, 1_000, brake="emergency" if n == 4_321 else "service" if n % 7 == 0 else "none")
                    for n in range(9_000)]
         table = tables.frame(journal(*records))
-        found = chart.spans(table, chart.along(table, "event"), "brake")
-        self.assertLessEqual(len(found), chart.COLUMNS)
+        found = charts.spans(table, charts.along(table, "event"), "brake")
+        self.assertLessEqual(len(found), charts.COLUMNS)
         self.assertIn("emergency", {brake for _, _, brake in found})
 
     def test_runs(self) -> None:
         table = tables.frame(journal(record(0), record(1, mode="OS"), record(2, mode="OS")))
-        self.assertEqual(chart.spans(table, chart.along(table, "event"), "mode"), [(0, 1, "FS"), (1, 2, "OS")])
+        self.assertEqual(charts.spans(table, charts.along(table, "event"), "mode"), [(0, 1, "FS"), (1, 2, "OS")])
 
 
 class Parts(unittest.TestCase):
@@ -335,25 +335,25 @@ class Texts(unittest.TestCase):
     """Words for people."""
 
     def test_telegrams(self) -> None:
-        self.assertEqual(words.telegram_text(AUTHORITY), "telegram of group 1/2, balise 1 of 2, packet 12")
-        self.assertEqual(words.telegram_text({"refused": {"number": 3, "name": "Spare"}}),
+        self.assertEqual(wording.telegram_text(AUTHORITY), "telegram of group 1/2, balise 1 of 2, packet 12")
+        self.assertEqual(wording.telegram_text({"refused": {"number": 3, "name": "Spare"}}),
                          "telegram that can't be decoded: 3 Spare")
 
     def test_numbers_keep_their_digits(self) -> None:
         far = record(1, "odometer", movement_cm=1_234_567, speed_m_per_h=0)
-        self.assertEqual(words.event_text(far), "moved 12345.67 m, at 0 km/h")
-        self.assertEqual(words.event_text(record(1, now_ms=3_600_123)), "moment 3600.123 s")
-        self.assertEqual([words.event_text(record(1, now_ms=ms)) for ms in (0, 500, 20_000_000)], ["moment 0 s", "moment 0.5 s", "moment 20000 s"])
-        self.assertIn("at 1234.567 s: ", following.text(record(1, time_ms=1_234_567)))
-        self.assertTrue(following.text(record(1, place_cm=123_456_789)).endswith("front 1234567.89 m"))
-        self.assertEqual([chart.length_text(one) for one in (27_000.0, 123.4, 12.34, 0.1234)], ["27,000", "123", "12.3", "0.123"])
+        self.assertEqual(wording.event_text(far), "moved 12345.67 m, at 0 km/h")
+        self.assertEqual(wording.event_text(record(1, now_ms=3_600_123)), "moment 3600.123 s")
+        self.assertEqual([wording.event_text(record(1, now_ms=ms)) for ms in (0, 500, 20_000_000)], ["moment 0 s", "moment 0.5 s", "moment 20000 s"])
+        self.assertIn("at 1234.567 s: ", follow.text(record(1, time_ms=1_234_567)))
+        self.assertTrue(follow.text(record(1, place_cm=123_456_789)).endswith("front 1234567.89 m"))
+        self.assertEqual([charts.length_text(one) for one in (27_000.0, 123.4, 12.34, 0.1234)], ["27,000", "123", "12.3", "0.123"])
 
     def test_an_authority_ends_at_the_sum_of_its_sections(self) -> None:
-        self.assertEqual(words.announced_end_cm(AUTHORITY), 30_000)
-        self.assertIsNone(words.announced_end_cm({"refused": {"number": 3, "name": "Spare"}}))
+        self.assertEqual(wording.announced_end_cm(AUTHORITY), 30_000)
+        self.assertIsNone(wording.announced_end_cm({"refused": {"number": 3, "name": "Spare"}}))
 
     def test_lost(self) -> None:
-        self.assertEqual(words.lost_text({"first_block": 1, "last_block": 3, "first_event": None, "last_event": 8}),
+        self.assertEqual(wording.lost_text({"first_block": 1, "last_block": 3, "first_event": None, "last_event": 8}),
                          "blocks 1 to 3, with events ? to 8")
 
 

@@ -3,9 +3,9 @@ import random
 import unittest
 from collections.abc import Callable
 
-from gaknifur import plausible
-from gaknifur.plausible import Thresholds, judge
-from gaknifur.reading import Json
+from gaknifur.journal import plausibility
+from gaknifur.journal.plausibility import Thresholds, judge
+from gaknifur.journal.reading import Json
 
 from .samples import AUTHORITY, record
 
@@ -15,7 +15,7 @@ def drive(speeds: list[int], cycle_ms: int = 500, life: int = 1, first: int = 0,
     told, event, before = [record(first, "powerup", life=life)], first + 1, 0
     for at, speed in enumerate(speeds, 1):
         told.append(record(event, "clock", life=life, time_ms=at * cycle_ms, now_ms=at * cycle_ms))
-        moved = round((before + speed) / 2 * cycle_ms * plausible.CM_PER_M_PER_H_MS * share)
+        moved = round((before + speed) / 2 * cycle_ms * plausibility.CM_PER_M_PER_H_MS * share)
         told.append(record(event + 1, "odometer", life=life, time_ms=at * cycle_ms, movement_cm=moved, speed_m_per_h=speed))
         event, before = event + 2, speed
     return told
@@ -149,8 +149,8 @@ class Groups(unittest.TestCase):
 
     def test_in_words(self) -> None:
         told = judge([telegram(0, 7, 0), telegram(1, 8, 90_000), telegram(2, 7, 5_000)])
-        self.assertEqual(plausible.text(told.findings[0]), "implausible: life 1, events 0 to 2: group 1/7 was read at another place of the life, 50 m off")
-        self.assertTrue(plausible.summary(told, Thresholds()).startswith("plausibility: 1 implausible; 0 readings and 3 groups of 1 lives"))
+        self.assertEqual(plausibility.text(told.findings[0]), "implausible: life 1, events 0 to 2: group 1/7 was read at another place of the life, 50 m off")
+        self.assertTrue(plausibility.summary(told, Thresholds()).startswith("plausibility: 1 implausible; 0 readings and 3 groups of 1 lives"))
 
 
 if __name__ == "__main__":

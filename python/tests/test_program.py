@@ -10,9 +10,11 @@ import unittest
 from pathlib import Path
 from unittest.mock import patch
 
-from gaknifur import campaign_table, program, reading
+from gaknifur import program
+from gaknifur.journal import reading
+from gaknifur.journal.reading import Journal, Records, read
 from gaknifur.program import Failed, Ran, etcs, find, proof
-from gaknifur.reading import Journal, Records, read
+from gaknifur.simulation import campaign_table
 
 from .samples import journal, line, record
 

@@ -1,7 +1,7 @@
 """The word `search`: what is kept of what is found (docs/howto/searching.md)."""
 import unittest
 
-from gaknifur.search_words import names_of
+from gaknifur.cli.search_commands import names_of
 
 LONG = "while the train stands and nothing has been heard of a track for a long time"
 

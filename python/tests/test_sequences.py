@@ -9,9 +9,10 @@ from zipfile import ZipFile
 
 import openpyxl
 
-from gaknifur import dissector, sequences
+from gaknifur.journal.reading import Journal
 from gaknifur.program import Failed
-from gaknifur.reading import Journal
+from gaknifur.testing import sequences
+from gaknifur.wireshark import dissector
 
 from .samples import record
 

@@ -10,12 +10,13 @@ from collections.abc import Mapping
 from pathlib import Path
 from unittest.mock import patch
 
-from gaknifur import campaign_table, last_net, locks
+from gaknifur import errors, locks
+from gaknifur.escaping import shown
 from gaknifur.program import DEVICE, Failed
-from gaknifur.shown import shown
+from gaknifur.simulation import campaign_table
 
 TOP = Path(__file__).resolve().parents[2]
-MODULES = ("pandas", "numpy", "yaml", "jinja2", "importlib", "argparse", "sitecustomize", "usercustomize", "pytest", "gaknifur", "plugged",
+MODULES = ("pandas", "numpy", "yaml", "jinja2", "importlib", "click", "rich", "sitecustomize", "usercustomize", "pytest", "gaknifur", "plugged",
            "csv", "sqlite3", "json")
 CASE = """\
 test_case: a
@@ -91,11 +92,12 @@ class Beginning(unittest.TestCase):
     """What is loaded where a command begins."""
 
     def test_is_nothing_that_takes_long(self) -> None:
-        asked = ("import sys; sys.path.insert(0, sys.argv[1]); import gaknifur.__main__; gaknifur.__main__.words(); "
+        asked = ("import sys; sys.path.insert(0, sys.argv[1]); import gaknifur.__main__; gaknifur.__main__.main(['--help']); "
                  "print(*sorted(sys.modules))")
         done = subprocess.run([sys.executable, "-I", "-B", "-c", asked, TOP / "python"], capture_output=True, text=True, check=True)
-        found = {name.partition(".")[0] for name in done.stdout.split()}
-        self.assertEqual(found & {"pandas", "numpy", "matplotlib", "jinja2", "openpyxl", "hypothesis", "pytest", "distributed"}, set())
+        found = {name.partition(".")[0] for name in done.stdout.splitlines()[-1].split()}
+        self.assertIn("click", found)
+        self.assertEqual(found & {"pandas", "numpy", "matplotlib", "jinja2", "openpyxl", "hypothesis", "pytest", "distributed", "rich", "yaml"}, set())
 
 
 class Folders(Room):
@@ -114,9 +116,9 @@ class Folders(Room):
         self.assertIn("pandas.py", self.ran())
 
     def test_no_file_of_matplotlib_s(self) -> None:
-        draw = ("import sys; sys.path.insert(0, sys.argv[1])\nfrom gaknifur import chart, tables\nfrom tests.samples import journal, reading\n"
-                "import hashlib; print(hashlib.sha256(chart.draw(tables.frame(journal(reading(0, 9), reading(1, 8))), "
-                "chart.Picture('event', 'a', 'b')).encode()).hexdigest())")
+        draw = ("import sys; sys.path.insert(0, sys.argv[1])\nfrom gaknifur.journal import charts, tables\nfrom tests.samples import journal, reading\n"
+                "import hashlib; print(hashlib.sha256(charts.draw(tables.frame(journal(reading(0, 9), reading(1, 8))), "
+                "charts.Picture('event', 'a', 'b')).encode()).hexdigest())")
         digests = []
         for text in (None, "lines.linewidth: 44\nsvg.fonttype: path\nfont.size: 40\n", "no such: thing\n\xff"):
             if text is not None:
@@ -187,14 +189,14 @@ class Nets(Room):
         def do() -> int:
             raise error
 
-        with patch.object(last_net, "say") as say:
-            status = last_net.caught(do)
+        with patch.object(errors, "say") as say:
+            status = errors.caught(do)
         return status, say.call_args.args[0] if say.called else ""
 
     def test_each_is_told_in_a_line(self) -> None:
         status, said = self.caught(KeyError("a\nb"))
         self.assertEqual(status, 5)
-        self.assertRegex(said, r"^internal error: KeyError: 'a\\nb' at last_net.py:\d+; docs/howto/laboratory.md says how to report it$")
+        self.assertRegex(said, r"^internal error: KeyError: 'a\\nb' at errors.py:\d+; docs/howto/laboratory.md says how to report it$")
         for error in (RecursionError("deep"), AssertionError(), UnicodeEncodeError("utf-8", "\ud800", 0, 1, "surrogates"), StopIteration()):
             self.assertIn(f"internal error: {type(error).__name__}", self.caught(error)[1])
         self.assertEqual(self.caught(MemoryError()), (3, "out of memory"))
@@ -202,13 +204,13 @@ class Nets(Room):
         self.assertEqual(self.caught(OSError(28, "No space left on device", "out")), (3, "out: No space left on device"))
 
     def test_no_traceback_of_a_fault(self) -> None:
-        started = ("import sys; sys.path.insert(0, sys.argv[1])\nfrom gaknifur import __main__, last_net\n"
-                   "__main__.part('image_words').WORDS['table'] = lambda told, progress: {}['a']\nsys.exit(__main__.main(['table', 'x']))")
+        started = ("import sys; sys.path.insert(0, sys.argv[1])\nfrom gaknifur import __main__\nfrom gaknifur.cli import journal_commands\n"
+                   "journal_commands.write_table = lambda given, progress: {}['a']\nsys.exit(__main__.main(['table', 'x']))")
         for asked in (False, True):
             done = subprocess.run([sys.executable, "-I", "-c", started, str(TOP / "python")], capture_output=True, text=True,
-                                  env=os.environ | ({last_net.TRACEBACK: "1"} if asked else {}))
+                                  env=os.environ | ({errors.TRACEBACK: "1"} if asked else {}))
             self.assertEqual((done.returncode, "Traceback" in done.stderr), (5, asked))
-            self.assertRegex(done.stderr, r"^lab: internal error: KeyError: 'a' at __main__.py:\d+; docs/howto/laboratory.md says how")
+            self.assertRegex(done.stderr, r"^lab: internal error: KeyError: 'a' at commands.py:\d+; docs/howto/laboratory.md says how")
 
     def test_streams_that_are_full_or_closed(self) -> None:
         (self.work / "a.yaml").write_text("steps: [start]\n")
@@ -217,7 +219,7 @@ class Nets(Room):
             done = subprocess.run(["sh", "-c", f'"$0" build a.yaml {closes}', TOP / "lab"], cwd=self.work, capture_output=True, text=True)
             self.assertEqual((done.returncode, done.stderr), (status, said), closes)
         # no file takes the number of a stream that is closed
-        opened = ("import os, sys; sys.path.insert(0, sys.argv[1]); from gaknifur import last_net; last_net.hold_streams(); "
+        opened = ("import os, sys; sys.path.insert(0, sys.argv[1]); from gaknifur import errors; errors.hold_streams(); "
                   "sys.exit(os.open(os.devnull, os.O_RDONLY))")
         words = [sys.executable, opened, str(TOP / "python")]
         self.assertEqual(subprocess.call(["sh", "-c", 'exec "$0" -I -c "$1" "$2" <&- >&- 2>&-', *words]), 3)

@@ -7,12 +7,12 @@ import unittest
 from pathlib import Path
 from unittest.mock import patch
 
-from gaknifur import case_files, cases, coverage, playing, scenarios, telegrams
-from gaknifur.cases import derived
-from gaknifur.located import document
-from gaknifur.mode_rows import page, table_rows
-from gaknifur.playing import Missed, Played, with_speeds
 from gaknifur.program import Failed
+from gaknifur.testing import case_files, case_runner, cases, coverage, scenarios, telegrams
+from gaknifur.testing.case_runner import Missed, Played, with_speeds
+from gaknifur.testing.cases import derived
+from gaknifur.testing.mode_table import page, table_rows
+from gaknifur.yaml_files import document
 
 from .samples import reading, record
 
@@ -315,7 +315,7 @@ class Judging(InFiles):
         """What is missed; nothing where the result came."""
         case, = cases.read(self.write(CASE + f"  - {expected}\n"))
         try:
-            playing.judge(case.expected[0], self.PLAYED, {16: (["SB"], "FS"), 1: (["OS", "SR"], "SF")})
+            case_runner.judge(case.expected[0], self.PLAYED, {16: (["SB"], "FS"), 1: (["OS", "SR"], "SF")})
         except Missed as missed:
             return str(missed)
         return ""
@@ -353,9 +353,9 @@ class Judging(InFiles):
 
     def test_outputs_are_those_of_the_records(self) -> None:
         line = "event 1 mode FS level 1 brake none limit 40000 ind 0"
-        playing.check_released([line], self.PLAYED.records)
+        case_runner.check_released([line], self.PLAYED.records)
         with self.assertRaisesRegex(Missed, "this output was released"):
-            playing.check_released([line.replace("none", "service")], self.PLAYED.records)
+            case_runner.check_released([line.replace("none", "service")], self.PLAYED.records)
 
     def test_derived(self) -> None:
         self.assertEqual(str(derived(record(5) | {"speed_m_per_h": None})["place_m"]), "5")

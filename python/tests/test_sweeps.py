@@ -6,11 +6,12 @@ from decimal import Decimal
 from pathlib import Path
 from unittest.mock import patch
 
-from gaknifur import files, playing, sweep_told, sweeps
-from gaknifur.cases import Case
-from gaknifur.playing import Missed, Played, with_speeds
+from gaknifur import files
 from gaknifur.program import Failed
-from gaknifur.sweeps import Told
+from gaknifur.testing import case_runner, sweep_tables, sweeps
+from gaknifur.testing.case_runner import Missed, Played, with_speeds
+from gaknifur.testing.cases import Case
+from gaknifur.testing.sweeps import Told
 
 from .samples import reading, record
 
@@ -69,7 +70,7 @@ class Sweeps(unittest.TestCase):
     def told(self) -> tuple[sweeps.Sweep, list[Told]]:
         """A sweep, and what came of it."""
         sweep = self.read()
-        with patch.object(playing, "play", played):
+        with patch.object(case_runner, "play", played):
             return sweep, [sweeps.play(sweep, point) for point in sweep.points()]
 
     def test_points(self) -> None:
@@ -106,16 +107,16 @@ class Sweeps(unittest.TestCase):
 
     def test_tables(self) -> None:
         sweep, told = self.told()
-        text = sweep_told.as_text(sweep, told).splitlines()
+        text = sweep_tables.as_text(sweep, told).splitlines()
         self.assertEqual(text[0].split(), ["way", "speed", "run", "most", "none", "readings", "least", "first", "brake", "missed", "fault"])
         self.assertEqual(text[3].split(), ["10", "30", "30", "10", "-", "3", "2.5", "5", "service", "slow", "-"])
-        written = sweep_told.as_csv(sweep, told)
+        written = sweep_tables.as_csv(sweep, told)
         self.assertTrue(written.startswith("point,way,speed,run,most,none,readings,least,first,brake,missed,fault\n1,10,10,10,10,,3,2.5,5,service,,\n"))
         self.assertTrue(files.SWEEP_TABLE.is_own(written.encode()))
 
     def test_maps(self) -> None:
         sweep, told = self.told()
-        drawn = {one.name: one for one in sweep_told.maps(sweep, told)}
+        drawn = {one.name: one for one in sweep_tables.maps(sweep, told)}
         self.assertEqual((drawn["run"].across, drawn["run"].down, drawn["run"].span), ("speed", "way", ("10", "30")))
         (_, first), (_, second) = drawn["run"].lines
         # The least number is light with dark letters, the greatest dark with white ones; a point that wasn't judged has neither.
@@ -123,7 +124,7 @@ class Sweeps(unittest.TestCase):
                          [("10", "#eff6fb", "#1c2733"), ("30", "#005a8c", "#ffffff"), ("–", "#ffffff", "#1c2733")])
         self.assertEqual((drawn["brake"].span, drawn["brake"].lines[0][1][0].paper), (None, "#E69F00"))
         self.assertEqual([one.fixed for one in drawn.values()], [{}] * 7)
-        page = sweep_told.as_page(sweep, told)
+        page = sweep_tables.as_page(sweep, told)
         self.assertTrue(files.REPORT.is_own(page.encode()[:files.FIRST_BYTES]))
         self.assertIn("at 1 points expected results didn&#39;t come", page.replace("didn't", "didn&#39;t"))
         for word in ("<script", "http://", "https://", "src="):
@@ -131,19 +132,19 @@ class Sweeps(unittest.TestCase):
 
     def test_three_parameters_have_a_map_for_each_of_the_first(self) -> None:
         sweep = self.read(SWEEP.replace("for: {", "for: {number: [1, 2], ").replace('"$way"', "$number"))
-        with patch.object(playing, "play", played):
+        with patch.object(case_runner, "play", played):
             told = [sweeps.play(sweep, point) for point in sweep.points()]
-        self.assertEqual([one.fixed for one in sweep_told.maps(sweep, told)][:2], [{"number": "1"}, {"number": "2"}])
+        self.assertEqual([one.fixed for one in sweep_tables.maps(sweep, told)][:2], [{"number": "1"}, {"number": "2"}])
 
     def test_processes(self) -> None:
         sweep = self.read()
-        with patch.object(playing, "play", played):
+        with patch.object(case_runner, "play", played):
             self.assertEqual(sweeps.play_all(sweep, 2), [sweeps.play(sweep, point) for point in sweep.points()])
 
         def fails(case: Case, keep: object = None, why: bool = False) -> Played:
             raise Failed("no program", 3)
 
-        with patch.object(playing, "play", fails), self.assertRaisesRegex(Failed, "no program") as found:
+        with patch.object(case_runner, "play", fails), self.assertRaisesRegex(Failed, "no program") as found:
             sweeps.play_all(sweep, 2)
         self.assertEqual(found.exception.status, 3)
 

@@ -9,11 +9,13 @@ from pathlib import Path
 import openpyxl
 import pandas as pd
 
-from gaknifur import files, tables, timeline, times
+from gaknifur import files
+from gaknifur.evidence import timeline, times
+from gaknifur.evidence.times import Times
 from gaknifur.files import Out
+from gaknifur.journal import tables
+from gaknifur.journal.reading import Journal
 from gaknifur.program import Failed
-from gaknifur.reading import Journal
-from gaknifur.times import Times
 
 from .samples import action, journal, reading, record
 

@@ -4,10 +4,11 @@ import tempfile
 import unittest
 from pathlib import Path
 
-from gaknifur import report, tables, times
+from gaknifur.evidence import times
+from gaknifur.evidence.times import Marks, Times
+from gaknifur.journal import report, tables
+from gaknifur.journal.reading import Journal
 from gaknifur.program import REFUSED, Failed
-from gaknifur.reading import Journal
-from gaknifur.times import Marks, Times
 
 from .samples import journal, reading, record
 

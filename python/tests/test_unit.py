@@ -14,12 +14,11 @@ from pathlib import Path
 from unittest import mock
 
 import gaknifur
-from gaknifur import lives
-from gaknifur import unit as units
-from gaknifur._header import Adaptation, Direction, DroppedVariable, Fault, RequestKind, Source, StatusKind, UnusedReason
+from gaknifur import lives, unit as units
 from gaknifur.lives import BrakeCause, Datum, KeptField, LimitCause, RecordField, TripCause, Verdict
-from gaknifur.unit import (Acknowledgement, Action, AnyUnit, Brake, Cold, FileMedium, Indication, Kind, Level, MemoryMedium, Mode, Opening,
-                           Output, Record, Refused, SectorUnit, SlotState, Status, TrainData, Unit, UnitWhy, Waiting)
+from gaknifur.unit import (Acknowledgement, Action, AnyUnit, Brake, Cold, FileMedium, Indication, Kind, Level, MemoryMedium, Mode,
+                           Opening, Output, Record, Refused, SectorUnit, SlotState, Status, TrainData, Unit, UnitWhy, Waiting)
+from gaknifur.units._header import Adaptation, Direction, DroppedVariable, Fault, RequestKind, Source, StatusKind, UnusedReason
 
 INCLUDE = Path(__file__).resolve().parents[2] / "include"
 HEADER = INCLUDE / "etcs_unit.h"

@@ -1,28 +1,31 @@
-"""The words of `./lab`: in which order they may stand; and what pytest makes of a suite."""
-import argparse
+"""The command line of `./lab`, and what pytest makes of a suite."""
 import contextlib
 import io
 import json
 import os
 import re
+import shlex
 import subprocess
 import tempfile
 import unittest
 import xml.etree.ElementTree
 from collections.abc import Sequence
+from dataclasses import asdict
 from pathlib import Path
 from typing import Any
 from unittest.mock import patch
 
-from gaknifur import __main__ as lab
-from gaknifur import image_words, measured, playing
-from gaknifur.cases import Case
-from gaknifur.causes import CAUSES
-from gaknifur.playing import Keep, Played, with_speeds
+from gaknifur.__main__ import main
+from gaknifur.cli.commands import COMPLETE, Command, lab
+from gaknifur.journal.causes import CAUSES
+from gaknifur.journal.plausibility import Thresholds
+from gaknifur.journal.reading import Json
+from gaknifur.journal.wording import INDICATIONS
+from gaknifur.testing import case_runner, measured_coverage
+from gaknifur.testing.case_runner import Keep, Played, with_speeds
+from gaknifur.testing.cases import Case
 from gaknifur.unit import BrakeCause, Indication
-from gaknifur.words import INDICATIONS
-from gaknifur.program import Failed
-from gaknifur.reading import Json
+from gaknifur.units.other_unit import WITHIN_S
 
 from .samples import journal, record
 
@@ -39,24 +42,34 @@ expected:
 """
 
 
+def params(words: str) -> dict[str, Any]:
+    """The arguments and options of a command line of lab."""
+    name, *given = words.split()
+    context = lab.commands[name].make_context(name, given)
+    return context.params
+
+
 class Order(unittest.TestCase):
-    """Options stand before, between and behind the other words."""
+    """Options may come before, between and after the arguments."""
 
     def test_of_options(self) -> None:
-        for given in ("campaign F --workers 1 O.db", "campaign --workers 1 F O.db", "campaign F O.db --workers 1"):
-            told = lab.understood(given.split())
-            self.assertEqual((told.folder, told.out, told.workers), (Path("F"), Path("O.db"), 1))
-        self.assertEqual(lab.understood("campaign --random 3 O.db".split()).folder, None)
-        told = lab.understood("table I --all O.csv".split())
-        self.assertEqual((told.image, told.out, told.other_blocks), (Path("I"), Path("O.csv"), True))
-        self.assertEqual(lab.understood("database A --all B O.db".split()).images, [Path("A"), Path("B")])
-        self.assertEqual(lab.understood("test F -k x --section 3.8 --lf".split()).others, ["-k", "x", "--lf"])
+        for words in ("campaign F --workers 1 O.db", "campaign --workers 1 F O.db", "campaign F O.db --workers 1"):
+            self.assertEqual([params(words)[name] for name in ("folder", "out", "workers")], [Path("F"), Path("O.db"), 1])
+        self.assertEqual(params("campaign --random 3 O.db")["folder"], None)
+        self.assertEqual([params("table I --all O.csv")[name] for name in ("image", "out", "other_blocks")], [Path("I"), Path("O.csv"), True])
+        self.assertEqual([params("database A --all B O.db")[name] for name in ("images", "out")], [(Path("A"), Path("B")), Path("O.db")])
+        self.assertEqual([params("test F -k x --section 3.8 -kthis --lf")[name] for name in ("folder", "others", "section")],
+                         [Path("F"), ["-k", "x", "-kthis", "--lf"], ("3.8",)])
+
+    def test_defaults(self) -> None:
+        self.assertEqual({name: params("check I")[name] for name in asdict(Thresholds())}, asdict(Thresholds()))
+        self.assertEqual(params("against I unit")["answer_within"], WITHIN_S)
 
     def test_wrong_words(self) -> None:
-        for given in ("campaign F O.db more", "table", "table I --al O.csv", "nothing I", "--all table I", ""):
-            with self.assertRaises(SystemExit) as ended, contextlib.redirect_stderr(io.StringIO()):
-                lab.understood(given.split())
-            self.assertEqual(ended.exception.code, 2, given)
+        for words in ("campaign F O.db more", "campaign --random 3", "table", "table I --al O.csv", "table I --all --damaged", "nothing I", "--all table I",
+                      "", "test -x", "campaign O.db --random -1"):
+            with contextlib.redirect_stderr(io.StringIO()) as said:
+                self.assertEqual((main(words.split()), said.getvalue() == ""), (2, False), words)
 
 
 class Wrong(unittest.TestCase):
@@ -66,43 +79,59 @@ class Wrong(unittest.TestCase):
         for words, said in ((["reprot", "a", "b"], "lab: error: unknown command reprot; did you mean report?"),
                             (["zzz"], "lab: error: unknown command zzz; lab --help lists the commands"),
                             (["report", "a", "b", "--lfe", "3"], "lab report: error: unknown option --lfe; did you mean --life?"),
+                            (["report", "a", "b", "--life", "x\n"], "lab report: error: invalid value for '--life': 'x\\n' is not a valid integer"),
                             (["report", "a", "b", "c"], "lab report: error: unexpected argument c")):
-            with self.subTest(words=words), contextlib.redirect_stderr(io.StringIO()) as told, self.assertRaises(SystemExit) as ended:
-                lab.understood(words)
-            self.assertEqual((ended.exception.code, told.getvalue().splitlines()[-1]), (2, said))
+            with self.subTest(words=words), contextlib.redirect_stderr(io.StringIO()) as told:
+                self.assertEqual((main(words), told.getvalue().splitlines()[-1]), (2, said))
 
     def test_help_is_natural(self) -> None:
-        """Each command and option has a help text in the imperative or as a noun, without the words of the old dialect."""
+        """Each command and option has a help text in the imperative or as a noun, without the words of the old dialect, and each command an example."""
         dialect = re.compile(r"\b(tells?|told|stands?|behind|beside|alone|so many|puts|makes of|takes apart|words?)\b")
-        for name in ("", *(word for words in lab.PARTS.values() for word in words)):
-            with contextlib.redirect_stdout(io.StringIO()) as told, self.assertRaises(SystemExit):
-                lab.understood([*([name] if name else []), "--help"])
+        for name in ("", *lab.commands):
+            with contextlib.redirect_stdout(io.StringIO()) as told:
+                self.assertEqual(main([*([name] if name else []), "--help"]), 0)
             self.assertEqual(dialect.findall(told.getvalue()), [], name)
+            self.assertEqual(re.findall(r"^  \$ lab (\w+)", told.getvalue(), re.MULTILINE), [name] if name else [], name)
+
+    def test_examples_are_right(self) -> None:
+        for name, command in lab.commands.items():
+            assert isinstance(command, Command)
+            first, *words = shlex.split(command.example)
+            self.assertEqual(first, name)
+            command.make_context(name, words)
 
 
 class Completion(unittest.TestCase):
-    """What bash completes is each word and each option of the help, and nothing else."""
+    """A shell completes each command and each option of the help, and nothing else."""
 
-    def completed(self, *words: str, program: str = "lab") -> set[str]:
-        """What the words of a program may go on with, after which a further one begins."""
+    def completed(self, *words: str) -> set[str]:
+        """The completions of a last argument of etcs_lab, after which a further one begins."""
         path = Path(__file__).parents[2] / "packaging/completion"
-        told = f'. "$0"; COMP_WORDS=({program} "$@"); COMP_CWORD={len(words)}; _gaknifur; echo "${{COMPREPLY[@]}}"'
+        told = f'. "$0"; COMP_WORDS=(etcs_lab "$@"); COMP_CWORD={len(words)}; _gaknifur; echo "${{COMPREPLY[@]}}"'
         return set(subprocess.run(["bash", "-c", told, path, *words], capture_output=True, text=True,
                                   check=True).stdout.split())
 
-    def test_of_words_and_options(self) -> None:
-        subjects = next(one for one in lab.words()._actions if isinstance(one, argparse._SubParsersAction)).choices
-        self.assertEqual(self.completed(""), {*subjects, "--version", "--help"})
-        options = {name for one in subjects.values() for action in one._actions for name in action.option_strings}
-        self.assertEqual(self.completed("table", "-"), {name for name in options if len(name) > 2} - {"--junit-xml"})
+    def test_of_commands_and_options(self) -> None:
+        lab_script = Path(__file__).parents[2] / "lab"
+        for shell, given in (("bash", {"COMP_WORDS": "lab ", "COMP_CWORD": "1"}), ("zsh", {"COMP_WORDS": "lab ", "COMP_CWORD": "1"}),
+                             ("fish", {"COMP_WORDS": "lab ", "COMP_CWORD": ""})):
+            done = subprocess.run([lab_script], env=os.environ | given | {COMPLETE: f"{shell}_complete"}, capture_output=True, text=True, check=True)
+            found = set(re.findall(r"\w+", done.stdout))
+            self.assertLessEqual(set(lab.commands), found, shell)
+            source = subprocess.run([lab_script], env=os.environ | {COMPLETE: f"{shell}_source"}, capture_output=True, text=True, check=True)
+            self.assertIn(f"{COMPLETE}={shell}_complete", source.stdout)
+        done = subprocess.run([lab_script], env=os.environ | {"COMP_WORDS": "lab table -", "COMP_CWORD": "2", COMPLETE: "bash_complete"},
+                              capture_output=True, text=True, check=True)
+        options = {name for one in lab.commands["table"].params for name in one.opts if name.startswith("-")}
+        self.assertEqual({line.split(",")[1] for line in done.stdout.split()}, options)
 
     def test_of_etcs_lab(self) -> None:
         crates = Path(__file__).parents[2] / "crates"
         told = (crates / "etcs_lab/stdout").read_text(encoding="utf-8")
         words = set(re.findall(r"^  ([a-z]+) +[A-Z]", told, re.MULTILINE))
         options = set(re.findall(r'\.long\("([a-z]+)"\)', (crates / "command_line/src/lab_app.rt").read_text(encoding="utf-8")))
-        self.assertEqual(self.completed("", program="etcs_lab"), words | {"--version", "--help"})
-        self.assertEqual(self.completed("check", "-", program="etcs_lab"), {f"--{name}" for name in options})
+        self.assertEqual(self.completed(""), words | {"--version", "--help"})
+        self.assertEqual(self.completed("check", "-"), {f"--{name}" for name in options})
 
 
 class Sets(unittest.TestCase):
@@ -111,7 +140,7 @@ class Sets(unittest.TestCase):
     def test_of_indications(self) -> None:
         wanted, top = {int(one): str(one.name).lower() for one in Indication}, Path(__file__).parents[2]
         self.assertEqual(list(INDICATIONS), list(wanted.values()))
-        columns = re.findall(r"^ +shows_(\w+) ", (top / "python/gaknifur/schema.sql").read_text(encoding="utf-8"), re.MULTILINE)
+        columns = re.findall(r"^ +shows_(\w+) ", (top / "python/gaknifur/journal/schema.sql").read_text(encoding="utf-8"), re.MULTILINE)
         self.assertEqual(columns, list(wanted.values()))
         lists = re.findall(r"indications: \[\n(.*?)\n +\] as|INDICATIONS: [^=]*= \[\n(.*?)\n\];",
                            (top / "page/texts.ts").read_text(encoding="utf-8"), re.DOTALL)
@@ -129,8 +158,9 @@ class Names(unittest.TestCase):
     def test_of_parquet(self) -> None:
         with tempfile.TemporaryDirectory() as room:
             out = Path(room) / "out.parquet"
-            with self.assertRaisesRegex(Failed, "Parquet isn't supported"):
-                image_words.write_table(lab.understood(["table", "image", str(out)]), lambda *_: None)
+            with contextlib.redirect_stderr(io.StringIO()) as said:
+                self.assertEqual(main(["table", "image", str(out)]), 2)
+            self.assertIn("Parquet isn't supported", said.getvalue())
             self.assertFalse(out.exists())
 
 
@@ -147,7 +177,7 @@ class Checks(unittest.TestCase):
             program.chmod(0o755)
             out, errors = io.StringIO(), io.StringIO()
             with patch.dict(os.environ, {"GAKNIFUR_ETCS_LAB": str(program)}), contextlib.redirect_stdout(out), contextlib.redirect_stderr(errors):
-                return lab.main(["check", *words, str(image)]), out.getvalue(), errors.getvalue().replace(room, "ROOM")
+                return main(["check", *words, str(image)]), out.getvalue(), errors.getvalue().replace(room, "ROOM")
 
     def test_lines_and_status_are_handed_on(self) -> None:
         nothing = "plausibility: nothing implausible; 0 readings and 0 groups of 0 lives, of which 0 tell moments; thresholds: "
@@ -188,14 +218,14 @@ class Suites(unittest.TestCase):
         (self.room / "suite").mkdir()
         for name in ("one", "two of a/kind"):
             (self.room / "suite" / f"{name[:3]}.case.yaml").write_text(SUITE.format(name))
-        self.enterContext(patch.object(playing, "play", plays))
+        self.enterContext(patch.object(case_runner, "play", plays))
         self.enterContext(patch.dict(os.environ, {"XDG_CACHE_HOME": str(self.room / "cache")}))
 
     def lab(self, *words: str) -> tuple[int, str]:
         """The status, and what was printed on both streams."""
         told = io.StringIO()
         with contextlib.redirect_stdout(told), contextlib.redirect_stderr(told):
-            status = lab.main(["test", str(self.room / "suite"), *words])
+            status = main(["test", str(self.room / "suite"), *words])
         return status, told.getvalue()
 
     def test_a_class_is_a_case(self) -> None:
@@ -213,7 +243,7 @@ class Suites(unittest.TestCase):
 
     def test_image_and_report_are_kept(self) -> None:
         kept = self.room / "kept"
-        with patch("gaknifur.reading.read", lambda path, **words: self.told(path)):
+        with patch("gaknifur.journal.reading.read", lambda path, **words: self.told(path)):
             self.assertEqual(self.lab("--keep", str(kept))[0], 4)
         self.assertEqual(sorted(str(path.relative_to(kept)) for path in kept.rglob("*")),
                          ["one", "one/image", "one/report.html", "two_of_a_kind", "two_of_a_kind/image", "two_of_a_kind/report.html"])
@@ -230,7 +260,7 @@ class Suites(unittest.TestCase):
     def test_what_is_reached(self) -> None:
         out = self.room / "reached.json"
         self.assertEqual(self.lab("--reached", str(out), "-k", "comes")[0], 0)
-        self.assertEqual(measured.read(out), {name: {"power-up words": ["unknown"]} for name in ("one", "two of a/kind")})
+        self.assertEqual(measured_coverage.read(out), {name: {"power-up words": ["unknown"]} for name in ("one", "two of a/kind")})
         status, told = self.lab("--reached", str(out))
         self.assertEqual((status, "--force overwrites what lab made" in told), (1, True))
         self.assertEqual(self.lab("--reached", str(out), "--force", "-k", "comes")[0], 0)

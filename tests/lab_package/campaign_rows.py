@@ -56,7 +56,7 @@ def by_two_workers(room, lives):
     """The lives by a scheduler and two workers; one is killed once some rows are there."""
     told = room / "scheduler.json"
     quiet = {"stdout": subprocess.DEVNULL, "stderr": subprocess.DEVNULL, "cwd": room,
-             "env": os.environ | {"PYTHONPATH": str(TOP / "python"), "DASK_CONFIG": str(TOP / "python/gaknifur/dask.yaml")}}
+             "env": os.environ | {"PYTHONPATH": str(TOP / "python"), "DASK_CONFIG": str(TOP / "python/gaknifur/simulation/dask.yaml")}}
     start = lambda module, *words: subprocess.Popen([PYTHON, "-m", f"distributed.cli.{module}", *words], **quiet)
     scheduler = start("dask_scheduler", "--host", "127.0.0.1", "--port", "0", "--no-dashboard", "--no-show", "--scheduler-file", str(told))
     workers = []
@@ -120,7 +120,8 @@ def both_ways(room, lives):
     """Lives that are judged by their outputs alone come to the rows to which all of their records come; few images have room for all
     records. Of hardly any the records have to be read."""
     sys.path.insert(0, str(TOP / "python"))
-    from gaknifur import campaign, campaign_jobs, outputs
+    from gaknifur.simulation import campaign, campaign_jobs
+    from gaknifur.testing import outputs
     of_records, by_records = campaign_jobs.of_records, []
 
     def kept(*told):

@@ -19,7 +19,7 @@ sys.path[:0] = [str(TOP / part) for part in ("python", "tests", "tests/plain", "
 
 from blocks import block, entry, with_  # noqa: E402
 from compared import Compared, run  # noqa: E402
-from gaknifur import difference  # noqa: E402
+from gaknifur.evidence import diff  # noqa: E402
 from image_cases import image_of, patched, ring  # noqa: E402
 
 PAIRS, SEED, LEAST = 380, 9, 400
@@ -103,7 +103,7 @@ class Pairs(Compared):
         for path, image in zip(self.paths, (a, b)):
             path.write_bytes(image)
         self.pairs += 1
-        found = difference.as_json(difference.compare(*self.paths))
+        found = diff.as_json(diff.compare(*self.paths))
         self.verdicts.add(found["verdict"])
         return found
 
@@ -214,7 +214,7 @@ def main(words):
         upto = by_hand(pairs)
         at_random(pairs, int(words[1]) if len(words) > 1 else PAIRS, int(words[2]) if len(words) > 2 else SEED)
         in_words(pairs, upto)
-    few = pairs.pairs < LEAST or pairs.verdicts != set(difference.VERDICTS)
+    few = pairs.pairs < LEAST or pairs.verdicts != set(diff.VERDICTS)
     if few:
         print(f"too little was tried: {sorted(pairs.verdicts)}")
     return pairs.end(f"differences of images: {pairs.pairs} pairs, {pairs.count} comparisons") or int(few)

@@ -24,8 +24,8 @@ sys.path[:0] = [str(TOP / part) for part in ("python", "tests", "tests/plain", "
 
 from blocks import data_of  # noqa: E402
 from compared import Compared, run  # noqa: E402
-from gaknifur import following  # noqa: E402
-from gaknifur.archive import Ring  # noqa: E402
+from gaknifur.evidence.archive import Ring  # noqa: E402
+from gaknifur.journal import follow  # noqa: E402
 from image_cases import image_of, ring  # noqa: E402
 from join_rows import data_in, journal, words_of, write  # noqa: E402
 
@@ -77,7 +77,7 @@ def followed(rows, events, room, is_awaited):
     writer.start()
     held.wait(10)
     with patch("fcntl.flock", noted):
-        following.follow(image, lines.append, kept, seconds=60)
+        follow.follow(image, lines.append, kept, seconds=60)
     writer.join()
     rows.same("no lock but the archive's was asked for", locked, [os.path.realpath(kept)])
     last = max(told)
@@ -123,12 +123,12 @@ def of_locks(rows, room):
         for lock, wanted in ((f"FLOCK  ADVISORY  WRITE 7 fd:12:{inode} 0 EOF", True), (f"FLOCK  ADVISORY  WRITE 7 00:1b:{inode} 0 EOF", False),
                              (f"FLOCK  ADVISORY  WRITE 7 fd:12:1{inode} 0 EOF", False), (f"FLOCK  ADVISORY  READ 7 fd:12:{inode} 0 EOF", False)):
             (proc / "locks").write_text(f"1: {lock}\n")
-            with patch.object(following, "PROC", proc):
-                rows.same(lock, following.is_held(slots), wanted)
-        rows.same("no unit runs", following.is_held(slots), False)
+            with patch.object(follow, "PROC", proc):
+                rows.same(lock, follow.is_held(slots), wanted)
+        rows.same("no unit runs", follow.is_held(slots), False)
         with image.open("r+b") as file:
             fcntl.flock(file, fcntl.LOCK_EX)
-            rows.same("a unit runs", following.is_held(slots), True)
+            rows.same("a unit runs", follow.is_held(slots), True)
 
 
 def in_words(rows, room):
@@ -154,7 +154,7 @@ def in_words(rows, room):
 def main(words):
     lab = str(Path(words[0]).resolve())
     os.environ["GAKNIFUR_ETCS_LAB"] = lab
-    rows, following.POLL_SECONDS = Compared(), 0.01
+    rows, follow.POLL_SECONDS = Compared(), 0.01
     with tempfile.TemporaryDirectory() as at:
         room, told = Path(at), journal()
         (room / "whole").write_bytes(image_of(max(told), ring(max(told), told)))

@@ -24,10 +24,11 @@ sys.path[:0] = [str(TOP / part) for part in ("python", "tests", "tests/plain", "
 
 from blocks import block, data_of, entry  # noqa: E402
 from compared import Compared, run  # noqa: E402
-from gaknifur import archive, layout  # noqa: E402
-from gaknifur.archive import Archive, Ring  # noqa: E402
+from gaknifur.evidence import archive  # noqa: E402
+from gaknifur.evidence.archive import Archive, Ring  # noqa: E402
+from gaknifur.evidence.times import CHECKED, Marks  # noqa: E402
+from gaknifur.journal import layout  # noqa: E402
 from gaknifur.program import Failed  # noqa: E402
-from gaknifur.times import CHECKED, Marks  # noqa: E402
 from image_cases import image_of, patched, ring  # noqa: E402
 from replay_rows import STARTED, TWO, blocks_of  # noqa: E402
 

@@ -32,9 +32,10 @@ TOP = Path(__file__).resolve().parents[2]
 sys.path[:0] = [str(TOP / part) for part in ("python", "tests", "tests/plain", "tests/lab")]
 
 from compared import Compared  # noqa: E402
-from gaknifur import bag, evidence, files, program, seal, signing  # noqa: E402
+from gaknifur import files, program  # noqa: E402
+from gaknifur.evidence import bag, formats, seal, signing  # noqa: E402
+from gaknifur.evidence.signing import Key, Trust  # noqa: E402
 from gaknifur.program import DEVICE, REFUSED, Failed  # noqa: E402
-from gaknifur.signing import Key, Trust  # noqa: E402
 from replay_rows import examples  # noqa: E402
 
 LEAST = 300
@@ -299,7 +300,7 @@ def endless():
     yield "a signature of 50 MB", [lambda folder: (folder / signing.SSH).write_bytes(b"A" * 50_000_000)], signing.SSH
 
     def many(folder):
-        for number in range(evidence.MOST_ENTRIES + 1):
+        for number in range(formats.MOST_ENTRIES + 1):
             (folder / f"more-{number}").touch()
     yield "too many files", [many], "altered"
     yield "folders too deep", [lambda folder: (folder / "/".join("a" * 20)).mkdir(parents=True)], "altered"
@@ -396,7 +397,7 @@ def whole_bag(count, room, image):
     count.same("the copy", (room / "bag/data/image").read_bytes(), data)
     count.same("what it told", (found["by"], found["medium"], found["image"]["bytes"], odd), ("one", "a medium", len(data), []))
     stamp(room, room / "bag")
-    count.same("its files", evidence.names_in(room / "bag"), (sorted(FILES), []))
+    count.same("its files", formats.names_in(room / "bag"), (sorted(FILES), []))
     count.same("their modes", {(room / "bag" / name).stat().st_mode & 0o222 for name in FILES if name != signing.ANSWER}, {0})
     for name, kind in (("manifest", "sha256"), ("manifest", "sha512"), ("tagmanifest", "sha256"), ("tagmanifest", "sha512")):
         lines = run(f"{kind}sum", "-c", f"{name}-{kind}.txt", cwd=room / "bag").decode().splitlines()
@@ -466,7 +467,7 @@ def killed(count, room, image):
     strangers = sorted(os.listdir(at))
     held = os.open(at / ".lab-2-0123456789abcdef", os.O_RDONLY)
     fcntl.flock(held, fcntl.LOCK_EX)
-    for name in ("seal.copy_image", "seal.draw", "bag.close", "bag.close_tags", "files.sync_file", "files.rename_new"):
+    for name in ("evidence.seal.copy_image", "evidence.seal.draw", "evidence.bag.close", "evidence.bag.close_tags", "files.sync_file", "files.rename_new"):
         process = os.fork()
         if not process:
             with patch(f"gaknifur.{name}", lambda *_: os.kill(os.getpid(), signal.SIGKILL)):

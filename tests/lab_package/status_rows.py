@@ -163,10 +163,10 @@ def rooms(room, etcs, env):
 def status_of(room, words, programs, env):
     """The status of a row, and what was printed. `fault` and `interrupted` are what ./lab makes of an exception of its own."""
     if words == ["lab", "fault"]:
-        code = "import sys; sys.path.insert(0, sys.argv[1]); from gaknifur.last_net import caught; sys.exit(caught(lambda: 1 // 0))"
+        code = "import sys; sys.path.insert(0, sys.argv[1]); from gaknifur.errors import caught; sys.exit(caught(lambda: 1 // 0))"
         words = ["/usr/bin/python3", "-c", code, str(TOP / "python")]
     elif words == ["lab", "interrupted"]:
-        code = ("import sys, signal; sys.path.insert(0, sys.argv[1]); from gaknifur.last_net import caught\n"
+        code = ("import sys, signal; sys.path.insert(0, sys.argv[1]); from gaknifur.errors import caught\n"
                 "signal.signal(signal.SIGINT, signal.default_int_handler)  # (a job in the background of a shell ignores it)\n"
                 "sys.exit(caught(lambda: signal.raise_signal(signal.SIGINT) or 0))")
         words = ["/usr/bin/python3", "-c", code, str(TOP / "python")]

@@ -28,7 +28,8 @@ sys.path[:0] = [str(TOP / part) for part in ("python", "tests", "tests/events", 
 
 import pandas as pd  # noqa: E402
 from compared import Compared  # noqa: E402
-from gaknifur import causes, database, program, reading, report, tables  # noqa: E402
+from gaknifur import program  # noqa: E402
+from gaknifur.journal import causes, database, reading, report, tables  # noqa: E402
 from gaknifur.program import Run  # noqa: E402
 from replay import replayed  # noqa: E402
 from replay_rows import damaged, examples, formats, random_lives  # noqa: E402

@@ -19,8 +19,9 @@ TOP = Path(__file__).resolve().parents[2]
 sys.path[:0] = [str(TOP / "python"), str(TOP / "tests/hostile"), str(TOP / "tests/plain")]
 import decoded  # noqa: E402
 import track_packets  # noqa: E402
-from gaknifur import dissector, telegrams  # noqa: E402
-from gaknifur.reading import Journal  # noqa: E402
+from gaknifur.journal.reading import Journal  # noqa: E402
+from gaknifur.testing import telegrams  # noqa: E402
+from gaknifur.wireshark import dissector  # noqa: E402
 from random_inputs import headed, mutated  # noqa: E402
 
 COUNT, SEED, LEAST_READ, LEAST_REFUSED = 2_000, 2026, 500, 900

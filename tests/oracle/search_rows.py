@@ -19,7 +19,7 @@ from pathlib import Path
 
 TOP = Path(__file__).resolve().parents[2]
 sys.path.insert(0, str(TOP / "python"))
-from gaknifur import cases, mode_rows, playing, properties, search, strategies  # noqa: E402
+from gaknifur.testing import case_runner, cases, mode_table, properties, search, strategies  # noqa: E402
 
 EXAMPLES, SEED, MOST_STEPS, FEW, LEAST_ALTERED = 200, 1, 12, 3, 20
 LAW_EXAMPLES, LEAST_RECORDS = 200, 2_500
@@ -66,9 +66,9 @@ class Rows:
             path = Path(room) / "found.case.yaml"
             path.write_text(search.case_text(found, made, "found", "Found by a test"), encoding="utf-8")
             case, = cases.read(path)
-            played = playing.play(case)
+            played = case_runner.play(case)
             self.is_so(name, len(case.expected) == 1
-                       and not playing.comes(case.expected[0], played, mode_rows.mode_table()), path.read_text())
+                       and not case_runner.comes(case.expected[0], played, mode_table.mode_table()), path.read_text())
         print(f"tests/oracle/search_rows.py: found, {found.steps} steps, {time.monotonic() - since:.1f} s: {name}")
 
     def laws(self, unit):
@@ -107,7 +107,7 @@ class Rows:
 
     def is_told(self, one, name, recorded):
         for records in recorded:
-            for index in properties.chosen(one, playing.Played(records, {})):
+            for index in properties.chosen(one, case_runner.Played(records, {})):
                 for other in changed(records[index], name):
                     altered = [*records[:index], other, *records[index + 1:]]
                     try:
@@ -120,7 +120,7 @@ class Rows:
     def forgets(self, one, recorded):
         """Without what has to come before it the record breaks the law."""
         for records in recorded:
-            if any(True for _ in properties.chosen(one, playing.Played(records, {}))):
+            if any(True for _ in properties.chosen(one, case_runner.Played(records, {}))):
                 others = [copy.deepcopy(record) | {"decoded": {}, "action": None} for record in records]
                 try:
                     properties.judge(one, properties.derived(others))

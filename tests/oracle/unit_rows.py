@@ -19,9 +19,10 @@ from pathlib import Path
 
 TOP = Path(__file__).resolve().parents[2]
 sys.path.insert(0, str(TOP / "python"))
-from gaknifur import confined, oracle, program  # noqa: E402
-from gaknifur.other_unit import OtherUnit  # noqa: E402
-from gaknifur.reading import read  # noqa: E402
+from gaknifur import program  # noqa: E402
+from gaknifur.journal.reading import read  # noqa: E402
+from gaknifur.units import oracle, sandbox  # noqa: E402
+from gaknifur.units.other_unit import OtherUnit  # noqa: E402
 
 WITHIN_S, HANGS_S, LEAST = 60.0, 8.0, 30
 AT = "event 8: "
@@ -155,14 +156,14 @@ def main(etcs, lab, unit, stands):
         def tried(kind):
             return kind, told(proxy.format(kind), found["trip"], HANGS_S if kind in SLOW else WITHIN_S)
 
-        for where, wanted in ({"": FOUND} | ({"sandbox: ": IN_SANDBOX} if confined.bubblewrap() else {})).items():
-            os.environ[confined.SANDBOX] = "" if where else "none"
+        for where, wanted in ({"": FOUND} | ({"sandbox: ": IN_SANDBOX} if sandbox.bubblewrap() else {})).items():
+            os.environ[sandbox.SANDBOX] = "" if where else "none"
             with ThreadPoolExecutor(4) as pool:
                 for kind, (said, agrees) in pool.map(tried, sorted(wanted, key=lambda kind: kind not in SLOW)):
                     is_so(f"{where}{kind}", not agrees and wanted[kind] in said, said)
     is_so("processes", not left(), f"{left()} are left")
     print(f"tests/oracle/unit_rows.py: {len(found)} journals agree, {len(FOUND)} units that are wrong on purpose, "
-          f"{'also' if confined.bubblewrap() else 'not'} in a sandbox, {len(wrong)} wrong")
+          f"{'also' if sandbox.bubblewrap() else 'not'} in a sandbox, {len(wrong)} wrong")
     return 1 if wrong or len(FOUND) < LEAST or len(found) < 6 else 0
 
 

@@ -7,7 +7,8 @@ from typing import Any
 from asking import image
 from browsing import Browser
 from desks import TOP
-from gaknifur import program, telegrams
+from gaknifur import program
+from gaknifur.testing import telegrams
 from own import texts
 
 sys.path.append(str(TOP / "tests/plain"))

@@ -5,7 +5,7 @@ from typing import Any
 
 from asking import CAUSES, TRIPS, altered, bases, example, image
 from browsing import Browser
-from gaknifur import brief, reading, tables
+from gaknifur.journal import reading, summary, tables
 
 TRIED = 50
 OUTPUT = """
@@ -19,11 +19,11 @@ return [last ? [records.event(last.first), records.event(last.last), last.goesOn
 BRAKES = ("none", "service", "emergency")
 
 
-def wanted_of(path: Path) -> tuple[Any, list[str], list[Any], brief.Newest | None]:
+def wanted_of(path: Path) -> tuple[Any, list[str], list[Any], summary.Newest | None]:
     """What the report has in brief: the last intervention, its causes, all trips, and the newest block."""
     journal = reading.read(path, replay=True, why=True)
     records = tables.frame(journal)
-    at_top = brief.brief(journal, records, tables.interventions(records))
+    at_top = summary.brief(journal, records, tables.interventions(records))
     one = at_top.intervention
     causes = sorted(f"{CAUSES.index(cause.cause)} {cause.since}" for cause in one["causes"]) if one else []
     found = [one["first_event"], one["last_event"], bool(one["goes_on"]), [BRAKES.index(step) for step in one["steps"].split()]] if one else None
@@ -31,7 +31,7 @@ def wanted_of(path: Path) -> tuple[Any, list[str], list[Any], brief.Newest | Non
     return found, causes, [[int(event), TRIPS.index(trip.cause) if trip else None] for event, trip in trips], at_top.newest
 
 
-def said_of(newest: brief.Newest | None) -> str:
+def said_of(newest: summary.Newest | None) -> str:
     """How the page begins to say whether the newest block's outputs left the unit."""
     if newest is None:
         return "not known"

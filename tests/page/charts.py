@@ -3,7 +3,7 @@ from pathlib import Path
 
 from asking import example, image
 from browsing import Browser
-from gaknifur import times
+from gaknifur.evidence import times
 
 AT = """
 const path = document.querySelector('#place-chart .limit-line'), speed = document.querySelector('#place-chart .speed-line'), found = [];

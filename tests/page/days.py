@@ -9,7 +9,8 @@ from typing import Any
 from asking import example, image
 from browsing import Browser
 from desks import random_steps
-from gaknifur import reading, times
+from gaknifur.evidence import times
+from gaknifur.journal import reading
 from gaknifur.program import Failed
 
 FILES, IMAGES = 240, 4

@@ -7,8 +7,9 @@ from pathlib import Path
 from typing import Any
 
 from browsing import Browser
-from gaknifur import driving, program, unit
-from gaknifur.drives import Train
+from gaknifur import program, unit
+from gaknifur.simulation import driving
+from gaknifur.simulation.drives import Train
 
 SLOTS = 2048
 TOP = Path(__file__).resolve().parents[2]

@@ -12,7 +12,8 @@ from browsing import Browser
 from chromium import Chromium
 from selenium.webdriver.common.action_chains import ActionChains
 from desks import EXAMPLES, START, TELEGRAMS, TOP, board, image_of, name_of, random_steps, saved
-from gaknifur import cases, program, telegrams
+from gaknifur import program
+from gaknifur.testing import cases, telegrams
 
 OPENED, FAULTY, TOLD, NEAR = 12, 160, 600, 68
 GOOD: dict[str, Any] = {

@@ -7,7 +7,7 @@ from typing import Any
 
 from browsing import Browser
 from desks import TELEGRAMS, etcs
-from gaknifur import times
+from gaknifur.evidence import times
 
 EVENTS, RUNS, STEPS = 10_000, 5, 200
 OPENS_S, PAUSE_MS, FRAME_MS = 3.0, 250, 1000 / 60

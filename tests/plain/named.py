@@ -5,7 +5,7 @@ A telegram is told as its header and its packets, one behind another: `NID_BG 2;
 V_TSR 4; 66: NID_TSR 8`. The fields of a packet stand in their order, each by its name; of the header and of a packet's head only
 what isn't usual is told. L_PACKET is reckoned, where it isn't told. A packet with a number alone has no more than its head.
 
-The widths stand in python/gaknifur/telegrams.py too, on purpose: what tests write doesn't come from the program that they test.
+The widths stand in python/gaknifur/testing/telegrams.py too, on purpose: what tests write doesn't come from the program that they test.
 """
 import re
 

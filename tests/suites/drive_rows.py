@@ -20,7 +20,10 @@ TOP = Path(__file__).resolve().parents[2]
 DRIVES = TOP / "drives"
 sys.path[:0] = [str(TOP / "python"), str(TOP / "tests")]
 from compared import Compared  # noqa: E402
-from gaknifur import case_files, cases, closed_loop, coverage, drive_words, drives, driving, playing, program  # noqa: E402
+from gaknifur import program  # noqa: E402
+from gaknifur.cli import drive_commands  # noqa: E402
+from gaknifur.simulation import closed_loop, drives, driving  # noqa: E402
+from gaknifur.testing import case_files, case_runner, cases, coverage  # noqa: E402
 from gaknifur.unit import Brake, FileMedium, Unit  # noqa: E402
 
 SWAPPED = {Brake.NONE: Brake.EMERGENCY, Brake.SERVICE: Brake.SERVICE, Brake.EMERGENCY: Brake.NONE}
@@ -59,13 +62,13 @@ def missed(found, table):
     """The results that don't come, case by case."""
     for case in found:
         try:
-            played = playing.play(case)
+            played = case_runner.play(case)
             for expected in case.expected:
                 try:
-                    playing.judge(expected, played, table)
-                except playing.Missed as one:
+                    case_runner.judge(expected, played, table)
+                except case_runner.Missed as one:
                     yield f"{case.name}: {expected.note}: {' '.join(str(one).split())}"
-        except (playing.Missed, program.Failed) as one:
+        except (case_runner.Missed, program.Failed) as one:
             yield f"{case.name}: {' '.join(str(one).split())}"
 
 
@@ -89,7 +92,7 @@ class Driven(Compared):
         self.same(f"{path.name}: etcs run", status, 0)
         self.same(f"{path.name}: the images", image.read_bytes() == again.read_bytes(), True)
         table = [line.split(",") for line in rows.read_text().splitlines()]
-        outputs = {int(found[1]): found for found in map(playing.RELEASED.fullmatch, printed) if found}
+        outputs = {int(found[1]): found for found in map(case_runner.RELEASED.fullmatch, printed) if found}
         for row in table[1:]:
             output = outputs[int(row[2])]
             self.same(f"{path.name}: {row}", (row[5], row[7], row[8]), (output[5], output[4], output[2]))
@@ -155,7 +158,7 @@ class Driven(Compared):
 
             with patch.object(FileMedium, "write", cut):
                 try:
-                    drive_words.on_file(image, scenario, drive)
+                    drive_commands.on_file(image, scenario, drive)
                     self.same(f"cut at {last}", "a life", "a cut")
                 except program.Failed as failed:
                     self.same(f"cut at {last}", "the power is cut" in str(failed), True)

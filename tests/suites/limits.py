@@ -11,8 +11,9 @@ from pathlib import Path
 
 TOP = Path(__file__).resolve().parents[2]
 sys.path.insert(0, str(TOP / "python"))
-from gaknifur import program, scenarios  # noqa: E402
+from gaknifur import program  # noqa: E402
 from gaknifur.program import Failed  # noqa: E402
+from gaknifur.testing import scenarios  # noqa: E402
 
 TRAIN = "enter_train_data: {{length: {}, maximum: {}, deceleration: {}, reaction: {}, category: {}}}"
 USUAL = ("77 m", "88 km/h", "99 cm/s2", "66 ms", "5")

@@ -17,7 +17,7 @@ from pathlib import Path
 
 TOP = Path(__file__).resolve().parents[2]
 sys.path.insert(0, str(TOP / "python"))
-from gaknifur import track_checks  # noqa: E402
+from gaknifur.testing import track_checks  # noqa: E402
 
 LEAST_ROWS, LEAST_ITEMS, LEAST_CASES = 75, 28, 247
 HEAD = """test_case: NAME

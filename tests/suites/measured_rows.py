@@ -15,8 +15,8 @@ from pathlib import Path
 
 TOP = Path(__file__).resolve().parents[2]
 sys.path.insert(0, str(TOP / "python"))
-from gaknifur import measured  # noqa: E402
 from gaknifur.program import Failed  # noqa: E402
+from gaknifur.testing import measured_coverage  # noqa: E402
 
 SUITES = TOP / "suites"
 LEAST_ALONE, LEAST_MEMBERS = 45, 490
@@ -51,7 +51,7 @@ def without_each(by_case, lost):
     """What isn't told of the corpus without a case."""
     for case, members in lost.items():
         left = {one: sets for one, sets in by_case.items() if one != case}
-        faults = measured.judged(list(left), left, SUITES).faults
+        faults = measured_coverage.judged(list(left), left, SUITES).faults
         if set(faults) != missing(members):
             yield f"without {case}: {faults}"
 
@@ -68,18 +68,18 @@ FLOORS = (
 def said_of(names, by_case, folder):
     """What is said of floors and cases."""
     try:
-        return "\n".join(measured.judged(names, by_case, folder).faults)
+        return "\n".join(measured_coverage.judged(names, by_case, folder).faults)
     except Failed as failed:
         return str(failed)
 
 
 def planted(room, by_case):
     """Each fault: what was said, and what has to be."""
-    names, text = list(by_case), (SUITES / measured.FLOORS).read_text()
+    names, text = list(by_case), (SUITES / measured_coverage.FLOORS).read_text()
     for was, now, more, wanted in FLOORS:
         altered = text.replace(was, now) + more
         assert altered != text
-        (room / measured.FLOORS).write_text(altered)
+        (room / measured_coverage.FLOORS).write_text(altered)
         yield said_of(names, by_case, room), wanted
     yield said_of([*names, "another"], by_case, SUITES), "another is a case of the folder, and wasn't played"
     yield said_of(names[1:], by_case, SUITES), f"{names[0]} was played, and is no case of the folder"
@@ -87,7 +87,7 @@ def planted(room, by_case):
     yield said_of(names[:1], broken, SUITES), 'reaches "99 from FS" of "mode rows", which isn\'t there'
     (room / "text.json").write_text("[]")
     try:
-        measured.read(room / "text.json")
+        measured_coverage.read(room / "text.json")
         yield "", "is not a file that `lab test --reached` made"
     except Failed as failed:
         yield str(failed), "is not a file that `lab test --reached` made"
@@ -96,7 +96,7 @@ def planted(room, by_case):
 def by_command(room, by_case, lost):
     """What isn't so of the command: the corpus is whole, and without a case it isn't."""
     reached, folder = room / "reached.json", room / "suites"
-    reached.write_text(measured.text_of(by_case))
+    reached.write_text(measured_coverage.text_of(by_case))
     status, said = told(SUITES, reached)
     if status:
         yield f"the corpus: {said}"
@@ -104,14 +104,14 @@ def by_command(room, by_case, lost):
     for path in folder.glob("*.case.yaml"):
         documents = path.read_text().split("\n---\n")
         path.write_text("\n---\n".join(one for one in documents if f"test_case: {DROPPED}\n" not in one))
-    reached.write_text(measured.text_of({case: sets for case, sets in by_case.items() if case != DROPPED}))
+    reached.write_text(measured_coverage.text_of({case: sets for case, sets in by_case.items() if case != DROPPED}))
     status, said = told(folder, reached)
     if status != 4 or not missing(lost[DROPPED]) <= set(said.splitlines()):
         yield f"without {DROPPED}: status {status}: {said}"
 
 
 def main(path):
-    by_case = measured.read(Path(path))
+    by_case = measured_coverage.read(Path(path))
     lost, members = alone(by_case)
     wrong = list(without_each(by_case, lost))
     if len(lost) < LEAST_ALONE or members < LEAST_MEMBERS:

@@ -16,10 +16,10 @@ from pathlib import Path
 
 TOP = Path(__file__).resolve().parents[2]
 sys.path.insert(0, str(TOP / "python"))
-from gaknifur import cases, coverage, playing  # noqa: E402
+from gaknifur.testing import case_runner, cases, coverage  # noqa: E402
 from planted_definitions import DEFINITIONS  # noqa: E402
 
-BITS = playing.BITS
+BITS = case_runner.BITS
 LEAST = 280  # changes
 PLANTED = [
     ("modes.py", "10  TR                       PT  trip_acknowledged", "10  TR                       SB  trip_acknowledged"),
@@ -165,9 +165,9 @@ def missed(found, table, folder):
     for case in found:
         try:
             records = records_of([json.loads(life.scenario.text()) for life in case.lives], plain)
-            played = playing.Played(records, playing.marked(case, records))
+            played = case_runner.Played(records, case_runner.marked(case, records))
             for expected in case.expected:
-                playing.judge(expected, played, table)
+                case_runner.judge(expected, played, table)
         except Exception as error:  # a change may break the kernel anywhere: then it is told too
             told.append(f"{case.name}: {re.sub(chr(10), ' ', str(error))[:150]}")
     return told

@@ -19,8 +19,11 @@ from hypothesis import strategies as st
 
 TOP = Path(__file__).resolve().parents[2]
 sys.path.insert(0, str(TOP / "python"))
-from gaknifur import causes, playing, program, random_lives  # noqa: E402
-from gaknifur.reading import read  # noqa: E402
+from gaknifur import program  # noqa: E402
+from gaknifur.journal import causes  # noqa: E402
+from gaknifur.journal.reading import read  # noqa: E402
+from gaknifur.simulation import random_lives  # noqa: E402
+from gaknifur.testing import case_runner  # noqa: E402
 
 EXAMPLES, LEAST_TRIPS, LEAST_RECORDS = 80, 3, 1_200
 EMERGENCY = ("not_revalidated", "in_trip", "in_system_failure", "owes_trip", "far_too_fast", "rolled_too_far")
@@ -75,9 +78,9 @@ def play(scenarios):
 
 def check(journal, released, plant):
     """Raises where what is told doesn't agree; `plant` alters records and causes before."""
-    playing.check_image(journal)
+    case_runner.check_image(journal)
     records, whys = plant(journal.records, journal.why)
-    playing.check_released(released, records if plant is as_told else journal.records)
+    case_runner.check_released(released, records if plant is as_told else journal.records)
     for record in records:
         if "not_revalidated" in record["indications"] or "trip" in record["indications"] or record["mode"] == "TR":
             assert record["brake"] == "emergency", f"released too early: {record}"
@@ -139,7 +142,7 @@ def main(etcs, lab, examples=EXAMPLES):
     wrong = 0
     try:
         search(int(examples), as_told, True)
-    except (AssertionError, playing.Missed) as found:
+    except (AssertionError, case_runner.Missed) as found:
         wrong += 1
         print(f"tests/suites/search.py: {found}")
     played = list(told_of.values())

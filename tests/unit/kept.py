@@ -23,8 +23,9 @@ sys.path[:0] = [str(TOP / part) for part in ("python", "tests", "tests/plain", "
 
 from blocks import data_of  # noqa: E402
 from compared import Compared, run  # noqa: E402
-from gaknifur import archive, layout, times  # noqa: E402
-from gaknifur.reading import Journal  # noqa: E402
+from gaknifur.evidence import archive, times  # noqa: E402
+from gaknifur.journal import layout  # noqa: E402
+from gaknifur.journal.reading import Journal  # noqa: E402
 from join_rows import SLOT, journal, write  # noqa: E402
 
 CYCLES, FEW, EVERY = 3_600, 200, 60

@@ -23,7 +23,8 @@ sys.path[:0] = [str(TOP / part) for part in ("python", "tests", "tests/hostile",
 from blocks import data_of  # noqa: E402
 from built import SECTOR, SLOT, built, calls_of  # noqa: E402
 from compared import Compared, run  # noqa: E402
-from gaknifur import layout, times  # noqa: E402
+from gaknifur.evidence import times  # noqa: E402
+from gaknifur.journal import layout  # noqa: E402
 from gaknifur.program import Failed  # noqa: E402
 from join_rows import journal, write  # noqa: E402
 

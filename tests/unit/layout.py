@@ -1,5 +1,5 @@
 #!/usr/bin/env python3
-"""Sizes and places of the structs as C lays them out beside those of python/gaknifur/_header.py.
+"""Sizes and places of the structs as C lays them out beside those of python/gaknifur/units/_header.py.
 
     tests/unit/layout.py --program    prints a C program that prints them, as the headers have them
     tests/unit/layout.py PROGRAM..    compares what this program prints, built in several ways
@@ -10,7 +10,7 @@ import sys
 from pathlib import Path
 
 sys.path.insert(0, str(Path(__file__).resolve().parents[2] / "python"))
-from gaknifur import _header  # noqa: E402
+from gaknifur.units import _header  # noqa: E402
 
 LEAST = 180
 PROGRAM = """#include <stddef.h>

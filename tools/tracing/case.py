@@ -4,7 +4,7 @@ import subprocess
 import textwrap
 from pathlib import Path
 
-from gaknifur.located import document
+from gaknifur.yaml_files import document
 from tracing.shown import PARTS, table, wrapped
 
 SOURCE, PAGE, PICTURE = (Path("docs/assurance.yaml"), Path("docs/ASSURANCE.md"), Path("docs/pictures/assurance.svg"))

@@ -3,8 +3,8 @@ import re
 from dataclasses import dataclass
 from pathlib import Path
 
-from gaknifur import cases, coverage
-from gaknifur.located import documents
+from gaknifur.testing import cases, coverage
+from gaknifur.yaml_files import documents
 from tracing.sources import Place
 
 # Where rows stand, or the sentences under which a script makes them.

@@ -3,7 +3,7 @@ from collections import Counter, defaultdict
 from dataclasses import dataclass, field
 from pathlib import Path
 
-from gaknifur import coverage
+from gaknifur.testing import coverage
 from tracing.requirements import PAGE
 
 

@@ -2,7 +2,7 @@
 import re
 from pathlib import Path
 
-from gaknifur.located import document
+from gaknifur.yaml_files import document
 
 SOURCE = Path("docs/numbers.yaml")
 NUMBER = r"(\d[\d,]*)"

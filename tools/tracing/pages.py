@@ -6,8 +6,8 @@ import re
 from dataclasses import dataclass, field
 from pathlib import Path
 
-from gaknifur import coverage
-from gaknifur.mode_rows import table_rows
+from gaknifur.testing import coverage
+from gaknifur.testing.mode_table import table_rows
 from tracing.sources import Place
 
 NAME = re.compile(r"`([^`]+)`")

@@ -7,8 +7,8 @@ from collections import Counter
 from dataclasses import dataclass, field
 from pathlib import Path
 
-from gaknifur.located import document
-from gaknifur import coverage
+from gaknifur.testing import coverage
+from gaknifur.yaml_files import document
 from tracing import evidence, pages
 from tracing.sources import Place
 

@@ -11,8 +11,8 @@ import re
 from dataclasses import dataclass
 from pathlib import Path
 
-from gaknifur.located import document
-from gaknifur.mode_rows import table_rows
+from gaknifur.testing.mode_table import table_rows
+from gaknifur.yaml_files import document
 from tracing.pages import plain
 from tracing.shown import table
 
@@ -214,7 +214,7 @@ def printed(sheet, reader):
 
 def sheets_printed(sheets, reader):
     """Sheets, as one page for a browser or for paper."""
-    style = Path("python/gaknifur/templates/report.css").read_text(encoding="utf-8")
+    style = Path("python/gaknifur/journal/templates/report.css").read_text(encoding="utf-8")
     yield '<!DOCTYPE html>\n<html lang="en">\n<head>\n<meta charset="utf-8">\n<title>Review sheets</title>'
     yield f"<style>\n{style}.sheet {{ break-after: page; }} .free {{ height: 40px; width: 60%; }}"
     yield "pre { white-space: pre-wrap; font-size: 11px; }</style>\n</head>\n<body>"

@@ -330,7 +330,7 @@ def held_by(it):
 
 def as_html(reader):
     """The page."""
-    style = Path("python/gaknifur/templates/report.css").read_text(encoding="utf-8")
+    style = Path("python/gaknifur/journal/templates/report.css").read_text(encoding="utf-8")
     yield '<!DOCTYPE html>\n<html lang="en">\n<head>\n<meta charset="utf-8">'
     yield "<title>What is required, and what holds it</title>"
     yield f"<style>\n{style}</style>\n</head>\n<body>\n<h1>What is required, and what holds it</h1>"

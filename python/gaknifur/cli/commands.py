@@ -1,0 +1,314 @@
+"""The commands of `./lab`, with their arguments, options and help.
+
+What a command does is in another module, which is loaded when the command runs: `lab --help` loads none of them.
+"""
+import os
+from importlib import import_module
+from operator import attrgetter
+from pathlib import Path
+from types import SimpleNamespace
+from typing import Any
+
+import click
+
+from ..program import version
+
+COMPLETE = "_LAB_COMPLETE"
+"""The variable of the environment by which a shell asks for completions."""
+PATH = click.Path(path_type=Path)
+NATURAL = click.IntRange(0, 999_999_999)
+SECTIONS = {"journal": "Journals", "evidence": "Evidence", "testing": "Testing", "simulation": "Simulation", "units": "Other units"}
+
+
+def loaded(source: str) -> Any:
+    """What a module of the package has under a name: `module:name`."""
+    module, _, names = source.partition(":")
+    return attrgetter(names)(import_module(f"..{module}", __package__))
+
+
+class Argument(click.Argument):
+    """An argument with a help text."""
+
+    def __init__(self, name: str, metavar: str, help: str | None = None, type: Any = PATH, **more: Any) -> None:
+        super().__init__([name], metavar=metavar, type=type, **more)
+        self.help = help
+
+    def get_help_record(self, context: click.Context) -> tuple[str, str] | None:
+        """Its row in the help."""
+        return (self.make_metavar(), self.help) if self.help else None
+
+
+class Command(click.Command):
+    """A command of a section, with an example. `does` names the function that carries it out: the module, a colon, and the function."""
+
+    def __init__(self, name: str, section: str, does: str, short: str, more: str, example: str, *params: click.Parameter, **named: Any) -> None:
+        asks = help_option("--help") if named else HELP  # (where options go to pytest, -h may be a part of one, such as -kthis)
+        super().__init__(name, params=[*params, asks], short_help=short, help=f"{short}. {more}", add_help_option=False, **named)
+        self.section, self.does, self.example = section, does, example
+        self.allow_extra_args = True
+
+    def invoke(self, context: click.Context) -> int:
+        """Does what the arguments ask for; returns the exit status."""
+        if context.args:
+            context.fail(f"unexpected argument {context.args[0]}")
+        return loaded(self.does)(SimpleNamespace(**context.params), context.obj) or 0
+
+    def format_options(self, context: click.Context, formatter: click.HelpFormatter) -> None:
+        """The arguments, the options and the example."""
+        for title, kind in (("Arguments", click.Argument), ("Options", click.Option)):
+            rows = [row for one in self.params if isinstance(one, kind) and (row := one.get_help_record(context))]
+            if rows:
+                with formatter.section(title):
+                    formatter.write_dl(rows)
+        with formatter.section("Example"):
+            formatter.write(f"  $ lab {self.example}\n")
+
+
+class Lab(click.Group):
+    """All commands, listed by section."""
+
+    def resolve_command(self, context: click.Context, words: list[str]) -> tuple[str | None, click.Command | None, list[str]]:
+        """The command of this name; the nearest one is offered where there is none."""
+        if words[0] not in self.commands:
+            from difflib import get_close_matches
+            near = get_close_matches(words[0], self.commands, 1)
+            context.fail(f"unknown command {words[0]}; {f'did you mean {near[0]}?' if near else 'lab --help lists the commands'}")
+        return super().resolve_command(context, words)
+
+    def format_commands(self, context: click.Context, formatter: click.HelpFormatter) -> None:
+        """A list of commands for each section."""
+        widest = max(map(len, self.commands))
+        for section, title in SECTIONS.items():
+            with formatter.section(title):
+                formatter.write_dl([(name.ljust(widest), one.short_help or "") for name, one in self.commands.items()
+                                    if isinstance(one, Command) and one.section == section])
+
+
+class Checks(click.Option):
+    """The option whose help lists the checks of `lab lint`."""
+
+    def get_help_record(self, context: click.Context) -> tuple[str, str] | None:
+        """Its row in the help."""
+        from ..testing import cases, track_checks
+        self.help = f"skip this check: {cases.ADVICE}, {', '.join(map(str, track_checks.ITEMS))}"
+        return super().get_help_record(context)
+
+
+class Setting(click.Option):
+    """An option whose default another module has: the module, a colon, and the name."""
+
+    def __init__(self, name: str, help: str, metavar: str, type: Any, source: str) -> None:
+        super().__init__([name], help=help, metavar=metavar, type=type, show_default=True)
+        self.source = source
+
+    def get_default(self, context: click.Context, call: bool = True) -> Any:
+        """The default."""
+        return loaded(self.source)
+
+
+def option(names: str, help: str, metavar: str | None = None, type: Any = None, **more: Any) -> click.Option:
+    """An option: with a metavar it has a value, without one it is a flag."""
+    return click.Option(names.split(), help=help, metavar=metavar, type=type, is_flag=metavar is None, **more)
+
+
+def show_help(context: click.Context, parameter: click.Parameter, is_asked: bool) -> None:
+    """Prints the help, and ends."""
+    if is_asked and not context.resilient_parsing:
+        print(context.get_help())
+        context.exit()
+
+
+def show_version(context: click.Context, parameter: click.Parameter, is_asked: bool) -> None:
+    """Prints the version, and ends."""
+    if is_asked and not context.resilient_parsing:
+        print(f"lab {version()}\nnot proved: the package is tested")
+        context.exit()
+
+
+def folder_and_others(context: click.Context, parameter: click.Parameter, words: tuple[str, ...]) -> None:
+    """The folder of `lab test` is the first argument that is no option; the others go to pytest."""
+    named = [word for word in words if not word.startswith("-")]
+    if not named and not context.resilient_parsing:
+        raise click.MissingParameter(ctx=context, param=parameter)
+    at = words.index(named[0]) if named else len(words)
+    context.params |= {"folder": Path(named[0]) if named else None, "others": [*words[:at], *words[at + 1:]]}
+
+
+def folder_and_table(context: click.Context, parameter: click.Parameter, paths: tuple[Path, ...]) -> None:
+    """`lab campaign` may have no folder."""
+    if not paths and not context.resilient_parsing:
+        raise click.MissingParameter(ctx=context, param=parameter)
+    if len(paths) > 2:
+        context.fail(f"unexpected argument {paths[2]}")
+    context.params |= {"folder": paths[0] if len(paths) == 2 else None, "out": paths[-1] if paths else None}
+
+
+def help_option(*names: str) -> click.Option:
+    """The option that prints the help."""
+    return click.Option(names, is_flag=True, is_eager=True, expose_value=False, callback=show_help, help="show this help")
+
+
+HELP = help_option("-h", "--help")
+VERSION = click.Option(["--version"], is_flag=True, is_eager=True, expose_value=False, callback=show_version, help="print version and commit")
+IMAGE = Argument("image", "IMAGE")
+ALL = option("--all other_blocks", "include readable blocks outside the journal; column `source` marks them")
+FORCE = option("--force", "overwrite files that lab made (no option overwrites others)")
+JSON = option("--json", "print JSON")
+JSON_LINES = option("--json", "print one JSON object per line")
+TIMES = [option("--times", "marks of the time of day (default: IMAGE.times, if it exists)", "FILE", PATH),
+         option("--drift", "maximum clock drift in ppm (default: 100)", "PPM", int)]
+WITHIN = Setting("--answer-within", "time limit for each answer of the other unit", "SECONDS", float, "units.other_unit:WITHIN_S")
+JOURNAL = [
+    Command("table", "journal", "cli.journal_commands:write_table", "Print one row per journal record as CSV, or write a workbook",
+            "Column names end in their units. Unknown values are empty.", "table image table.xlsx",
+            IMAGE, Argument("out", "[OUT.csv|OUT.xlsx]", "output file; .xlsx makes a workbook (default: CSV on standard output)", required=False),
+            ALL, *TIMES, option("--damaged", "print instead the records of damaged or misplaced blocks, each with its slot and byte; nothing else "
+                                "confirms them"), FORCE),
+    Command("timeline", "journal", "cli.journal_commands:write_timeline", "Write the events for other programs, as CSV for Timesketch or as JSON Lines",
+            "OUT.csv has the events with a time of day, which marks next to the journal give; OUT.jsonl has all events.",
+            "timeline image timeline.jsonl",
+            IMAGE, Argument("out", "[OUT.csv|OUT.jsonl]", "output file (default: JSON Lines on standard output)", required=False), *TIMES, FORCE),
+    Command("database", "journal", "cli.journal_commands:write_database", "Add images to an SQLite database",
+            "The database is created if it does not exist. An image that it already contains (by SHA-256) stays as it is.",
+            "database image journals.db",
+            Argument("images", "IMAGE...", nargs=-1, required=True), Argument("out", "OUT.db"), ALL, *TIMES),
+    Command("report", "journal", "cli.journal_commands:write_report", "Write a report with charts as one HTML file",
+            "The page has no script and loads nothing from the network.", "report image report.html",
+            IMAGE, Argument("out", "OUT.html"),
+            option("--from first", "start at this event (120), place (300m) or moment (20.5s)", "WHERE"),
+            option("--to last", "end at this event, place or moment", "WHERE"), option("--life", "report only this power cycle (life)", "N", int),
+            FORCE, *TIMES, option("--newest-first", "list the lives from the last to the first")),
+    Command("check", "journal", "cli.journal_commands:check_image", "Examine and replay an image, and list what is implausible",
+            "Prints what `etcs_lab check` prints, and then implausible values, such as a movement that the recorded speeds don't explain. Status 4: "
+            "something is lost, damaged, contradictory, different or implausible.", "check image",
+            IMAGE, JSON, *(Setting(f"--{name.replace('_', '-')}", help, unit, int, f"journal.plausibility:Thresholds.{name}") for name, unit, help in (
+                ("path_cm", "CM", "tolerated error of a movement in cm"), ("path_percent", "N", "plus this percentage"),
+                ("acceleration_cm_per_s2", "CM/S2", "greatest plausible change of speed in cm/s²"),
+                ("jump_m_per_h", "M/H", "plus this step of speed in m/h"),
+                ("place_cm", "CM", "tolerated error of a balise group's place in cm"),
+                ("place_percent", "N", "plus this percentage of the distance")))),
+    Command("dissector", "journal", "cli.journal_commands:write_dissector", "Write a Wireshark dissector for telegrams, in Lua",
+            "Captures have the link type USER0 (147).", "dissector telegrams.lua",
+            Argument("out", "[OUT.lua]", "output file (default: standard output)", required=False), FORCE),
+    Command("capture", "journal", "cli.journal_commands:write_capture", "Write the telegrams of a journal as a capture for Wireshark",
+            "The link type is USER0 (147).", "capture image telegrams.pcap", IMAGE, Argument("out", "OUT.pcap"), FORCE)]
+EVIDENCE = [
+    Command("seal", "evidence", "cli.evidence_commands:seal_image", "Seal an image with all reports about it in a folder of evidence (BagIt 1.0)",
+            "Reads the image once and never writes to it. FOLDER has to be new. Status 4: the folder is made, and something of the image is lost, "
+            "damaged, contradictory or implausible, or the replay differs.", 'seal image evidence --by "J. Smith"',
+            IMAGE, Argument("folder", "FOLDER"), option("--by", "who seals it (default: the user of this machine)", "TEXT"),
+            option("--medium", "the medium that the image was read from", "TEXT"),
+            option("--ssh-key", "sign with this OpenSSH key (ssh-keygen -Y sign)", "FILE"), option("--gpg-key", "sign with this OpenPGP key (gpg)", "NAME"),
+            *TIMES),
+    Command("verify", "evidence", "cli.evidence_commands:verify_bag", "Verify a folder of evidence, and print what it shows and what was altered",
+            "Status 4: a file was altered or is missing, or a signature isn't valid.", "verify evidence",
+            Argument("folder", "FOLDER"), option("--signers", "allowed OpenSSH signers (see ssh-keygen(1)); one of them must have signed", "FILE", PATH),
+            option("--keyring", "OpenPGP public keys, not armored; one of them must have signed", "FILE", PATH),
+            option("--authority", "certificates of time stamp authorities; one of them must have stamped it", "FILE", PATH)),
+    Command("diff", "evidence", "cli.evidence_commands:show_difference", "Compare two images of one unit",
+            "Status 0: both hold the same journal, or B continues A. Status 4: anything else.", "diff monday friday",
+            Argument("a", "A", "the image that was read first"), Argument("b", "B", "the image that was read later"), JSON),
+    Command("join", "evidence", "cli.evidence_commands:join_images", "Join images and archives of one unit into one larger image",
+            "Where a block differs between sources, the first source wins. Status 4: a block differs or is missing.", "join joined image archive",
+            Argument("out", "OUT", "the image to make"), Argument("sources", "IMAGE|ARCHIVE...", nargs=-1, required=True), JSON),
+    Command("follow", "evidence", "cli.evidence_commands:follow_image", "Print the records of an image while a unit writes them",
+            "Takes no lock and never delays the unit. Ends when the unit ends.", "follow image --wait",
+            IMAGE, option("--json", "print JSON, as `etcs_lab events` does"), option("--archive", "also append each block to this archive", "FILE", PATH),
+            option("--for seconds", "end after this time at the latest", "SECONDS", float),
+            option("--wait", "keep waiting while no unit runs, until interrupted"))]
+TESTING = [
+    Command("build", "testing", "cli.testing_commands:write_scenario", "Compile a YAML scenario to the JSON that `etcs run` reads",
+            "Errors name the file, line and column.", "build drive.yaml drive.json",
+            Argument("yaml", "FILE.yaml"), Argument("out", "[OUT.json]", "output file (default: standard output)", required=False), FORCE),
+    Command("test", "testing", "cli.testing_commands:run_tests", "Run the test cases of a folder and check their expected results",
+            "Other options go to pytest, such as -k, -x and --lf. Status 4: a test failed.", "test suites --section 3.13",
+            Argument("words", "FOLDER", "a folder or a file with test cases", nargs=-1, type=click.UNPROCESSED, callback=folder_and_others, expose_value=False),
+            option("--section", "only results about this section of SUBSET-026 or its subsections", "SECTION", multiple=True),
+            option("--feature", "only cases of this feature", "FEATURE", multiple=True),
+            option("--junitxml --junit-xml junitxml", "write the results as JUnit XML", "OUT.xml", PATH),
+            option("--reached", "write what each case reaches, for `coverage --measured --reached`", "OUT.json", PATH),
+            option("--python", "also run the folder's Python files for pytest (conftest.py, settings, test modules); they run with all your permissions"),
+            FORCE, option("--keep", "keep the image and report of each failed case in this new folder", "FOLDER"),
+            option("--against", "also run another unit: a command that speaks the protocol of docs/howto/oracle.md. Its answers are checked and compared",
+                   "COMMAND"), WITHIN, context_settings={"ignore_unknown_options": True}),
+    Command("coverage", "testing", "cli.testing_commands:show_coverage", "List the sections and transitions that the cases of a folder cover",
+            "Status 4: a section or transition of the product has neither a case nor a reason why not.", "coverage suites --measured",
+            Argument("folder", "FOLDER"),
+            option("--measured", "run the cases and list what they reach: modes, causes, packets, refusals and others. Status 4: less than the folder's "
+                   "measured.yaml asks for"),
+            option("--reached", "read this file of `lab test --reached` instead of running the cases", "FILE.json", PATH),
+            option("--cases", "also list which case reaches each")),
+    Command("lint", "testing", "testing.lint:lint", "List faults and weak points of scenarios and test cases",
+            "Runs `etcs_lab lint` and then the checks of docs/explain/safety.md. A case that is meant to show an item lists it under `shows`. Status 4: something "
+            "was found.", "lint suites --without advice",
+            Argument("paths", "FILE...", "a scenario in JSON or YAML, test cases, or a folder", nargs=-1, required=True), JSON_LINES,
+            Checks(["--without"], metavar="ITEM", multiple=True)),
+    Command("sweep", "testing", "cli.testing_commands:run_sweep", "Run a parametrised case at each of its values and print a table",
+            "Status 4: an expected result is missing, or a point couldn't be judged.", "sweep brakes.yaml --html brakes.html",
+            Argument("yaml", "FILE.yaml"), option("--csv", "write the table as CSV", "OUT.csv", PATH),
+            option("--html", "write a page with heat maps", "OUT.html", PATH),
+            option("--workers", "points to run at once (default: the number of processors)", "N", int), FORCE),
+    Command("search", "testing", "cli.search_commands:search", "Search random scenarios for one that breaks a property, and shrink it",
+            "Status 4: one was found, or a property was never judged.", "search properties.yaml --examples 1000",
+            Argument("yaml", "FILE.yaml", "the file with the properties"),
+            Setting("--examples", "number of scenarios to try", "N", int, "cli.search_commands:EXAMPLES"),
+            option("--seed", "the same seed gives the same scenarios (default: a random one, which is printed)", "N", int),
+            option("--only", "only properties whose note contains this text", "NOTE", multiple=True),
+            option("--keep", "write what is found into this new folder: a test case, its image and its report", "FOLDER", PATH),
+            option("--against", "check the answers of another unit: a command that speaks the protocol of docs/howto/oracle.md", "COMMAND"),
+            option("--records", "check these records of any unit instead of searching: lines as `etcs_lab events` prints them", "EVENTS.jsonl", PATH),
+            WITHIN),
+    Command("sequence", "testing", "cli.testing_commands:sequence", "Convert a table of test steps to test cases",
+            "MAPPING.yaml maps the columns and wordings of your table. Status 1: something isn't mapped, and nothing was made. Status 4: made, and "
+            "something was left out or isn't mapped (--partly).", "sequence steps.csv mapping.yaml steps.case.yaml",
+            Argument("table", "TABLE.csv|TABLE.xlsx"), Argument("mapping", "MAPPING.yaml"),
+            Argument("out", "[OUT.case.yaml]", "output file (default: standard output)", required=False),
+            option("--partly", "make what can be made, even if something isn't mapped"), FORCE)]
+SIMULATION = [
+    Command("drive", "simulation", "cli.drive_commands:play_drive", "Run a simulated train in a closed loop with the onboard unit",
+            "The unit is the library that `tools/library PREFIX` makes; GAKNIFUR_ETCS_UNIT names its .so.", "drive drive.yaml --picture drive.svg",
+            Argument("yaml", "FILE.yaml", "a scenario with a drive"), option("--csv", "write one row per time step", "OUT.csv", PATH),
+            option("--picture", "draw speed and limit over the place (.svg or .png)", "OUT", PATH),
+            option("--image", "keep the journal here; an existing image gets one more life", "IMAGE", PATH),
+            option("--scenario", "write the inputs of the unit as a scenario for `etcs run`", "OUT.json", PATH), FORCE,
+            option("--build-up", 'print instead a table of this drive with each of these brake build-up times, such as "0 s, 1 s, 2 s"', "TIMES")),
+    Command("campaign", "simulation", "cli.campaign_commands:play_campaign", "Run many scenarios, case files or random lives into one table",
+            "Each is a row of an SQLite table. Rows that exist aren't run again, so an interrupted campaign continues. Status 4: a row isn't sound.",
+            "campaign suites campaign.db --random 1000",
+            Argument("paths", "[FOLDER] OUT.db", "run the case files and scenarios below FOLDER", nargs=-1, callback=folder_and_table, expose_value=False),
+            option("--random", "also run this many random lives", "N", NATURAL, default=0),
+            option("--seed", "seed of the random lives", "N", NATURAL, default=1, show_default=True),
+            option("--slots", "slots of each new image", "N", NATURAL, default=64, show_default=True),
+            option("--workers", "processes on this machine (default: the number of processors)", "N", NATURAL, default=os.cpu_count() or 1),
+            option("--scheduler", "use this Dask scheduler instead of local processes", "tcp://HOST:PORT"),
+            option("--csv", "write the whole table at the end", "OUT.csv", PATH),
+            option("--force", "overwrite a CSV that lab made (no option overwrites others)")),
+    Command("compare", "simulation", "cli.campaign_commands:compare_campaigns", "List the rows that differ between two campaigns",
+            "Seconds and workers aren't compared. Status 4: rows differ.", "compare monday.db friday.db",
+            Argument("first", "ONE.db"), Argument("second", "OTHER.db"))]
+UNITS = [
+    Command("serve", "units", "cli.unit_commands:serve", "Run the onboard unit as a server on standard input and output",
+            "It speaks the protocol of docs/howto/oracle.md. The unit is the library that `tools/library PREFIX` makes; GAKNIFUR_ETCS_UNIT names its .so.", "serve"),
+    Command("against", "units", "cli.unit_commands:against", "Replay a journal against another unit and compare the answers",
+            "Status 4: an answer differs, or the unit broke the protocol.", 'against image "./my_unit --oracle"',
+            IMAGE, Argument("command", "COMMAND", "a command with its arguments that speaks the protocol of docs/howto/oracle.md", type=str), JSON_LINES, WITHIN)]
+EPILOG = """\
+\b
+Exit status:
+  0  done, and nothing was found
+  1  refused: the input isn't valid, or the output can't be written
+  2  wrong arguments
+  3  a file, the device or a program that is needed failed
+  4  done, and something was found: an image is damaged or its replay
+     differs, a test failed, lint has findings, evidence was altered
+  5  an internal error of lab
+
+`lab COMMAND --help` describes a command; docs/howto/laboratory.md names the page that explains it. Everything readable of a damaged image is
+printed, and standard error says what is wrong. Take a digest of an image before anything reads it, and work on a copy.
+
+\b
+Completion: eval "$(_LAB_COMPLETE=bash_source lab)", also with zsh_source;
+_LAB_COMPLETE=fish_source lab | source"""
+lab = Lab("lab", [*JOURNAL, *EVIDENCE, *TESTING, *SIMULATION, *UNITS], params=[VERSION, HELP], add_help_option=False,
+          no_args_is_help=False, subcommand_metavar="COMMAND [ARGUMENT]...", epilog=EPILOG,
+          help="Tables, databases and reports of the journals of an onboard unit, and suites of test cases.")

@@ -1,0 +1,171 @@
+"""The command `drive`: runs a train in a closed loop over the onboard unit's library, and prints the results."""
+import csv
+import io
+from collections.abc import Callable
+from dataclasses import asdict
+from pathlib import Path
+from types import SimpleNamespace
+
+from .. import files
+from ..escaping import shown
+from ..journal.reading import Progress
+from ..program import DEVICE, REFUSED, WRONG_WORDS, Failed
+from ..simulation import drives, driving
+from ..simulation.closed_loop import check_library, ends_of, fresh, on_medium, over_image
+from ..simulation.drives import Drive, read
+from ..testing import scenarios, sweeps
+from ..unit import FileMedium
+from ..yaml_files import BadFile
+
+COLUMNS = ("time_ms", "first_event", "event", "place_cm", "speed_m_per_h", "limit_m_per_h", "above_m_per_h", "brake", "mode",
+           "braking_cm_per_s2")
+
+
+# ---- results
+
+def km(m_per_h: int) -> str:
+    """A speed in km/h."""
+    return f"{m_per_h / 1000:.1f}"
+
+
+def metres(cm: int) -> str:
+    """A place in m."""
+    return f"{cm / 100:.2f}"
+
+
+def where(row: driving.Row) -> str:
+    """A row, for people."""
+    return f"at {metres(row.place_cm)} m after {row.time_ms / 1000:g} s, speed {km(row.speed_m_per_h)}, limit {km(row.limit_m_per_h)} km/h"
+
+
+def told(driven: driving.Driven) -> list[str]:
+    """What came of a drive, a line for each change of brake or mode."""
+    lines, before = [], None
+    for row in driven.rows:
+        now = (row.mode, row.brake)
+        if now != before:
+            lines.append(f"{row.mode}, brake {row.brake}: {where(row)}")
+        before = now
+    last, worst = driven.rows[-1], max(driven.rows, key=lambda row: row.above_m_per_h)
+    if worst.above_m_per_h > 0:
+        lines.append(f"most above the limit: {km(worst.above_m_per_h)} km/h {where(worst)}")
+    lines.append(f"{'stands' if not last.speed_m_per_h else 'still runs'}: {where(last)}")
+    found = ends_of(driven)
+    if found:
+        end, location = found
+        beyond = last.place_cm - location
+        name = "the end of authority" if end == location else "the supervised location"
+        lines.append(f"{name} is at {metres(location)} m: {metres(abs(beyond))} m {'before' if beyond <= 0 else 'beyond'} it")
+    return lines
+
+
+def csv_text(driven: driving.Driven) -> str:
+    """A row for each time step."""
+    text = io.StringIO()
+    writer = csv.DictWriter(text, COLUMNS, lineterminator="\n")
+    writer.writeheader()
+    writer.writerows(asdict(row) | {"above_m_per_h": row.above_m_per_h} for row in driven.rows)
+    return text.getvalue()
+
+
+def scenario_text(scenario: scenarios.Scenario, driven: driving.Driven) -> str:
+    """What the unit was told, as a scenario of its own. Each time step is flushed, as it was."""
+    return scenarios.Scenario(scenario.cold, [], driven.steps).text()
+
+
+BUILD_UP = """\
+- {name: service_m, at: {brake: service, train_speed_kmh: {least: 0}}, value: train_place_m}
+- {name: emergency_m, at: {brake: emergency, train_speed_kmh: {least: 0}}, value: train_place_m}
+- {name: most_above_kmh, most: above_limit_kmh}
+- {name: end_m, at: end, value: train_place_m}
+- {name: end_kmh, at: end, value: train_speed_kmh}
+- {name: beyond_m, at: end, value: beyond_location_m}
+"""
+"""What is told of a drive with each build-up time: where each brake came first, and where the train is at the end."""
+
+
+def tell_build_ups(path: Path, build_ups: list[str], progress: Progress) -> None:
+    """The drive with each of these build-up times, as the sweep that it is."""
+    from ..testing import sweep_tables
+    from . import testing_commands
+    sweep = sweeps.of_train(path, "build_up", build_ups, BUILD_UP)
+    found = sweeps.play_all(sweep, progress=progress)
+    print(sweep_tables.as_text(sweep, found), end="")
+    testing_commands.check_points(path, found)
+
+
+# ---- the command
+
+def on_file(path: Path, scenario: scenarios.Scenario, drive: Drive) -> driving.Driven:
+    """A life on the image of a file. One that isn't there is made, with its first life. One that is there goes on under its
+    lock, write by write and sync by sync as the unit asks for them, so that a loss of power takes no event of it away."""
+    try:
+        if not files.is_there(path, [drive.at.path]):
+            driven, data = over_image(fresh(scenario, drive), scenario, drive)
+            files.write_new(path, data)
+            return driven
+        with FileMedium(path) as medium:
+            return on_medium(medium, scenario, drive)
+    except FileExistsError as error:
+        raise files.refused(path, "was created by somebody else meanwhile; it is not overwritten") from error
+    except BlockingIOError as error:
+        raise Failed(f"{path}: another program holds its lock. Nothing was changed.", DEVICE) from error
+    except OSError as error:
+        raise Failed(f"{path}: {error.strerror}", DEVICE) from error
+
+
+PICTURES = {".svg": files.SVG, ".png": files.PNG}
+
+
+def picture_kind(path: Path | None) -> files.Kind | None:
+    """The kind of a picture, by its suffix."""
+    if path is None:
+        return None
+    if path.suffix not in PICTURES:
+        raise Failed(f"--picture: the file name has to end in .svg or .png, not in \"{path.suffix}\"", WRONG_WORDS)
+    return PICTURES[path.suffix]
+
+
+def picture(driven: driving.Driven, name: str, suffix: str) -> bytes:
+    """The picture of a drive. (matplotlib takes a second to load, which other drives needn't.)"""
+    from ..simulation import drive_picture
+    return drive_picture.drawn(driven, ends_of(driven), name, suffix)
+
+
+def outs_of(given: SimpleNamespace) -> dict[str, files.Out]:
+    """The files that a drive is to make, by their words; looked at before anything is played."""
+    kinds = {"csv": files.DRIVE_TABLE, "scenario": scenarios.FILE, "picture": picture_kind(given.picture)}
+    outs = {name: files.Out(path, kind, given.force) for name, kind in kinds.items()
+            if (path := getattr(given, name)) and kind}
+    images = [given.image] if given.image else []
+    files.check_all(outs.values(), [given.yaml, *images], images)
+    return outs
+
+
+def build_ups_of(text: str, drive: Drive) -> list[str]:
+    """The build-up times of the word."""
+    found = [one.strip() for one in text.split(",")]
+    try:
+        for one in found:
+            scenarios.quantity(one, drive.at, "time", 0, drives.MOST_DELAY_MS)
+    except BadFile as bad:
+        raise Failed(f"--build-up: {str(bad).split(': ', 1)[1]}", REFUSED) from bad
+    return found
+
+
+def play_drive(given: SimpleNamespace, progress: Progress) -> None:
+    """Runs `lab drive`. The library is looked for first, since telegrams may take a while where `etcs` isn't built."""
+    check_library()
+    scenario, drive = read(given.yaml)
+    if drive is None:
+        raise Failed(f"{given.yaml}: has no `drive`", REFUSED)
+    outs = outs_of(given)
+    if given.build_up:
+        return tell_build_ups(given.yaml, build_ups_of(given.build_up, drive), progress)
+    driven = on_file(given.image, scenario, drive) if given.image else over_image(fresh(scenario, drive), scenario, drive)[0]
+    makers: dict[str, Callable[[], str | bytes]] = {
+        "csv": lambda: csv_text(driven), "scenario": lambda: scenario_text(scenario, driven),
+        "picture": lambda: picture(driven, shown(given.yaml.stem), given.picture.suffix)}
+    for name, out in outs.items():
+        files.write(out, makers[name](), [given.yaml])
+    print("\n".join(told(driven)))

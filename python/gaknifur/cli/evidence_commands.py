@@ -1,0 +1,60 @@
+"""The commands about evidence: `seal`, `verify`, `diff`, `join` and `follow`."""
+import json
+import sys
+from types import SimpleNamespace
+
+from ..errors import say
+from ..escaping import shown
+from ..journal.reading import Json, Progress
+from ..program import FOUND, NOT_WHOLE
+
+
+def seal_image(given: SimpleNamespace, progress: Progress) -> int:
+    """Runs `lab seal`."""
+    from ..evidence import seal, signing, times
+    keys = [signing.Key(kind, name) for kind, name in (("ssh", given.ssh_key), ("openpgp", given.gpg_key)) if name]
+    how = seal.Sealing(given.by, given.medium, times.beside(given.image, given.times), times.DRIFT_PPM if given.drift is None else given.drift, keys)
+    found, faults = seal.seal(given.image, given.folder, how, progress)
+    sys.stdout.write(f"sealed {shown(found['image']['name'])}, {found['image']['bytes']} bytes, by {shown(found['by'])}\n"
+                     f"sha256 {found['image']['sha256']}\n")
+    sys.stdout.flush()
+    for fault in faults:
+        say(f"{given.image}: {fault}")
+    return NOT_WHOLE if faults else 0
+
+
+def verify_bag(given: SimpleNamespace, progress: Progress) -> int:
+    """Runs `lab verify`."""
+    from ..evidence import seal, signing
+    found = seal.verify(given.folder, signing.Trust(given.signers, given.keyring, given.authority))
+    for word, lines in (("altered", found.faults), ("shown", found.shown), ("not shown", found.not_shown)):
+        sys.stdout.writelines(f"{shown(f'{word}: {line}')}\n" for line in lines)
+    sys.stdout.write("the bag is not as it was sealed\n" if found.faults else "the bag is as it was sealed\n")
+    return FOUND if found.faults else 0
+
+
+def show_difference(given: SimpleNamespace, progress: Progress) -> int:
+    """Runs `lab diff`."""
+    from ..evidence import diff
+    found = diff.compare(given.a, given.b)
+    sys.stdout.write(json.dumps(diff.as_json(found), ensure_ascii=False) + "\n" if given.json else diff.text(found))
+    return 0 if found.verdict in diff.FINE else NOT_WHOLE
+
+
+def join_images(given: SimpleNamespace, progress: Progress) -> int:
+    """Runs `lab join`."""
+    from ..evidence import archive
+    found = archive.join(given.out, given.sources)
+    sys.stdout.write("".join(json.dumps(line) + "\n" for line in archive.told(found)) if given.json else archive.text(found))
+    return 0 if found.is_whole else NOT_WHOLE
+
+
+def follow_image(given: SimpleNamespace, progress: Progress) -> None:
+    """Runs `lab follow`."""
+    from ..journal import follow
+
+    def step(line: Json) -> None:
+        sys.stdout.write((json.dumps(line, ensure_ascii=False) if given.json else follow.text(line)) + "\n")
+        sys.stdout.flush()
+
+    follow.follow(given.image, step, given.archive, given.seconds, given.wait)

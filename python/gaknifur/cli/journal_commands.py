@@ -1,0 +1,172 @@
+"""The commands about a journal: `table`, `timeline`, `database`, `report`, `check`, `dissector` and `capture`.
+
+What takes long to load, such as pandas and matplotlib, is loaded by the command that needs it.
+"""
+import json
+import sys
+from collections.abc import Iterable
+from dataclasses import fields
+from importlib.util import find_spec
+from pathlib import Path
+from types import SimpleNamespace
+
+from .. import files, program
+from ..errors import say
+from ..journal import plausibility
+from ..journal.reading import Journal, Json, Progress, objects, read
+from ..program import DEVICE, NOT_WHOLE, REFUSED, WHOLE, WRONG_WORDS, Failed, Run
+
+
+def note(journal: Journal, is_judged: bool = False) -> int:
+    """Reports damage of an image, a replay that differs and, where asked for, implausible values; returns the status."""
+    from ..journal import summary
+    found, odd = summary.faults(journal), summary.implausible(summary.findings(journal)) if is_judged else []
+    if journal.times is not None:
+        for fault in journal.times.faults():
+            say(f"{journal.times.path}: {fault}")
+    for finding in odd:
+        say(f"{journal.path}: {finding}")
+    if found:
+        say(f"{journal.path}: {'; '.join(found)}")
+    return NOT_WHOLE if found or odd else 0
+
+
+def take_times(journal: Journal, given: SimpleNamespace) -> None:
+    """Reads the marks of the time of day: the file that is named, or the one next to the image."""
+    from ..evidence import times
+    path = times.beside(journal.path, given.times)
+    if path is not None:
+        journal.times = times.Times.of(journal, path, times.DRIFT_PPM if given.drift is None else given.drift)
+
+
+def write(out: files.Out | None, text: str | bytes | Iterable[str], source: Path) -> None:
+    """Writes to a file, or to standard output."""
+    if out is None:
+        sys.stdout.writelines([text.decode()] if isinstance(text, bytes) else [text] if isinstance(text, str) else text)
+        sys.stdout.flush()
+    else:
+        files.write(out, text, [source])
+
+
+def out_of(given: SimpleNamespace, kind: files.Kind, source: Path) -> files.Out | None:
+    """The output file of a command, if any. It is checked before the work begins."""
+    out = files.Out(given.out, kind, given.force) if given.out is not None else None
+    files.check_all([out] if out else [], [source])
+    return out
+
+
+def write_table(given: SimpleNamespace, progress: Progress) -> int:
+    """Runs `lab table`."""
+    if given.damaged and given.other_blocks:
+        raise Failed("--damaged can't be combined with --all", WRONG_WORDS)
+    if given.out is not None and given.out.suffix == ".parquet":
+        raise Failed(f"{given.out}: Parquet isn't supported; use a name that ends in .csv or .xlsx", WRONG_WORDS)
+    is_book = given.out is not None and given.out.suffix == ".xlsx"
+    if is_book and not find_spec("openpyxl"):
+        raise Failed("openpyxl is missing; tools/python installs it by Debian's packages", DEVICE)
+    out = out_of(given, files.WORKBOOK if is_book else files.TABLE, given.image)
+    journal = read(given.image, other_blocks=given.other_blocks, replay=True, why=not given.damaged, progress=progress,
+                   strays=given.damaged)
+    take_times(journal, given)
+    from ..evidence import timeline
+    from ..journal import tables
+    table = tables.strays(journal) if given.damaged else tables.frame(journal)
+    says = [f"sha256 {journal.sha256}", f"read by {program.reader()}", *([journal.times.says()] if journal.times else [])]
+    write(out, timeline.workbook(tables.written(table), says) if is_book else tables.csv_parts(table), given.image)
+    return note(journal)
+
+
+def write_timeline(given: SimpleNamespace, progress: Progress) -> int:
+    """Runs `lab timeline`."""
+    if given.out is not None and given.out.suffix not in (".csv", ".jsonl"):
+        raise Failed(f"{given.out}: the name has to end in .csv or .jsonl", WRONG_WORDS)
+    out = out_of(given, files.TIMELINE, given.image)
+    journal = read(given.image, replay=True, progress=progress)
+    take_times(journal, given)
+    from ..evidence import timeline
+    if given.out is not None and given.out.suffix == ".csv":
+        text, left = timeline.as_csv(journal)
+        if left:
+            say(f"{journal.path}: {left} events have no time of day and are left out")
+    else:
+        text = timeline.as_json(journal)
+    write(out, text, given.image)
+    return note(journal)
+
+
+def write_database(given: SimpleNamespace, progress: Progress) -> int:
+    """Runs `lab database`."""
+    from ..journal import database, tables
+    if given.times is not None and len(given.images) > 1:
+        raise Failed("--times works with one image only; for more, put IMAGE.times next to each image", WRONG_WORDS)
+    connection, status = database.open_database(given.out, given.images), 0
+    try:
+        for image in given.images:
+            journal = read(image, other_blocks=given.other_blocks, replay=True, why=True, progress=progress)
+            take_times(journal, given)
+            progress("database", 0, 0)
+            if not database.add(connection, journal, tables.frame(journal)):
+                say(f"{image}: is in the database already")
+            status = max(status, note(journal, is_judged=True))
+    finally:
+        connection.close()
+    return status
+
+
+def write_report(given: SimpleNamespace, progress: Progress) -> int:
+    """Runs `lab report`."""
+    from ..journal.extent import Extent, bound
+    extent = Extent(bound(given.first) if given.first else None, bound(given.last) if given.last else None, given.life)
+    out = out_of(given, files.REPORT, given.image)
+    journal = read(given.image, replay=True, why=True, progress=progress, strays=True)
+    take_times(journal, given)
+    from ..journal import report
+    write(out, report.page(journal, extent, progress, given.newest_first), given.image)
+    return note(journal, is_judged=True)
+
+
+def judge(given: SimpleNamespace) -> int:
+    """Prints implausible values; returns the status."""
+    records: list[Json] = []
+    limits = plausibility.Thresholds(**{one.name: getattr(given, one.name) for one in fields(plausibility.Thresholds)})
+    objects(["events"], given.image, lambda line: records.append(line) if "event" in line else None)
+    found = plausibility.judge(records, limits)
+    lines = [*map(json.dumps, found.findings), json.dumps(plausibility.as_json(found, limits))] if given.json else \
+        [*map(plausibility.text, found.findings), plausibility.summary(found, limits)]
+    sys.stdout.writelines(f"{line}\n" for line in lines)
+    return NOT_WHOLE if found.findings else WHOLE
+
+
+def check_image(given: SimpleNamespace, progress: Progress) -> int:
+    """Runs `lab check`."""
+    run = Run(["check", *(["--json"] if given.json else [])], given.image)
+    for line in run.lines():
+        sys.stdout.write(line.removesuffix("\n") + "\n")
+    sys.stdout.flush()
+    if run.status not in (WHOLE, NOT_WHOLE) and (run.said or run.status not in (REFUSED, DEVICE)):
+        raise run.failed(given.image)
+    if run.status not in (WHOLE, NOT_WHOLE):
+        return run.status
+    return max(run.status, judge(given))
+
+
+def write_dissector(given: SimpleNamespace, progress: Progress) -> None:
+    """Runs `lab dissector`."""
+    from ..wireshark import dissector
+    if given.out:
+        files.write(files.Out(given.out, dissector.LUA, given.force), dissector.lua())
+    else:
+        sys.stdout.write(dissector.lua())
+
+
+def write_capture(given: SimpleNamespace, progress: Progress) -> int:
+    """Runs `lab capture`."""
+    from ..wireshark import dissector
+    out = files.Out(given.out, dissector.CAPTURE, given.force)
+    files.check_all([out], [given.image])
+    journal = read(given.image, replay=True, progress=progress)
+    data, count = dissector.capture(journal)
+    if not count:
+        raise Failed(f"{given.image}: the journal has no telegram. Nothing was written.", REFUSED)
+    files.write(out, data, [given.image])
+    return note(journal)

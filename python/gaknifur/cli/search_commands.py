@@ -1,0 +1,195 @@
+"""The command `search`: searches random scenarios for one that breaks a property (docs/howto/searching.md)."""
+import io
+import json
+import secrets
+from collections.abc import Callable, Sequence
+from pathlib import Path
+from types import SimpleNamespace
+from typing import Any
+
+from .. import files
+from ..escaping import shown
+from ..journal.reading import Json, Progress
+from ..program import DEVICE, FOUND, REFUSED, WRONG_WORDS, Failed
+from ..testing import case_runner, properties
+from ..testing.properties import Property, Told, Violated
+from ..units.other_unit import words_of
+from ..yaml_files import BadFile
+from . import unit_commands
+
+EXAMPLES, MOST_EXAMPLES, SEEDS = 200, 100_000, 1 << 32
+NEEDED = {"powerup": (), "telegram": (), "odometer": ("movement_cm", "speed_m_per_h"), "clock": (),
+          "driver": ("action",)}
+RECORD = ("event", "life", "kind", "time_ms", "mode", "level", "brake", "indications", "place_cm", "uncertainty_cm",
+          "limit_m_per_h")
+
+
+# ---- records that are there
+
+def are_values(told: Json) -> bool:
+    """Whether the values of a record are of their kinds: numbers, words, indications, the packets of a telegram."""
+    numbers = [told[name] for name in ("event", "life", "time_ms", *NEEDED[told["kind"]]) if name != "action"]
+    packets = told["decoded"].get("packets", []) if isinstance(told.get("decoded", {}),
+                                                               dict) and "decoded" in told else []
+    return (all(type(value) is int for value in numbers)
+            and all(told[name] is None or type(told[name]) is int
+                    for name in ("place_cm", "uncertainty_cm", "limit_m_per_h"))
+            and isinstance(told["indications"], list) and all(isinstance(one, str) for one in told["indications"])
+            and isinstance(packets, list)
+            and all(isinstance(one, dict) and type(one.get("packet")) is int for one in packets)
+            and isinstance(told.get("decoded", {}), dict))
+
+
+def record_of(path: Path, number: int, line: str) -> Json | None:
+    """The record on a line; None of a line that is none."""
+    def fault(said: str) -> BadFile:
+        return BadFile(path, number, 1, said)
+    try:
+        told: Any = json.loads(line)
+    except (ValueError, RecursionError):
+        raise fault("not JSON") from None
+    if not isinstance(told, dict):
+        raise fault("not an object")
+    if "event" not in told:
+        return None
+    for name in (*RECORD, *NEEDED.get(str(told.get("kind")), ())):
+        if name not in told:
+            raise fault(f"member {name} is missing (docs/reference/json.md describes records)")
+    if told["kind"] not in NEEDED:
+        raise fault(f"kind has to be one of {', '.join(NEEDED)}")
+    if not are_values(told):
+        raise fault("a value of this record is not one of docs/reference/json.md")
+    return told
+
+
+def records_of(path: Path) -> list[Json]:
+    """The records of a file."""
+    try:
+        with io.TextIOWrapper(files.opened(path), encoding="utf-8") as file:
+            found = [one for number, line in enumerate(file, 1) if (one := record_of(path, number, line)) is not None]
+    except OSError as error:
+        raise Failed(f"{path}: {error.strerror}", DEVICE) from error
+    except UnicodeDecodeError:
+        raise Failed(f"{path}: not a UTF-8 text", REFUSED) from None
+    if not found:
+        raise Failed(f"{path}: contains no record", REFUSED)
+    return properties.derived(case_runner.with_speeds(found))
+
+
+def tell_held(one: Property, judged: int, where: str) -> bool:
+    """Tells of a property that no record breaks; answers whether it was never judged, and doesn't say why that may
+    be."""
+    why = f"; {one.unjudged}" if one.unjudged and not judged else ""
+    print(f"{'holds' if judged else 'unjudged'}: {one.note}: {judged} records judged{where}{why}", flush=True)
+    return not judged and one.unjudged is None
+
+
+def judge_records(told: list[Property], records: list[Json]) -> int:
+    """Judges records that are there; answers how many properties aren't met, or were never judged."""
+    wrong = 0
+    for one in told:
+        try:
+            judged = properties.judge(one, records)
+        except Violated as violated:
+            wrong += 1
+            print(f"broken: {one.note}\n{indented(str(violated))}")
+            continue
+        wrong += tell_held(one, judged, "")
+    return wrong
+
+
+# ---- searching
+
+def indented(text: str) -> str:
+    """A text, two columns to the right."""
+    return "\n".join(f"  {line}" for line in text.splitlines())
+
+
+def plain(text: str) -> str:
+    """A name for a file and a case."""
+    return "_".join("".join(one if one.isalnum() else " " for one in text.lower()).split())[:60].strip("_") or "found"
+
+
+def names_of(notes: Sequence[str]) -> list[str]:
+    """The names of what is kept of properties: those of their notes, with a number behind where one has it already."""
+    found: list[str] = []
+    for note in notes:
+        name, number = plain(note), 1
+        while (new := f"{name}_{number}" if number > 1 else name) in found:
+            number += 1
+        found.append(new)
+    return found
+
+
+def keep(folder: Path, name: str, text: str, image: Callable[[Path], None]) -> Path:
+    """Keeps a case, with its image and its report."""
+    from ..journal import report
+    from ..journal.reading import read
+    room = folder / name
+    room.mkdir(parents=True)
+    case = folder / f"{name}.case.yaml"
+    case.write_text(text, encoding="utf-8", newline="\n")
+    image(room / "image")
+    (room / "scenario.json").unlink(missing_ok=True)
+    (room / "report.html").write_text(report.page(read(room / "image", replay=True, why=True)), encoding="utf-8",
+                                      newline="\n")
+    return case
+
+
+def chosen(told: Told, only: list[str]) -> list[Property]:
+    """The properties that are looked at."""
+    found = [one for one in told.properties if not only or any(text in one.note for text in only)]
+    if not found:
+        raise Failed(f"{told.path}: no property has a note with this text", REFUSED)
+    return found
+
+
+def check(given: SimpleNamespace) -> None:
+    """What the words ask can be done."""
+    if not 1 <= given.examples <= MOST_EXAMPLES:
+        raise Failed(f"--examples: has to be 1 to {MOST_EXAMPLES:,}", WRONG_WORDS)
+    if given.seed is not None and not 0 <= given.seed < SEEDS:
+        raise Failed(f"--seed: has to be 0 to {SEEDS - 1}", WRONG_WORDS)
+    if given.records and (given.against or given.keep):
+        raise Failed("--records can't be combined with --against or --keep", WRONG_WORDS)
+    if given.keep and given.keep.exists() and (not given.keep.is_dir() or any(given.keep.iterdir())):
+        raise Failed(f"--keep {given.keep}: already exists and isn't an empty folder. Nothing was run.", REFUSED)
+    unit_commands.within_of(given.answer_within)
+    if given.against:
+        words_of(given.against)
+
+
+def search(given: SimpleNamespace, progress: Progress) -> int:
+    """Runs `lab search`. (hypothesis takes a while to load.)"""
+    check(given)
+    told = properties.read(given.yaml)
+    looked_at = chosen(told, given.only)
+    if given.records:
+        return FOUND if judge_records(looked_at, records_of(given.records)) else 0
+    try:
+        from ..testing import search as searching, strategies
+    except ImportError as error:
+        raise Failed("hypothesis is missing; tools/python --search installs it by Debian's packages", DEVICE) from error
+    seed = secrets.randbelow(SEEDS) if given.seed is None else given.seed
+    made, names = strategies.made_of(told.made_of, told.shared), names_of([one.note for one in looked_at])
+    records = searching.player(searching.Other(given.against, given.answer_within) if given.against else None)
+    print(f"seed {seed}, {given.examples} scenarios", flush=True)
+    wrong = 0
+    begun_all = searching.survey(looked_at, made, records, given.examples, seed)
+    for one, name, begun in zip(looked_at, names, begun_all, strict=True):
+        if begun.first is None:
+            wrong += tell_held(one, begun.found.judged, f" of {begun.found.scenarios} scenarios")
+            continue
+        wrong += 1
+        found = searching.made_small(begun, made, given.examples, seed)
+        assert found.lives is not None
+        how = (f"Found by ./lab search {shown(given.yaml.name)} --seed {seed} --examples {given.examples}, "
+               "and made small")
+        text = searching.case_text(found, made, f"{plain(told.name)}_{name}", how)
+        print(f"broken: {one.note}: {found.steps} steps, {len(found.lives)} lives\n{indented(found.said)}", flush=True)
+        if given.keep:
+            lives = found.lives
+            print(f"  kept: {keep(given.keep, name, text, lambda path: searching.image_of(lives, path))}")
+        else:
+            print(indented(text), flush=True)
+    return FOUND if wrong else 0

@@ -1,0 +1,201 @@
+"""The commands about test cases: `build`, `test`, `coverage`, `sweep` and `sequence`."""
+import difflib
+import hashlib
+import os
+import sys
+import tempfile
+from collections.abc import Sequence
+from pathlib import Path
+from types import SimpleNamespace
+from typing import TYPE_CHECKING
+
+from .. import files, program
+from ..errors import say
+from ..journal.reading import Progress
+from ..program import DEVICE, FOUND, NOT_WHOLE, REFUSED, WRONG_WORDS, Failed
+from .commands import lab
+from .journal_commands import out_of, write
+
+if TYPE_CHECKING:
+    from ..testing import sweeps
+
+
+def write_scenario(given: SimpleNamespace, progress: Progress) -> None:
+    """Runs `lab build`."""
+    from ..testing import scenarios
+    out = out_of(given, scenarios.FILE, given.yaml)
+    write(out, scenarios.read(given.yaml).text(), given.yaml)
+
+
+WITHOUT_PYTHON = ("-c", os.devnull, "--noconftest", *(word for name in ("python", "unittest", "nose", "doctest")
+                                                      for word in ("-p", f"no:{name}")))
+"""Words of pytest, by which it runs nothing of the folder."""
+PLUGIN = ("-p", "no:gaknifur", "-p", "gaknifur.testing.pytest_plugin")
+"""Words of pytest that take the plugin once, also where it is installed and pytest would find it by itself."""
+WRITING = ("--log-file", "--basetemp", "--debug", "--pastebin")
+"""Words of pytest that write where they are told, or send."""
+
+
+def begun(folder: Path, words: list[str], plugins: list[object]) -> int:
+    """What pytest answers."""
+    import pytest
+    try:
+        return pytest.main(words, plugins)
+    except ImportError as error:  # a plugin that the folder's settings name
+        raise Failed(f"{folder}: pytest can't start: {error}", REFUSED) from error
+
+
+def results_of(folder: Path) -> Path:
+    """Where pytest notes which tests of a folder failed, for `--lf`: in the user's cache, not in the folder itself."""
+    cache = os.environ.get("XDG_CACHE_HOME") or os.path.expanduser("~/.cache")
+    return Path(cache).absolute() / "gaknifur" / hashlib.sha256(os.fsencode(folder.resolve())).hexdigest()[:16]
+
+
+def check_options(others: list[str]) -> None:
+    """None of the options that go to pytest is a misspelt one of `lab test`. Its value would be taken for the folder."""
+    options = [name for one in lab.commands["test"].params for name in one.opts]
+    for word in others:
+        name = word.partition("=")[0]
+        near = difflib.get_close_matches(name, options, 1, cutoff=0.8) if name.startswith("--") else []
+        if near:
+            raise Failed(f"test: unknown option {name}; did you mean {near[0]}?", WRONG_WORDS)
+
+
+def check_folder(folder: Path) -> None:
+    """What is named is a folder, or a file that pytest takes for tests."""
+    if not folder.exists():
+        raise Failed(f"{folder}: no such folder", DEVICE)
+    if not folder.is_dir() and not folder.is_file():
+        raise Failed(f"{folder}: is neither a folder nor a regular file", DEVICE)
+    if folder.is_file() and not folder.name.endswith((".case.yaml", ".py")):
+        raise Failed(f"{folder}: is no test case: its name has to end in .case.yaml", REFUSED)
+
+
+def run_tests(given: SimpleNamespace, progress: Progress) -> None:
+    """Runs `lab test`."""
+    try:
+        import pytest
+
+        from ..testing.junit import results_in_xml
+    except ImportError as error:
+        raise Failed("pytest is missing; tools/python installs it by Debian's packages", DEVICE) from error
+    check_options(given.others)
+    check_folder(given.folder)
+    for word in given.others:
+        if word.partition("=")[0] in WRITING:
+            raise Failed(f"pytest's {word} isn't supported here, since it overwrites files", WRONG_WORDS)
+    from ..testing import measured_coverage, reached_plugin
+    out = files.Out(given.junitxml, files.JUNIT, given.force) if given.junitxml else None
+    reached = files.Out(given.reached, measured_coverage.FILE, given.force) if given.reached else None
+    files.check_all([one for one in (out, reached) if one])
+    root = given.folder if given.folder.is_dir() else given.folder.parent
+    selected = [f"--{name}={one}" for name in ("section", "feature") for one in getattr(given, name)]
+    selected += [f"--keep={given.keep}"] if given.keep else []
+    selected += [f"--against={given.against}", f"--answer-within={given.answer_within}"] if given.against else []
+    for name in ("etcs", "etcs_lab"):  # pytest keeps back what is said on standard error, as that they are unproved
+        program.find(name)
+    with results_in_xml(out) as (words, plugins):
+        status = begun(given.folder, [
+            "-q", "--no-header", *PLUGIN, "-o", f"cache_dir={results_of(root)}", "-W",
+            "ignore::pytest.PytestCacheWarning", f"--rootdir={root}", *([] if given.python else WITHOUT_PYTHON), *words,
+            str(given.folder), *selected, *given.others], plugins + ([reached_plugin.Reaches(reached)] if reached else []))
+    if status == pytest.ExitCode.NO_TESTS_COLLECTED:
+        why = "no test matches these options" if selected or given.others else "it contains no test case (NAME.case.yaml)"
+        raise Failed(f"{given.folder}: {why}, so none was run", REFUSED)
+    if status == pytest.ExitCode.USAGE_ERROR:
+        raise Failed("pytest refuses these options, as the lines above say; no test was run", WRONG_WORDS)
+    if status == pytest.ExitCode.TESTS_FAILED:
+        raise Failed(f"{given.folder}: a test failed", FOUND)
+    if status != pytest.ExitCode.OK:
+        raise Failed(f"{given.folder}: not all tests could be run, as the lines above say", REFUSED)
+
+
+def check_measured(given: SimpleNamespace) -> None:
+    """Some options need `--measured`."""
+    for name in ("reached", "cases"):
+        if getattr(given, name) and not given.measured:
+            raise Failed(f"coverage: --{name} needs --measured", WRONG_WORDS)
+
+
+def show_measured(given: SimpleNamespace, progress: Progress) -> None:
+    """Prints what the cases of a folder reach."""
+    from ..testing import measured_coverage
+    found = measured_coverage.matrix(given.folder, given.reached, progress)
+    sys.stdout.write(measured_coverage.told(found, given.cases))
+    sys.stdout.flush()
+    if found.faults:
+        raise Failed(f"{given.folder}: the cases reach less than is declared, as the lines above say", FOUND)
+
+
+def show_coverage(given: SimpleNamespace, progress: Progress) -> None:
+    """Runs `lab coverage`."""
+    check_measured(given)
+    if given.measured:
+        return show_measured(given, progress)
+    from ..testing import coverage
+    found = coverage.matrix(given.folder)
+    sys.stdout.write(coverage.told(found))
+    sys.stdout.flush()
+    if found.faults:
+        raise Failed(f"{given.folder}: coverage differs from what is declared, as the lines above say", FOUND)
+
+
+def check_points(path: Path, found: Sequence["sweeps.Told"]) -> None:
+    """Each point could be judged, and all that was expected came."""
+    bad = sum(bool(one.missed or one.fault) for one in found)
+    if bad:
+        raise Failed(f"{path}: {bad} of {len(found)} points failed", FOUND)
+
+
+def run_sweep(given: SimpleNamespace, progress: Progress) -> None:
+    """Runs `lab sweep`."""
+    from ..simulation.closed_loop import check_library
+    from ..testing import sweeps
+    outs = {name: files.Out(path, kind, given.force) for name, kind in (("csv", files.SWEEP_TABLE), ("html", files.REPORT))
+            if (path := getattr(given, name))}
+    files.check_all(outs.values(), [given.yaml])
+    program.find("etcs"), program.find()  # once, before the processes are split
+    sweep = sweeps.read(given.yaml)
+    case, _, _ = sweeps.at_point(sweep, sweep.points()[0])
+    if any(life.drive for life in case.lives):
+        check_library()
+    found = sweeps.play_all(sweep, given.workers, progress)
+    from ..testing import sweep_tables
+    makers = {"csv": sweep_tables.as_csv, "html": sweep_tables.as_page}
+    for name, out in outs.items():
+        files.write(out, makers[name](sweep, found), [given.yaml])
+    if not outs:
+        sys.stdout.write(sweep_tables.as_text(sweep, found))
+        sys.stdout.flush()
+    check_points(given.yaml, found)
+
+
+def check_cases(text: str, folder: Path) -> None:
+    """The cases can be read, in the folder of their file or of the mapping."""
+    from ..testing import cases
+    with tempfile.NamedTemporaryFile("w", suffix=".case.yaml", dir=folder, encoding="utf-8") as file:
+        file.write(text)
+        file.flush()
+        cases.read(Path(file.name))
+
+
+def sequence(given: SimpleNamespace, progress: Progress) -> int:
+    """Runs `lab sequence`."""
+    from ..testing import sequences
+    out = files.Out(given.out, sequences.FILE, given.force) if given.out else None
+    files.check_all([out] if out else [], [given.table, given.mapping])
+    mapping = sequences.mapping(given.mapping)
+    made = sequences.cases_of(mapping, sequences.table(given.table, mapping.columns), given.table.stem)
+    for line in (*made.left_out, *made.unmapped):
+        say(line)
+    if made.unmapped and not given.partly:
+        raise Failed(f"{given.table}: {len(made.unmapped)} texts aren't mapped, so nothing was made; "
+                     "--partly makes the rest", REFUSED)
+    text = f"{sequences.MADE}{given.table.name} by {given.mapping.name}\n" + "---\n".join(made.cases)
+    check_cases(text, given.out.absolute().parent if given.out else given.mapping.absolute().parent)
+    if out:
+        files.write(out, text, [given.table, given.mapping])
+    else:
+        sys.stdout.write(text)
+    say(f"{given.table}: {len(made.cases)} cases, {made.steps} actions and {made.results} expected results are mapped")
+    return NOT_WHOLE if made.unmapped or made.left_out else 0

@@ -1,0 +1,37 @@
+"""The commands about other units: `serve` and `against` (docs/howto/oracle.md)."""
+import sys
+from types import SimpleNamespace
+
+from ..journal.reading import Progress, read
+from ..program import NOT_WHOLE, REFUSED, WRONG_WORDS, Failed
+from ..units import oracle, own_unit
+from ..units.other_unit import words_of
+from ..units.protocol import line_of
+
+MOST_WITHIN_S = 3_600.0
+
+
+def within_of(seconds: float) -> float:
+    """The time limit for each answer of another unit."""
+    if not 0 < seconds <= MOST_WITHIN_S:
+        raise Failed(f"--answer-within: has to be more than 0 and at most {MOST_WITHIN_S:g} s", WRONG_WORDS)
+    return seconds
+
+
+def serve(given: SimpleNamespace, progress: Progress) -> None:
+    """Runs `lab serve`."""
+    own_unit.serve_streams()
+
+
+def against(given: SimpleNamespace, progress: Progress) -> int:
+    """Runs `lab against`."""
+    within_s = within_of(given.answer_within)
+    words_of(given.command)
+    journal = read(given.image, progress=progress)
+    if not journal.is_whole or not journal.records:
+        raise Failed(f"{given.image}: the journal is damaged or empty, so the other unit was not started", REFUSED)
+    asked = oracle.ask(given.command, journal.name, list(journal.records), within_s)
+    for line in oracle.lines(asked):
+        sys.stdout.write(line_of(line.told) if given.json else line.text + "\n")
+    sys.stdout.flush()
+    return 0 if asked.agrees else NOT_WHOLE

@@ -1,0 +1,1 @@
+"""Journals as `etcs_lab` reports them: records, tables, database, report, charts and causes."""

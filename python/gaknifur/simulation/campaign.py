@@ -1,0 +1,195 @@
+"""Campaigns: many scenarios, case files or random lives, played by many processors, and one table of what came of them.
+
+A job is data alone: the bytes of its files. Who plays it needs this package and the two programs, and no common folder.
+A job whose worker is lost is played again, and what is in the table already isn't: a campaign that was interrupted
+goes on where it was. A row tells the same whoever plays it, but for `seconds` and `worker`.
+"""
+import gc
+import hashlib
+import os
+import random
+from collections import Counter
+from collections.abc import Callable, Iterable, Iterator
+from concurrent.futures import FIRST_COMPLETED, Future, ProcessPoolExecutor, wait
+from concurrent.futures.process import BrokenProcessPool
+from dataclasses import dataclass
+from pathlib import Path
+from typing import Any
+
+from ..escaping import shown
+from ..testing import case_files
+
+Row = dict[str, Any]
+Take = Callable[[list[Row]], None]
+"""What takes the rows of jobs that were played together."""
+
+COLUMNS = ("name", "job_sha256", "kind", "ended", "image_sha256", "events", "lives", "mode", "brake", "limit_m_per_h",
+           "place_cm", "emergencies", "trips", "tests", "missed", "first_missed", "sound", "seconds", "worker")
+NOT_COMPARED = ("seconds", "worker")
+MOST_LOSSES = 3
+MOST_SECONDS, LEAST_SECONDS, MOST_AT_ONCE, SHARES, AHEAD = 0.5, 0.03, 128, 2, 2
+"""How long scenarios take that are handed out at once, at the most and at the least, and how many these are at the most; into how many
+parts for each player what is left is cut at the least; and how many parts each player has, with the one that it plays."""
+
+
+@dataclass(frozen=True)
+class Job:
+    """What is to be played: a scenario, or a case file with the files that it names."""
+
+    name: str
+    kind: str
+    """`scenario` or `case`."""
+    files: tuple[tuple[str, bytes], ...]
+    """Paths within the job, and their bytes; the first one is played."""
+    slots: int
+
+    @property
+    def sha256(self) -> str:
+        """The SHA-256 of all that is played."""
+        parts = [self.kind, str(self.slots), *(part for name, data in self.files for part in (name, hashlib.sha256(data).hexdigest()))]
+        return hashlib.sha256("\n".join(parts).encode()).hexdigest()
+
+
+# ---- the jobs
+
+class Folder:
+    """A job for each case file and each scenario below a folder, but for those that a case names. How many there are is known at
+    once; a file is read when its job is asked for."""
+
+    def __init__(self, folder: Path, slots: int) -> None:
+        self.folder, self.slots = folder, slots
+        self.case_files, self.scenarios = case_files.below(folder)
+        if self.case_files:
+            from ..testing import case_runner  # noqa: F401 (what plays them is loaded once, before there are processes that play)
+
+    def __len__(self) -> int:
+        return len(self.case_files) + len(self.scenarios)
+
+    def __iter__(self) -> Iterator[Job]:
+        for name in self.case_files:
+            found = case_files.files_of(self.folder / name)
+            root = Path(os.path.commonpath([one.parent for one in found]))
+            yield Job(shown(name), "case", tuple((one.relative_to(root).as_posix(), one.read_bytes()) for one in found), self.slots)
+        for name in self.scenarios:
+            yield Job(shown(name), "scenario", (("scenario.json", (self.folder / name).read_bytes()),), self.slots)
+
+
+def at_random(count: int, seed: int, slots: int) -> Iterator[Job]:
+    """Random lives: the same ones for the same seed."""
+    from . import random_lives
+    for number in range(count):
+        yield Job(f"random/{seed}/{number:07}", "scenario",
+                  (("scenario.json", random_lives.scenario(random.Random(f"{seed}/{number}"))),), slots)
+
+
+# ---- how they are handed out
+
+class Batches:
+    """The jobs as they are handed out, since handing out one costs as much as a program does: the first ones alone, so that each
+    player has one soon; then as many scenarios at once as take `MOST_SECONDS`; and ever fewer towards the end of so many jobs, down to
+    what takes `LEAST_SECONDS`, so that all players end at about the same time. A case file is by itself, and so is what was handed
+    out with a lost player."""
+
+    def __init__(self, jobs: Iterable[Job], count: int, players: int) -> None:
+        self.jobs, self.count, self.players = iter(jobs), count, players
+        self.again: list[Job] = []
+        self.given, self.known, self.seconds = 0, 0, 0.0
+        self.kept: Job | None = None
+
+    def learn(self, rows: list[Row]) -> None:
+        """How long jobs took."""
+        self.known += len(rows)
+        self.seconds += sum(row["seconds"] or 0.0 for row in rows)
+
+    def size(self) -> int:
+        """How many scenarios are handed out next."""
+        if not self.seconds:
+            return 1
+        least, most = (int(seconds * self.known / self.seconds) for seconds in (LEAST_SECONDS, MOST_SECONDS))
+        share = (self.count - self.given) // (SHARES * self.players)
+        return max(1, min(MOST_AT_ONCE, most, max(least, share)))
+
+    def next_job(self) -> Job | None:
+        """The next job."""
+        found, self.kept = self.kept or next(self.jobs, None), None
+        return found
+
+    def next(self) -> list[Job]:
+        """The next ones; none where there are no more."""
+        if self.again:
+            return [self.again.pop()]
+        batch: list[Job] = []
+        size = self.size()
+        while len(batch) < size and (job := self.next_job()):
+            if job.kind == "case" and batch:
+                self.kept = job
+                break
+            batch.append(job)
+            if job.kind == "case":
+                break
+        self.given += len(batch)
+        return batch
+
+
+# ---- who plays them
+
+def row_without(job: Job, ended: str) -> Row:
+    """The row of a job that wasn't played to its end."""
+    return {**dict.fromkeys(COLUMNS), "name": job.name, "job_sha256": job.sha256, "kind": job.kind, "sound": 0, "ended": ended}
+
+
+def lost(job: Job) -> Row:
+    """The row of a job whose workers were lost again and again."""
+    return row_without(job, f"failed: its worker was lost {MOST_LOSSES} times")
+
+
+def here(jobs: Iterable[Job], count: int, workers: int, take: Take) -> None:
+    """Plays so many jobs by processes of this machine."""
+    from . import campaign_jobs  # noqa: F401 (what plays them is loaded once, before there are processes that play)
+    left, losses, running = Batches(jobs, count, workers), Counter[str](), dict[Future[list[Row]], list[Job]]()
+    pool = ProcessPoolExecutor(workers, initializer=gc.freeze)
+    try:
+        while True:
+            is_broken = not hand_out(left, running, pool, workers)
+            if not running and not is_broken:
+                return
+            broken: list[Job] = []
+            for done in wait(running, return_when=FIRST_COMPLETED).done:
+                batch = running.pop(done)
+                try:
+                    left.learn(rows := done.result())
+                except BrokenProcessPool:
+                    broken, is_broken = broken + batch, True
+                    continue
+                take(rows)
+            if is_broken:
+                broken += [job for batch in running.values() for job in batch]
+                running.clear()
+                pool.shutdown(wait=False)
+                pool = ProcessPoolExecutor(workers, initializer=gc.freeze)
+                again(broken, left, losses, take)
+    finally:
+        pool.shutdown(wait=False, cancel_futures=True)
+
+
+def hand_out(left: Batches, running: dict[Future[list[Row]], list[Job]], pool: ProcessPoolExecutor, workers: int) -> bool:
+    """Hands jobs to the processes; whether none of these was lost meanwhile."""
+    from .campaign_jobs import play_all
+    while len(running) < (1 if left.again else AHEAD * workers) and (batch := left.next()):
+        try:
+            running[pool.submit(play_all, batch)] = batch
+        except BrokenProcessPool:
+            left.again += batch
+            return False
+    return True
+
+
+def again(jobs: list[Job], left: Batches, losses: Counter[str], take: Take) -> None:
+    """Jobs that were handed out when a process was lost are played again, one at a time, so that the one that ends it shows. It is
+    given up in the end."""
+    for job in jobs:
+        losses[job.name] += 1
+        if losses[job.name] >= MOST_LOSSES:
+            take([lost(job)])
+        else:
+            left.again.append(job)

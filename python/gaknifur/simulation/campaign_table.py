@@ -1,0 +1,145 @@
+"""The table of a campaign, in SQLite: its rows as they come, those of it that aren't sound, all of it as CSV, and two of them compared."""
+import csv
+import io
+import sqlite3
+import time
+from collections.abc import Iterator
+from operator import itemgetter
+from pathlib import Path
+
+from .. import files, program
+from ..digests import digest
+from ..journal.csv_cells import guarded
+from ..program import DEVICE, REFUSED, Failed
+from .campaign import COLUMNS, NOT_COMPARED, Job, Row
+
+COMMIT_SECONDS = 0.25
+IS_PROVED = {True: "yes", False: "no", None: "unknown"}
+INSERT = f"INSERT OR REPLACE INTO result ({', '.join(COLUMNS)}) VALUES ({', '.join('?' * len(COLUMNS))})"
+SCHEMA = """
+CREATE TABLE campaign (name TEXT PRIMARY KEY, value TEXT NOT NULL) STRICT;
+CREATE TABLE result (
+    name TEXT PRIMARY KEY, job_sha256 TEXT NOT NULL, kind TEXT NOT NULL, ended TEXT NOT NULL, image_sha256 TEXT, events INTEGER,
+    lives INTEGER, mode TEXT, brake TEXT, limit_m_per_h INTEGER, place_cm INTEGER, emergencies INTEGER, trips INTEGER,
+    tests INTEGER, missed INTEGER, first_missed TEXT, sound INTEGER NOT NULL, seconds REAL, worker TEXT) STRICT;
+"""
+
+
+class Table:
+    """The results, in SQLite. A table is of one pair of programs, and one campaign at a time writes to it: it has a transaction
+    open from its beginning to its end. Others may read it."""
+
+    def __init__(self, path: Path, settings: dict[str, str]) -> None:
+        def fill(connection: sqlite3.Connection) -> None:
+            connection.executescript(SCHEMA)
+            connection.executemany("INSERT INTO campaign VALUES (?, ?)", settings.items())
+
+        self.path, self.written = path, time.monotonic()
+        self.connection = files.open_database(path, files.CAMPAIGN, fill, is_by_hand=True)
+        self.take_alone()
+        try:
+            found = dict(self.connection.execute("SELECT name, value FROM campaign"))
+        except sqlite3.DatabaseError as error:
+            self.connection.close()
+            raise Failed(f"{path}: is not a campaign table", REFUSED) from error
+        for name, value in settings.items():
+            if name.endswith("_sha256") and found.get(name) != value:
+                self.connection.close()
+                raise Failed(f"{path}: was made with {name} {found.get(name)}, and this program is {value}; name a new file", REFUSED)
+
+    def take_alone(self) -> None:
+        """Begins the first transaction; refused at once where another program has one."""
+        try:
+            self.connection.execute("PRAGMA busy_timeout = 0")
+            self.connection.execute("BEGIN IMMEDIATE")
+            self.connection.execute(f"PRAGMA busy_timeout = {files.WAIT_SECONDS * 1000:.0f}")
+        except sqlite3.Error as error:
+            self.connection.close()
+            is_busy = error.sqlite_errorcode == sqlite3.SQLITE_BUSY
+            said = "another program is writing to it; wait for its end, or name another file" if is_busy else error
+            raise Failed(f"{self.path}: {said}", DEVICE) from error
+
+    def has_rows(self) -> bool:
+        """Whether any job was played already."""
+        return self.connection.execute("SELECT 1 FROM result LIMIT 1").fetchone() is not None
+
+    def is_there(self, job: Job) -> bool:
+        """Whether the table has the row of just this job."""
+        found = self.connection.execute("SELECT job_sha256, ended FROM result WHERE name = ?", (job.name,)).fetchone()
+        return found is not None and found[0] == job.sha256 and not found[1].startswith("failed")
+
+    def take(self, rows: list[Row]) -> None:
+        """Adds rows, each in the place of the one with its name, where there is one. They are on the disk within a second."""
+        try:
+            self.connection.executemany(INSERT, map(itemgetter(*COLUMNS), rows))
+            if time.monotonic() - self.written > COMMIT_SECONDS:
+                self.connection.execute("COMMIT")
+                self.connection.execute("BEGIN IMMEDIATE")
+                self.written = time.monotonic()
+        except sqlite3.Error as error:
+            raise Failed(f"{self.path}: {error}", DEVICE) from error
+
+    def close(self) -> None:
+        """All rows are on the disk, also where `take` was interrupted."""
+        if self.connection.in_transaction:
+            self.connection.execute("COMMIT")
+        self.connection.close()
+
+
+def settings_of() -> dict[str, str]:
+    """The programs: their SHA-256, and whether each is proved."""
+    found = {}
+    for name in ("etcs", "etcs_lab"):
+        found[f"{name}_sha256"] = digest(Path(program.find(name)))
+        found[f"{name}_is_proved"] = IS_PROVED[program.proof(name)]
+    return found
+
+
+def rows_of(path: Path) -> dict[str, Row]:
+    """The rows of a table by their names, as they are compared."""
+    connection = files.read_database(path, files.CAMPAIGN)
+    try:
+        kept = [name for name in COLUMNS if name not in NOT_COMPARED]
+        return {row[0]: dict(zip(kept, row)) for row in connection.execute(f"SELECT {', '.join(kept)} FROM result ORDER BY name")}
+    except sqlite3.DatabaseError as error:
+        raise Failed(f"{path}: is not a campaign table", REFUSED) from error
+    finally:
+        connection.close()
+
+
+def unsound(path: Path, most: int) -> tuple[int, int, list[Row]]:
+    """How many rows a table has, how many of them aren't sound, and the first ones of these."""
+    connection = files.read_database(path, files.CAMPAIGN)
+    try:
+        count, bad = connection.execute("SELECT count(*), count(*) FILTER (WHERE NOT sound) FROM result").fetchone()
+        rows = connection.execute("SELECT name, ended, first_missed FROM result WHERE NOT sound ORDER BY name LIMIT ?", (most,))
+        return count, bad, [dict(zip(("name", "ended", "first_missed"), row)) for row in rows]
+    except sqlite3.DatabaseError as error:
+        raise Failed(f"{path}: is not a campaign table", REFUSED) from error
+    finally:
+        connection.close()
+
+
+def write_csv(path: Path, out: files.Out) -> None:
+    """Writes the whole table as CSV, in the order of the names."""
+    connection, text = files.read_database(path, files.CAMPAIGN), io.StringIO()
+    try:
+        writer = csv.writer(text, lineterminator="\n")
+        writer.writerow(COLUMNS)
+        writer.writerows(map(guarded, row) for row in connection.execute(f"SELECT {', '.join(COLUMNS)} FROM result ORDER BY name"))
+    finally:
+        connection.close()
+    files.write(out, text.getvalue(), [path])
+
+
+def differences(one: Path, other: Path) -> Iterator[str]:
+    """What two campaigns tell otherwise, a line for each row."""
+    first, second = rows_of(one), rows_of(other)
+    for name in sorted(first.keys() | second.keys()):
+        if name not in second or name not in first:
+            yield f"{name}: only in {one if name in first else other}"
+            continue
+        told = [f"{column} {first[name][column]} and {second[name][column]}" for column in first[name]
+                if first[name][column] != second[name][column]]
+        if told:
+            yield f"{name}: {'; '.join(told)}"

@@ -1,0 +1,156 @@
+"""The course of a scenario: each event of its lives with its record, the place in the scenario that asks for it, and where
+the front really is on the track.
+
+The lives are played on an image of their own, and `etcs_lab events` tells their records; so modes, fronts and limits are
+the kernel's own.
+"""
+import json
+from bisect import bisect_right
+from collections.abc import Iterator, Sequence
+from dataclasses import dataclass
+from pathlib import Path
+
+from .. import program
+from ..journal.reading import Json, read
+from ..program import REFUSED, Failed
+from ..simulation import closed_loop, drives
+from ..simulation.drives import Drive
+from ..yaml_files import Value
+from . import cases
+from .scenarios import LONGEST_CM, Scenario
+
+MOST_SLOTS = 1_048_576
+DRIVE = "/drive"
+"""Where a closed loop asks for an event."""
+
+
+@dataclass(frozen=True)
+class Life:
+    """A life of a case or of a scenario: its steps, of YAML or in a file of JSON, and the drive behind them."""
+
+    at: Value | None
+    scenario: Scenario | None
+    path: Path | None
+    ends: str | None = None
+    drive: Drive | None = None
+
+
+def of_case(life: cases.Life) -> Life:
+    """A life of a case."""
+    return Life(life.at, life.scenario, life.path, life.ends, life.drive)
+
+
+@dataclass(frozen=True)
+class Event:
+    """An event of a life: the JSON pointer of what asks for it, where the front really is behind it, and its record."""
+
+    pointer: str
+    place_cm: int
+    record: Json
+
+
+def scenario_of(life: Life) -> Scenario:
+    """The scenario of a life, also of one that stands in a file of JSON."""
+    if life.scenario:
+        return life.scenario
+    assert life.path is not None
+    told = json.loads(life.path.read_bytes())
+    return Scenario(told.get("cold", 0), told["groups"], told["steps"])
+
+
+def balises_of(scenario: Scenario) -> list[tuple[int, str, str]]:
+    """The balises of the track with their places, pointers and telegrams, as a train passes them."""
+    found = [(group["at"] + number * group["spacing"], f"/groups/{index}/balises/{number}", digits)
+             for index, group in enumerate(scenario.groups) for number, digits in enumerate(group["balises"])]
+    return sorted(found, key=lambda balise: balise[0])
+
+
+def asked(scenario: Scenario) -> Iterator[tuple[str, int]]:
+    """What asks for each event of a scenario, and where the front is behind it."""
+    balises, front = balises_of(scenario), 0
+    places = [place for place, _, _ in balises]
+    for number, step in enumerate(scenario.steps):
+        (word, value), = step.items()
+        pointer = f"/steps/{number}/{word}"
+        end = front + value[0] if word == "drive" else front
+        if word == "drive" and end > front:
+            for index in range(bisect_right(places, front), bisect_right(places, end)):
+                yield from ((pointer, place) for place in readings(front, places[index]))
+                front = places[index]
+                yield balises[index][1], front
+            yield from ((pointer, place) for place in readings(front, end))
+        elif word != "flush":
+            yield pointer, end
+        front = end
+
+
+def readings(front: int, end: int) -> Iterator[int]:
+    """Where the front is behind each reading of a way forward."""
+    while front < end:
+        front = min(front + LONGEST_CM, end)
+        yield front
+
+
+def driven(scenario: Scenario, front: int, records: Sequence[Json]) -> Iterator[Event]:
+    """The events of a closed loop, whose telegrams are found on the track by what they send."""
+    balises = [balise for balise in balises_of(scenario) if balise[0] > front]
+    for record in records:
+        front += record.get("movement_cm", 0)
+        pointer = DRIVE
+        if record["kind"] == "telegram":
+            index = next((at for at, balise in enumerate(balises) if balise[2].lower() == record["telegram"]), None)
+            if index is not None:
+                front, pointer = balises[index][:2]
+                del balises[:index + 1]
+        yield Event(pointer, front, record)
+
+
+def events_of(life: Life, records: Sequence[Json]) -> list[Event]:
+    """The events of a life that has these records, the power-up's not among them."""
+    scenario = scenario_of(life)
+    found = [Event(pointer, place, record) for (pointer, place), record in zip(asked(scenario), records)]
+    if life.drive:
+        found += driven(scenario, found[-1].place_cm if found else 0, records[len(found):])
+    return found
+
+
+def slots_for(lives: Sequence[Life]) -> int:
+    """How many slots hold all blocks of some lives."""
+    slots = 4
+    for life in lives:
+        scenario = scenario_of(life)
+        flushes = sum("flush" in step for step in scenario.steps)
+        events = sum(1 for _ in asked(scenario))
+        slots += drives.slots_for(scenario, life.drive) if life.drive else 3 + flushes + events // 8
+    return min(slots, MOST_SLOTS)
+
+
+def is_refused(life: Life, image: Path, folder: Path) -> bool:
+    """Plays a life; answers whether its scenario is refused, so that nothing was added."""
+    scenario = scenario_of(life)
+    if life.drive:
+        image.write_bytes(closed_loop.over_image(image.read_bytes(), scenario, life.drive)[1])
+        return False
+    path = life.path or folder / "scenario.json"
+    if life.scenario:
+        path.write_text(scenario.text(), encoding="utf-8")
+    status, printed = program.etcs("run", "--", str(path), str(image))
+    return status == REFUSED and bool(printed) and printed[-1].startswith("refused")
+
+
+def played(lives: Sequence[Life]) -> list[list[Event]]:
+    """The events of each life, played in turn on one image; none of a life that is refused."""
+    slots = slots_for(lives)
+    with program.room(slots) as room:
+        folder, image = Path(room), Path(room) / "image"
+        program.format_image(image, slots)
+        refused = [is_refused(life, image, folder) for life in lives]
+        journal = read(image, is_own=True)
+    records: dict[int, list[Json]] = {}
+    for record in journal.records:
+        records.setdefault(record["life"], []).append(record)
+    found, number = [], 0
+    for life, is_none in zip(lives, refused):
+        number += not is_none
+        found.append([] if is_none else events_of(life, records.get(number, [])[1:]))
+    return found

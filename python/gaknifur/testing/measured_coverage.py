@@ -1,0 +1,190 @@
+"""Coverage that is measured: which members of the sets of `coverage_sets` the cases of a folder reach when they are played.
+
+`measured.yaml` of the folder names floors and reasons. `floors` has of a set how many of its members have to be reached,
+or `all`: each one but for those with a reason. `out_of_reach` has of a set members that no case can reach, and why; `*`
+stands for any text. A member that is reached and has a reason is a fault too.
+"""
+import json
+import os
+from collections.abc import Iterable
+from concurrent.futures import ThreadPoolExecutor
+from dataclasses import dataclass, field
+from fnmatch import fnmatchcase
+from pathlib import Path
+
+from .. import files
+from ..escaping import shown
+from ..journal.reading import Progress, silent
+from ..program import DEVICE, REFUSED, Failed
+from ..yaml_files import Value, document, guess, shortened
+from . import case_runner, coverage, coverage_sets
+from .cases import Case
+from .record_coverage import measure
+
+FLOORS = "measured.yaml"
+ALL = "all"
+HEAD = b'{"reached_by": '
+FILE = files.beginning("what cases reach", HEAD)
+Sets = dict[str, list[str]]
+"""Of each set the members that a case reaches."""
+ByCase = dict[str, Sets]
+
+
+@dataclass
+class Measured:
+    """The sets with their members, and the cases that reach each; floors and reasons of the folder, and what is wrong."""
+
+    cases: int
+    members: dict[str, dict[str, list[str]]]
+    floors: dict[str, int | str] = field(default_factory=dict)
+    reasons: dict[str, dict[str, str]] = field(default_factory=dict)
+    faults: list[str] = field(default_factory=list)
+
+    def missing(self, name: str) -> list[str]:
+        """The members of a set that no case reaches."""
+        return [member for member, by in self.members[name].items() if not by]
+
+    def reached(self, name: str) -> int:
+        """How many members of a set are reached."""
+        return len(self.members[name]) - len(self.missing(name))
+
+
+# ---- what a case reaches
+
+def reached_by(played: case_runner.Played) -> Sets:
+    """What a case reaches that was played, in the order of the sets."""
+    assert played.journal is not None
+    found = measure(played.journal).sets
+    return {name: [member for member in members if member in found[name]]
+            for name, members in coverage_sets.members().items() if name in found}
+
+
+def play_all(cases: list[Case], progress: Progress = silent) -> ByCase:
+    """Plays cases side by side; answers what each reaches. One that can't be judged is a fault."""
+    def one(case: Case) -> Sets:
+        try:
+            return reached_by(case_runner.play(case, why=True))
+        except case_runner.Missed as missed:
+            raise Failed(f"{case.path}:{case.at.line}: {case.name}: {' '.join(str(missed).split())}", REFUSED) from missed
+
+    found: ByCase = {}
+    with ThreadPoolExecutor(os.cpu_count()) as pool:
+        for case, sets in zip(cases, pool.map(one, cases)):
+            found[case.name] = sets
+            progress("cases", len(found), len(cases))
+    return found
+
+
+# ---- a file of what cases reach
+
+def text_of(found: ByCase) -> str:
+    """The file."""
+    return HEAD.decode() + json.dumps(found, ensure_ascii=False, indent=1) + "}\n"
+
+
+def read(path: Path) -> ByCase:
+    """What cases reach, by a file that `lab test --reached` made."""
+    try:
+        with files.opened(path) as file:
+            told = json.loads(file.read().decode("utf-8"))["reached_by"]
+        return {str(case): {str(name): [str(one) for one in members] for name, members in sets.items()}
+                for case, sets in told.items()}
+    except OSError as error:
+        raise Failed(f"{path}: {error.strerror}", DEVICE) from error
+    except (ValueError, KeyError, TypeError, AttributeError) as error:
+        raise Failed(f"{path}: is not a file that `lab test --reached` made", REFUSED) from error
+
+
+# ---- floors
+
+def floor_of(at: Value, most: int) -> int | str:
+    """A floor: a number of members, or all that have no reason."""
+    return ALL if at.is_text() and at.text() == ALL else at.integer(0, most)
+
+
+def add_floors(found: Measured, folder: Path) -> None:
+    """Takes the floors and reasons of a folder."""
+    path = folder / FLOORS
+    if not path.exists():
+        return
+    told = document(path).members((), ("floors", "out_of_reach"))
+    if "floors" in told:
+        for name, at in told["floors"].members((), found.members).items():
+            found.floors[name] = floor_of(at, len(found.members[name]))
+    if "out_of_reach" in told:
+        for name, at in told["out_of_reach"].members((), found.members).items():
+            found.reasons[name] = reasons_of(at, found.members[name])
+
+
+def reasons_of(at: Value, members: Iterable[str]) -> dict[str, str]:
+    """Why members can't be reached, by patterns of their names."""
+    found: dict[str, str] = {}
+    for pattern, why in at.entries().items():
+        meant = [member for member in members if fnmatchcase(member, pattern)]
+        if not meant:
+            raise why.fault(f"\"{shortened(pattern)}\" names nothing that is counted; {guess(pattern, members)}")
+        found |= dict.fromkeys(meant, why.text())
+    return found
+
+
+def check_floors(found: Measured) -> None:
+    """Tells what is below a floor, and which reasons aren't needed."""
+    for name, floor in found.floors.items():
+        if floor == ALL:
+            found.faults += [f"{name}: {member}: no case reaches it, and there is no reason why" for member in found.missing(name)
+                             if member not in found.reasons.get(name, {})]
+        elif found.reached(name) < int(floor):
+            found.faults.append(f"{name}: {found.reached(name)} are reached, and {floor} is the floor")
+    for name, reasons in found.reasons.items():
+        found.faults += [f"{name}: {member}: {found.members[name][member][0]} reaches it, and there is a reason why none does"
+                         for member in reasons if found.members[name][member]]
+
+
+# ---- all of it
+
+def check_cases(found: Measured, names: list[str], by_case: ByCase) -> None:
+    """What was played is just the cases of the folder."""
+    found.faults += [f"{name} is a case of the folder, and wasn't played" for name in names if name not in by_case]
+    found.faults += [f"{name} was played, and is no case of the folder" for name in by_case if name not in names]
+
+
+def judged(names: list[str], by_case: ByCase, folder: Path) -> Measured:
+    """What cases reach, by the floors of a folder that has cases of these names."""
+    found = Measured(len(names), {name: {member: [] for member in members} for name, members in coverage_sets.members().items()})
+    for case, sets in by_case.items():
+        for name, members in sets.items():
+            for member in members:
+                if member not in found.members.get(name, {}):
+                    what = f"\"{shortened(member)}\" of \"{shortened(name)}\""
+                    raise Failed(f"{shortened(case)} reaches {what}, which isn't there", REFUSED)
+                found.members[name][member].append(case)
+    check_cases(found, names, by_case)
+    add_floors(found, folder)
+    check_floors(found)
+    return found
+
+
+def matrix(folder: Path, path: Path | None = None, progress: Progress = silent) -> Measured:
+    """What the cases of a folder reach: played now, or by a file of a run of `lab test`."""
+    cases = coverage.all_cases(folder)
+    return judged([case.name for case in cases], read(path) if path else play_all(cases, progress), folder)
+
+
+def by_text(by: list[str]) -> str:
+    """Which cases reach a member, for people."""
+    more = f" and {len(by) - 1} more" if len(by) > 1 else ""
+    return shown(by[0]) + more
+
+
+def told(found: Measured, with_cases: bool) -> str:
+    """The sets, for people: how many of how many, which are missing, and perhaps which case reaches each."""
+    lines: list[str] = []
+    for name, members in found.members.items():
+        floor = f", floor {found.floors[name]}" if name in found.floors else ""
+        lines.append(f"{name}: {found.reached(name)} of {len(members)}{floor}")
+        reasons = found.reasons.get(name, {})
+        lines += [f"  missing: {member}; {reasons.get(member, 'no reason is told')}" for member in found.missing(name)]
+        lines += [f"  {member}: {by_text(by)}" for member, by in members.items() if by] if with_cases else []
+    reached, whole = sum(map(found.reached, found.members)), sum(map(len, found.members.values()))
+    lines.append(f"{found.cases} cases reach {reached} of {whole}.")
+    return "\n".join(lines + found.faults) + "\n"

@@ -1,0 +1,49 @@
+"""The rows of the mode table, as docs/TABLES.md tells them; and the pages of the documentation."""
+import functools
+
+from ..program import DEVICE, REFUSED, TOP, Failed
+
+DOCS = TOP / "docs"
+Table = dict[int, tuple[list[str], str]]
+"""The rows of the mode table: from which modes each leads, and where to."""
+
+
+def page(name: str) -> str:
+    """A page of the documentation."""
+    try:
+        return (DOCS / name).read_text(encoding="utf-8")
+    except OSError as error:
+        raise Failed(f"{DOCS / name}: {error.strerror}", DEVICE) from error
+
+
+def table_rows(text: str, heading: str) -> list[list[str]]:
+    """The cells of the tables below a heading."""
+    _, found, behind = text.partition(f"\n## {heading}")
+    if not found:
+        raise Failed(f"docs: there is no heading \"{heading}\"", REFUSED)
+    lines = behind.split("\n## ", 1)[0].splitlines()
+    rows = [[cell.strip() for cell in line.strip().strip("|").split("|")] for line in lines if line.startswith("|")]
+    return [row for row in rows[2:] if not set(row[0]) <= set("-")]
+
+
+@functools.cache
+def mode_table() -> Table:
+    """The rows of the mode table: the modes from which each leads, and where to."""
+    found: Table = {}
+    for number, sources, target, _ in table_rows(page("TABLES.md"), "Modes"):
+        found[int(number)] = sources.split(), target
+    return found
+
+
+def transitions(table: Table) -> list[str]:
+    """Each row with each mode from which it leads."""
+    return [f"{number} from {source}" for number, (sources, _) in table.items() for source in sources]
+
+
+def row_name(number: int, source: str | None, table: Table) -> str | None:
+    """The transition of a row; None where there is none, or where a row of several modes tells no mode."""
+    if number not in table:
+        return None
+    sources, _ = table[number]
+    mode = source or (sources[0] if len(sources) == 1 else "")
+    return f"{number} from {mode}" if mode in sources else None

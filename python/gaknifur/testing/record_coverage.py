@@ -1,0 +1,457 @@
+"""What the records of a journal reach of the sets of `coverage_sets`: rows, causes, packets, refusals, acknowledgements, facts, groups.
+
+Modes, brakes, limits, places and causes are the kernel's own, as `etcs_lab events` and `etcs_lab why` tell them. Which
+messages were used, which facts of the track they ended, and which actions were accepted no record tells; that is
+followed along the records (`messages`, and the tables of docs/TABLES.md). Only journals count whose replay agrees.
+"""
+from collections.abc import Callable, Iterator, Sequence
+from dataclasses import dataclass, field
+from itertools import pairwise
+
+from ..journal.causes import Known as Causes, known as causes_of, rows_of
+from ..journal.reading import Journal, Json
+from . import coverage_sets
+from .course import Event
+from .coverage_sets import ACKNOWLEDGED, ACTIONS, BOTH, IN_ANOTHER_MODE, ITEM, NOT_STANDING, SECOND, Action
+from .mode_table import mode_table
+from .track_messages import ALWAYS, NOW, Known, Link, Message, Packet, Walk
+
+LEVEL_OF = {0: 0, 2: 1}
+"""M_LEVELTR of the levels that the train can run in."""
+WAITING = ("asked", "owed")
+MODE_OF = {"on_sight": "OS", "shunting": "SH"}
+AREA_OF = {"on_sight": 0, "shunting": 1}
+AREAS = {"on_sight": "on sight area", "shunting": "shunting area"}
+"""The condition of the mode table by which the mode of a kind is entered because of an area."""
+STAFF_DISTANCE = ("beyond staff distance", "staff_distance")
+"""The condition of a row, and the cause of a trip that it is."""
+
+
+@dataclass
+class Reached:
+    """What was reached, by the sets."""
+
+    sets: dict[str, set[str]] = field(default_factory=dict)
+
+    def add(self, name: str, member: str) -> None:
+        """A member of a set was reached."""
+        self.sets.setdefault(name, set()).add(member)
+
+
+@dataclass
+class Driver:
+    """What the unit knows of the driver's items, over the lives of an image."""
+
+    known: set[str] = field(default_factory=set)
+    valid: set[str] = field(default_factory=set)
+
+
+@dataclass(frozen=True)
+class Level:
+    """A level that is announced: its place, none where it holds at once, and from how far before it is asked about."""
+
+    level: int
+    place_cm: int | None
+    acknowledged_cm: int
+
+
+ITEMS = {"enter_identity": "identity", "enter_running_number": "running_number", "enter_train_data": "train_data",
+         "choose_level": "level"}
+
+
+def is_shown(record: Json, indication: str) -> bool:
+    """Whether a record shows something."""
+    return indication in record["indications"]
+
+
+# ---- the driver
+
+Need = Callable[["Follow", Json, Json], bool]
+NEEDS: dict[str, Need] = {
+    "a known item": lambda walk, was, now: now["confirmed"] in walk.driver.known,
+    "a valid identity": lambda walk, was, now: "identity" in walk.driver.valid,
+    "a valid level": lambda walk, was, now: was["level"] is not None,
+    "valid train data": lambda walk, was, now: "train_data" in walk.driver.valid,
+    "no outstanding trip": lambda walk, was, now: not is_shown(was, "trip"),
+    "an outstanding trip": lambda walk, was, now: is_shown(was, "trip"),
+    "a speed of at most V_NVALLOWOVTRP": lambda walk, was, now: walk.speed <= walk.known.national.allowed,
+    "that it is asked for or owed": lambda walk, was, now: is_shown(was, now["acknowledged"]),
+}
+"""What an action needs, by the words of the table: the walk, the record before, and its own."""
+
+
+def name_of_action(record: Json) -> str:
+    """The action of a record, by the words of the table."""
+    told = record["action"], record.get("acknowledged")
+    return next(name for name, words in ACTIONS.items() if words == told)
+
+
+def failing(action: Action, walk: "Follow", was: Json, now: Json) -> list[str]:
+    """Why an action isn't accepted; nothing where it is."""
+    found = [] if was["mode"] in action.modes else [IN_ANOTHER_MODE]
+    if action.stands and walk.speed:
+        found.append(NOT_STANDING)
+    return found + [need for need in action.needs
+                    if not NEEDS[coverage_sets.known(need, NEEDS, "What the driver does")](walk, was, now)]
+
+
+# ---- a life
+
+class Follow(Walk):
+    """Goes along the events of a life, and notes what they reach."""
+
+    def __init__(self, power_up: Json, events: list[Event], kept: Known, driver: Driver, notes: Reached) -> None:
+        super().__init__(events, kept)
+        self.was, self.notes = power_up, notes
+        self.driver: Driver = driver
+        self.speed: int = 0
+        self.accepted, self.has_missed = "", False
+        self.level: Level | None = None
+        self.profiles: set[int] = set()
+        self.trip_cause: str | None = None
+        """Why the train is tripped in this event, where it is."""
+        self.row_taken: int | None = None
+        self.states: dict[str, str | None] = dict.fromkeys(ACKNOWLEDGED, "nothing")
+
+    def event(self, number: int, event: Event) -> None:
+        """One event: the action before it has an effect, the rest behind it."""
+        record, self.accepted = event.record, ""
+        if record["kind"] == "driver":
+            self.act(record)
+        if record["kind"] == "telegram" and "refused" in record["decoded"]:
+            self.notes.add("refusals of telegrams", record["decoded"]["refused"]["name"])
+        super().event(number, event)
+        self.speed = record.get("speed_m_per_h", self.speed)
+        if record["level"] is not None:
+            self.driver.known.add("level")
+        self.was = record
+
+    # ---- the driver
+
+    def act(self, record: Json) -> None:
+        """An action, by what is known before it."""
+        name, mode = name_of_action(record), self.was["mode"]
+        why = failing(coverage_sets.actions()[name], self, self.was, record)
+        self.notes.add("actions by mode", coverage_sets.action_name(name, mode, not why))
+        if len(why) == 1:
+            self.notes.add("refusals of actions", coverage_sets.refusal_name(name, why[0]))
+        if why:
+            return
+        self.accepted = name
+        item = ITEMS.get(record["action"], record.get("confirmed"))
+        if item:
+            self.driver.known.add(item)
+            self.driver.valid.add(item)
+
+    # ---- balise groups
+
+    def group(self, group: str, way: int | bool | None = None, is_second: bool = False) -> None:
+        """What became of a group, by the row of its table that begins so."""
+        row = next((one for one, _, _ in coverage_sets.verdicts() if one.startswith(group)), None)
+        name = coverage_sets.known(row or group, [one for one, _, _ in coverage_sets.verdicts()], "What becomes of a balise group")
+        self.notes.add("linking verdicts", name if way is None else coverage_sets.group_name(name, way))
+        if is_second:
+            self.notes.add("linking verdicts", f"{name}: {SECOND}")
+
+    def lost(self, links: Sequence[Link]) -> bool:
+        """Announced groups are missed; whether that makes two in turn."""
+        is_second = len(links) + self.has_missed > 1
+        self.has_missed = self.has_missed or bool(links)
+        return is_second
+
+    def miss(self, number: int, closed: Sequence[Message]) -> None:
+        """Announcements that the minimum safe front has left."""
+        before = self.known.links
+        super().miss(number, closed)
+        missed = [link for link in before if link not in self.known.links]
+        is_second = self.lost(missed)
+        for link in missed:
+            self.end("link", "Group")
+            self.group("announced, and the minimum safe front of a reading", link.reaction, is_second)
+
+    def judge(self, message: Message, mode: str) -> None:
+        """What becomes of a closed group."""
+        before = self.known
+        super().judge(message, mode)
+        found = self.walked.messages[-1]
+        self.verdict(found, before)
+        for packet in found.own if not found.is_broken else ():
+            self.packet(packet, found, mode)
+
+    def verdict(self, message: Message, before: Known) -> None:
+        """The row of its table that a group is judged by."""
+        link = message.link
+        if link and (message.is_used or not message.is_broken):
+            self.end("link", "Group")
+        if message.is_broken:
+            if not message.is_linked:
+                self.group("broken, and Q_LINK is 0")
+            elif link:
+                self.end("link", "Group")
+                self.group("broken, Q_LINK is 1, and it is announced", link.reaction)
+            else:
+                self.group("broken, Q_LINK is 1, and it is not announced")
+        elif not message.is_linked:
+            self.group("Q_LINK is 0", before.is_free)
+        elif not before.links:
+            self.group("Q_LINK is 1, and no announcement is left", before.is_free)
+        elif link is None:
+            self.group("Q_LINK is 1, and others are announced")
+        elif message.nominal not in (None, link.nominal):
+            self.group("announced, and its direction")
+        elif not message.is_used:
+            self.group("announced, and the maximum safe front", link.reaction)
+        else:
+            self.take_link(before.links[:before.links.index(link)])
+
+    def take_link(self, missed: Sequence[Link]) -> None:
+        """An announced group is accepted; those that are announced before it are missed."""
+        if self.has_missed:
+            self.end("miss", "Group")
+        is_second = self.lost(missed)
+        self.has_missed = False
+        for link in missed:
+            self.group("announced, and none of these", link.reaction, is_second)
+
+    def packet(self, packet: Packet, message: Message, mode: str) -> None:
+        """A packet of a group that isn't broken, in the mode before the event."""
+        if packet.number not in coverage_sets.used() or not message.is_used:
+            return
+        is_used, direction = mode in coverage_sets.used()[packet.number], packet.told("Q_DIR")
+        if packet in message.packets or not is_used:
+            self.notes.add("packets by mode", coverage_sets.packet_name(packet.number, mode))
+        if is_used and (packet in message.packets or direction != BOTH):
+            self.notes.add("packets by direction", coverage_sets.direction_name(packet.number, direction, packet in message.packets))
+
+    # ---- facts of the track
+
+    def end(self, fact: str, place: str) -> None:
+        """A fact ends."""
+        self.notes.add("ends of track facts", coverage_sets.fact_name(fact, place))
+
+    def use(self, message: Message, packet: Packet) -> None:
+        """What a packet ends, before what it brings."""
+        known, level = self.known, level_of(packet, message) if packet.number == 41 else None
+        ended = {
+            3: ["values"] if known.waiting else [], 5: ["link"] if known.links else [],
+            12: [*(["authority", "look"] if known.authority else []), *(["areas"] if known.areas else [])],
+            80: ["areas"] if known.areas else [], 41: ["level"] if self.level and level else []}
+        for fact in ended.get(packet.number, ()):
+            self.end(fact, "Packet")
+        if packet.number in (65, 66) and packet.told("NID_TSR") != ALWAYS and any(
+                one.number == packet.told("NID_TSR") for one in known.restrictions):
+            self.end("restricted", "Packet")
+        if packet.number in (21, 27):
+            self.profiles.add(packet.number)
+        self.level = level or self.level
+        super().use(message, packet)
+
+    def there(self) -> Iterator[str]:
+        """The facts that count."""
+        known = self.known
+        facts = {"values": known.waiting, "link": known.links, "miss": self.has_missed, "authority": known.authority,
+                 "look": known.authority, "gradients": 21 in self.profiles, "speeds": 27 in self.profiles, "level": self.level,
+                 "restricted": known.restrictions, "areas": known.areas}
+        return (name for name in coverage_sets.facts() if facts[coverage_sets.known(name, facts, "What ends a fact")])
+
+    def settle(self, record: Json, closed: Sequence[Message], mode: str) -> None:
+        """What follows each event's own effect: values and levels that come into force, the mode, acknowledgements."""
+        waiting = self.known.waiting
+        entered = record["mode"] if record["mode"] != mode else None
+        came_in = self.come_in(record)
+        asking = {kind: self.asks(kind, record) for kind in ACKNOWLEDGED}
+        if waiting and record["max_safe_front_cm"] >= waiting[0]:
+            self.end("values", "Place")
+        if entered:
+            self.enter(record, mode, entered)
+        super().settle(record, closed, mode)
+        self.acknowledge(record, entered, came_in, asking)
+
+    def come_in(self, record: Json) -> int | None:
+        """The announced level that comes into force in this event."""
+        level = self.level
+        if level is None or level.place_cm is not None and record["max_safe_front_cm"] < level.place_cm:
+            return None
+        self.end("level", "Place")
+        self.level = None
+        return level.level
+
+    # ---- modes
+
+    def row(self, record: Json, mode: str, entered: str) -> int | None:
+        """The row of the mode table that was taken; None where that can't be told."""
+        rows = {row for row, (sources, target) in mode_table().items() if mode in sources and target == entered}
+        by_action = set(coverage_sets.actions()[self.accepted].rows) if self.accepted else set()
+        rows = rows & by_action or rows - {row for action in coverage_sets.actions().values() for row in action.rows}
+        if len(rows) > 1 and self.trip_cause is not None:
+            condition, cause = STAFF_DISTANCE
+            rows = {row for row in rows if (condition in coverage_sets.conditions()[row]) == (self.trip_cause == cause)}
+        return rows.pop() if len(rows) == 1 else None
+
+    def enter(self, record: Json, mode: str, entered: str) -> None:
+        """Another mode is entered: by which row, and what it deletes."""
+        self.row_taken = self.row(record, mode, entered)
+        if self.row_taken is not None:
+            self.notes.add("mode rows", f"{self.row_taken} from {mode}")
+        for fact in list(self.there()):
+            item = coverage_sets.facts()[fact].get(ITEM)
+            if item and coverage_sets.deletes(item, entered):
+                self.end(fact, ITEM)
+                if fact == "level":
+                    self.level = None
+        if coverage_sets.deletes("profiles", entered):
+            self.profiles.clear()
+        if coverage_sets.statuses()["train data"][entered] == "made invalid":
+            self.driver.valid.discard("train_data")
+
+    # ---- acknowledgements
+
+    def asks(self, kind: str, record: Json) -> bool:
+        """Whether the train is where an area or an announcement asks for an acknowledgement."""
+        front = record["max_safe_front_cm"]
+        if kind not in AREA_OF:
+            level = self.level
+            return bool(level and level.level == 0 and level.place_cm is not None and front >= level.place_cm - level.acknowledged_cm)
+        return any(area.kind == AREA_OF[kind] and (area.end_cm is None or area.end_cm > record["min_safe_front_cm"])
+                   and front >= area.start_cm - area.acknowledged_cm for area in self.known.areas)
+
+    def is_left(self, kind: str, record: Json) -> bool:
+        """Whether an area or an announcement of a kind is left."""
+        if kind not in AREA_OF:
+            return bool(self.level and self.level.level == 0)
+        return any(area.kind == AREA_OF[kind] and (area.end_cm is None or area.end_cm > record["min_safe_front_cm"])
+                   for area in self.known.areas)
+
+    def happenings(self, kind: str, record: Json, entered: str | None, came_in: int | None, asks: bool) -> Iterator[str]:
+        """What happens to an acknowledgement in an event, in its order."""
+        if ACTIONS.get(self.accepted) == ("acknowledge", kind):
+            yield "acknowledged"
+        row = self.row_taken if entered else None
+        by_area = row is not None and AREAS.get(kind) in coverage_sets.conditions()[row]
+        if by_area or kind not in AREA_OF and came_in == 0:
+            yield "entered"
+        if asks and record["mode"] != MODE_OF.get(kind):
+            yield "asked"
+        if entered and coverage_sets.deletes("acknowledgements", entered):
+            yield "deleted"
+        if not self.is_left(kind, record):
+            yield "settled"
+
+    def acknowledge(self, record: Json, entered: str | None, came_in: int | None, asking: dict[str, bool]) -> None:
+        """What becomes of each acknowledgement. One that the record contradicts isn't followed further in this life."""
+        for kind in ACKNOWLEDGED:
+            state = self.states[kind]
+            if state is None:
+                continue
+            for happening in self.happenings(kind, record, entered, came_in, asking[kind]):
+                row = coverage_sets.cells()[coverage_sets.known(happening, coverage_sets.cells(), "Acknowledgements")]
+                self.notes.add("acknowledgement cells", coverage_sets.cell_name(kind, happening, state))
+                state = state if row[state] == "same" else row[state]
+            self.states[kind] = state if (state in WAITING) == is_shown(record, kind) else None
+
+
+def level_of(packet: Packet, message: Message) -> Level | None:
+    """The level that a packet 41 announces: the first that the train can run in."""
+    start = packet.told("D_LEVELTR")
+    place = None if start == NOW else message.place_cm + packet.cm(start)
+    return next((Level(LEVEL_OF[told["M_LEVELTR"]], place, packet.cm(told["L_ACKLEVELTR"]))
+                 for told in packet.elements("M_LEVELTR") if told["M_LEVELTR"] in LEVEL_OF), None)
+
+
+# ---- causes
+
+Way = Callable[[Json, Json], bool]
+
+
+def is_action(action: str, acknowledged: tuple[str, ...] = ()) -> Way:
+    """Whether the driver did something."""
+    return lambda was, now: bool(now.get("action") == action and (not acknowledged or now["acknowledged"] in acknowledged))
+
+
+def stands(was: Json, now: Json) -> bool:
+    """Whether a reading says that the train stands."""
+    return bool(now.get("speed_m_per_h") == 0)
+
+
+def leaves(was: Json, now: Json) -> bool:
+    """Whether another mode is entered."""
+    return bool(was["mode"] != now["mode"])
+
+
+def is_deleted(was: Json, now: Json) -> bool:
+    """Whether a mode is entered that deletes acknowledgements."""
+    return leaves(was, now) and coverage_sets.deletes("acknowledgements", now["mode"])
+
+
+WAYS: dict[str, Way] = {
+    "the driver has revalidated": lambda was, now: bool(now["kind"] == "driver"),
+    "at a power-up alone": lambda was, now: bool(now["kind"] == "powerup"),
+    "the driver acknowledges the trip at standstill": is_action("acknowledge", ("trip",)),
+    "the train stands": stands,
+    "a greater D_NVROLL comes into force": lambda was, now: not stands(was, now),
+    "the speed is within the limit": lambda was, now: True,
+    "in another mode": lambda was, now: leaves(was, now) and not stands(was, now),
+    "the driver acknowledges": is_action("acknowledge", ACKNOWLEDGED),
+    "a mode deletes it": lambda was, now: is_deleted(was, now),
+    "a further transition begins it anew": lambda was, now: now["kind"] != "driver" and not is_deleted(was, now),
+}
+"""How a cause of the brake may end, by the words of `etcs_lab why`: whether the record before and that of the end tell it."""
+
+
+def ways_of(cause: str, was: Json, now: Json) -> Iterator[str]:
+    """How a cause ended, by the records before and of the event at which it did."""
+    for way in coverage_sets.ways(cause):
+        if WAYS[coverage_sets.known(way, WAYS, "the words of etcs_lab why")](was, now):
+            yield coverage_sets.end_name(cause, way)
+
+
+def measure_causes(records: Sequence[Json], told: Sequence[Causes], reached: Reached) -> None:
+    """The causes of brakes, of trips and of limits, and how those of brakes ended."""
+    for one in told:
+        for cause in one.held or ():
+            reached.add("brake causes", cause)
+        if one.limit:
+            reached.add("limit kinds", one.limit)
+        if one.trip:
+            reached.add("trip causes", one.trip.cause or "unknown")
+    for (was, before), (now, behind) in pairwise(zip(records, told)):
+        for cause in before.held or () if behind.held is not None else ():
+            if cause not in (behind.held or ()) and (was["life"] == now["life"] or now["kind"] == "powerup"):
+                for name in ways_of(cause, was, now) if was["life"] == now["life"] else power_up_ways(cause, was, now):
+                    reached.add("ends of brake causes", name)
+
+
+def power_up_ways(cause: str, was: Json, now: Json) -> Iterator[str]:
+    """How a cause ended at a power-up, where its words have that; others are no end, since nothing of them is kept."""
+    return (name for name in ways_of(cause, was, now) if name.endswith("at a power-up alone"))
+
+
+# ---- a journal
+
+def measure(journal: Journal) -> Reached:
+    """What the lives of a journal reach, each that is there from its power-up on."""
+    reached, driver, kept = Reached(), Driver(), Known()
+    told = list(causes_of(journal, rows_of(journal)))
+    measure_causes(journal.records, told, reached)
+    lives: dict[int, list[tuple[Json, Causes]]] = {}
+    for record, one in zip(journal.records, told):
+        lives.setdefault(record["life"], []).append((record, one))
+    for number, life in lives.items():
+        (power_up, _), *others = life
+        if power_up["kind"] != "powerup":
+            continue
+        reached.add("power-up words", power_up["word"])
+        driver.valid.clear()
+        kept = follow(power_up, others, kept, driver, reached)
+    return reached
+
+
+def follow(power_up: Json, others: Sequence[tuple[Json, Causes]], kept: Known, driver: Driver, reached: Reached) -> Known:
+    """Follows a life; answers what is known at its end."""
+    walk = Follow(power_up, [Event("", record["place_cm"], record) for record, _ in others],
+                  Known(national=kept.national, train=kept.train), driver, reached)
+    for number, (event, (_, causes)) in enumerate(zip(walk.walked.events, others)):
+        walk.trip_cause = causes.trip.cause if causes.trip and causes.trip.event == event.record["event"] else None
+        walk.event(number, event)
+        walk.walked.known.append(walk.known)
+    return walk.known

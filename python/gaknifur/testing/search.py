@@ -1,0 +1,299 @@
+"""Looks through random scenarios for one that breaks a property, and makes it small. docs/howto/searching.md says how it is
+used.
+
+A scenario is played on the programs, and judged by the records that `etcs_lab events` tells, or by another unit's
+answers to them. What breaks a property is made small by hypothesis, and then each step is left out without which it
+breaks it too. It is kept as a test case.
+"""
+import functools
+import json
+from collections.abc import Callable
+from dataclasses import dataclass, field
+from pathlib import Path
+from typing import Any
+
+import hypothesis
+from hypothesis import HealthCheck, Phase, settings
+
+from .. import program
+from ..journal.reading import Json, objects
+from ..program import REFUSED, Failed
+from ..units import oracle
+from . import case_runner, properties
+from .properties import Property, Violated
+from .scenarios import ACKNOWLEDGED, ALONE, COLD, CONFIRMED
+from .strategies import Made, lives, text_of
+from .yaml_text import flow, quoted
+
+Lives = tuple[str, ...]
+SLOTS = 128
+MADE_SMALL = 250
+"""How many scenarios are played to make one small, at most."""
+Records = Callable[[Lives], list[Json]]
+
+
+@dataclass(frozen=True)
+class Other:
+    """Another unit, and how long it has for an answer."""
+
+    command: str
+    within_s: float
+
+
+@dataclass
+class Found:
+    """What came of a property: how many scenarios were played, and records judged; and what broke it, made small."""
+
+    of: Property
+    scenarios: int = 0
+    judged: int = 0
+    lives: Lives | None = None
+    record: Json | None = None
+    said: str = ""
+
+    @property
+    def steps(self) -> int:
+        """How many steps the scenario has."""
+        return sum(len(json.loads(life)["steps"]) for life in self.lives or ())
+
+
+# ---- playing
+
+def image_of(scenarios: Lives, image: Path) -> None:
+    """Plays lives in turn on an image."""
+    program.format_image(image, SLOTS)
+    for text in scenarios:
+        scenario = image.with_name("scenario.json")
+        scenario.write_text(text, encoding="utf-8")
+        status, printed = program.etcs("run", "--", str(scenario), str(image))
+        if status:
+            raise Failed(f"etcs run ended with {printed[-1] if printed else f'status {status}'}: {text}", REFUSED)
+
+
+def recorded(scenarios: Lives) -> list[Json]:
+    """The records of lives."""
+    with program.room(SLOTS) as room:
+        image = Path(room) / "image"
+        records: list[Json] = []
+        ended: list[Json] = []
+        image_of(scenarios, image)
+
+        def take(told: Json) -> None:
+            (records if "event" in told else ended).append(told)
+
+        run = objects(["events"], image, take)
+        if run.status or not ended or "end" not in ended[-1]:
+            raise run.failed(image)
+    return properties.derived(case_runner.with_speeds(records))
+
+
+def answered(scenarios: Lives, other: Other) -> list[Json]:
+    """The records of lives with another unit's answers. One that breaks the protocol is told, with the lives."""
+    asked = oracle.ask(other.command, "search", recorded(scenarios), other.within_s)
+    if asked.broken:
+        raise Failed(f"the unit broke the protocol: {asked.broken}; scenarios: {' '.join(scenarios)}", REFUSED)
+    return properties.derived(oracle.answered(asked))
+
+
+def player(other: Other | None) -> Records:
+    """What plays lives, the same ones once."""
+    @functools.lru_cache(maxsize=20_000)
+    def played(scenarios: Lives) -> list[Json]:
+        return answered(scenarios, other) if other else recorded(scenarios)
+    return played
+
+
+# ---- searching
+
+@dataclass
+class Search:
+    """A search for what breaks a property."""
+
+    of: Property
+    records: Records
+    found: Found = field(init=False)
+    seen: dict[Lives, bool] = field(default_factory=dict)
+    """Of each scenario whether it breaks the property."""
+    left: int | None = None
+    """How many scenarios may still be played to make one small."""
+    first: Lives | None = None
+    """The first scenario that broke it."""
+
+    def __post_init__(self) -> None:
+        self.found = Found(self.of)
+
+    def is_broken(self, scenarios: Lives) -> bool:
+        """Whether lives break the property."""
+        if scenarios in self.seen:
+            return self.seen[scenarios]
+        if self.left is not None:
+            self.left -= 1
+            if self.left < 0:
+                return False
+        records = self.records(scenarios)
+        try:
+            judged, broken = properties.judge(self.of, records), False
+        except Violated:
+            judged, broken = 0, True
+        if self.left is None:
+            self.found.scenarios += 1
+            self.found.judged += judged
+        self.seen[scenarios] = broken
+        self.first = self.first or (scenarios if broken else None)
+        return broken
+
+    def tell(self, scenarios: Lives) -> Found:
+        """What there is to tell of lives that break the property."""
+        records = self.records(scenarios)
+        try:
+            properties.judge(self.of, records)
+        except Violated as violated:
+            self.found.lives, self.found.record, self.found.said = scenarios, records[violated.index], str(violated)
+        return self.found
+
+
+def smaller(scenarios: Lives) -> list[Lives]:
+    """The lives with one part less: a life, a step, a group."""
+    found = [scenarios[:at] + scenarios[at + 1:] for at in range(len(scenarios)) if len(scenarios) > 1]
+    for at, text in enumerate(scenarios):
+        life = json.loads(text)
+        for name in ("steps", "groups"):
+            for index in range(len(life[name]) - 1, -1, -1):
+                less = text_of(life | {name: life[name][:index] + life[name][index + 1:]})
+                found.append(scenarios[:at] + (less,) + scenarios[at + 1:])
+        if life["cold"]:
+            found.append(scenarios[:at] + (text_of(life | {"cold": 0}),) + scenarios[at + 1:])
+    return found
+
+
+def thinned(search: Search, scenarios: Lives) -> Lives:
+    """Lives of which no part can be left out."""
+    search.left = MADE_SMALL
+    while less := next((one for one in smaller(scenarios) if search.is_broken(one)), None):
+        scenarios = less
+    return scenarios
+
+
+class Broke(Exception):
+    """What hypothesis makes small."""
+
+
+def over_lives(made: Made, examples: int, seed: int, phases: tuple[Phase, ...], each: Callable[[Lives], None]) -> None:
+    """Hands random lives to a function. The same seed gives the same ones."""
+    settings(max_examples=examples, deadline=None, database=None, phases=phases,
+             suppress_health_check=list(HealthCheck),
+             report_multiple_bugs=False)(hypothesis.seed(seed)(hypothesis.given(lives(made))(each)))()
+
+
+def survey(told: list[Property], made: Made, records: Records, examples: int, seed: int) -> list[Search]:
+    """Looks through random scenarios for all properties at once."""
+    searches = [Search(one, records) for one in told]
+
+    def each(scenarios: Lives) -> None:
+        for search in searches:
+            if search.first is None:
+                search.is_broken(scenarios)
+
+    over_lives(made, examples, seed, (Phase.generate,), each)
+    return searches
+
+
+def made_small(search: Search, made: Made, examples: int, seed: int) -> Found:
+    """Finds what breaks a property once more, and makes it small."""
+    assert search.first is not None
+    last = [search.first]
+
+    def each(scenarios: Lives) -> None:
+        if search.is_broken(scenarios):
+            last[0] = scenarios
+            raise Broke
+
+    search.left = MADE_SMALL
+    try:
+        over_lives(made, examples, seed, (Phase.generate, Phase.shrink), each)
+    except Broke:
+        pass
+    return search.tell(thinned(search, last[0]))
+
+
+# ---- as a test case
+
+def name_of(numbers: dict[str, int], value: int) -> str:
+    """The word of a number."""
+    return next(word for word, number in numbers.items() if number == value)
+
+
+def action_text(told: list[Any]) -> str:
+    """A driver's action as a step in YAML."""
+    code, *values = told
+    if not values:
+        return name_of(ALONE, code)
+    if code == 3:
+        length, maximum, deceleration, reaction, category = values
+        return (f"enter_train_data: {{length: {length} cm, maximum: {maximum} m/h, deceleration: {deceleration} cm/s2, "
+                f"reaction: {reaction} ms, category: {category}}}")
+    if code in (5, 10):
+        word, words = ("confirm", CONFIRMED) if code == 5 else ("acknowledge", ACKNOWLEDGED)
+        return f"{word}: {name_of(words, values[0])}"
+    return {1: f"enter_identity: {quoted(str(values[0]))}", 2: f"enter_running_number: {values[0]}",
+            4: f"choose_level: {values[0]}"}[code]
+
+
+def step_text(step: Json, made: Made) -> str:
+    """A step in YAML."""
+    (word, value), = step.items()
+    if word == "telegram":
+        return f"telegram: {made.texts[value][0] if value in made.texts else value}"
+    if word == "drive":
+        return f"drive: {value[0]} cm at {value[1]} m/h"
+    if word == "clock":
+        return f"clock: {value} ms"
+    return action_text(value) if word == "driver" else "flush"
+
+
+def life_text(text: str, made: Made) -> list[str]:
+    """A life in YAML, a line a step."""
+    life = json.loads(text)
+    lines = [f"  - cold: {name_of(COLD, life['cold'])}"]
+    if life["groups"]:
+        lines.append("    groups:")
+    for group in life["groups"]:
+        balises = ", ".join(made.texts[one][0] if one in made.texts else one for one in group["balises"])
+        lines.append(f"      - {{at: {group['at']} cm, balises: [{balises}]}}")
+    steps = [f"      - {step_text(step, made)}" for step in life["steps"]]
+    return [*lines, *(["    steps:", *steps] if steps else ["    steps: []"])]
+
+
+def expected_text(found: Found) -> str:
+    """What was to be so of the record, as an expected result."""
+    of, record = found.of, found.record
+    assert record is not None
+    event, required = f"{{event: {record['event']}}}", flow(of.required.at)
+    if of.requires == "always":
+        return f"at: {event}, expect: {required}"
+    if of.requires == "leads_to":
+        assert of.within is not None
+        return f"after: {event}, expect: {required}, {of.within[0]}: {of.within[1]}"
+    never = required if of.requires == "never" else flow(of.chooses["where"].at)
+    return f"from: {event}, until: {event}, never: {never}"
+
+
+def case_text(found: Found, made: Made, name: str, how: str) -> str:
+    """The test case of what was found."""
+    assert found.lives is not None
+    used = {digits for life in found.lives for digits in digits_of(json.loads(life)) if digits in made.texts}
+    telegrams = sorted(made.texts[digits] for digits in used)
+    return "\n".join([
+        f"# {how}", f"test_case: {name}", "feature: Search",
+        f"sections: [{', '.join(quoted(one) for one in found.of.sections or ['4.4'])}]",
+        f"rule: {quoted(found.of.note)}", "starting_conditions: power comes on",
+        *(["telegrams:", *(f"  {one}: {quoted(' '.join(text.split()))}" for one, text in telegrams)] if telegrams
+          else []),
+        "lives:", *(line for life in found.lives for line in life_text(life, made)),
+        "expected:", f"  - {{note: {quoted(found.of.note)}, {expected_text(found)}}}", ""])
+
+
+def digits_of(life: Json) -> list[str]:
+    """The telegrams of a life."""
+    return [step["telegram"] for step in life["steps"] if "telegram" in step] + [one for group in life["groups"]
+                                                                                 for one in group["balises"]]

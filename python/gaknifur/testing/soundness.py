@@ -1,0 +1,76 @@
+"""Whether a journal is sound: the image is whole, the kernel answers as it tells, and what was released is what it tells."""
+import re
+from collections.abc import Iterable, Sequence
+
+from ..journal.reading import Journal, Json
+from ..units._header import Indication
+
+RELEASED = re.compile(r"event (\d+) mode (\w\w) level (\d|-) brake (\w+) limit (\d+) ind (\d+)")
+BITS = {name.lower(): int(sign) for name, sign in Indication.__members__.items()}
+
+
+class Missed(Exception):
+    """An expected result that didn't come: what was wanted, what was found, and the record where that is seen."""
+
+    def __init__(self, wanted: str, found: str, record: Json | None = None) -> None:
+        super().__init__(f"expected: {wanted}\nfound:    {found}" + (f"\nrecord:   {record_text(record)}" if record else ""))
+
+    @classmethod
+    def of(cls, said: str) -> "Missed":
+        """One of which all is said already."""
+        missed = cls("", "")
+        missed.args = (said,)
+        return missed
+
+
+def record_text(record: Json) -> str:
+    """A record, for people."""
+    if "speed_kmh" not in record:
+        from .cases import derived  # (a test case takes longer to load than a life to play)
+        record = derived({"speed_m_per_h": None} | record)
+    speed = f", speed {record['speed_kmh']:f} km/h" if record["speed_kmh"] is not None else ""
+    train = f"; the train is at {record['train_place_m']} m, speed {record['train_speed_kmh']} km/h" if "train_place_m" in record else ""
+    return (f"event {record['event']} of life {record['life']} ({record['kind']}): {record['mode']}, level "
+            f"{'unknown' if record['level'] is None else record['level']}, brake {record['brake']}, at {record['place_m']:f} m, "
+            f"{record['time_ms']} ms{speed}, limit {record['limit_kmh']:f} km/h, shows {' '.join(record['indications']) or 'nothing'}"
+            f"{train}")
+
+
+def check_image(journal: Journal) -> None:
+    """The image is whole, and the kernel answers as the journal tells."""
+    if journal.refusal is not None:
+        raise Missed("a journal that can be read", journal.refusal)
+    if not journal.is_whole:
+        raise Missed("a whole image", "etcs_lab examine says that something is lost, damaged or contradicts")
+    if journal.records:
+        check_replay(journal.replay)
+
+
+def check_replay(lines: Sequence[Json]) -> None:
+    """The kernel answers as the journal tells, by the lines of a replay."""
+    if not lines:
+        raise Missed("a replay of the journal", "etcs_lab replay refused it")
+    for line in lines:
+        if line.get("replay", "agrees") not in ("agrees", "not_replayed"):
+            raise Missed("a replay that agrees with the journal", f"etcs_lab replay says: {line}")
+        if line.get("replay") == "not_replayed" and line.get("reason") != "before_oldest_block":
+            raise Missed("a replay of all records", f"etcs_lab replay says: {line}")
+    if lines[-1].get("end") != "nothing_differs":
+        raise Missed("a replay in which nothing differs", str(lines[-1]))
+
+
+def output_text(record: Json) -> str:
+    """The line of a record's output, as `etcs run` prints it."""
+    level = "-" if record["level"] is None else record["level"]
+    return (f"event {record['event']} mode {record['mode']} level {level} brake {record['brake']} limit {record['limit_m_per_h']} "
+            f"ind {sum(map(BITS.__getitem__, record['indications']))}")
+
+
+def check_released(printed: Iterable[str], records: Iterable[Json]) -> None:
+    """Each output that was released is that of its record. Other lines that were printed aren't looked at, and none of an older block,
+    which was written over."""
+    by_head = {f"event {record['event']}": record for record in records}
+    told = set(map(output_text, by_head.values()))
+    for line in printed:
+        if line not in told and (record := by_head.get(line[:line.find(" ", 6)])) is not None and RELEASED.fullmatch(line):
+            raise Missed(f"the output of its record: {output_text(record)}", f"this output was released: {line}", record)

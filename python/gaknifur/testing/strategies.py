@@ -1,0 +1,214 @@
+"""What random scenarios are made of: tracks, trains, drivers and losses of power, as strategies of hypothesis.
+
+A file of properties may say what its scenarios are made of (docs/howto/searching.md); what it doesn't say is told here. What
+stands first is the simplest, so a scenario that is made small goes that way. Forward drives prevail: lives in which all
+steps are as frequent stay near their beginning.
+"""
+import json
+from collections.abc import Callable, Iterable
+from dataclasses import dataclass, field
+from typing import Any
+
+from hypothesis import strategies as st
+
+from ..yaml_files import Value
+from . import scenarios, telegrams
+from .scenarios import ACKNOWLEDGED, ALONE, CONFIRMED, Shared
+
+Step = dict[str, Any]
+TRACK = "21: D_GRADIENT 0, Q_GDIR 1, G_A 0; 27: D_STATIC 0, V_STATIC 24, Q_FRONT 1"
+TELEGRAMS = {
+    "authority_100": f"NID_BG 2; 12: V_MAIN 24, L_ENDSECTION 100; {TRACK}",
+    "authority_1000": f"NID_BG 2; 12: V_MAIN 24, L_ENDSECTION 1000; {TRACK}",
+    "group": "NID_BG 7",
+    "broken_group": "NID_BG 8, Q_LINK 0, N_TOTAL 1",
+    "restriction": "NID_BG 9; 65: NID_TSR 1, D_TSR 0, L_TSR 300, Q_FRONT 1, V_TSR 4",
+    "level_0": "NID_BG 10; 41: D_LEVELTR 32767, M_LEVELTR 0, L_ACKLEVELTR 0",
+    "level_1": "NID_BG 11; 41: D_LEVELTR 32767, M_LEVELTR 2, L_ACKLEVELTR 0",
+    "on_sight": f"NID_BG 12; 12: V_MAIN 24, L_ENDSECTION 1000; {TRACK}; 80: D_MAMODE 100, M_MAMODE 0, V_MAMODE 6, "
+                "L_MAMODE 300, L_ACKMAMODE 100",
+    "shunting": f"NID_BG 13; 12: V_MAIN 24, L_ENDSECTION 1000; {TRACK}; 80: D_MAMODE 100, M_MAMODE 1, V_MAMODE 127, "
+                "L_MAMODE 32767, L_ACKMAMODE 100",
+    "stop": "NID_BG 14; 12: V_MAIN 0, L_ENDSECTION 100",
+}
+"""The telegrams of a track that isn't told: the first two are heard where a life begins ready."""
+WAYS_CM, BACK_CM = (100, 1_000, 5_000, 10_000), (100, 300)
+SPEEDS, BACK_SPEED = (5_000, 20_000, 40_000, 90_000), 1_000
+WAITS_MS = (1_000, 5_000, 60_000)
+TRAIN = [20_000, 160_000, 70, 0, 15]
+MOST = {"steps": 20, "lives": 2, "groups": 2}
+LIMITS = {"steps": 100, "lives": 8, "groups": 16}
+TRACK_CM = 50_000
+MADE_OF = ("begins", "telegrams", "trains", "ways", "speeds", "waits", "track", *MOST)
+FORWARD, READY = 6, 3
+"""How often a drive forward comes for each other kind of step, and a ready beginning for each other one."""
+
+
+@dataclass
+class Made:
+    """What scenarios are made of: telegrams in hex, and numbers in the units of a scenario."""
+
+    telegrams: list[str]
+    begins: list[list[Step]]
+    trains: list[list[int]] = field(default_factory=lambda: [TRAIN])
+    ways: tuple[int, ...] = WAYS_CM
+    speeds: tuple[int, ...] = SPEEDS
+    waits: tuple[int, ...] = WAITS_MS
+    track_cm: int = TRACK_CM
+    most: dict[str, int] = field(default_factory=lambda: dict(MOST))
+    texts: dict[str, tuple[str, str]] = field(default_factory=dict)
+    """Of a telegram its name, and how it is told by its variables."""
+
+
+def ready(telegram: str, train: list[int]) -> list[Step]:
+    """A train that is made ready: an authority, the identity, level 1, the train data, and the start."""
+    return [{"telegram": telegram}, *({"driver": action} for action in ([1, "IC 704"], [4, 1], [3, *train], [6]))]
+
+
+def begins_of(digits: list[str], train: list[int]) -> list[list[Step]]:
+    """How a life begins: ready, tripped behind 100 m, and in Unfitted."""
+    short, long = (ready(one, train) for one in digits[:2])
+    return [short, long, [*short, *({"drive": told} for told in ([10_000, 20_000], [5_000, 20_000], [0, 0]))],
+            [{"driver": action} for action in ([1, "IC 704"], [4, 0], [3, *train], [6])]]
+
+
+def usual() -> Made:
+    """What scenarios are made of where nothing is told."""
+    texts = {telegrams.telegram(text).digits: (name, text) for name, text in TELEGRAMS.items()}
+    digits = list(texts)
+    return Made(digits, begins_of(digits, TRAIN), texts=texts)
+
+
+# ---- what a file tells
+
+def telegrams_of(at: Value, shared: Shared) -> dict[str, tuple[str, str]]:
+    """The telegrams that are told: by their digits names and texts."""
+    found = {}
+    for number, one in enumerate(at.elements(), 1):
+        name = one.text() if one.is_text() else ""
+        told = shared.telegrams.get(name, one)
+        digits = scenarios.digits_of(one, shared)
+        found[digits] = (name if name in shared.telegrams else f"telegram_{number}", told.text() if told.is_text()
+                         else digits)
+    return found
+
+
+def steps_of(at: Value, shared: Shared) -> list[Step]:
+    """The steps of a part, with which a life may begin."""
+    builder = scenarios.Builder(shared)
+    name = at.one_of(shared.parts)
+    builder.steps(shared.parts[name], 1)
+    return builder.built.steps
+
+
+def quantities(at: Value, kind: str, least: int, most: int) -> tuple[int, ...]:
+    """A list of quantities, of which at least one is there."""
+    found = tuple(scenarios.told_quantity(one, kind, least, most) for one in at.elements())
+    if not found:
+        raise at.fault("the list is empty")
+    return found
+
+
+def made_of(at: Value | None, shared: Shared) -> Made:
+    """What the scenarios of a file are made of."""
+    made = usual()
+    told = at.members((), MADE_OF) if at else {}
+    if "telegrams" in told:
+        texts = telegrams_of(told["telegrams"], shared)
+        made.texts, made.telegrams = made.texts | texts, list(texts)
+    if "trains" in told:
+        made.trains = [scenarios.train_of(one) for one in told["trains"].elements()] or [TRAIN]
+        made.begins = [one for train in made.trains for one in begins_of(list(usual().texts), train)]
+    if "begins" in told:
+        made.begins = [steps_of(one, shared) for one in told["begins"].elements()]
+    if "ways" in told:
+        made.ways = quantities(told["ways"], "distance", 1, scenarios.LONGEST_CM)
+    if "speeds" in told:
+        made.speeds = quantities(told["speeds"], "speed", 1, scenarios.MOST_SPEED)
+    if "waits" in told:
+        made.waits = quantities(told["waits"], "time", 0, scenarios.MOST_MOMENT >> 8)
+    if "track" in told:
+        made.track_cm = scenarios.told_quantity(told["track"], "distance", 100, scenarios.MOST_PLACE_CM)
+    made.most |= {name: told[name].integer(0 if name == "groups" else 1, LIMITS[name]) for name in MOST if name in told}
+    return made
+
+
+# ---- strategies
+
+ANSWERS = [*[[6]] * 2, *([10, one] for one in ACKNOWLEDGED.values() for _ in range(2)),
+           *([one] for one in ALONE.values() if one != 6)]
+"""What a driver does without entering anything: he starts and acknowledges, twice as often as he chooses."""
+
+
+def entries(made: Made) -> list[list[Any]]:
+    """What a driver enters and confirms."""
+    return [*([5, one] for one in CONFIRMED.values()), [4, 1], [4, 0], [1, "IC 704"],
+            *([3, *train] for train in made.trains), [2, 704]]
+
+
+def of(word: str, values: Iterable[Any]) -> st.SearchStrategy[Step]:
+    """A step with one of some values."""
+    return st.sampled_from([{word: value} for value in values])
+
+
+def drive(way: int, speed: int) -> Step:
+    """A movement at a speed. (hypothesis looks up the source of each lambda, so none stands here.)"""
+    return {"drive": [way, speed]}
+
+
+def steps(made: Made) -> st.SearchStrategy[Step]:
+    """A step. A wait is told by how long it is."""
+    forward = st.builds(drive, st.sampled_from(made.ways), st.sampled_from(made.speeds))
+    stands, answers = of("drive", [[0, 0]]), of("driver", ANSWERS)
+    return st.one_of(*[forward] * FORWARD, stands, stands, answers, answers, answers, of("driver", entries(made)),
+                     of("telegram", made.telegrams), of("wait", made.waits),
+                     of("drive", [[-way, BACK_SPEED] for way in BACK_CM]))
+
+
+def group(metres: int, telegram: str) -> Step:
+    """A group of one balise."""
+    return {"at": 100 * metres, "spacing": 1, "balises": [telegram]}
+
+
+def place_of(one: Step) -> int:
+    """Where a group lies."""
+    return int(one["at"])
+
+
+def in_order(found: list[Step]) -> list[Step]:
+    """Groups by their places."""
+    return sorted(found, key=place_of)
+
+
+def groups(made: Made) -> st.SearchStrategy[list[Step]]:
+    """Groups of one balise on the track, each at a place of its own."""
+    if not made.most["groups"]:
+        return st.just([])
+    one = st.builds(group, st.integers(1, made.track_cm // 100), st.sampled_from(made.telegrams))
+    return st.lists(one, max_size=made.most["groups"], unique_by=place_of).map(in_order)
+
+
+def timed(found: list[Step]) -> list[Step]:
+    """Steps with moments in place of waits."""
+    moment, told = 0, []
+    for step in found:
+        moment = step.get("clock", moment + step.get("wait", 0))
+        told.append({"clock": moment} if "wait" in step else step)
+    return told
+
+
+def lives(made: Made) -> st.SearchStrategy[tuple[str, ...]]:
+    """The scenarios, in JSON, of lives between which power is lost."""
+    begins = st.sampled_from([[], *made.begins * READY]) if made.begins else st.just([])
+
+    @st.composite
+    def life(draw: Callable[[Any], Any]) -> str:
+        told = draw(begins) + draw(st.lists(steps(made), max_size=made.most["steps"]))
+        return text_of({"groups": draw(groups(made)), "steps": timed(told), "cold": draw(st.integers(0, 2))})
+
+    return st.lists(life(), min_size=1, max_size=made.most["lives"]).map(tuple)
+
+
+def text_of(life: dict[str, Any]) -> str:
+    """A scenario as a text; the same one always by the same."""
+    return json.dumps(life, separators=(",", ":"))

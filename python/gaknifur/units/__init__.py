@@ -1,0 +1,1 @@
+"""The C declarations, and the protocol by which other units are asked (docs/howto/oracle.md)."""

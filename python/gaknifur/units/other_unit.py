@@ -1,0 +1,228 @@
+"""A maker's own unit, as a program that speaks the protocol of docs/howto/oracle.md over its standard streams.
+
+It is started once for each case or image, asked event by event, and ended. Whatever it does, each call comes back
+within the time that it has: what breaks the protocol, is late or ends before its time raises `Broken`, and no process
+of it stays behind. What it may use is limited (module `sandbox`).
+"""
+import contextlib
+import os
+import selectors
+import shlex
+import signal
+import subprocess
+import time
+from types import TracebackType
+from typing import Self
+
+from ..journal.reading import Json
+from ..program import DEVICE, WRONG_WORDS, Failed
+from .protocol import MOST_LINE, PROTOCOL, Greeting, Wrong, checked, greeting_of, line_of, short
+from .sandbox import Confined
+
+WITHIN_S = 10.0
+"""How long a unit has for an answer, where nothing else is told."""
+MOST_SAID, MOST_READS, LOOK_S = 4_096, 64, 0.001
+"""The last bytes of standard error that are kept; how often a stream is read that has ended or is given up; and how often
+it is looked whether a process has ended."""
+
+
+class Broken(Exception):
+    """A unit that broke the protocol: behind how many answers, and how."""
+
+    def __init__(self, said: str, answers: int) -> None:
+        super().__init__(said)
+        self.answers = answers
+
+
+def words_of(command: str) -> list[str]:
+    """The words of a command, as a shell parts them; no shell runs it."""
+    try:
+        words = shlex.split(command)
+    except ValueError as error:
+        raise Failed(f"--against: {error}", WRONG_WORDS) from None
+    if not words:
+        raise Failed("--against: a command is missing", WRONG_WORDS)
+    return words
+
+
+class Streams:
+    """The pipes to and from a unit. None of them is waited for beyond a deadline, and of each no more is kept than a message
+    or the last line needs."""
+
+    def __init__(self, process: "subprocess.Popen[bytes]") -> None:
+        assert process.stdin is not None and process.stdout is not None and process.stderr is not None
+        self.into, self.out, self.errors = process.stdin, process.stdout, process.stderr
+        self.unsent, self.received, self.last_said = b"", b"", b""
+        self.is_at_end = False
+        self.ready = selectors.DefaultSelector()
+        for stream in (self.into, self.out, self.errors):
+            os.set_blocking(stream.fileno(), False)
+        self.ready.register(self.out, selectors.EVENT_READ, self.receive)
+        self.ready.register(self.errors, selectors.EVENT_READ, self.listen)
+
+    def send(self, message: bytes) -> None:
+        """Takes a message, which `move` sends."""
+        self.unsent = message
+        self.ready.register(self.into, selectors.EVENT_WRITE, self.write)
+
+    def move(self, deadline: float) -> bool:
+        """Waits until a stream is ready, and moves what can be moved; whether one was ready in time."""
+        left = deadline - time.monotonic()
+        found = self.ready.select(left) if left > 0 else []
+        for key, _ in found:
+            key.data()
+        return bool(found)
+
+    def write(self) -> None:
+        """Sends what the unit takes."""
+        try:
+            self.unsent = self.unsent[os.write(self.into.fileno(), self.unsent):]
+        except BlockingIOError:
+            return
+        except BrokenPipeError:  # (its standard output then tells how it ended)
+            self.unsent = b""
+        if not self.unsent:
+            self.ready.unregister(self.into)
+
+    def receive(self) -> None:
+        """Takes what it answers."""
+        data = os.read(self.out.fileno(), MOST_LINE)
+        self.received += data
+        if not data:
+            self.is_at_end = True
+            self.ready.unregister(self.out)
+
+    def listen(self) -> bool:
+        """Takes what it says on standard error; whether there was something."""
+        try:
+            data = os.read(self.errors.fileno(), MOST_LINE)
+        except BlockingIOError:
+            return False
+        self.last_said = (self.last_said + data)[-MOST_SAID:]
+        if not data:
+            self.ready.unregister(self.errors)
+        return bool(data)
+
+    def last_line(self) -> str | None:
+        """The last line on standard error that says something."""
+        if self.errors in self.ready.get_map():
+            any(not self.listen() for _ in range(MOST_READS))
+        lines = [line for line in self.last_said.decode("utf-8", "replace").splitlines() if line.strip()]
+        return lines[-1] if lines else None
+
+    def close_input(self) -> None:
+        """Closes its standard input."""
+        with contextlib.suppress(OSError):
+            self.into.close()
+
+    def close(self) -> None:
+        """Closes all of them."""
+        self.ready.close()
+        for stream in (self.into, self.out, self.errors):
+            with contextlib.suppress(OSError):
+                stream.close()
+
+
+class OtherUnit:
+    """A unit's process, from `with` on to its end."""
+
+    def __init__(self, command: str, within_s: float = WITHIN_S) -> None:
+        self.words, self.within_s = words_of(command), within_s
+        self.answers = 0
+        self.greeting: Greeting | None = None
+        try:
+            self.confined = Confined(self.words)
+        except OSError as error:
+            raise Failed(f"--against: {short(self.words[0])}: {error.strerror}", DEVICE) from None
+        self.process = self.confined.process
+        self.streams = Streams(self.process)
+
+    def __enter__(self) -> Self:
+        return self
+
+    def __exit__(self, kind: type[BaseException] | None, error: BaseException | None,
+                 trace: TracebackType | None) -> None:
+        self.kill()
+
+    def kill(self) -> None:
+        """Ends what is left of it: the process, and those of its session that it began."""
+        self.confined.kill()
+        self.streams.close()
+
+    # ---- lines
+
+    def broken(self, said: str) -> Broken:
+        """What is said of it, with the last line that it wrote on standard error."""
+        line = self.streams.last_line()
+        return Broken(said if line is None else f"{said}; it said: {short(line)}", self.answers)
+
+    def unasked(self, where: str) -> Broken:
+        """A line that isn't an answer."""
+        return self.broken(f"{where}: a line that nobody asked for: {short(self.streams.received.decode('utf-8', 'replace'))}")
+
+    def ended(self, deadline: float) -> str:
+        """How its process ended, behind the end of its standard output."""
+        while (status := self.confined.status()) is None and (now := time.monotonic()) < deadline:
+            self.streams.move(min(deadline, now + LOOK_S))
+        if status is None:
+            return "closed its standard output"
+        if status < 0:
+            name = signal.Signals(-status).name if -status in signal.Signals.__members__.values() else "unknown"
+            return f"was ended by signal {-status} ({name})"
+        return f"ended with status {status}"
+
+    def asked(self, told: Json, where: str) -> bytes:
+        """The line that answers a message. The unit has one time to take the message and to answer it."""
+        streams, deadline = self.streams, time.monotonic() + self.within_s
+        if streams.received:
+            raise self.unasked(where)
+        streams.send(line_of(told).encode())
+        while True:
+            line, end, rest = streams.received.partition(b"\n")
+            if len(line) >= MOST_LINE:
+                raise self.broken(f"{where}: a line of more than {MOST_LINE:,} bytes")
+            if end and not streams.unsent:
+                streams.received = rest
+                return line
+            if streams.is_at_end and not end:
+                said = "a line without its end, and then it" if line else "it"
+                raise self.broken(f"{where}: {said} {self.ended(deadline)}")
+            if not streams.move(deadline):
+                said = "it doesn't read its input, and has not taken the message" if streams.unsent else "no answer"
+                raise self.broken(f"{where}: {said} within {self.within_s:g} s")
+
+    # ---- the protocol
+
+    def greet(self, name: str) -> Greeting:
+        """The greeting: which unit it is, and what it tells."""
+        line = self.asked({"protocol": PROTOCOL, "case": name}, "greeting")
+        try:
+            self.greeting = greeting_of(line)
+        except Wrong as wrong:
+            raise self.broken(f"greeting: {wrong}") from None
+        return self.greeting
+
+    def answer(self, event: Json) -> Json:
+        """Its answer to an event."""
+        assert self.greeting is not None
+        where = f"event {event['event']}"
+        line = self.asked(event, where)
+        try:
+            told = checked(line, event["event"], self.greeting.tells)
+        except Wrong as wrong:
+            raise self.broken(f"{where}: {wrong}") from None
+        self.answers += 1
+        return told
+
+    def end(self) -> None:
+        """Closes its standard input. It ends with status 0, and says nothing more."""
+        self.streams.close_input()
+        deadline = time.monotonic() + self.within_s
+        while not self.streams.received and not self.streams.is_at_end:
+            if not self.streams.move(deadline):
+                raise self.broken(f"end: it goes on for {self.within_s:g} s")
+        if self.streams.received:
+            raise self.unasked("end")
+        how = self.ended(deadline)
+        if how != "ended with status 0":
+            raise self.broken(f"end: it {how}")

@@ -1,0 +1,138 @@
+"""The proved unit under the protocol of docs/howto/oracle.md: the library of `unit`, over a journal in memory.
+
+Each event is flushed by itself, so that each has its answer at once. The output of a power-up is never released; its
+record tells it.
+"""
+import os
+import sys
+from typing import BinaryIO, Protocol
+
+from .. import unit
+from ..journal.reading import Json
+from ..program import DEVICE, REFUSED, Failed
+from ..simulation import closed_loop
+from ..simulation.driving import MODES
+from ..unit import Action, Brake, Cold, Indication, Level, MemoryMedium, TrainData, Unit
+from . import protocol
+
+SLOTS = 64
+DIRECT = ("start", "choose_shunting", "leave_shunting", "override", "close_desk")
+
+
+class Answering(Protocol):
+    """What answers events: the proved unit, or another one."""
+
+    def answer(self, event: Json) -> Json:
+        """The answer to an event."""
+
+
+def action_of(event: Json) -> Action:
+    """The driver's action that has no value of its own, or one of a few."""
+    name = event["action"]
+    if name == "choose_level":
+        return Action[f"CHOOSE_LEVEL_{event['chosen_level']}"]
+    if name in ("confirm", "acknowledge"):
+        return Action[f"{name}_{event['confirmed' if name == 'confirm' else 'acknowledged']}".upper()]
+    return Action[name.upper()]
+
+
+def told(event: int, mode: unit.Mode, level: unit.Level, brake: Brake, shows: Indication, place: int | None,
+         uncertainty: int | None,
+         limit: int | None) -> Json:
+    """An answer, with all its members."""
+    return {"event": event, "mode": MODES[mode], "level": None if level == Level.INVALID else int(level),
+            "brake": brake.name.lower(),
+            "indications": [one.name.lower() for one in Indication if one in shows and one.name], "place_cm": place,
+            "uncertainty_cm": uncertainty, "limit_m_per_h": limit}
+
+
+class OwnUnit:
+    """The proved unit. It never had power before the first power-up; power is lost at each further one."""
+
+    def __init__(self) -> None:
+        closed_loop.check_library()
+        self.medium = MemoryMedium.formatted(SLOTS)
+        self.unit: Unit | None = None
+
+    def close(self) -> None:
+        """Gives its memory back."""
+        if self.unit:
+            self.unit.close()
+        self.unit = None
+
+    def power_up(self, word: str) -> Json:
+        """Power is lost, where there was any, and comes back."""
+        self.close()
+        opened = Unit(self.medium, Cold[word.upper()])
+        opened.open()
+        self.unit = opened
+        last = list(unit.records(self.medium.read()))[-1]
+        return told(last.event, last.mode, last.level, last.brake, last.indications, last.front_cm, last.uncertainty_cm,
+                    last.limit_m_per_h)
+
+    def take(self, one: Unit, event: Json) -> None:
+        """Hands the unit what came."""
+        kind, action = event["kind"], event.get("action")
+        if kind == "telegram":
+            one.telegram(bytes.fromhex(event["telegram"]))
+        elif kind == "odometer":
+            one.odometer(event["movement_cm"], event["speed_m_per_h"])
+        elif kind == "clock":
+            one.clock(event["now_ms"])
+        elif action == "enter_identity":
+            one.identity(event["identity"])
+        elif action == "enter_running_number":
+            one.running_number(event["running_number"])
+        elif action == "enter_train_data":
+            one.train_data(TrainData(*(event[name]
+                                       for name in ("length_cm", "maximum_m_per_h", "deceleration_cm_per_s2",
+                                                    "reaction_ms",
+                                                                "category"))))
+        else:
+            one.action(action_of(event))
+
+    def answer(self, event: Json) -> Json:
+        """The answer to an event. `unit.Refused` where the unit doesn't take it."""
+        if event["kind"] == "powerup":
+            return self.power_up(event["word"])
+        if self.unit is None:
+            raise Failed(f"event {event['event']}: the first event has to be a power-up", REFUSED)
+        self.take(self.unit, event)
+        output, = self.unit.flush()
+        state = self.unit.state()
+        return told(output.event, output.mode, output.level, output.brake, output.indications, state.front_cm,
+                    state.uncertainty_cm,
+                    output.limit_m_per_h)
+
+
+def answered(own: OwnUnit, line: bytes, is_first: bool) -> Json:
+    """The answer to a line: the greeting behind the first one."""
+    message = protocol.object_of(line)
+    if is_first:
+        if message.get("protocol") != protocol.PROTOCOL:
+            raise protocol.Wrong(f"the protocol {message.get('protocol')}, and this one is {protocol.PROTOCOL}")
+        return {"protocol": protocol.PROTOCOL, "unit": f"Gaknifur {unit.version()}", "tells": list(protocol.ANSWER)}
+    return own.answer(message)
+
+
+def serve(into: BinaryIO, out: BinaryIO) -> None:
+    """Answers each line until there are no more."""
+    own = OwnUnit()
+    try:
+        for number, line in enumerate(into):
+            try:
+                answer = answered(own, line, number == 0)
+            except (protocol.Wrong, unit.Refused, KeyError, TypeError, ValueError) as error:
+                said = f"{error} is missing or unknown" if isinstance(error, KeyError) else str(error)
+                raise Failed(f"serve: line {number + 1}: {said}", REFUSED) from error
+            out.write(protocol.line_of(answer).encode())
+            out.flush()
+    finally:
+        own.close()
+
+
+def serve_streams() -> None:
+    """Answers on the standard streams."""
+    if sys.stdin is None or sys.stdin.closed:
+        raise Failed(f"serve: {os.strerror(9)}", DEVICE)
+    serve(sys.stdin.buffer, sys.stdout.buffer)

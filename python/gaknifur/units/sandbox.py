@@ -1,0 +1,160 @@
+"""What a unit under test may use: a session of its own, limits of the system, and a sandbox where bubblewrap is there.
+
+The limits hold for each of its processes, and are set between the start of the process and that of the unit's program.
+The sandbox (`bwrap`) has processes of its own and no network; it sees all files, and writes to a small folder in memory
+alone, which TMPDIR names. docs/howto/oracle.md lists the limits.
+"""
+import contextlib
+import errno
+import functools
+import os
+import shutil
+import signal
+import subprocess
+import tempfile
+from collections.abc import Callable, Sequence
+from pathlib import Path
+
+from ..program import DEVICE, WRONG_WORDS, Failed
+
+MIB = 1 << 20
+MEMORY, SANDBOX = "GAKNIFUR_UNIT_MEMORY", "GAKNIFUR_UNIT_SANDBOX"
+"""Variables of the environment: the unit's address space in MiB, 0 for no limit; and `none` for no sandbox."""
+MEMORY_MIB, FILE_MIB, OPEN_FILES, PROCESSES = 4_096, 64, 256, 256
+"""Address space of a process, greatest file, open files, and processes and threads more than the system has now."""
+SCRATCH_MIB = 64
+PROC = Path("/proc")
+
+
+def memory_mib() -> int:
+    """The limit of the address space in MiB; 0 for none."""
+    text = os.environ.get(MEMORY, str(MEMORY_MIB))
+    if not text.isascii() or not text.isdigit() or int(text) >= 1 << 30:
+        raise Failed(f"{MEMORY}: a number of MiB is needed, or 0 for no limit", WRONG_WORDS)
+    return int(text)
+
+
+def tasks() -> int:
+    """How many processes and threads the system has: no fewer than the user has."""
+    try:
+        return int((PROC / "loadavg").read_text().split()[3].partition("/")[2])
+    except (OSError, ValueError, IndexError):
+        return 1 << 12
+
+
+def limits() -> dict[int, int]:
+    """The limits of a unit's process. One that is lower here already stays."""
+    import resource
+    wanted = {resource.RLIMIT_CORE: 0, resource.RLIMIT_FSIZE: FILE_MIB * MIB, resource.RLIMIT_NOFILE: OPEN_FILES,
+              resource.RLIMIT_NPROC: tasks() + PROCESSES}
+    if mib := memory_mib():
+        wanted[resource.RLIMIT_AS] = mib * MIB
+    found = {}
+    for which, value in wanted.items():
+        highest = resource.getrlimit(which)[1]
+        found[which] = value if highest == resource.RLIM_INFINITY else min(value, highest)
+    return found
+
+
+def limiting() -> Callable[[], None]:
+    """What a unit's process does before its program begins. Nothing in it allocates a lock or reads a file."""
+    import resource
+    told = [(which, (value, value)) for which, value in limits().items()]
+    set_limit = resource.setrlimit
+
+    def limit() -> None:
+        for which, value in told:
+            set_limit(which, value)
+
+    return limit
+
+
+def sandbox(scratch: Path) -> list[str]:
+    """The options of bubblewrap."""
+    size = ["--size", str(SCRATCH_MIB * MIB), "--tmpfs"]
+    return ["--unshare-all", "--die-with-parent", "--ro-bind", "/", "/", "--proc", "/proc", "--dev", "/dev",
+            *size, "/dev/shm", "--remount-ro", "/dev", *size, str(scratch), "--setenv", "TMPDIR", str(scratch)]
+
+
+@functools.cache
+def bubblewrap() -> str | None:
+    """The path of bubblewrap, where it works here: it may be missing, or not be allowed a namespace."""
+    path = shutil.which("bwrap")
+    if path is None:
+        return None
+    with tempfile.TemporaryDirectory(prefix="gaknifur-") as scratch:
+        done = subprocess.run([path, *sandbox(Path(scratch)), "true"], stdin=subprocess.DEVNULL, capture_output=True)
+    return path if done.returncode == 0 else None
+
+
+def is_sandboxed() -> bool:
+    """Whether a unit runs in a sandbox."""
+    wanted = os.environ.get(SANDBOX, "")
+    if wanted not in ("", "none"):
+        raise Failed(f"{SANDBOX}: none is the only value", WRONG_WORDS)
+    return wanted != "none" and bubblewrap() is not None
+
+
+def check_program(name: str) -> None:
+    """A program of this name can be started; bubblewrap would report it in the unit's place."""
+    if shutil.which(name) is None:
+        number = errno.EACCES if os.path.exists(name) else errno.ENOENT
+        raise Failed(f"--against: {name}: {os.strerror(number)}", DEVICE)
+
+
+class Confined:
+    """A unit's process, and all that it starts."""
+
+    def __init__(self, words: Sequence[str]) -> None:
+        if os.name != "posix":
+            raise Failed("--against: a unit under test is run on Linux only", DEVICE)
+        self.scratch = tempfile.TemporaryDirectory(prefix="gaknifur-") if is_sandboxed() else None
+        try:
+            command = list(words)
+            if self.scratch is not None:
+                check_program(command[0])
+                command = [str(bubblewrap()), *sandbox(Path(self.scratch.name)), "--", *words]
+            self.process = subprocess.Popen(command, stdin=subprocess.PIPE, stdout=subprocess.PIPE, stderr=subprocess.PIPE,
+                                            start_new_session=True, bufsize=0, preexec_fn=limiting())
+        except BaseException:
+            self.give_back()
+            raise
+
+    def status(self) -> int | None:
+        """The status with which it ended, less than 0 for a signal; None while it runs. Bubblewrap reports a signal as a shell
+        does, by 128 more."""
+        status = self.process.poll()
+        if status is None or self.scratch is None or status <= 128:
+            return status
+        return 128 - status if status - 128 in signal.Signals.__members__.values() else status
+
+    def kill(self) -> None:
+        """Ends all processes of its session, also those that left its group. Its number isn't given to another one before
+        its first process is waited for, which comes last."""
+        with contextlib.suppress(ProcessLookupError, PermissionError):
+            os.killpg(self.process.pid, signal.SIGKILL)
+        for _ in range(100):
+            left = members(self.process.pid)
+            for one in left:
+                with contextlib.suppress(ProcessLookupError, PermissionError):
+                    os.kill(one, signal.SIGKILL)
+            if not left:
+                break
+        self.process.wait()
+        self.give_back()
+
+    def give_back(self) -> None:
+        """Removes its folder."""
+        if self.scratch is not None:
+            self.scratch.cleanup()
+
+
+def members(session: int) -> list[int]:
+    """The processes of a session that run, where the system lists them."""
+    found = []
+    for folder in PROC.glob("[0-9]*"):
+        with contextlib.suppress(OSError, IndexError, ValueError):
+            state, _, _, of = (folder / "stat").read_bytes().rpartition(b")")[2].split()[:4]
+            if int(of) == session and state not in (b"Z", b"X"):
+                found.append(int(folder.name))
+    return found

@@ -1,0 +1,1 @@
+"""The dissector and the captures for Wireshark."""

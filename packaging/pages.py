@@ -95,6 +95,7 @@ def main(source: Path, out: Path) -> int:
     """Writes the pages, and tells links that lead nowhere."""
     pages = {path.relative_to(source) for path in source.rglob("*.md")
              if not {".git", "out", "node_modules"} & set(path.relative_to(source).parts)}
+    pages |= {path.relative_to(source) for path in source.glob("out/docs/*.md")}
     pictures: set[Path] = set()
     places: dict[Path, set[str]] = {}
     asked: list[tuple[Path, Path, str]] = []

@@ -69,7 +69,7 @@ class Condition:
 
 @dataclass(frozen=True)
 class Row:
-    """A row of the mode table (docs/TABLES.md), and the mode from which it leads, where it has several."""
+    """A row of the mode table (`tools/tables`), and the mode from which it leads, where it has several."""
 
     number: int
     source: str | None

@@ -30,7 +30,7 @@ WHOLE = (
     "page",
     "surroundings",
 )
-LEAST = 39
+LEAST = 40
 
 # Each plant: the file, what stands there, what is put in its place, and what has to be told.
 PLANTS = (
@@ -269,6 +269,7 @@ PAGES = (  # for tools/docs --check
         "Of makers",
         'docs/howto/oracle.md: the first line below the title has to begin with "How-to for "',
     ),
+    ("a page with a date", "docs/howto/oracle.md", "in CI (", "on 2026-11-27 (", "docs/howto/oracle.md: has the date 2026-11-27"),
     ("a misspelt page", "docs/explain/safety.md", "different", "diffrent", "diffrent ==> different"),
     ("a misspelt help text", "python/gaknifur/__main__.py", "internal", "interal", "interal ==> internal"),
 )

@@ -1,4 +1,4 @@
-// What was driven as a test case in YAML, as `./lab test` reads it (docs/howto/testing-a-train.md): the lives step by step,
+// What was driven as a test case in YAML, as `./lab test` reads it (docs/reference/test-cases.md): the lives step by step,
 // and as expected results what the unit answered where mode or brake changed and where a life ended.
 import {Output} from "./layouts";
 import {Scenario, Step} from "./life";

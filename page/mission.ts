@@ -1,5 +1,5 @@
 // The steps of a start of mission, and which of them are done: by what the head of the newest block keeps; what is
-// owed; and which buttons would have no effect now, by the driver's table (docs/TABLES.md) and what the unit says.
+// owed; and which buttons would have no effect now, by the driver's table (tools/tables) and what the unit says.
 import {at, make, show} from "./dom";
 import {Kept} from "./layouts";
 import {IDLE, MISSION, modeIn, OWED} from "./texts";

@@ -283,7 +283,7 @@ export const FORM = {
     ],
 };
 
-/** The words of a test case (docs/howto/testing-a-train.md), by the numbers of a scenario and of an output. */
+/** The words of a test case (docs/reference/test-cases.md), by the numbers of a scenario and of an output. */
 export const CASE_WORDS = {
     alone: {6: "start", 7: "choose_shunting", 8: "leave_shunting", 9: "override", 11: "close_desk"} as
         Record<number, string>,

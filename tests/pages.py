@@ -19,7 +19,7 @@ from pathlib import Path
 TOP = Path(__file__).resolve().parents[1]
 PROGRAMS = {name: Path(os.environ.get(name.upper()) or TOP / f"crates/{name}/out/{name}").resolve()
             for name in ("etcs", "etcs_lab")}
-COMMANDS = {"howto/investigating": 86, "howto/laboratory": 33, "howto/testing-a-train": 60, "howto/closed-loop": 19, "howto/embedding": 21, "howto/oracle": 9,
+COMMANDS = {"howto/investigating": 86, "howto/laboratory": 33, "howto/testing-a-train": 60, "howto/closed-loop": 19, "howto/embedding": 20, "howto/oracle": 9,
             "howto/searching": 8, "howto/sequences": 9, "howto/wireshark": 5, "start/c": 9, "start/tests": 6, "start/investigate": 8,
             "start/code": 8}
 """How many commands a page has, at least."""

@@ -120,6 +120,13 @@ fi
 inside() { (cd "$room/work" && env -i "HOME=$room/work" "PATH=$root/usr/bin:/usr/bin:/bin" "PYTHONPATH=$root/usr/lib/python3/dist-packages" PYTHONDONTWRITEBYTECODE=1 "LD_LIBRARY_PATH=$lib" "${hides[@]}" "$@"); }
 inside sh -c 'command -v rt' && fails "the kit is on the path"
 [ "$words" = --unproved ] && state="not proved: the program is not of a proved build" || state="proved: the program is that of the release"
+site=$root/usr/share/doc/gaknifur/html
+for one in index.html search.html searchindex.js python.html c/index.html howto/embedding.html generated/tables.html generated/review-sheets.html pictures/page_drive.png; do
+    tried=$((tried + 1))
+    [ -s "$site/$one" ] || fails "the site has no $one"
+done
+grep -rnE --include='*.html' --include='*.css' --include='*.js' 'src="(https?:)?//|<link [^>]*href="(https?:)?//|@import url\((/|http)|"/javascript/' "$site" >"$room/printed" &&
+    { fails "the site asks for files of other places:"; head -n 5 "$room/printed"; }
 wants "etcs --version" "etcs $version, commit $commit" inside etcs --version
 wants "etcs --version" "$state" inside etcs --version
 wants "etcs_lab --version" "etcs_lab $version, commit $commit" inside etcs_lab --version

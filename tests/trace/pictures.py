@@ -3,7 +3,7 @@ import sys
 import xml.etree.ElementTree as tree
 from pathlib import Path
 
-pictures = sorted(Path("docs/pictures").glob("*.svg"))
+pictures = sorted([*Path("docs/pictures").glob("*.svg"), *Path("out/docs").glob("*.svg")])
 if not pictures:
     sys.exit("tests/trace/pictures.py: docs/pictures has no picture")
 status = 0

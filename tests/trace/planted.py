@@ -1,6 +1,6 @@
 #!/usr/bin/env python3
-"""Whether tools/trace --check and tools/docs --check report each fault that is planted in a copy of what they read, each
-with its own line. An unaltered copy passes.
+"""Whether tools/trace --check, tools/docs --check and the tools that write pages report each fault that is planted in a copy
+of what they read, each with its own line. An unaltered copy passes.
 
     tests/trace/planted.py
 """
@@ -30,7 +30,7 @@ WHOLE = (
     "page",
     "surroundings",
 )
-LEAST = 39
+LEAST = 40
 
 # Each plant: the file, what stands there, what is put in its place, and what has to be told.
 PLANTS = (
@@ -220,35 +220,31 @@ PLANTS = (
         "O-decode-1 has none of rows",
     ),
 )
-ALONE = (  # planted by themselves: pages are compared where nothing else is wrong
+OUTDATED = (
+    "a review of a definition that changed",
+    "crates/mode_table/specs/Rows.antt",
+    "from FS TR (λ c. c.trip)",
+    "from FS SB (λ c. c.trip)",
+    "A, of B, 2026-12-01, **outdated**",
+)
+SOURCES = (  # for the tools that write pages
     (
-        "a page that is out of date",
-        "docs/TRACE.md",
-        "## Counts",
-        "## Count",
-        "docs/TRACE.md isn't what the sources give: run tools/trace",
+        "review",
+        "a step whose row isn't there",
+        "docs/review.md.in",
+        "ROW an open track",
+        "ROW an open trak",
+        "tests/rows/test_kernel.row has no row 'an open trak'",
     ),
     (
-        "a case that is out of date",
-        "docs/ASSURANCE.md",
-        "## The premises",
-        "## The premise",
-        "docs/ASSURANCE.md isn't what the sources give: run tools/trace",
+        "definitions",
+        "a file of definitions without a source",
+        "crates/vars/specs/Meanings.antt",
+        "SUBSET-026",
+        "the standard",
+        "crates/vars/specs/Meanings.antt names no source at its head",
     ),
-    (
-        "a picture of an older case",
-        "docs/assurance.yaml",
-        "short: The journal never fills",
-        "short: The ring never fills",
-        "docs/pictures/assurance.svg is of an older case",
-    ),
-    (
-        "a review of a definition that changed",
-        "crates/mode_table/specs/Rows.antt",
-        "from FS TR (λ c. c.trip)",
-        "from FS SB (λ c. c.trip)",
-        "A, of B, 2026-12-01, **outdated**",
-    ),
+    ("map", "a crate without a README", "crates/vars/README.md", None, None, "crates/vars/README.md has no first sentence"),
 )
 PAGES = (  # for tools/docs --check
     ("a dead link", "docs/README.md", "(start/c.md)", "(start/d.md)", "docs/README.md: there is no docs/start/d.md"),
@@ -261,10 +257,10 @@ PAGES = (  # for tools/docs --check
     ),
     (
         "a line that isn't there",
-        "docs/REVIEW.md",
+        "out/docs/review.md",
         "/Output.antt#L",
         "/Output.antt#L9",
-        "docs/REVIEW.md: crates/kernel/specs/Output.antt has no line 9",
+        "out/docs/review.md: crates/kernel/specs/Output.antt has no line 9",
     ),
     (
         "a page for nobody",
@@ -273,6 +269,7 @@ PAGES = (  # for tools/docs --check
         "Of makers",
         'docs/howto/oracle.md: the first line below the title has to begin with "How-to for "',
     ),
+    ("a page with a date", "docs/howto/oracle.md", "in CI (", "on 2026-11-27 (", "docs/howto/oracle.md: has the date 2026-11-27"),
     ("a misspelt page", "docs/explain/safety.md", "different", "diffrent", "diffrent ==> different"),
     ("a misspelt help text", "python/gaknifur/__main__.py", "internal", "interal", "interal ==> internal"),
 )
@@ -309,9 +306,9 @@ def plant(top, path, old, new):
         file.write_text(text.replace(old, new, 1), encoding="utf-8")
 
 
-def checked(top, tool="trace"):
+def checked(top, tool, *words):
     """What a tool says of the copy."""
-    return subprocess.run([top / "tools" / tool, "--check"], capture_output=True, text=True, check=False)
+    return subprocess.run([top / "tools" / tool, *words], capture_output=True, text=True, check=False)
 
 
 def review(top):
@@ -321,32 +318,48 @@ def review(top):
     ).stdout
     digest = re.search(r"<code>([0-9a-f]{64})</code>", printed)[1]
     said = f"sheet: 4.6\ndigest: {digest}\nreviewer: A, of B\ncopy: one\ndate: 2026-12-01\noutcome: agrees\n"
+    (top / "docs/reviews").mkdir()
     (top / "docs/reviews/4.6.yaml").write_text(said, encoding="utf-8")
     subprocess.run([top / "tools/trace"], capture_output=True, check=True)
-    page = (top / "docs/reviews/README.md").read_text(encoding="utf-8")
-    return "[agrees](4.6.yaml), A, of B, 2026-12-01 |" in page
+    return "[agrees](../../docs/reviews/4.6.yaml), A, of B, 2026-12-01 |" in reviews_in(top)
+
+
+def reviews_in(top):
+    """The page of reviews."""
+    return (top / "out/docs/reviews.md").read_text(encoding="utf-8")
 
 
 def main():
-    wrong, told = [], 0
+    wrong = []
     with tempfile.TemporaryDirectory() as folder:
         top = Path(folder)
         copy(top)
         if not review(top):
             sys.exit("tests/trace/planted.py: a review that was made doesn't stand on its page")
+        for tool in ("tables", "review"):
+            subprocess.run([top / "tools" / tool], check=True)
         for tool in ("trace", "docs"):
-            if (run := checked(top, tool)).returncode:
+            if (run := checked(top, tool, "--check")).returncode:
                 sys.exit(f"tests/trace/planted.py: an unaltered copy doesn't pass:\n{run.stdout}{run.stderr}")
-        for tool, plants in (("docs", PAGES), ("trace", ALONE), ("trace", PLANTS)):
+        name, *planted, says = OUTDATED
+        plant(top, *planted)
+        checked(top, "trace")
+        wrong += [] if says in reviews_in(top) else [f"{name} isn't told: {says}"]
+        for tool, plants in (("docs", PAGES), ("trace", PLANTS)):
             for _, path, old, new, _ in plants:
                 plant(top, path, old, new)
-            run = checked(top, tool)
+            run = checked(top, tool, "--check")
             wrong += [
                 f"{name} isn't told: {says}"
                 for name, *_, says in plants
                 if run.returncode != 1 or says not in run.stdout
             ]
-            told += len(plants)
+        for tool, name, *planted, says in SOURCES:
+            plant(top, *planted)
+            source = checked(top, tool)
+            if source.returncode == 0 or says not in source.stdout + source.stderr:
+                wrong.append(f"{name} isn't told: {says}")
+        told = 1 + len(PAGES) + len(PLANTS) + len(SOURCES)
     print(
         "\n".join(wrong + ([run.stdout, run.stderr] if wrong else []))
         or f"trace: each of {told} planted faults is told"

@@ -1,27 +1,27 @@
-"""The assurance case: docs/ASSURANCE.md and its picture, made of docs/assurance.yaml and of the requirements."""
-import hashlib
+"""The assurance case: out/docs/assurance.md and its picture, made of docs/assurance.yaml and of the requirements."""
 import subprocess
 import textwrap
 from pathlib import Path
 
+from gaknifur.program import DEVICE, Failed
 from gaknifur.yaml_files import document
 from tracing.shown import PARTS, table, wrapped
 
-SOURCE, PAGE, PICTURE = (Path("docs/assurance.yaml"), Path("docs/ASSURANCE.md"), Path("docs/pictures/assurance.svg"))
+SOURCE, PAGE, PICTURE = Path("docs/assurance.yaml"), Path("out/docs/assurance.md"), Path("out/docs/assurance.svg")
 CLAIM = ("says", "short", "argument")
 MORE = ("rests_on", "of", "parts", "open", "strategy")
 NEW_LINE = "\\n"  # of graphviz
 TOOL = ("name", "class", "does", "trusted", "wrong", "shown")
 HEAD = """# The assurance case
 
-Written by `tools/trace` from [assurance.yaml](assurance.yaml) and [requirements.yaml](requirements.yaml). For an
+Written by `tools/trace` from [assurance.yaml](../../docs/assurance.yaml) and [requirements.yaml](../../docs/requirements.yaml). For an
 assessor by EN 50128 and EN 50129: what is claimed, why, and what it rests on. A leaf is a clause or a law, which is
 proved; a must-fail edit, which the prover has to refuse; a test, which the gate runs; or a premise, with who has to
-meet it. `tools/trace NAME` prints all that holds a requirement, a clause or a test ([TRACE.md](TRACE.md)).
+meet it. `tools/trace NAME` prints all that holds a requirement, a clause or a test ([TRACE](trace.md)).
 
 The product isn't certified, and this is no certificate.
 
-![The claims, and what each rests on](pictures/assurance.svg)
+![The claims, and what each rests on](assurance.svg)
 
 In the picture, by GSN, a box is a claim, a parallelogram the argument by which it rests on others, a circle its
 evidence, and an ellipse premises. A claim with a diamond is open: nobody has shown all of it.
@@ -96,13 +96,13 @@ def evidence(case, claim):
         yield "premises", ", ".join(premises), "[below](#the-premises)"
     for part in claim["parts"]:
         mine = [it for it in reader.requirements if it.part == part]
-        where = "each with what holds it: [TRACE.md](TRACE.md)"
+        where = "each with what holds it: [TRACE](trace.md)"
         yield "requirements", f'{len(mine)} of the part "{PARTS[part]}"', where
 
 
 def linked(path):
     """A link to a file of the repository."""
-    return f"[{path}](../{path})"
+    return f"[{path}](../../{path})"
 
 
 def page(case):
@@ -118,7 +118,7 @@ def page(case):
         yield from table(("Leaf", "What", "Where"), evidence(case, claim))
         yield ""
     yield "## The premises\n"
-    yield "What happens where one doesn't hold stands in [PROMISES](explain/promises.md#the-premises).\n"
+    yield "What happens where one doesn't hold stands in [PROMISES](../../docs/explain/promises.md#the-premises).\n"
     premises = case.reader.premises.items()
     yield from table(
         ("Premise", "Says", "To be met by"), ((name, said.split(". ")[0], by) for name, (said, by, _) in premises)
@@ -126,7 +126,7 @@ def page(case):
     yield "\n## What isn't claimed\n"
     for said in case.reader.not_promised:
         yield textwrap.fill(f"- {said.text}", 120, subsequent_indent="  ", break_on_hyphens=False)
-    laws = "[the README of safety_laws](../crates/safety_laws/README.md#what-they-dont-say)"
+    laws = "[the README of safety_laws](../../crates/safety_laws/README.md#what-they-dont-say)"
     yield f"\nWhat the laws don't say is in {laws}."
     yield "\n## The tools, and what is trusted of them\n"
     yield from (
@@ -182,22 +182,9 @@ def dot(case):
     yield "}"
 
 
-def digest(case):
-    """The digest of the picture's text, which the picture has."""
-    return hashlib.sha256("\n".join(dot(case)).encode()).hexdigest()
-
-
 def draw(case):
     """Draws the picture by graphviz."""
-    made = subprocess.run(
-        ["dot", "-Tsvg"], input="\n".join(dot(case)), capture_output=True, text=True, check=True
-    ).stdout
-    head, mark, rest = made.partition("<svg")
-    title = f"<!-- made by tools/trace of a text with the digest {digest(case)} -->\n"
-    PICTURE.write_text(head + title + mark + rest, encoding="utf-8")
-
-
-def stale_picture(case):
-    """What is wrong with the picture."""
-    if not PICTURE.is_file() or digest(case) not in PICTURE.read_text(encoding="utf-8"):
-        yield f"{PICTURE} is of an older case: run tools/trace --picture (it needs Debian's package graphviz)"
+    try:
+        subprocess.run(["dot", "-Tsvg", "-o", PICTURE], input="\n".join(dot(case)), text=True, check=True)
+    except FileNotFoundError as error:
+        raise Failed("dot is missing (Debian's package graphviz)", DEVICE) from error

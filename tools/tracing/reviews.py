@@ -1,6 +1,6 @@
 """Sheets for who reviews the definitions with a copy of SUBSET-026, and what became of reviews (docs/reviews/).
 
-A sheet is a step of docs/REVIEW.md, or a section of docs/requirements.yaml: its sentences, definitions, tables and
+A sheet is a step of docs/review.md.in, or a section of docs/requirements.yaml: its sentences, definitions, tables and
 worked rows, and a place to sign. A review that was made is kept as docs/reviews/NAME.yaml with the digest of the
 definitions that were reviewed: of those of the sheet, and of all that they rest on, without comments. Where that digest
 is another one now, the review is outdated.
@@ -11,25 +11,28 @@ import re
 from dataclasses import dataclass
 from pathlib import Path
 
-from gaknifur.testing.mode_table import table_rows
+from gaknifur.program import REFUSED, Failed
+from gaknifur.testing.mode_table import table_rows, tables
 from gaknifur.yaml_files import document
 from tracing.pages import plain
 from tracing.shown import table
 
-FOLDER, PAGE = Path("docs/reviews"), Path("docs/reviews/README.md")
+FOLDER, PAGE = Path("docs/reviews"), Path("out/docs/reviews.md")
 RECORD = ("sheet", "digest", "reviewer", "copy", "date", "outcome")
 OUTCOMES = ("agrees", "differs")
-STEPS = Path("docs/REVIEW.md")
-LINK = re.compile(r"^- `(\w+)` \[([\w/.]+)\]\(\.\./crates/\2#L\d+\)$", re.M)
+STEPS = Path("docs/review.md.in")
+ROWS = Path("tests/rows/test_kernel.row")
+LINK = re.compile(r"^- `(\w+)` \[([\w/.]+)\]$", re.M)
+ROW = re.compile(r"^ROW ([^\n]*)$", re.M)
 SECTION = re.compile(r"\b[3-8]\.\d+(?:\.\d+)*\b")
 HEAD = """# Reviews of the definitions
 
 Written by `tools/trace`. Who has a copy of SUBSET-026 issue 2.3.0 can say whether the definitions say what stands
 there. `tools/review --sheets` prints sheets as one page for a browser or for paper: of all steps of
-[REVIEW.md](../REVIEW.md) and of all sections; `--sheets 4` that of one step, `--sheets 3.8.4` that of one section. A
+[REVIEW](review.md) and of all sections; `--sheets 4` that of one step, `--sheets 3.8.4` that of one section. A
 sheet has the text, the sentences required, the definitions, their tables, the worked rows, and a place to sign.
 
-What came of it is kept here, a file for each review, as `3.8.4.yaml`:
+What came of it is kept in `docs/reviews`, a file for each review, as `3.8.4.yaml`:
 
     sheet: 3.8.4
     digest: the digest of the sheet, 64 digits
@@ -80,10 +83,38 @@ class Sheet:
         ]
 
 
+def rows():
+    """The lines of each row by its name, without comments between them."""
+    found, name = {}, None
+    for line in ROWS.read_text(encoding="utf-8").splitlines():
+        if line.startswith("row "):
+            name = line[4:]
+            if name in found:
+                raise Failed(f"{ROWS} has the row {name!r} twice", REFUSED)
+            found[name] = [line]
+        elif not line.strip():
+            name = None
+        elif name and not line.startswith("#"):
+            found[name].append(line)
+    return found
+
+
+def with_rows(text):
+    """A text of steps with the lines of each row that it names."""
+    known = rows()
+
+    def block(match):
+        if match[1] not in known:
+            raise Failed(f"{STEPS}: {ROWS} has no row {match[1]!r}", REFUSED)
+        return "\n".join(["```", *known[match[1]], "```"])
+
+    return ROW.sub(block, text)
+
+
 def steps():
-    """The steps of docs/REVIEW.md."""
+    """The steps of docs/review.md.in, with their rows."""
     found = []
-    for part in re.split(r"^## (?=\d+\. )", STEPS.read_text(encoding="utf-8"), flags=re.M)[1:]:
+    for part in re.split(r"^## (?=\d+\. )", with_rows(STEPS.read_text(encoding="utf-8")), flags=re.M)[1:]:
         number, _, title = part.splitlines()[0].partition(". ")
         definitions = []
         for name, path in LINK.findall(part):
@@ -127,11 +158,11 @@ def page(reader):
         rows = []
         for one in (sheet for sheet in sheets if sheet.is_step == is_step):
             mine = [
-                f"[{said['outcome']}]({path.name}), {said['reviewer']}, {said['date']}"
+                f"[{said['outcome']}](../../{path}), {said['reviewer']}, {said['date']}"
                 + (", **outdated**" if is_old else "")
                 for path, said, is_old in made.get(one.name, [])
             ]
-            name = f"[{one.name}. {one.title}](../REVIEW.md#{one.anchor()})" if is_step else f"{one.name}, {one.title}"
+            name = f"[{one.name}. {one.title}](review.md#{one.anchor()})" if is_step else f"{one.name}, {one.title}"
             rows.append(
                 (name, len(one.required(reader.requirements)), len(one.definitions), "; ".join(mine) or "nobody")
             )
@@ -170,8 +201,8 @@ def cells_of(tag, texts):
 
 
 def tables_of(sheet, sources):
-    """The tables of docs/TABLES.md that are printed from the files of a sheet's definitions."""
-    text = Path("docs/TABLES.md").read_text(encoding="utf-8")
+    """The tables that are printed from the files of a sheet's definitions."""
+    text = tables()
     files = {Path(sources.pages[page].path).name for page, _ in sheet.definitions}
     for part in text.split("\n## ")[1:]:
         heading = part.splitlines()[0]

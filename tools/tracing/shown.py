@@ -1,4 +1,4 @@
-"""What the trace is shown as: the page docs/TRACE.md, lines for one name, a table (CSV), and a page to walk (HTML)."""
+"""What the trace is shown as: the page out/docs/trace.md, lines for one name, a table (CSV), and a page to walk (HTML)."""
 import csv
 import html
 import io
@@ -36,9 +36,9 @@ COLUMNS = (
 )
 HEAD = """# What is required, and what holds it
 
-Written by `tools/trace` from [requirements.yaml](requirements.yaml), the sources, the rows and the test cases. A
+Written by `tools/trace` from [requirements.yaml](../../docs/requirements.yaml), the sources, the rows and the test cases. A
 requirement is a sentence with an identity that stays: of a section of SUBSET-026, a promise of
-[PROMISES](explain/promises.md), an item of [SAFETY](explain/safety.md), a refusal, or of this product alone. It names the
+[PROMISES](../../docs/explain/promises.md), an item of [SAFETY](../../docs/explain/safety.md), a refusal, or of this product alone. It names the
 definitions that say it, and what shows that it holds: clauses of public calls and laws, which are proved; must-fail
 edits, which the prover refuses; rows and test cases, which are run. The sentences of sections are this project's words: nobody who wrote them had a copy.
 
@@ -48,9 +48,9 @@ edits, which the prover refuses; rows and test cases, which are run. The sentenc
     tools/trace --html          prints a page to walk; its links lead to sources where it lies in the top folder
     tools/trace --csv           prints a table
     tools/trace --reqif         prints ReqIF, which tools for requirements read
-    tools/trace --check         fails where a name isn't there, a gap has no reason, or this page is out of date
+    tools/trace --check         fails where a name isn't there, or a gap has no reason
 
-The case that all this makes is in [ASSURANCE.md](ASSURANCE.md).
+The case that all this makes is in [ASSURANCE](assurance.md).
 """
 
 
@@ -110,7 +110,7 @@ def of_crates(reader, gaps, kind):
 
 
 def page(reader, gaps):
-    """The page docs/TRACE.md."""
+    """The page out/docs/trace.md."""
     sources = reader.sources
     yield HEAD
     yield "## Counts\n"
@@ -168,7 +168,7 @@ def page_of_gaps(reader, gaps):
     yield from table(("Requirement", "Why"), grouped(gaps.without["definitions"]))
     yield "\n## Sections and transitions without a test case\n"
     yield from table(("Name", "Why"), [*gaps.sections, *gaps.transitions.items()])
-    yield "\n" + wrapped(f"Left out by the product ([CONFORMANCE](explain/conformance.md)): {'; '.join(gaps.left_out)}.")
+    yield "\n" + wrapped(f"Left out by the product ([CONFORMANCE](../../docs/explain/conformance.md)): {'; '.join(gaps.left_out)}.")
     for kind in ("definitions", "clauses"):
         yield f"\n## {kind.capitalize()} of no requirement\n"
         yield from table(("Crates", "Why"), of_crates(reader, gaps, kind))

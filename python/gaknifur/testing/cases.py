@@ -1,6 +1,6 @@
 """Test cases in the words of SUBSET-076: what a case tests, how it starts, its lives, and the results that it expects.
 
-docs/howto/testing-a-train.md has each word. A word that isn't there is a fault with its file, line and column, and so is a
+docs/reference/test-cases.md has each key. A word that isn't there is a fault with its file, line and column, and so is a
 key told twice; nothing is left out in silence.
 """
 import re
@@ -70,7 +70,7 @@ class Condition:
 
 @dataclass(frozen=True)
 class Row:
-    """A row of the mode table (docs/TABLES.md), and the mode from which it leads, where it has several."""
+    """A row of the mode table (`tools/tables`), and the mode from which it leads, where it has several."""
 
     number: int
     source: str | None

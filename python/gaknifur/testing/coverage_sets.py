@@ -1,6 +1,6 @@
 """What may be reached by a suite: the sets that `lab coverage --measured` counts, and the names of their members.
 
-No list stands here: the members are read from docs/TABLES.md, which `tools/tables` writes from the definitions, from the
+No list stands here: the members are read from the page of tables, which `tools/tables` makes of the definitions, from the
 numbers of `include/` (`_header`), and from the words of `etcs_lab why` (`causes`). A row of a table that nothing here
 recognises is a fault, so that a further row is counted, or told.
 """
@@ -13,7 +13,7 @@ from dataclasses import dataclass
 from ..journal.causes import CAUSES
 from ..program import REFUSED, Failed
 from ..units._header import BrakeCause, Cold, Fault, LimitCause, TripCause
-from .mode_table import mode_table, page, table_rows, transitions
+from .mode_table import mode_table, table_rows, tables, transitions
 
 EVERY_MODE = "all"
 IN_ANOTHER_MODE, NOT_STANDING = "in another mode", "not at standstill"
@@ -39,7 +39,7 @@ FREE, REACTION, SECOND = "the track is free", "Q_LINKREACTION", "the second miss
 def known(name: str, names: Iterable[str], where: str) -> str:
     """A name of a table that has to be one that is recognised here."""
     if name not in names:
-        raise Failed(f"docs/TABLES.md: {where}: \"{name}\" isn't recognised by what measures a suite", REFUSED)
+        raise Failed(f"tables: {where}: \"{name}\" isn't recognised by what measures a suite", REFUSED)
     return name
 
 
@@ -57,8 +57,8 @@ def fault_names() -> list[str]:
 
 @functools.cache
 def table(heading: str) -> tuple[tuple[str, ...], ...]:
-    """The rows of a table of docs/TABLES.md, its head first."""
-    text = page("TABLES.md")
+    """The rows of a table of the page of tables, its head first."""
+    text = tables()
     lines = [line for line in text.partition(f"\n## {heading}")[2].split("\n## ", 1)[0].splitlines() if line.startswith("|")]
     head = [cell.strip() for cell in lines[0].strip("|").split("|")] if lines else []
     return (tuple(head), *(tuple(row) for row in table_rows(text, heading)))

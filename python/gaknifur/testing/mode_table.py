@@ -1,5 +1,6 @@
-"""The rows of the mode table, as docs/TABLES.md tells them; and the pages of the documentation."""
+"""The pages of the documentation, and the rows of the mode table as the page of tables has them."""
 import functools
+import subprocess
 
 from ..program import DEVICE, REFUSED, TOP, Failed
 
@@ -16,6 +17,17 @@ def page(name: str) -> str:
         raise Failed(f"{DOCS / name}: {error.strerror}", DEVICE) from error
 
 
+@functools.cache
+def tables() -> str:
+    """The page of tables: that of an installed product, else what tools/tables reads from the definitions."""
+    if (DOCS / "tables.md").is_file():
+        return page("tables.md")
+    done = subprocess.run([TOP / "tools/tables", "--print"], stdin=subprocess.DEVNULL, capture_output=True, text=True, check=False)
+    if done.returncode:
+        raise Failed(f"tools/tables: {done.stderr.strip()}", DEVICE)
+    return done.stdout
+
+
 def table_rows(text: str, heading: str) -> list[list[str]]:
     """The cells of the tables below a heading."""
     _, found, behind = text.partition(f"\n## {heading}")
@@ -30,7 +42,7 @@ def table_rows(text: str, heading: str) -> list[list[str]]:
 def mode_table() -> Table:
     """The rows of the mode table: the modes from which each leads, and where to."""
     found: Table = {}
-    for number, sources, target, _ in table_rows(page("TABLES.md"), "Modes"):
+    for number, sources, target, _ in table_rows(tables(), "Modes"):
         found[int(number)] = sources.split(), target
     return found
 

@@ -2,7 +2,7 @@
 
 Modes, brakes, limits, places and causes are the kernel's own, as `etcs_lab events` and `etcs_lab why` tell them. Which
 messages were used, which facts of the track they ended, and which actions were accepted no record tells; that is
-followed along the records (`messages`, and the tables of docs/TABLES.md). Only journals count whose replay agrees.
+followed along the records (`messages`, and the page of tables). Only journals count whose replay agrees.
 """
 from collections.abc import Callable, Iterator, Sequence
 from dataclasses import dataclass, field

@@ -1,4 +1,4 @@
-"""A scenario in YAML, and the JSON that `etcs run` reads. docs/howto/testing-a-train.md has its words.
+"""A scenario in YAML, and the JSON that `etcs run` reads. docs/reference/test-cases.md has its keys.
 
 Faults are told by their place in the YAML. The limits are those of `crates/simulator/README.md`; `etcs run` looks at
 them again. Each telegram that is told by its variables is compared with what `etcs decode` finds in its bytes.

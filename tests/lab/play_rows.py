@@ -159,9 +159,12 @@ class Plays(Compared):
             path.write_text(json.dumps(case.asked))
             run(self.etcs, ["format", image, case.slots])
             lines, _, status = run(self.etcs, ["run", path, image])
-            (one,), other, _ = self.play(json.dumps({"scenario": case.asked, "sha256": True}), "--outputs", "all", "--slots", case.slots)
-            (same,), status_of_file, _ = self.play(None, "--outputs", "all", "--slots", case.slots, path)
-            self.same(f"a file, {case.name}", (same, status_of_file), (one | {"line": None, "sha256": None}, other))
+            found, other, _ = self.play(json.dumps({"scenario": case.asked, "sha256": True}), "--outputs", "all", "--slots", case.slots)
+            if not self.unless(len(found) == 1, f"{case.name}: {len(found)} lines"):
+                continue
+            one = found[0]
+            same = self.play(None, "--outputs", "all", "--slots", case.slots, path)
+            self.same(f"a file, {case.name}", same, ([one | {"line": None, "sha256": None}], other, ""))
             printed = Tried.as_printed("".join(json.dumps(output) + "\n" for output in one["outputs"]))
             if one["status"] == "stopped":
                 printed += f"stopped {one['number']} {one['name']}\n"
@@ -171,7 +174,8 @@ class Plays(Compared):
         """A line that can't be played doesn't stop the others."""
         good = '{"id":"good","scenario":%s}' % CLOCK
         found, status, said = self.play("".join(f"{line}\n{good}\n" for line, _ in FAULTS))
-        self.unless((status, said, len(found)) == (1, "", 2 * len(FAULTS)), f"faults: status {status}, {said}, {len(found)} lines")
+        if not self.unless((status, said, len(found)) == (1, "", 2 * len(FAULTS)), f"faults: status {status}, {said}, {len(found)} lines"):
+            return
         for number, (line, wanted) in enumerate(FAULTS):
             one, behind = found[2 * number], found[2 * number + 1]
             all_of = {"id": wanted["id"], "line": 2 * number + 1, "status": "refused"} | wanted

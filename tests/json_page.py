@@ -236,6 +236,7 @@ LINES = {  # of each command the tables that one of its lines may have, by a mem
     "check": [("power_up", "examination"), ("check", "a-verdict"), ("end", "the-end-of-a-replay"), ("", "replay")],
     "why": [("replay", "replay"), ("brake", "causes")],
     "run": [("scenario", "a-life-that-is-played"), ("end", "the-end-of-a-life"), ("step", "played-output")],
+    "play": [("", "many-scenarios")],
     "decode": [("refused", "a-refusal"), ("", "a-telegram")],
     "packets": [("", "the-packets-of-a-telegram")],
     "lint": [("", "advice-on-a-scenario")],
@@ -290,6 +291,7 @@ def all_read(page, program, room):
     for cold in range(3):
         file.write_text(json.dumps({"cold": cold, "groups": [], "steps": [{"clock": 5}, {"clock": 5 - cold}]}))
         read(page, program, "run", file)
+    played(page, program, room)
     file.write_text('{"groups": [], "groups": [], "steps": []}')
     read(page, program, "lint", "--json", file)
     for told, _ in lint_faults.FAULTS:
@@ -299,6 +301,19 @@ def all_read(page, program, room):
         read(page, program, "decode", "--json", data.hex())
     for _, data in packet_lists.telegrams():
         read(page, program, "packets", "--json", data.hex())
+
+
+def played(page, program, room):
+    """Many scenarios: the examples, a life that stops, a line with a fault, one without an end."""
+    lines, one = room / "lines", room / "one.json"
+    scenarios = [json.loads(path.read_text()) for path in sorted(TOP.glob("examples/*/*.json"))]
+    asked = [{"id": number or "first", "scenario": scenario, "sha256": number > 1} for number, scenario in enumerate(scenarios)]
+    stops = {"groups": [], "steps": [{"clock": 5}, {"clock": 4}]}
+    lines.write_text("".join(json.dumps(line) + "\n" for line in [*asked, {"scenario": stops}, {"id": 1}]))
+    read(page, program, "play", "--outputs", "all", "--images", room, lines)
+    one.write_text(json.dumps(stops))
+    read(page, program, "play", one)
+    read(page, program, "play", "/dev/zero")
 
 
 def other_units(page, program, room):

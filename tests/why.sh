@@ -1,6 +1,6 @@
 #!/bin/bash
 # Why each brake was commanded, on the program etcs_lab that the gate leaves behind, beside the causes that a plain program works out: of images
-# (etcs_lab why), and of scenarios that are played (etcs_lab run), which etcs has to play alike.
+# (etcs_lab why), and of scenarios that are played (etcs_lab run), which etcs has to play alike. And many scenarios in one process (etcs_lab play).
 #
 #     tests/why.sh [ETCS_LAB ETCS]    on other programs
 lab=${1:-$(dirname "$(readlink -f -- "$0")")/../crates/etcs_lab/out/etcs_lab}
@@ -14,4 +14,5 @@ done
 status=0
 python3 lab/why_rows.py "$lab" why || status=1
 python3 lab/run_rows.py "$lab" "$etcs" || status=1
+python3 lab/play_rows.py "$lab" "$etcs" || status=1
 exit $status

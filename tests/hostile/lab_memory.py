@@ -1,7 +1,8 @@
 #!/usr/bin/env python3
 """Refuses the requests for memory of the program etcs_lab, each in turn, over all its words. A refused run either does all as the undisturbed
 one does, or says so: by one line on standard error (`decode` by its answer), with status 1, and what it printed before is what the
-undisturbed run prints first, but for the last line of `run`, which says why the life stopped. At least each word with a file asks for memory, so a series in which nothing is refused fails.
+undisturbed run prints first, but for the last line of `run`, which says why the life stopped; `play` says it in the line of a scenario, and
+goes on. At least each word with a file asks for memory, so a series in which nothing is refused fails.
 
     tests/hostile/lab_memory.py
 """
@@ -16,6 +17,7 @@ from lab_words import all_words, lab_ran, laid
 SAYS = re.compile(r"etcs_lab: [^\n]+: memory is refused\n")
 STOPPED = re.compile(r'\{"end":"stopped","step":(null|[0-9]+),"number":(4|12),"name":"NoMemory"\}\n$')
 ANSWERS = ("refused memory\n", '{"refused":{"name":"memory"}}\n')
+REFUSED = re.compile(r'\{"id":("good"|"faulty"|null),"line":[12],"status":"no_memory","name":"NoMemory"\}')
 MOST, LEAST = 100_000, 300
 
 
@@ -26,6 +28,9 @@ def says_so(words, found, undisturbed):
         return True
     if words[0] == "run":
         printed = STOPPED.sub("", printed)
+    if words[0] == "play" and not said:
+        lines = printed.splitlines()
+        return status == 1 and len(lines) == 2 and all(one == other or REFUSED.fullmatch(one) for one, other in zip(lines, undisturbed[1].splitlines()))
     return status == 1 and bool(SAYS.fullmatch(said)) and undisturbed[1].startswith(printed) and printed[-1:] in ("", "\n")
 
 

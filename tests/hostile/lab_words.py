@@ -16,7 +16,7 @@ NAMES_TWICE = '{"groups": [], "steps": [{"flush": true, "flush": true}], "steps"
 
 def laid(folder):
     """The files that the words are given: two images, one of them altered, scenarios and telegrams. By a name each."""
-    files = {name: folder / name for name in ("image", "altered", "telegram", "twice", "no_telegram", "good", "advised", "faulty", "names")}
+    files = {name: folder / name for name in ("image", "altered", "telegram", "twice", "no_telegram", "good", "advised", "faulty", "names", "lines")}
     formatted(files["image"], 4)
     files["good"].write_text(json.dumps(STAFF_RESPONSIBLE))
     for told in (STAFF_RESPONSIBLE, FULL_SUPERVISION):
@@ -31,6 +31,7 @@ def laid(folder):
     files["advised"].write_text(json.dumps(ADVISED))
     files["faulty"].write_text(json.dumps(FAULTY))
     files["names"].write_text(NAMES_TWICE)
+    files["lines"].write_text("".join(json.dumps({"id": name, "scenario": told}) + "\n" for name, told in (("good", STAFF_RESPONSIBLE), ("faulty", FAULTY))))
     return files
 
 
@@ -45,6 +46,7 @@ def all_words(files):
     rows += [["telegram", files[name]] for name in ("telegram", "twice", "no_telegram")]
     for name in ("good", "advised", "faulty", "names"):
         rows += [["lint", files[name]], ["lint", "--json", files[name]], ["run", files[name]]]
+    rows += [["play", files["lines"]], ["play", "--slots=2", "--outputs=all", files["lines"]]]
     return [list(map(str, row)) for row in rows]
 
 

@@ -24,6 +24,14 @@ installed = record (new_rule (codes "installed")) { long = Some (codes "installe
 abbrev pub file : Rule
 file = new_rule (codes "FILE")
 
+-- which outputs are printed
+abbrev pub outputs : Rule
+outputs = record (new_rule (codes "outputs")) { long = Some (codes "outputs"); value_names = 1 }
+
+-- a folder for images
+abbrev pub folder : Rule
+folder = record (new_rule (codes "images")) { long = Some (codes "images"); value_names = 1 }
+
 -- a command that reads an image, with its flag
 abbrev pub image_app : Text → Text → App
 image_app name option = with_rule (with_rule (with_rule (new_app name) (flag option)) slots) (required (codes "IMAGE"))
@@ -40,6 +48,9 @@ telegram_app = with_rule (with_rule (with_rule (new_app (codes "telegram")) (fla
 
 abbrev pub run_app : App
 run_app = with_rule (new_app (codes "run")) (required (codes "SCENARIO"))
+
+abbrev pub play_app : App
+play_app = with_rule (with_rule (with_rule (with_rule (new_app (codes "play")) slots) outputs) folder) file
 
 -- the program with no command yet: help where no argument is given
 abbrev pub bare_app : App
@@ -58,8 +69,8 @@ images_app = with_subcommand (with_subcommand (with_subcommand (with_subcommand 
     (image_app (codes "events") (codes "all")).top) (image_app (codes "replay") (codes "json")).top) (image_app (codes "check") (codes "json")).top) why_app.top
 
 abbrev pub lab_app : App
-lab_app = with_subcommand (with_subcommand (with_subcommand (with_subcommand (with_subcommand images_app (value_app (codes "decode") (codes "HEX")).top)
-    (value_app (codes "packets") (codes "HEX")).top) telegram_app.top) (value_app (codes "lint") (codes "SCENARIO")).top) run_app.top
+lab_app = with_subcommand (with_subcommand (with_subcommand (with_subcommand (with_subcommand (with_subcommand images_app (value_app (codes "decode") (codes "HEX")).top)
+    (value_app (codes "packets") (codes "HEX")).top) telegram_app.top) (value_app (codes "lint") (codes "SCENARIO")).top) run_app.top) play_app.top
 
 -- an image, and as one of how many slots it is read
 abbrev pub ImageValues : Type 0
@@ -79,6 +90,7 @@ pub data LabValues : Type 0 where
   schema : LabValues
   lint : Text → Bool → LabValues
   run : Text → LabValues
+  play : Option Text → Option ℕ → Option Text → Option Text → LabValues
 
 abbrev pub image_values_of : LabImage → ImageValues
 image_values_of image = (image.path.now, image.slots)
@@ -96,6 +108,7 @@ values_of (command.Installed hex) = adapted hex.now
 values_of command.Schema = schema
 values_of (command.Lint scenario json) = lint scenario.now json
 values_of (command.Run scenario) = run scenario.now
+values_of (command.Play file slots outputs folder) = play (option_map (λ s. s.now) file) slots (option_map (λ s. s.now) outputs) (option_map (λ s. s.now) folder)
 
 -- what the matches of each command ask for
 
@@ -126,12 +139,17 @@ telegram_values rows = telegram_of (first_of (codes "FILE") rows) (first_of (cod
 abbrev pub value_values : (Text → Bool → LabValues) → Text → List Row → Option LabValues
 value_values make id rows = option_map (λ value. make value (is_set (codes "json") rows)) (first_of id rows)
 
+abbrev pub play_values : List Row → Option LabValues
+play_values rows = option_map (λ slots. play (first_of (codes "FILE") rows) slots (first_of (codes "outputs") rows) (first_of (codes "images") rows))
+    (optional_number most_u32 (first_of (codes "slots") rows))
+
 abbrev pub other_values : Text → List Row → Option LabValues
 other_values name rows = if bytes_eq name (codes "decode") then value_values decode (codes "HEX") rows
     else (if bytes_eq name (codes "packets") then value_values packets (codes "HEX") rows
     else (if bytes_eq name (codes "telegram") then telegram_values rows
     else (if bytes_eq name (codes "lint") then value_values lint (codes "SCENARIO") rows
-    else (if bytes_eq name (codes "run") then option_map run (first_of (codes "SCENARIO") rows) else None))))
+    else (if bytes_eq name (codes "run") then option_map run (first_of (codes "SCENARIO") rows)
+    else (if bytes_eq name (codes "play") then play_values rows else None)))))
 
 -- a command that reads an image, with its flag
 abbrev pub flagged_values : (ImageValues → Bool → LabValues) → Text → List Row → Option LabValues

@@ -2,7 +2,7 @@
 ghost use Rattle.std.specs.Prelude.{◌≡◌, ◌≢◌, IfErr, IfOk, None, Some, codes, map, option_map};
 ghost use Rattle.std.specs.String.{string_bytes};
 ghost use Rattle.clap.specs.Words.{FailsBy, fault_of, first_of, found_of, kind_of, rows_of, subcommand_of, subcommand_rows_of};
-ghost use Rattle.command_line.specs.LabArguments.{flagged_values, image_values, image_values_of, lab_values, matched_values, named_values, other_values, telegram_values, value_values, values_of, why_values};
+ghost use Rattle.command_line.specs.LabArguments.{flagged_values, image_values, image_values_of, lab_values, matched_values, named_values, other_values, play_values, telegram_values, value_values, values_of, why_values};
 ghost use Rattle.command_line.specs.LabArguments as spec;
 
 use crate::lab_app::lab_app;
@@ -78,6 +78,17 @@ pub enum LabCommand<'a> {
     /// Run a scenario.
     Run {
         scenario: &'a str,
+    },
+    /// Run many scenarios.
+    Play {
+        /// Where they are; without one on standard input.
+        file: Option<&'a str>,
+        /// The slots of each journal.
+        slots: Option<u32>,
+        /// Which outputs are printed.
+        outputs: Option<&'a str>,
+        /// The folder for the images.
+        folder: Option<&'a str>,
     },
 }
 
@@ -210,6 +221,24 @@ fn run_command<'a>(matches: &ArgMatches<'a>) -> Option<LabCommand<'a>>
     Some(LabCommand::Run { scenario })
 }
 
+fn play_command<'a>(matches: &ArgMatches<'a>) -> Option<LabCommand<'a>>
+    ensures { option_map values_of result ≡ play_values (rows_of (found_of matches.now)) }
+{
+    let slots = match value_of(matches, "slots") {
+        Some(text) => Some(u32_of(text)?),
+        None => None,
+    };
+    let file = value_of(matches, "FILE");
+    let outputs = value_of(matches, "outputs");
+    let folder = value_of(matches, "images");
+    Some(LabCommand::Play {
+        file,
+        slots,
+        outputs,
+        folder,
+    })
+}
+
 // The command of a name over something other than an image.
 fn other_command<'a>(name: &str, matches: &ArgMatches<'a>) -> Option<LabCommand<'a>>
     ensures { option_map values_of result ≡ other_values name.now (rows_of (found_of matches.now)) }
@@ -224,6 +253,8 @@ fn other_command<'a>(name: &str, matches: &ArgMatches<'a>) -> Option<LabCommand<
         lint_command(matches)
     } else if name == "run" {
         run_command(matches)
+    } else if name == "play" {
+        play_command(matches)
     } else {
         None
     }

@@ -112,6 +112,42 @@ fn scenario_arg<'a>(alloc: Global) -> Arg<'a>
         .help("Scenario in the JSON that `etcs run` reads")
 }
 
+fn journal_slots_arg<'a>(alloc: Global) -> Arg<'a>
+    ensures { IsArg spec.slots result }
+{
+    Arg::new(alloc, "slots")
+        .long("slots")
+        .value_name("N")
+        .value_parser(ValueParser::signed(2, 1_048_576))
+        .help("Slots of each journal (default: 16)")
+}
+
+fn outputs_arg<'a>(alloc: Global) -> Arg<'a>
+    ensures { IsArg spec.outputs result }
+{
+    Arg::new(alloc, "outputs")
+        .long("outputs")
+        .value_name("WHICH")
+        .help("Outputs to print: all, last, changes or none (default: last)")
+}
+
+fn folder_arg<'a>(alloc: Global) -> Arg<'a>
+    ensures { IsArg spec.folder result }
+{
+    Arg::new(alloc, "images")
+        .long("images")
+        .value_name("DIR")
+        .help("Write each journal image as DIR/NUMBER.image, in the order of the scenarios")
+}
+
+fn scenarios_arg<'a>(alloc: Global) -> Arg<'a>
+    ensures { IsArg spec.file result }
+{
+    Arg::new(alloc, "FILE").help(
+        "Scenarios, one on each line, or a single one in a file NAME.json (default: standard input)",
+    )
+}
+
 fn examine_app<'a>(alloc: Global) -> Result<Command<'a>, AllocError>
     ensures { IfOk result (IsApp (spec.image_app (codes "examine") (codes "json"))) }
 {
@@ -218,6 +254,34 @@ fn run_app<'a>(alloc: Global) -> Result<Command<'a>, AllocError>
     new.arg(scenario_arg(alloc))
 }
 
+// What the help of `play` prints last.
+const PLAY_HELP: &str = "\
+A line is a JSON object: \"scenario\" is a scenario in the JSON that `etcs run` reads. It may also have \"id\", a text or
+a whole number, \"cold\", 0 to 2, which replaces that of the scenario, \"slots\", which replaces that of --slots, and
+\"sha256\", true where the digest of the journal image is wanted. For each line, also one that can't be played, a line
+is printed.
+
+Example:
+  $ printf '%s\\n' '{\"id\":\"a\",\"scenario\":{\"groups\":[],\"steps\":[{\"clock\":1000}]}}' | etcs_lab play
+  {\"id\":\"a\",\"line\":1,\"status\":\"done\",\"events\":1,..
+
+The exit status is 0 where each scenario was played to its end.
+";
+
+fn play_app<'a>(alloc: Global) -> Result<Command<'a>, AllocError>
+    ensures { IfOk result (IsApp spec.play_app) }
+{
+    let new = Command::new(alloc, "play")
+        .about(
+            "Run many scenarios, each on an empty journal in memory, and print a JSON line for each",
+        )
+        .after_help(PLAY_HELP);
+    let first = new.arg(journal_slots_arg(alloc))?;
+    let second = first.arg(outputs_arg(alloc))?;
+    let third = second.arg(folder_arg(alloc))?;
+    third.arg(scenarios_arg(alloc))
+}
+
 // The program with no command yet.
 fn bare_app<'a>(alloc: Global) -> Result<Command<'a>, AllocError>
     ensures { IfOk result (IsApp spec.bare_app) }
@@ -261,9 +325,11 @@ pub(crate) fn lab_app<'a>(alloc: Global) -> Result<Command<'a>, AllocError>
     let telegram = telegram_app(alloc)?;
     let lint = lint_app(alloc)?;
     let run = run_app(alloc)?;
+    let play = play_app(alloc)?;
     let first = images.subcommand(decode)?;
     let second = first.subcommand(packets)?;
     let third = second.subcommand(telegram)?;
     let fourth = third.subcommand(lint)?;
-    fourth.subcommand(run)
+    let fifth = fourth.subcommand(run)?;
+    fifth.subcommand(play)
 }

@@ -52,8 +52,8 @@ fn taken<R: Eprint, F: RawFile>(
     Ok((bytes, digits_of(&hasher.finalize())))
 }
 
-// The digits of a digest.
-fn digits_of(digest: &[u8; 32]) -> [u8; 64] {
+/// The digits of a digest.
+pub(crate) fn digits_of(digest: &[u8; 32]) -> [u8; 64] {
     let mut digits = [0u8; 64];
     match hex::encode_to_slice(digest, &mut digits) {
         Ok(()) => digits,

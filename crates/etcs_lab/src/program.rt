@@ -5,6 +5,7 @@ use crate::event_lines::events_told;
 use crate::examined::examined;
 use crate::linted::linted;
 use crate::packet_names::packets_told;
+use crate::play::{PlayArgs, played_all};
 use crate::replayed::replayed;
 use crate::run::played;
 use crate::status::{Status, no_memory, refused_args, text_told};
@@ -49,6 +50,20 @@ fn execute<R: Files<File = File> + Input + AllocGlobal + Eprint, W: Write>(
         LabCommand::Schema => text_told(rt, SCHEMA, "--schema", out),
         LabCommand::Lint { scenario, is_json } => linted(rt, scenario, form_of(is_json), out),
         LabCommand::Run { scenario } => played(rt, scenario, out),
+        LabCommand::Play {
+            file,
+            slots,
+            outputs,
+            folder,
+        } => {
+            let args = PlayArgs {
+                file,
+                slots,
+                outputs,
+                folder,
+            };
+            played_all(rt, args, out)
+        }
     }
 }
 

@@ -8,4 +8,5 @@ returns c =
     let second = with_sub _ _ _ _ _ first c.in_ok-packets.ensures c.in_ok-second.ensures in
     let third = with_sub _ _ _ _ _ second c.in_ok-telegram.ensures c.in_ok-third.ensures in
     let fourth = with_sub _ _ _ _ _ third c.in_ok-lint.ensures c.in_ok-fourth.ensures in
-    IfOk-weaker c.subcommand-5.result _ _ (λ command added. with_sub _ _ _ _ command fourth c.in_ok-run.ensures added) c.subcommand-5.ensures
+    let fifth = with_sub _ _ _ _ _ fourth c.in_ok-run.ensures c.in_ok-fifth.ensures in
+    IfOk-weaker c.subcommand-6.result _ _ (λ command added. with_sub _ _ _ _ command fifth c.in_ok-play.ensures added) c.subcommand-6.ensures

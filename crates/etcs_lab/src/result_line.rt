@@ -1,0 +1,299 @@
+//! The lines that `play` prints.
+
+use crate::digest::digits_of;
+use crate::request::LineFault;
+use events::{Brake, Output};
+use lab_events::{level_number, sign_pieces};
+use mode_table::Mode;
+use scenario_player::{LiveError, Played, Released};
+use serde_json::Value;
+use sessions::of_stop;
+use sha2::{Digest, Sha256};
+use std::io;
+use std::io::Write;
+use text_output::{Form, Piece, brake_word, known, mode_word, write_parts, write_pieces};
+
+/// Which outputs are printed.
+#[derive(Clone, Copy)]
+pub(crate) enum Outputs {
+    /// Each one.
+    All,
+    /// The last one.
+    Last,
+    /// Each one that differs from the one before.
+    Changes,
+    /// None.
+    None,
+}
+
+impl Outputs {
+    /// The outputs of this name.
+    pub(crate) fn of(name: &str) -> Option<Outputs> {
+        match name {
+            "all" => Some(Outputs::All),
+            "last" => Some(Outputs::Last),
+            "changes" => Some(Outputs::Changes),
+            "none" => Some(Outputs::None),
+            _ => None,
+        }
+    }
+}
+
+/// Which scenario a line is about.
+#[derive(Clone, Copy)]
+pub(crate) struct Named<'v> {
+    /// Its name.
+    pub id: Option<&'v Value>,
+    /// The number of its line, from 1 on; None in a file of its own.
+    pub line: Option<u64>,
+}
+
+/// What is printed of a life.
+#[derive(Clone, Copy)]
+pub(crate) struct Shown {
+    /// Which outputs.
+    pub outputs: Outputs,
+    /// The step of the scenario at which it stopped.
+    pub step: Option<u64>,
+    /// Whether the digest of the image is printed.
+    pub digest: bool,
+    /// The number of the image that was written.
+    pub image: Option<u64>,
+}
+
+// What was counted of a life.
+#[derive(Clone, Copy)]
+struct Counts {
+    trips: u64,
+    service: u64,
+    emergency: u64,
+}
+
+fn is_trip(output: &Output) -> bool {
+    matches!(output.mode, Mode::Trip)
+}
+
+fn is_service(output: &Output) -> bool {
+    matches!(output.brake, Brake::Service)
+}
+
+fn is_emergency(output: &Output) -> bool {
+    matches!(output.brake, Brake::Emergency)
+}
+
+// How often the train was tripped, and how often each brake was commanded after it was not.
+fn counts_of(released: &[Released]) -> Counts {
+    let mut counts = Counts {
+        trips: 0,
+        service: 0,
+        emergency: 0,
+    };
+    let mut before = Output::blank();
+    for one in released {
+        let now = one.output();
+        if is_trip(&now) && !is_trip(&before) {
+            counts.trips = counts.trips.saturating_add(1);
+        }
+        if is_service(&now) && !is_service(&before) {
+            counts.service = counts.service.saturating_add(1);
+        }
+        if is_emergency(&now) && !is_emergency(&before) {
+            counts.emergency = counts.emergency.saturating_add(1);
+        }
+        before = now;
+    }
+    counts
+}
+
+fn is_same(one: &Output, other: &Output) -> bool {
+    mode_word(one.mode) == mode_word(other.mode)
+        && level_number(one.level) == level_number(other.level)
+        && brake_word(one.brake) == brake_word(other.brake)
+        && one.limit.get() == other.limit.get()
+        && one.indications.number() == other.indications.number()
+}
+
+fn write_output<W: Write>(one: &Released, comma: bool, out: &mut W) -> io::Result<()> {
+    let output = one.output();
+    let front = [
+        Piece::Same(if comma { ",{\"event\":" } else { "{\"event\":" }),
+        Piece::Number(one.event()),
+        Piece::Same(",\"mode\":\""),
+        Piece::Same(mode_word(output.mode)),
+        Piece::Same("\",\"level\":"),
+        Piece::Same(level_number(output.level)),
+        Piece::Same(",\"brake\":\""),
+        Piece::Same(brake_word(output.brake)),
+        Piece::Same("\",\"limit_m_per_h\":"),
+        Piece::Number(u64::from(output.limit.get())),
+        Piece::Same(",\"indications\":["),
+    ];
+    let signs = sign_pieces(output.indications);
+    write_parts(Form::Json, &[&front, &signs, &[Piece::Same("]}")]], out)
+}
+
+fn write_all<W: Write>(released: &[Released], out: &mut W) -> io::Result<()> {
+    let mut comma = false;
+    for one in released {
+        write_output(one, comma, out)?;
+        comma = true;
+    }
+    Ok(())
+}
+
+fn write_changes<W: Write>(released: &[Released], out: &mut W) -> io::Result<()> {
+    let mut before: Option<Output> = None;
+    for one in released {
+        let output = one.output();
+        let is_new = match &before {
+            Some(before) => !is_same(before, &output),
+            None => true,
+        };
+        if is_new {
+            write_output(one, before.is_some(), out)?;
+        }
+        before = Some(output);
+    }
+    Ok(())
+}
+
+fn write_outputs<W: Write>(released: &[Released], outputs: Outputs, out: &mut W) -> io::Result<()> {
+    out.write_all(b",\"outputs\":[")?;
+    match outputs {
+        Outputs::All => write_all(released, out)?,
+        Outputs::Changes => write_changes(released, out)?,
+        Outputs::Last => {
+            if let Some(last) = released.last() {
+                write_output(last, false, out)?;
+            }
+        }
+        Outputs::None => {}
+    }
+    out.write_all(b"]}\n")
+}
+
+fn write_front<W: Write>(named: Named<'_>, status: &str, out: &mut W) -> io::Result<()> {
+    match named.id {
+        Some(id) => write!(out, "{{\"id\":{id}")?,
+        None => out.write_all(b"{\"id\":null")?,
+    }
+    write_pieces(
+        Form::Json,
+        &[
+            Piece::Same(",\"line\":"),
+            known(named.line),
+            Piece::Same(",\"status\":\""),
+        ],
+        out,
+    )?;
+    out.write_all(status.as_bytes())?;
+    out.write_all(b"\"")
+}
+
+fn write_end<W: Write>(error: LiveError, step: Option<u64>, out: &mut W) -> io::Result<()> {
+    let (number, name) = of_stop(error);
+    write_pieces(
+        Form::Json,
+        &[
+            Piece::Same(",\"step\":"),
+            known(step),
+            Piece::Same(",\"number\":"),
+            Piece::Number(u64::from(number)),
+            Piece::Same(",\"name\":\""),
+            Piece::Same(name),
+            Piece::Same("\""),
+        ],
+        out,
+    )
+}
+
+fn write_counts<W: Write>(played: &Played, out: &mut W) -> io::Result<()> {
+    let released = played.released.as_slice();
+    let counts = counts_of(released);
+    write_pieces(
+        Form::Json,
+        &[
+            Piece::Same(",\"events\":"),
+            Piece::Number(released.len() as u64),
+            Piece::Same(",\"trips\":"),
+            Piece::Number(counts.trips),
+            Piece::Same(",\"service_brakes\":"),
+            Piece::Number(counts.service),
+            Piece::Same(",\"emergency_brakes\":"),
+            Piece::Number(counts.emergency),
+        ],
+        out,
+    )
+}
+
+fn write_digest<W: Write>(image: &[u8], out: &mut W) -> io::Result<()> {
+    let mut hasher = Sha256::new();
+    hasher.update(image);
+    out.write_all(b"\"")?;
+    out.write_all(&digits_of(&hasher.finalize()))?;
+    out.write_all(b"\"")
+}
+
+fn write_image<W: Write>(played: &Played, shown: Shown, out: &mut W) -> io::Result<()> {
+    out.write_all(b",\"sha256\":")?;
+    if shown.digest {
+        write_digest(played.image.as_slice(), out)?;
+    } else {
+        out.write_all(b"null")?;
+    }
+    write_pieces(
+        Form::Json,
+        &[Piece::Same(",\"image\":"), known(shown.image)],
+        out,
+    )
+}
+
+/// Prints the line of a scenario that was played.
+pub(crate) fn write_played<W: Write>(
+    named: Named<'_>,
+    played: &Played,
+    shown: Shown,
+    out: &mut W,
+) -> io::Result<()> {
+    match played.ended {
+        Ok(()) => write_front(named, "done", out)?,
+        Err(error) => {
+            write_front(named, "stopped", out)?;
+            write_end(error, shown.step, out)?;
+        }
+    }
+    write_counts(played, out)?;
+    write_image(played, shown, out)?;
+    write_outputs(played.released.as_slice(), shown.outputs, out)
+}
+
+/// Prints the line of a scenario that isn't played for a fault of its line.
+pub(crate) fn write_fault<W: Write>(
+    named: Named<'_>,
+    found: &LineFault,
+    out: &mut W,
+) -> io::Result<()> {
+    let number = found.fault.number();
+    let (fault, pointer, wanted) = (found.fault, found.pointer, found.wanted);
+    write_front(named, "refused", out)?;
+    writeln!(
+        out,
+        ",\"pointer\":\"{pointer}\",\"fault\":{number},\"name\":\"{fault}\",\"wanted\":\"{wanted}\"}}"
+    )
+}
+
+/// Prints the line of a scenario that isn't played for another reason, which has this name.
+pub(crate) fn write_unplayed<W: Write>(
+    named: Named<'_>,
+    status: &str,
+    name: &str,
+    out: &mut W,
+) -> io::Result<()> {
+    write_front(named, status, out)?;
+    writeln!(out, ",\"name\":\"{name}\"}}")
+}
+
+/// Begins the line of a scenario that has a fault.
+pub(crate) fn write_refused<W: Write>(named: Named<'_>, out: &mut W) -> io::Result<()> {
+    write_front(named, "refused", out)
+}

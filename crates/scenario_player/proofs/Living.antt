@@ -1,0 +1,126 @@
+-- A life on an empty journal: what it releases, and how it ends.
+use Rattle.std.proofs.Common.{◌≡◌, ◌⊎◌, inl, inr, ⊎_elim, ℕ, ◌≤◌, IsTrue, List, [], ◌∷◌, ◌++◌, take, Result, Ok, Err, true, refl, sym, ◌∙◌, ap, subst, arith, append-nil}
+use Rattle.blocks.specs.FirstSector.{sectors_of}
+use Rattle.disk.specs.State.{State, contents_of}
+use Rattle.events.specs.declared.input.Event.{Event}
+use Rattle.events.specs.declared.input.Event.TheVariants as an_event
+use Rattle.events.specs.declared.step.Step.{Step}
+use Rattle.mode_table.specs.declared.statuses.Cold.{Cold}
+use Rattle.onboard.specs.Progress.{begun_with}
+use Rattle.ring.specs.Scans.{IsNewest}
+use Rattle.ring.specs.Slots.{valid_at, IsAtRest}
+use Rattle.ring.proofs.Numbers.{same_newest}
+use Rattle.ring.proofs.Rest.{at_rest}
+use Rattle.unit_start.specs.Events.{account_of, pairs_of}
+use Rattle.unit_start.specs.Lives.{IsReady, IsWord, IsBlank, IsNextNumber}
+use Rattle.unit_start.specs.Releases.{Release}
+use Rattle.whole_lives.specs.Runs.{Lives, durable_by, NothingReleased}
+use Rattle.whole_lives.specs.Stops.{AllStand, Stopped, LifeEnds, OnlyOpens, IsUnopened, AreBehind, IsDone}
+use Rattle.whole_lives.specs.Written.{LeavesLast}
+use Rattle.whole_lives.specs.declared.errors.LiveError.{LiveError}
+use Rattle.whole_lives.specs.declared.errors.LiveError.TheVariants as a_live
+use Rattle.scenario_player.specs.Playing.{IsEmpty, AreBytesOf, is_refusal, is_played, carried_out, PlayEnds, IsPlayed}
+use Rattle.scenario_player.proofs.Releasing.{begun, nothing_durable}
+
+-- ---- an empty journal
+
+module _ (slots : ℕ) (two : 2 ≤ slots) (disk : State) (empty : IsEmpty slots disk) where
+  abbrev its_rest : IsAtRest slots 0 (account_of 0 []) disk
+  its_rest = empty.rest (account_of 0 []) (refl, refl)
+
+  -- it is ready for a first life
+  pub ready : IsReady 0 [] [] disk
+  ready = record { more = []; begins = refl; each = λ c image. inl (at_rest slots 0 (account_of 0 []) disk its_rest c image) }
+
+  no_newest : IsNewest slots (valid_at slots (contents_of disk)) 0
+  no_newest = record { each = λ slot valid below at. (its_rest.ring.each slot valid below at).at_most; found = inl refl }
+
+  blank : IsBlank disk.sectors (contents_of disk)
+  blank = (slots, its_rest.formatted.size, no_newest)
+
+  -- a power-up comes into block 1
+  first_number : (number : ℕ) → IsNextNumber disk.sectors (contents_of disk) number → number ≡ 1
+  first_number number (others, greatest, size, newest, is) =
+      let slots_are : others ≡ slots = omega (arith, size, its_rest.formatted.size) in
+      let N : ℕ → Type 0 = λ s. IsNewest s (valid_at s (contents_of disk)) greatest in
+      let none : greatest ≡ 0 = same_newest slots (valid_at slots (contents_of disk)) 0 greatest (account_of 0 []) two its_rest.ring (subst N slots_are newest) in
+      omega (arith, is, none)
+
+  -- how it ends, where it was played
+  pub ends : (honest : IsTrue disk.honest) (steps : List Step) (ended : Result (Unit {0}) LiveError) → is_played ended ≡ true → LifeEnds disk steps ended → PlayEnds steps ended
+  ends honest steps (Ok x) played how = ⊎_elim
+      (λ (unopened : IsUnopened disk (Ok x)). absurd (let clash = unopened.1 in cc))
+      (λ (opened : (newest : ℕ) × (IsTrue disk.honest → IsNextNumber disk.sectors (contents_of disk) newest) × AllStand (begun_with newest) steps).
+      subst (λ (n : ℕ). AllStand (begun_with n) steps) (first_number opened.0 (opened.1 honest)) opened.2)
+      how
+  ends honest steps (Err error) played how = ⊎_elim
+      (λ (unopened : IsUnopened disk (Err error)).
+      let same : error ≡ a_live.Open unopened.0 = (let e : Err error ≡ Err (a_live.Open unopened.0) = unopened.1 in cc) in
+      absurd (let clash : is_refusal (a_live.Open unopened.0) ≡ true = sym (ap is_refusal same) ∙ played in cc))
+      (λ (opened : (newest : ℕ) × (IsTrue disk.honest → IsNextNumber disk.sectors (contents_of disk) newest) × Stopped (begun_with newest) steps error).
+      (played, subst (λ (n : ℕ). Stopped (begun_with n) steps error) (first_number opened.0 (opened.1 honest)) opened.2))
+      how
+
+  -- ---- what it releases
+
+  -- the power-up has the word that was handed in, or nothing was released
+  pub word_or_nothing : (cold word : Cold) (released : List Release) (P : Type 0) → IsWord disk.sectors (contents_of disk) cold word ⊎ (P × NothingReleased released)
+      → (word ≡ cold) ⊎ (released ≡ [])
+  word_or_nothing cold word released P is = ⊎_elim (λ (its : IsWord disk.sectors (contents_of disk) cold word). inl (its.blank blank)) (λ (none : P × NothingReleased released). inr none.1) is
+
+-- after steps that were carried out
+behind : (cold word : Cold) (done : List Step) (durable accepted : List Event) (released out : List Release) → out ≡ released
+    → (word ≡ cold) ⊎ (released ≡ []) → AreBehind (begun word) done durable accepted released
+    → pairs_of (durable_by (begun cold) done) ≡ pairs_of (begun cold) ++ out
+behind cold word done durable accepted released out same word_is so =
+    let at_word : pairs_of (durable_by (begun word) done) ≡ pairs_of (begun word) ++ released = ap pairs_of (sym so.0) ∙ so.2 in
+    ⊎_elim
+    (λ (it : word ≡ cold). subst (λ (w : Cold). pairs_of (durable_by (begun w) done) ≡ pairs_of (begun w) ++ out) it (at_word ∙ ap (λ (l : List Release). pairs_of (begun word) ++ l) (sym same)))
+    (λ (nothing : released ≡ []).
+    ap pairs_of (nothing_durable word cold done (at_word ∙ ap (λ (l : List Release). pairs_of (begun word) ++ l) nothing))
+    ∙ sym (append-nil (pairs_of (begun cold)))
+    ∙ ap (λ (l : List Release). pairs_of (begun cold) ++ l) (sym (same ∙ nothing)))
+    word_is
+
+pub releases : (cold word : Cold) (steps : List Step) (ended : Result (Unit {0}) LiveError) (U : Type 0) (taken : ℕ) (durable accepted : List Event) (released out : List Release)
+    → out ≡ released → (word ≡ cold) ⊎ (released ≡ []) → IsDone (begun word) steps U ended taken durable accepted released
+    → pairs_of (durable_by (begun cold) (carried_out steps ended)) ≡ pairs_of (begun cold) ++ out
+releases cold word steps (Ok x) U taken durable accepted released out same word_is done =
+    behind cold word steps durable accepted released out same word_is done.1
+releases cold word steps (Err (a_live.Open e)) U taken durable accepted released out same word_is done =
+    sym (append-nil (pairs_of (begun cold))) ∙ ap (λ (l : List Release). pairs_of (begun cold) ++ l) (sym (same ∙ done.0))
+releases cold word steps (Err (a_live.Accept k e)) U taken durable accepted released out same word_is done =
+    behind cold word (take k steps) durable accepted released out same word_is done.1
+releases cold word steps (Err (a_live.Flush k e)) U taken durable accepted released out same word_is done =
+    behind cold word (take k steps) durable accepted released out same word_is done.1
+releases cold word steps (Err (a_live.NoMemory k)) U taken durable accepted released out same word_is done =
+    behind cold word (take k steps) durable accepted released out same word_is done.1
+
+-- ---- all of a life that was played
+
+-- What `live` says of its disks, for what the caller's list had before, and for the list of events that it found.
+abbrev pub IsLived : Cold → List Step → State → State → Result (Unit {0}) LiveError → List Release → List Release → List Event → Type 0
+IsLived cold steps old new ended released before found =
+    (word : Cold) × (it : Lives 0 [] [] found cold word steps old new before released)
+    × IsDone (an_event.PowerUp word ∷ found) steps (OnlyOpens 0 [] [] found word old new) ended it.steps_taken it.durable_at_end it.accepted_at_end it.released
+    × LeavesLast found word steps ended new
+
+pub played : (slots : ℕ) (two : 2 ≤ slots) (cold : Cold) (steps : List Step) (old new : State) (ended : Result (Unit {0}) LiveError) (released : List Release) (image : List ℕ)
+    → IsTrue old.honest → IsEmpty slots old → is_played ended ≡ true → LifeEnds old steps ended → new.sectors ≡ sectors_of slots → AreBytesOf new image
+    → IsLived cold steps old new ended released [] [] → IsPlayed slots cold steps ended released image
+played slots two cold steps old new ended released image honest empty plays how sectors bytes lived =
+    let it = lived.1 in
+    let out : released ≡ it.released = it.out_is in
+    let word = word_or_nothing slots two old empty cold lived.0 it.released _ it.word_is in
+    record {
+      old = old;
+      new = new;
+      empty = empty;
+      word = lived.0;
+      life = it;
+      done = lived.2;
+      last = lived.3;
+      image_is = (sectors, bytes);
+      ends = ends slots two old empty honest steps ended plays how;
+      outputs = releases cold lived.0 steps ended _ it.steps_taken it.durable_at_end it.accepted_at_end it.released released out word lived.2;
+    }

@@ -1,0 +1,34 @@
+-- What is released of a life whose power-up has one word or another.
+use Rattle.std.proofs.Common.{◌≡◌, ◌+◌, List, [], ◌∷◌, ◌++◌, length, refl, sym, ◌∙◌, ap, arith, length-append}
+use Rattle.events.specs.declared.input.Event.{Event}
+use Rattle.events.specs.declared.input.Event.TheVariants as an_event
+use Rattle.events.specs.declared.step.Step.{Step}
+use Rattle.events.specs.declared.step.Step.TheVariants.{Accept, Flush}
+use Rattle.mode_table.specs.declared.statuses.Cold.{Cold}
+use Rattle.unit_start.specs.Events.{pair_of, pairs_of}
+use Rattle.unit_start.proofs.Lists.{empty_of}
+use Rattle.whole_lives.specs.Runs.{flushed_by, durable_by}
+
+length_pairs : (events : List Event) → length (pairs_of events) ≡ length events
+length_pairs [] = refl
+length_pairs (event ∷ events) =
+    let more : length (pairs_of events) ≡ length events = length_pairs events in
+    omega (arith, more, length-append (pairs_of events) (pair_of events event ∷ []))
+
+abbrev pub begun : Cold → List Event
+begun word = an_event.PowerUp word ∷ []
+
+-- what is durable goes on from what there was
+flushed_on : (d a events : List Event) (steps : List Step) → flushed_by (d ++ events) (a ++ events) steps ≡ flushed_by d a steps ++ events
+flushed_on d a events [] = refl
+flushed_on d a events (Accept input ∷ steps) = flushed_on d (an_event.Input input ∷ a) events steps
+flushed_on d a events (Flush ∷ steps) = flushed_on a a events steps
+
+-- where nothing was released after one power-up, nothing is durable after another one
+pub nothing_durable : (word other : Cold) (steps : List Step) → pairs_of (durable_by (begun word) steps) ≡ pairs_of (begun word) ++ [] → durable_by (begun other) steps ≡ begun other
+nothing_durable word other steps none =
+    let count : length (durable_by (begun word) steps) ≡ 1 = sym (length_pairs (durable_by (begun word) steps)) ∙ ap length none in
+    let more : length (durable_by (begun word) steps) ≡ length (durable_by [] steps) + 1 =
+    ap length (flushed_on [] [] (begun word) steps) ∙ length-append (durable_by [] steps) (begun word) in
+    let empty : durable_by [] steps ≡ [] = empty_of (durable_by [] steps) (omega (arith, count, more)) in
+    flushed_on [] [] (begun other) steps ∙ ap (λ (l : List Event). l ++ begun other) empty

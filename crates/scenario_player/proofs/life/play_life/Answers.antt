@@ -1,0 +1,21 @@
+use Rattle.std.proofs.Common.{rules, ◌≡◌, ⊎_elim, List, [], refl, subst, ◌∙◌}
+use Rattle.disk.specs.Memory.{memory_state}
+use Rattle.events.specs.declared.input.Event.{Event}
+use Rattle.unit_start.specs.Releases.{Release}
+use Rattle.scenario_player.proofs.Living.{ready, IsLived, played}
+use Rattle.scenario_player.proofs.life.play_life.Goals as goal
+
+pub returns : goal.returns
+returns c =
+    let slots = c.args.slots in
+    let old = memory_state c.in_ok-disk.disk in
+    let new = memory_state c.live-disk.result.0 in
+    let empty = c.in_ok-disk.ensures.empty in
+    let it = c.live-disk.ensures.life 0 [] [] refl (ready slots c.requires.slots.0 old empty) in
+    let none : it.0 ≡ [] = ⊎_elim (λ (e : it.0 ≡ []). e) (λ (e : it.0 ≡ []). e) it.2.found_is in
+    let I : List Release → List Event → Type 0 = IsLived c.args.cold c.args.steps.now old new c.live-disk.result.1 c.live-disk.new.out.items in
+    let lived : I c.new-released.result.items it.0 = (it.1, it.2, it.3, it.5) in
+    let first : I [] it.0 = subst (λ (before : List Release). I before it.0) c.new-released.ensures.items lived in
+    played slots c.requires.slots.0 c.args.cold c.args.steps.now old new c.live-disk.result.1 c.live-disk.new.out.items c.in_ok-image.image.items
+    refl empty (search rules) c.live-disk.ensures.stopped (c.live-disk.ensures.counted.sectors ∙ c.in_ok-disk.ensures.sectors) c.in_ok-image.ensures
+    (subst (λ (found : List Event). I [] found) none first)

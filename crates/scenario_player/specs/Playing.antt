@@ -1,0 +1,107 @@
+-- What is played of a scenario on an empty journal in memory (this project's profile). Lists of events have the newest
+-- first, lists of steps and of outputs the oldest first. Steps, sectors and slots are numbered from 0, blocks from 1.
+
+-- Taken for granted: a disk in memory keeps to the model of a device (`Memory` of `disk`), and what a life leaves on a
+-- disk and releases is what `whole_lives` says of `live`.
+use Rattle.std.specs.Prelude.{◌≡◌, ℕ, ◌*◌, Bool, true, false, IsTrue, List, [], ◌∷◌, ◌++◌, length, take, Option, Some, None, Result, Ok, Err}
+use Rattle.std.specs.Option.{option_map_or}
+use Rattle.blocks.specs.FirstSector.{sectors_of}
+use Rattle.disk.specs.State.{State, contents_of, Holds}
+use Rattle.events.specs.declared.input.Event.TheVariants.{PowerUp}
+use Rattle.events.specs.declared.step.Step.{Step}
+use Rattle.journal.specs.Formats.{IsEmptied}
+use Rattle.mode_table.specs.declared.statuses.Cold.{Cold}
+use Rattle.onboard.specs.Progress.{begun_with}
+use Rattle.onboard.specs.declared.errors.AcceptError.TheVariants as an_accept
+use Rattle.onboard.specs.declared.errors.FlushError.TheVariants as a_flush
+use Rattle.onboard.specs.declared.released.Released.{Released}
+use Rattle.ring.specs.Account.{Account, TellsNothing}
+use Rattle.ring.specs.Slots.{IsAtRest}
+use Rattle.simulator.specs.Scenarios.{Tells}
+use Rattle.unit_start.specs.Events.{pairs_of}
+use Rattle.whole_lives.specs.Runs.{Lives, durable_by}
+use Rattle.whole_lives.specs.Stops.{AllStand, Stopped, OnlyOpens, IsDone, step_of}
+use Rattle.whole_lives.specs.Written.{LeavesLast}
+use Rattle.whole_lives.specs.declared.errors.LiveError.{LiveError}
+use Rattle.whole_lives.specs.declared.errors.LiveError.TheVariants as a_live
+
+-- an empty journal of so many slots, as `journal::format` makes it
+pub record IsEmpty (slots : ℕ) (disk : State) : Type 0 where
+  -- the first sector is the one for so many slots, and the gates hold zeros
+  pub emptied : IsEmptied slots (contents_of disk)
+  -- no sector is open, and no block is there
+  pub rest : (told : Account) → TellsNothing told → IsAtRest slots 0 told disk
+
+-- the bytes are those of the disk's sectors, one after the other
+abbrev pub AreBytesOf : State → List ℕ → Type 0
+AreBytesOf disk bytes = (length bytes ≡ 512 * disk.sectors) × Holds (contents_of disk) 0 bytes
+
+-- ---- how a life ends
+
+-- whether the error names a step that was refused for a cause of its own: not for memory, nor for the device
+abbrev pub is_refusal : LiveError → Bool
+is_refusal (a_live.Open e) = false
+is_refusal (a_live.Accept k an_accept.Failed) = true
+is_refusal (a_live.Accept k an_accept.PendingFull) = true
+is_refusal (a_live.Accept k an_accept.ClockBack) = true
+is_refusal (a_live.Accept k an_accept.NoMemory) = false
+is_refusal (a_live.Flush k a_flush.Failed) = true
+is_refusal (a_live.Flush k a_flush.WornOut) = true
+is_refusal (a_live.Flush k a_flush.DeviceFault) = false
+is_refusal (a_live.NoMemory k) = false
+
+-- whether a life came to its end, or to such a step
+abbrev pub is_played : {T : Type 0} → Result T LiveError → Bool
+is_played (Ok x) = true
+is_played (Err error) = is_refusal error
+
+-- Its power-up is in block 1. No step has a cause to be refused; or the life stopped at the first one that has.
+abbrev pub PlayEnds : {T : Type 0} → List Step → Result T LiveError → Type 0
+PlayEnds steps (Ok x) = AllStand (begun_with 1) steps
+PlayEnds steps (Err error) = IsTrue (is_refusal error) × Stopped (begun_with 1) steps error
+
+-- the steps that were carried out: all, or those before the one that was refused
+abbrev pub carried_out : {T : Type 0} → List Step → Result T LiveError → List Step
+carried_out steps (Ok x) = steps
+carried_out steps (Err error) = option_map_or (λ number. take number steps) (step_of error) []
+
+-- exactly the outputs of the events that the steps which were carried out made durable, after the power-up
+abbrev pub AreOutputs : {T : Type 0} → Cold → List Step → Result T LiveError → List Released → Type 0
+AreOutputs cold steps ended released =
+    pairs_of (durable_by (PowerUp cold ∷ []) (carried_out steps ended)) ≡ pairs_of (PowerUp cold ∷ []) ++ released
+
+-- ---- a life that was played
+
+-- A life of these steps was played on an empty journal of so many slots: `live` answered this on its disk.
+pub record IsPlayed {T : Type 0} (slots : ℕ) (cold : Cold) (steps : List Step) (ended : Result T LiveError) (released : List Released) (image : List ℕ) : Type 0 where
+  -- the disk before the life, and the one that it handed back
+  pub old : State
+  pub new : State
+  -- before it the journal was empty
+  pub empty : IsEmpty slots old
+  -- the word that the power-up recorded
+  pub word : Cold
+  -- it is a life by the contract of `live`
+  pub life : Lives 0 [] [] [] cold word steps old new [] released
+  -- it released exactly what the steps before its end ask for
+  pub done : IsDone (PowerUp word ∷ []) steps (OnlyOpens 0 [] [] [] word old new) ended life.steps_taken life.durable_at_end life.accepted_at_end life.released
+  -- where it didn't stop, the newest block is that of its last flush of something pending
+  pub last : LeavesLast [] word steps ended new
+  -- the image is the disk that it handed back, byte by byte
+  pub image_is : (new.sectors ≡ sectors_of slots) × AreBytesOf new image
+  -- no step has a cause to be refused, or it stopped at the first one that has
+  pub ends : PlayEnds steps ended
+  -- the outputs are those that the definitions say
+  pub outputs : AreOutputs cold steps ended released
+
+-- ---- a scenario that was played
+
+-- what the train knows of movements without power: what is given, else what the scenario says
+abbrev pub cold_by : Option Cold → Cold → Cold
+cold_by None told = told
+cold_by (Some given) told = given
+
+-- the life that the scenario tells, of a word and steps, was played
+abbrev pub PlaysOne : {T : Type 0} → List ℕ → Option Cold → ℕ → Result T LiveError → List Released → List ℕ → Type 0
+PlaysOne bytes given slots ended released image =
+    (told : Cold) × (steps : List Step) × Tells bytes told steps × IsPlayed slots (cold_by given told) steps ended released image

@@ -1,0 +1,275 @@
+#!/usr/bin/env python3
+"""What `etcs_lab play` prints of many scenarios in one process: random scenarios and the examples, compared with the reference model (each
+output, each count, and the image byte by byte), and with `etcs run` on an image in a file; by hand what can't be played or read.
+
+    tests/lab/play_rows.py ETCS_LAB ETCS
+"""
+import hashlib
+import json
+import os
+import random
+import subprocess
+import sys
+import tempfile
+from collections import Counter
+from pathlib import Path
+
+HERE = Path(__file__).resolve().parent
+TOP = HERE.parents[1]
+sys.path[:0] = [str(HERE), str(TOP / "tests"), str(TOP / "tests/plain"), str(TOP / "tests/hostile"), str(TOP / "python")]
+import program  # noqa: E402
+from compared import Compared, run, status_of_full  # noqa: E402
+from disk import SECTOR_BYTES, Disk  # noqa: E402
+from journal import first_sector  # noqa: E402
+from page_rows import live  # noqa: E402
+from random_lists import Numbers  # noqa: E402
+from run_rows import Played, Tried, lived, wanted_of  # noqa: E402
+
+SCENARIOS, SEED, LEAST_OUTPUTS = 400, 7, 5_000
+OUTPUT = ("event", "mode", "level", "brake", "limit_m_per_h", "indications")
+SLOTS = (2, 3, 16, 64)
+LONGEST = 16_777_216
+CLOCK = '{"groups":[],"steps":[{"clock":1000}]}'
+MEMBERS = "an object of scenario, and perhaps id, cold, slots and sha256"
+
+# By hand: a line, and what is printed for it beside its number.
+FAULTS = (
+    ("{", {"id": None, "pointer": "", "fault": 1, "name": "NotJson", "wanted": "a JSON object on one line"}),
+    ("[]", {"id": None, "pointer": "", "fault": 2, "name": "Shape", "wanted": MEMBERS}),
+    (CLOCK, {"id": None, "pointer": "", "fault": 2, "name": "Shape", "wanted": MEMBERS}),
+    ('{"id":"a","scenario":%s,"more":1}' % CLOCK, {"id": "a", "pointer": "", "fault": 2, "name": "Shape", "wanted": MEMBERS}),
+    ('{"scenario":%s,"scenario":{}}' % CLOCK, {"id": None, "pointer": "", "fault": 2, "name": "Shape", "wanted": MEMBERS}),
+    ('{"id":[],"scenario":%s}' % CLOCK, {"id": None, "pointer": "/id", "fault": 2, "name": "Shape", "wanted": "a text or a whole number"}),
+    ('{"id":1.5,"scenario":%s}' % CLOCK, {"id": None, "pointer": "/id", "fault": 2, "name": "Shape", "wanted": "a text or a whole number"}),
+    ('{"id":2,"cold":3,"scenario":%s}' % CLOCK, {"id": 2, "pointer": "/cold", "fault": 3, "name": "OutOfRange", "wanted": "a whole number, 0 to 2"}),
+    ('{"slots":1,"scenario":%s}' % CLOCK, {"id": None, "pointer": "/slots", "fault": 3, "name": "OutOfRange", "wanted": "a whole number, 2 to 1048576"}),
+    ('{"slots":1048577,"scenario":%s}' % CLOCK, {"id": None, "pointer": "/slots", "fault": 3, "name": "OutOfRange", "wanted": "a whole number, 2 to 1048576"}),
+    ('{"sha256":1,"scenario":%s}' % CLOCK, {"id": None, "pointer": "/sha256", "fault": 2, "name": "Shape", "wanted": "true or false"}),
+    ('{"scenario":{"groups":[],"steps":[{"clock":1},{"clock":-1}]}}', {"id": None, "pointer": "/scenario/steps/1/clock", "fault": 3, "name": "OutOfRange"}),
+    ('{"scenario":{"groups":[],"steps":[{"telegram":"9"}]}}', {"id": None, "pointer": "/scenario/steps/0/telegram", "fault": 4, "name": "BadHex"}),
+    ('{"scenario":{"groups":[],"steps":[}}}', {"id": None, "pointer": "/scenario", "fault": 1, "name": "NotJson"}),
+    ('{"scenario":{"groups":[],"steps":[]}}}', {"id": None, "pointer": "", "fault": 1, "name": "NotJson", "wanted": "a JSON object on one line"}),
+    ('{"scenario":%s,"id":}' % CLOCK, {"id": None, "pointer": "", "fault": 1, "name": "NotJson", "wanted": "a JSON object on one line"}),
+    ('{"scenario":{"groups":[],"steps":[1 2]}}', {"id": None, "pointer": "/scenario", "fault": 1, "name": "NotJson"}),
+    ('{"scenario":7}', {"id": None, "pointer": "/scenario", "fault": 2, "name": "Shape"}),
+)
+
+# Lives that stop: nothing is pending, or some events are, which are lost.
+FALLING = (
+    [{"clock": 9}, {"clock": 8}],
+    [{"clock": 9}, {"flush": True}, {"clock": 10}, {"drive": [25_000, 10_000]}, {"clock": 3}, {"clock": 11}],
+    [*[{"clock": at} for at in range(20)], {"flush": True}, {"clock": 18}],
+)
+
+
+def counts(outputs):
+    """How often the train was tripped, and each brake was commanded anew, from a power-up on that commands the emergency brake."""
+    found, mode, brake = Counter(), "SB", "emergency"
+    for one in outputs:
+        found["trips"] += one["mode"] == "TR" != mode
+        if one["brake"] != brake:
+            found[f"{one['brake']}_brakes"] += 1
+        mode, brake = one["mode"], one["brake"]
+    return {name: found[name] for name in ("trips", "service_brakes", "emergency_brakes")}
+
+
+def chosen(outputs, which):
+    """The outputs that an option prints."""
+    if which == "changes":
+        return [one for before, one in zip([None, *outputs], outputs) if before is None or any(one[name] != before[name] for name in OUTPUT[1:])]
+    return {"all": outputs, "last": outputs[-1:], "none": []}[which]
+
+
+class Case:
+    """A scenario, how it is played, and what is wanted of it by the reference model."""
+
+    def __init__(self, name, scenario, lines, slots, given, digest=True):
+        self.name, self.scenario, self.slots, self.given, self.digest = name, scenario, slots, given, digest
+        asked = scenario if given is None else scenario | {"cold": given}
+        lines = lived(asked) if lines is None or given is not None else lines
+        told, self.status = wanted_of(asked, lines)
+        self.asked, self.end = asked, told[-1]
+        self.outputs = [{name: one[name] for name in OUTPUT} for one in told[1:-1]]
+        disk = Disk([first_sector(slots)] + [bytes(SECTOR_BYTES)] * (6 * slots))
+        live(disk, asked)
+        self.image = b"".join(disk.held)
+
+    def members(self):
+        """What a line has."""
+        return {"id": self.name, "scenario": self.scenario, "slots": self.slots, **({} if self.given is None else {"cold": self.given}),
+                **({} if self.digest is None else {"sha256": self.digest})}
+
+    def line(self, id, blanks):
+        """The line, whose members stand in any order, with blanks between them."""
+        members = list(self.members().items())
+        random.Random(id).shuffle(members)
+        gap = " " * blanks
+        return "{" + ",".join(f"{gap}{json.dumps(name)}{gap}:{gap}{json.dumps(value)}{gap}" for name, value in members) + "}"
+
+    def wanted(self, id, line, which, image):
+        end = {} if self.end["end"] == "done" else {name: self.end[name] for name in ("step", "number", "name")}
+        return {"id": id, "line": line, "status": self.end["end"], **end, "events": len(self.outputs), **counts(self.outputs),
+                "sha256": hashlib.sha256(self.image).hexdigest() if self.digest else None, "image": image, "outputs": chosen(self.outputs, which)}
+
+
+class Plays(Compared):
+    def __init__(self, lab, etcs, folder):
+        super().__init__()
+        self.lab, self.etcs, self.folder = lab, etcs, folder
+        self.met = Counter()
+
+    def play(self, text, *words):
+        """The objects that are printed for some lines, the status, and what is said."""
+        printed, said, status = run(self.lab, ["play", *words], text)
+        return [json.loads(line) for line in printed.splitlines()], status, said
+
+    def cases(self):
+        numbers, chance = Numbers(SEED), random.Random(SEED)
+        for path in sorted((TOP / "examples").glob("*/*.json")):
+            scenario = json.loads(path.read_text())
+            yield Case(f"example {path.parent.name}", scenario, lived(scenario), 16, None)
+        for number, steps in enumerate(FALLING):
+            yield Case(f"a clock that falls, {number}", {"groups": [], "steps": steps}, None, 16, None)
+        for number in range(SCENARIOS):
+            made = Played(numbers)
+            yield Case(f"scenario {number}", made.scenario(), made.life.lines, chance.choice(SLOTS), chance.choice((None, None, 0, 1, 2)),
+                       chance.choice((True, True, False, None)))
+
+    def many(self, which, cases):
+        """All in one process, the images kept."""
+        images = self.folder / f"images {which}"
+        images.mkdir()
+        text = "".join(("\n" if number % 5 == 0 else "") + case.line(case.name, number % 3) + "\n" for number, case in enumerate(cases))
+        found, status, said = self.play(text[:-1], "--outputs", which, "--images", images)
+        self.unless((status, said) == (max(case.status for case in cases), "") and len(found) == len(cases), f"{which}: status {status}, {said}")
+        at = 0
+        for number, (case, one) in enumerate(zip(cases, found)):
+            at += 2 if number % 5 == 0 else 1
+            self.same(f"{which}, {case.name}", json.dumps(one), json.dumps(case.wanted(case.name, at, which, number + 1)))
+            left = images / f"{number + 1}.image"
+            self.unless(left.exists() and left.read_bytes() == case.image, f"{which}, {case.name}: another image")
+            self.met["outputs"] += len(case.outputs)
+            self.met[case.end["end"]] += 1
+            self.met.update(name for name, count in counts(case.outputs).items() if count)
+
+    def as_run(self, cases):
+        """As `etcs run` on an image in a file."""
+        path, image = self.folder / "scenario.json", self.folder / "image"
+        for case in cases:
+            path.write_text(json.dumps(case.asked))
+            run(self.etcs, ["format", image, case.slots])
+            lines, _, status = run(self.etcs, ["run", path, image])
+            found, other, _ = self.play(json.dumps({"scenario": case.asked, "sha256": True}), "--outputs", "all", "--slots", case.slots)
+            if not self.unless(len(found) == 1, f"{case.name}: {len(found)} lines"):
+                continue
+            one = found[0]
+            same = self.play(None, "--outputs", "all", "--slots", case.slots, path)
+            self.same(f"a file, {case.name}", same, ([one | {"line": None, "sha256": None}], other, ""))
+            printed = Tried.as_printed("".join(json.dumps(output) + "\n" for output in one["outputs"]))
+            if one["status"] == "stopped":
+                printed += f"stopped {one['number']} {one['name']}\n"
+            self.same(f"etcs run, {case.name}", (status, lines, hashlib.sha256(image.read_bytes()).hexdigest()), (other, printed, one["sha256"]))
+
+    def faults(self):
+        """A line that can't be played doesn't stop the others."""
+        good = '{"id":"good","scenario":%s}' % CLOCK
+        found, status, said = self.play("".join(f"{line}\n{good}\n" for line, _ in FAULTS))
+        if not self.unless((status, said, len(found)) == (1, "", 2 * len(FAULTS)), f"faults: status {status}, {said}, {len(found)} lines"):
+            return
+        for number, (line, wanted) in enumerate(FAULTS):
+            one, behind = found[2 * number], found[2 * number + 1]
+            all_of = {"id": wanted["id"], "line": 2 * number + 1, "status": "refused"} | wanted
+            self.same(line, json.dumps(one), json.dumps(all_of if "wanted" in wanted else all_of | {"wanted": one.get("wanted")}))
+            self.unless(behind["status"] == "done" and behind["line"] == 2 * number + 2, f"behind {line}: {behind}")
+        path = self.folder / "faulty.json"
+        path.write_text('{"groups":[],"steps":[{"clock":-1}]}')
+        (one,), status, _ = self.play(None, path)
+        self.same("a file with a fault", (one["pointer"], one["name"], status), ("/steps/0/clock", "OutOfRange", 1))
+
+    def unread(self):
+        """Nothing to play, a file that can't be read, a line without an end, an output that takes nothing, images that can't be written."""
+        path = self.folder / "lines"
+        for text in ("", "\n \n\t\n"):
+            path.write_text(text)
+            self.same("nothing", self.play(None, path), ([], 1, f"etcs_lab: {path}: has no scenario\n"))
+            self.same("nothing on standard input", self.play(text), ([], 1, "etcs_lab: standard input: has no scenario\n"))
+        for path in (self.folder / "none", self.folder / "none.json"):
+            self.same("no file", self.play(None, path), ([], 3, f"etcs_lab: {path}: can't be read\n"))
+        self.same("a folder", self.play(None, self.folder)[1:], (3, f"etcs_lab: {self.folder}: can't be read from line 1 on\n"))
+        with subprocess.Popen([self.lab, "play", "/dev/zero"], stdout=subprocess.PIPE, stderr=subprocess.PIPE) as process:
+            printed, said = process.communicate(timeout=60)
+        self.same("an endless line", (printed, said, process.returncode), (
+            b'{"id":null,"line":1,"status":"unread","name":"TooLong"}\n',
+            f"etcs_lab: /dev/zero: line 1 has more than {LONGEST} bytes; it and what follows it isn't read\n".encode(), 1))
+        long = '{"id":1,"scenario":%s}' % CLOCK
+        found, status, said = self.play(f"{long}{' ' * (LONGEST - len(long))}\n{long}\n")
+        self.unless(([one["status"] for one in found], status, said) == (["done", "done"], 0, ""), f"the longest line: {found} {status} {said}")
+        path = self.folder / "one"
+        path.write_text(long)
+        self.unless(status_of_full(self.lab, ["play", path]) == 1, "a full device")
+        self.same("other outputs", self.play(long, "--outputs", "some")[::2], ([], "error: invalid value for '--outputs <WHICH>'\n"
+                  "  [possible values: all, last, changes, none]\n\nFor more information, try '--help'.\n"))
+        self.images(path)
+
+    def images(self, path):
+        """An image that is there stays, and one that can't be written isn't left behind."""
+        images = self.folder / "few"
+        self.same("no folder", self.play(None, "--images", images, path), ([], 3, f"etcs_lab: {images}/1.image: can't be made\n"))
+        images.mkdir()
+        (images / "1.image").write_text("mine")
+        self.same("an image is there", self.play(None, "--images", images, path), (
+            [], 1, f"etcs_lab: {images}/1.image: is there already, and stays as it is\n"))
+        self.same("it stays", (images / "1.image").read_text(), "mine")
+        (images / "1.image").unlink()
+        done = subprocess.run(["sh", "-c", 'ulimit -f 8; trap "" XFSZ; exec "$@"', "sh", self.lab, "play", "--images", images, path],
+                              capture_output=True, text=True)
+        self.same("no room", (done.stdout, done.stderr, done.returncode, os.listdir(images)), (
+            "", f"etcs_lab: {images}/1.image: can't be written\n", 3, []))
+
+    def from_python(self, cases):
+        """The same by gaknifur.play, of which one that nobody reads to its end leaves no process."""
+        os.environ["GAKNIFUR_ETCS_LAB"] = str(self.lab)
+        from gaknifur.play import play
+        from gaknifur.program import Failed
+        for number, (case, one) in enumerate(zip(cases, play((case.members() for case in cases), outputs="changes"), strict=True)):
+            self.same(f"python, {case.name}", one, case.wanted(case.name, number + 1, "changes", None))
+        (one,) = play([json.loads(CLOCK)])
+        self.same("python, a scenario alone", (one["id"], one["status"], one["events"]), (None, "done", 1))
+        first = play({"id": number, "scenario": json.loads(CLOCK)} for number in range(10**9))
+        self.same("python, the first of many", next(first)["id"], 0)
+        first.close()
+
+        def broken():
+            yield json.loads(CLOCK)
+            raise ValueError("mine")
+
+        for name, asked, options, wanted in (
+                ("nothing", [], {}, "Failed: standard input: has no scenario"), ("an error of the caller", broken(), {}, "ValueError: mine"),
+                ("no folder", [json.loads(CLOCK)], {"images": self.folder / "no"}, f"Failed: {self.folder}/no/1.image: can't be made")):
+            try:
+                list(play(asked, **options))
+                self.unless(False, f"python, {name}: no error")
+            except (Failed, ValueError) as error:
+                self.same(f"python, {name}", f"{type(error).__name__}: {error}", wanted)
+
+    def judged(self):
+        cases = list(self.cases())
+        for which in ("all", "last", "changes", "none"):
+            self.many(which, cases)
+        self.as_run(cases[::4])
+        self.from_python(cases[::7])
+        self.faults()
+        self.unread()
+        for word in ("done", "stopped", "trips", "service_brakes", "emergency_brakes"):
+            self.unless(self.met[word], f"no scenario has {word}")
+        self.unless(self.met["outputs"] >= 4 * LEAST_OUTPUTS, f"{self.met['outputs'] // 4} outputs are too few")
+        return self.end(f"play: {self.count} comparisons, {len(cases)} scenarios in 4 ways, a fourth of them by etcs run")
+
+
+def main(lab, etcs):
+    with tempfile.TemporaryDirectory() as folder:
+        return Plays(lab, etcs, Path(folder)).judged()
+
+
+if __name__ == "__main__":
+    sys.exit(main(*sys.argv[1:]))

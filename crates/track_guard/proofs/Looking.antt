@@ -1,19 +1,18 @@
 -- The packets of a telegram that bytes carry are those that are listed by L_PACKET.
-use Rattle.std.proofs.Common.{◌≡◌, ℕ, zero, suc, ◌+◌, ◌<◌, ◌≤◌, ◌==◌, nat_eq, Bool, true, false, if◌then◌else◌, List, [], ◌∷◌, ◌++◌, Option, Some, None, Ok, Err, length, length-append, take, drop, refl, sym, ap, subst, ◌∙◌, arith, append_assoc}
+use Rattle.std.proofs.Common.{◌≡◌, ℕ, zero, suc, ◌+◌, ◌<◌, nat_eq, Bool, true, false, if◌then◌else◌, List, [], ◌∷◌, ◌++◌, Some, None, Ok, Err, length, length-append, take, drop, refl, sym, ap, subst, ◌∙◌, arith, append_assoc}
 use Rattle.std.specs.List.{AllZip}
 use Rattle.std.proofs.lemmas.Bool.{eqb-true, le-ltb}
 use Rattle.std.proofs.lemmas.List.{take_at, drop_at, drop-drop}
 use Rattle.bits.specs.Bits.{bits_of, number, number_bits}
-use Rattle.bits.specs.Layout.{Begins, Spells}
+use Rattle.bits.specs.Layout.{Begins}
 use Rattle.bits.proofs.Numbers.{length-number_bits, number-of_bits}
 use Rattle.packets.specs.Packets.{packet, length_of}
 use Rattle.packets.specs.declared.packet.Packet.{Packet}
 use Rattle.packets.proofs.AnyPacket.{spelled-packet}
 use Rattle.telegram.specs.Sequences.{BeginsPackets}
-use Rattle.telegram.specs.Telegrams.{header, next_packet, Carries}
+use Rattle.telegram.specs.Telegrams.{header, next_packet}
 use Rattle.telegram.specs.declared.fault.TelegramFault.{TelegramFault}
 use Rattle.telegram.specs.declared.header.Header.{Header}
-use Rattle.telegram.specs.declared.message.Telegram.{Telegram}
 use Rattle.telegram.proofs.Answering.{carried}
 use Rattle.telegram.proofs.Lengths.{next_is_packet, end_mark, header_takes}
 use Rattle.telegram.proofs.Walking.{few_packets}
@@ -24,7 +23,7 @@ use Rattle.track_packets.proofs.Steps.{Marks, packet_listed, mark_listed}
 use Rattle.installed_values.proofs.Heads.{headed}
 use Rattle.installed_values.proofs.Written.{listing_long}
 use Rattle.track_guard.specs.Demands.{packets_found}
-use Rattle.track_guard.specs.Findings.{field_at, has_known_packets, is_from_to, is_number}
+use Rattle.track_guard.specs.Findings.{field_at, has_known_packets}
 use Rattle.track_guard.specs.Laws.{AllAreLookedAt, IsPlaceOf}
 
 -- ---- each packet is listed

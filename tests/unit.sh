@@ -68,7 +68,7 @@ for words in "gcc -x c -std=c99" "gcc -x c -std=c11" "g++ -x c++ -std=c++17" "g+
     LC_ALL=C $words -Wunused-result -I "$include" -c "$dropped" -o /dev/null 2>&1 | sed -n 's/^.*dropped\.c:\([0-9]*\):.* warning: ignoring return value.*/\1/p' >"$made/warned"
     diff "$made/drops" "$made/warned" >"$made/said" || { cat "$made/said"; fails "$words doesn't warn just of each answer that may mean the brake"; }
 done
-counted "answers that aren't dropped" "$(wc -l <"$made/drops")" 32
+counted "answers that aren't dropped" "$(wc -l <"$made/drops")" 37
 # a machine of 32 bits is told so in one sentence
 told=$(gcc -m32 -ffreestanding -I "$include" -fsyntax-only "$made/all.c" 2>&1 | grep -c 'error:')
 said=$(gcc -m32 -ffreestanding -I "$include" -fsyntax-only "$made/all.c" 2>&1 | grep -c 'error: #error "the library is for machines with pointers of 64 bits')

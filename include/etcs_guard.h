@@ -87,7 +87,7 @@ enum etcs_sureness {
 typedef struct {
     uint32_t mode;       /**< enum etcs_mode, before the telegram */
     uint32_t direction;  /**< enum etcs_direction, in which the group is passed */
-    uint32_t overridden; /**< 1 while an override is active (ETCS_SHOWS_OVERRIDDEN), else 0 */
+    uint32_t overridden; /**< 1 while an override is active, as the last output shows, else 0 */
 } etcs_situation;
 
 /** What a telegram demands: one row of the table that applies. */

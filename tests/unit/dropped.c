@@ -1,5 +1,6 @@
 /* Each call whose answer may mean the brake, with its answer dropped: a compiler warns on each line of the body, and on no other. */
 #include "etcs_file.h"
+#include "etcs_guard.h"
 #include "etcs_memory.h"
 
 void drops(etcs_unit *unit, etcs_opening *opening, etcs_file *file, etcs_unit_output *outputs, uint8_t *bytes, uint64_t *number, uint32_t *count);
@@ -10,6 +11,9 @@ void drops(etcs_unit *unit, etcs_opening *opening, etcs_file *file, etcs_unit_ou
     static etcs_value_dropped value;
     static etcs_packet_unused packet;
     static const etcs_train_data train = {20000, 160000, 70, 0, 15};
+    static const etcs_situation situation = {ETCS_FULL_SUPERVISION, ETCS_DIRECTION_NOMINAL, 0};
+    static etcs_guard guard;
+    static etcs_demand demand;
     /* from here on */
     etcs_decode(bytes, 8);
     etcs_status_classify(*count, ETCS_OF_DRIVER);
@@ -43,6 +47,11 @@ void drops(etcs_unit *unit, etcs_opening *opening, etcs_file *file, etcs_unit_ou
     etcs_file_flush(file, unit, outputs, count);
     etcs_file_format(file, "image", 4);
     etcs_memory_use(bytes, 8192);
+    etcs_guard_begin(&guard, ETCS_GUARD_STRICT);
+    etcs_guard_hear(&guard, bytes, 8, &situation, count);
+    etcs_guard_demand(bytes, 8, &situation, 0, &demand);
+    etcs_guard_acknowledge(&guard, 0);
+    etcs_guard_command(&guard, ETCS_BRAKE_NONE, count);
     /* up to here; the answers of these say nothing of the brake */
     (void)etcs_unit_fail(unit);
     (void)etcs_unit_close(unit);

@@ -1,2 +1,3 @@
 mod Applying
+mod Looking
 mod Using

@@ -1,6 +1,6 @@
 -- What is found in a packet, by its bits, and in a telegram that is refused (SUBSET-026, 7.4.2, 7.5.1 and 8.4.2; which
 -- bits count in doubt: this project's profile). Places, widths and lengths are bits.
-use Rattle.std.specs.Prelude.{ℕ, ◌+◌, ◌-◌, ◌==◌, nat_lt, Bool, true, false, ◌&&◌, List, length, take, drop, Option, Some, None, if◌then◌else◌}
+use Rattle.std.specs.Prelude.{ℕ, ◌+◌, ◌-◌, ◌==◌, nat_le, nat_lt, Bool, true, false, ◌&&◌, List, length, take, drop, Option, Some, None, if◌then◌else◌}
 use Rattle.bits.specs.Bits.{number}
 use Rattle.telegram.specs.declared.fault.TelegramFault.{TelegramFault}
 use Rattle.telegram.specs.declared.fault.TelegramFault.TheVariants as faults
@@ -75,7 +75,11 @@ finding_of_fault faults.NoEnd bits = refused_found bits
 finding_of_fault faults.TooLong bits = refused_found bits
 
 -- ---- whether its packets are looked at: it is sent to the train (Q_UPDOWN 1) by a balise (Q_MEDIA 0), and the first number
--- of its version is 1, so that NID_PACKET, Q_DIR and L_PACKET mean what they do in issue 2.3.0
+-- of its version is 1 (M_VERSION 16 to 31), so that NID_PACKET, Q_DIR and L_PACKET mean what they do in issue 2.3.0
+
+abbrev pub is_from_to : ℕ → ℕ → Option ℕ → Bool
+is_from_to least most None = false
+is_from_to least most (Some n) = nat_le least n && nat_le n most
 
 abbrev pub has_known_packets : List Bool → Bool
-has_known_packets bits = is_number 1 (field_at 0 1 bits) && is_number 1 (field_at 1 3 bits) && is_number 0 (field_at 8 1 bits)
+has_known_packets bits = is_number 1 (field_at 0 1 bits) && is_from_to 16 31 (field_at 1 7 bits) && is_number 0 (field_at 8 1 bits)

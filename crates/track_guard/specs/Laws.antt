@@ -1,11 +1,16 @@
 -- Laws of the demands (the table: this project's profile).
 use Rattle.std.specs.Prelude.{◌≡◌, ◌↔◌, ℕ, ◌==◌, Bool, true, false, List, [], ◌∷◌, ◌++◌, drop, Some}
-use Rattle.std.specs.List.{AllByRecursion as Each, Contains}
+use Rattle.std.specs.List.{AllByRecursion as Each, AllZip, Contains}
 use Rattle.bits.specs.Bits.{bits_of}
+use Rattle.bits.specs.Layout.{Begins}
 use Rattle.mode_table.specs.Packets.{uses}
+use Rattle.packets.specs.Packets.{packet as packet_layout, length_of}
+use Rattle.packets.specs.declared.packet.Packet.{Packet}
+use Rattle.telegram.specs.Telegrams.{Carries}
+use Rattle.telegram.specs.declared.message.Telegram.{Telegram}
 use Rattle.telegram.specs.declared.fault.TelegramFault.{TelegramFault}
 use Rattle.track_packets.specs.declared.listing.PacketPlace.{PacketPlace}
-use Rattle.track_guard.specs.Demands.{before_infill, concerns, demands_in, fault_found}
+use Rattle.track_guard.specs.Demands.{before_infill, concerns, demands_in, fault_found, packets_found}
 use Rattle.track_guard.specs.Findings.{finding_in, is_endless}
 use Rattle.track_guard.specs.Table.{action_by, table}
 use Rattle.track_guard.specs.declared.demanding.Demand.{Demand}
@@ -30,6 +35,18 @@ abbrev pub RowsAreDemanded : Type 0
 RowsAreDemanded =
     (s : Situation) (bytes : List ℕ) (packets : List PacketPlace) (d : Demand)
     → Contains (demands_in s bytes packets) d ↔ ((p : PacketPlace) × Contains (before_infill packets) p × Applies s bytes p d)
+
+-- ---- the packets that are looked at are all of the telegram
+
+-- A packet is spelled at its place, and has as many bits as L_PACKET says.
+pub record IsPlaceOf (bits : List Bool) (packet : Packet) (p : PacketPlace) : Type 0 where
+  pub rest : List Bool
+  pub spelled : Begins packet_layout packet (drop p.start bits) rest
+  pub length : p.length ≡ length_of packet
+
+-- Of a telegram that bytes carry each packet has a place, in their order, and there is no other place.
+abbrev pub AllAreLookedAt : Type 0
+AllAreLookedAt = (bytes : List ℕ) (t : Telegram) → Carries bytes t → AllZip (IsPlaceOf (bits_of bytes)) t.packets.items (packets_found bytes)
 
 -- ---- none is lost where several packets are in one message, and none takes another's place
 

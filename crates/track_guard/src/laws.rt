@@ -1,11 +1,16 @@
 //! Laws of the table and of the guard.
 ghost use Rattle.track_guard.specs.Guarding.{OnlyAdds, TripIsHeld, WarningChangesNothing};
-ghost use Rattle.track_guard.specs.Laws.{EachByItself, RefusedIsNeverSilent, RowsAreDemanded, UsedDemandsNothing};
+ghost use Rattle.track_guard.specs.Laws.{AllAreLookedAt, EachByItself, RefusedIsNeverSilent, RowsAreDemanded, UsedDemandsNothing};
 ghost use Rattle.track_guard.specs.Worked.{Worked};
 
 /// A law: what packets demand is each row of the table that applies to one of them, and no other demand.
 pub fn rows_are_demanded_and_no_others()
     ensures { RowsAreDemanded }
+{}
+
+/// A law: of a telegram that bytes carry all packets are looked at, in their order, each at its place.
+pub fn all_packets_are_looked_at()
+    ensures { AllAreLookedAt }
 {}
 
 /// A law: where several packets are in one message, the demands of each stay, in the order of the packets.

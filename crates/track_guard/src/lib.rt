@@ -18,6 +18,7 @@ pub use demanding::{Demand, MOST_DEMANDS, Situation, Source, demands};
 pub use finding::{Action, Finding, Section, Sureness};
 pub use guard::{Guard, Policy};
 pub use laws::{
-    each_packet_is_judged_by_itself, guard_only_adds_braking, refused_telegrams_are_never_silent,
-    rows_are_demanded_and_no_others, rows_worked_by_hand, used_in_full_demands_nothing,
+    all_packets_are_looked_at, each_packet_is_judged_by_itself, guard_only_adds_braking,
+    refused_telegrams_are_never_silent, rows_are_demanded_and_no_others, rows_worked_by_hand,
+    used_in_full_demands_nothing,
 };

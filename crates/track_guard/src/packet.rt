@@ -106,7 +106,7 @@ pub(crate) fn finding_in_refused(bytes: &[u8], fault: TelegramFault) -> Finding
 pub(crate) fn has_known_packets(bytes: &[u8]) -> bool
     ensures { result ≡ has_known_packets_of (bits_of bytes.now) }
 {
-    field_at(bytes, 0, 0, 1) == Some(1)
-        && field_at(bytes, 0, 1, 3) == Some(1)
-        && field_at(bytes, 0, 8, 1) == Some(0)
+    let is_uplink = field_at(bytes, 0, 0, 1) == Some(1);
+    let is_balise = field_at(bytes, 0, 8, 1) == Some(0);
+    is_uplink && is_balise && matches!(field_at(bytes, 0, 1, 7), Some(16..=31))
 }

@@ -87,6 +87,11 @@ gcc -std=c99 -I "$include" -aux-info "$made/declared" -c "$made/all.c" -o "$made
 named >"$made/names"
 nm --defined-only --extern-only "$static" | sed -n 's/^[0-9a-f]* . //p' | LC_ALL=C sort >"$made/in_archive"
 diff "$made/names" "$made/in_archive" || fails "the library without malloc shows other names than the headers declare"
+# (Ada has one name for one thing, also where only the case of a letter differs)
+sed -n -e 's/^enum \(etcs_[a-z_0-9]*\) {.*/\1/p' -e 's/^} \(etcs_[a-z_0-9]*\);$/\1/p' "$include"/etcs*.h | LC_ALL=C sort >"$made/types"
+[ "$(wc -l <"$made/types")" -ge 45 ] || fails "few types are found in the headers: $(wc -l <"$made/types")"
+twice=$(LC_ALL=C comm -12 "$made/types" "$made/names" | tr '\n' ' ')
+[ -z "$twice" ] || fails "a type and a call have one name: $twice"
 asked=$(nm -u "$static" | sed -n 's/^ *U //p' | LC_ALL=C sort -u | tr '\n' ' ')
 [ "$asked" = "memcpy memmove memset " ] || fails "the library without malloc asks for $asked"
 counted "names of the library" "$(wc -l <"$made/shown")" 116

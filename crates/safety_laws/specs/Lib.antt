@@ -9,3 +9,4 @@ pub mod Starts
 pub mod Release
 pub mod Outputs
 pub mod Intervening
+pub mod Meanings

@@ -6,7 +6,7 @@
 -- head of `include/etcs_unit.h` says that the caller owes. He hands in what he read from his medium, a sector as it is
 -- there when he hands it in, carries out the requests in their order, as they are told, says of none that it is done
 -- before it is, and nothing else writes there.
-use Rattle.std.specs.Prelude.{◌≡◌, ◌⊎◌, ℕ, ◌+◌, ◌≤◌, List, [], ◌∷◌, ◌++◌, map, take, Option, Some, None, MatchOption, Ok}
+use Rattle.std.specs.Prelude.{◌≡◌, ◌⊎◌, ℕ, ◌+◌, ◌≤◌, List, [], ◌∷◌, ◌++◌, length, map, take, Option, Some, None, MatchOption, Ok}
 use Rattle.disk.specs.State.{Platter, IsImage}
 use Rattle.events.specs.declared.input.Event.{Event}
 use Rattle.events.specs.declared.input.Input.{Input}
@@ -149,3 +149,14 @@ abbrev pub HandedOutIsOnMedium : Type 0
 HandedOutIsOnMedium = (whole_from sectors : ℕ) (history : List Happening) (first last : Scene) → first.handle ≡ None
     → AreOnMedium whole_from sectors first.handed first.medium → AllHappen sectors history first last
     → AreOnMedium whole_from sectors last.handed last.medium
+
+-- What it means at least that outputs are on a medium: whatever a loss of power leaves has events whose outputs these
+-- are a part of, each at a place of its own, with as many before it and after it at least as were handed out.
+abbrev pub OnMediumIsHeld : Type 0
+OnMediumIsHeld = (whole_from sectors : ℕ) (handed : List EtcsOutput) (medium : Platter) → AreOnMedium whole_from sectors handed medium
+    → (durable : List Event)
+    × ((before after : List EtcsOutput) (output : EtcsOutput) → handed ≡ before ++ output ∷ after
+    → (front : List EtcsOutput) × (back : List EtcsOutput) × (map told_of (pairs_of durable) ≡ front ++ output ∷ back)
+    × (length before ≤ length front) × (length after ≤ length back))
+    × ((image : ℕ → List ℕ) → IsImage medium image
+    → (all : List Event) × (more : List Event) × (all ≡ more ++ durable) × Tells whole_from sectors all image)

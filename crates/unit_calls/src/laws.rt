@@ -1,6 +1,6 @@
 //! Laws of the calls.
 ghost use Rattle.unit_calls.specs.Formatting.{FormatEmpties};
-ghost use Rattle.unit_calls.specs.Histories.{HandedOutIsOnMedium};
+ghost use Rattle.unit_calls.specs.Histories.{HandedOutIsOnMedium, OnMediumIsHeld};
 
 /// A law: behind all requests of a format, carried out in their order, a medium is an empty journal, as
 /// `journal::format` leaves it.
@@ -12,4 +12,9 @@ pub fn format_empties()
 /// outputs he was handed, as long as he carries out the requests that he says to be done.
 pub fn handed_out_is_on_medium()
     ensures { HandedOutIsOnMedium }
+{}
+
+/// A law: the definition of `handed_out_is_on_medium` means at least this. Where it is weakened, this law fails.
+pub fn on_medium_is_held()
+    ensures { OnMediumIsHeld }
 {}

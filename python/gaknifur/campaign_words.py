@@ -9,7 +9,7 @@ from typing import TYPE_CHECKING
 
 from . import campaign, campaign_table, files
 from .last_net import INTERRUPTED
-from .program import DEVICE, FOUND, WRONG_WORDS, Failed
+from .program import FOUND, REFUSED, WRONG_WORDS, Failed
 from .shown import shown
 
 if TYPE_CHECKING:
@@ -55,7 +55,7 @@ def play_campaign(told: argparse.Namespace, progress: "Progress") -> int:
     files.check_all([out] if out else [], [told.out], [told.out])
     jobs: campaign.Folder | list[campaign.Job] = campaign.Folder(told.folder, told.slots) if told.folder else []
     if told.folder and not len(jobs):
-        raise Failed(f"{told.folder}: contains no test case and no scenario; nothing was run", DEVICE)
+        raise Failed(f"{told.folder}: contains no test case and no scenario; nothing was run", REFUSED)
     table = campaign_table.Table(told.out, campaign_table.settings_of())
     played = 0
 

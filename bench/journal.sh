@@ -1,9 +1,9 @@
 #!/bin/sh
-# Prints the instructions of a commit of eight records over a disk in memory: by crates/journal (bench/calls/journal), and by plain Rust that
-# makes the same calls (bench/plain_journal.rs); then how much of that the disk's reads take. What callgrind counts within the commits for 24
+# Prints the instructions of a commit of eight records over a disk in memory (bench/calls/journal), and how much of that the disk's reads take.
+# (bench/rows.sh counts a commit without the making of its records, and the peer's.) What callgrind counts within the commits for 24
 # of them less what it counts for 12, by 12: all on slots that are used again. Then the calls of Journal::open on so many slots without blocks,
 # and its seconds beside those of making the disk and the journal alone. Then the blocks that are put into a new image a second, with the syncs
-# of each: by `etcs run`, a moment of the clock and a flush each, and by plain Rust. The program must be there (./etcs --prove). Builds all else
+# of each: by `etcs run` and by the peer (bench/peer), a moment of the clock and a flush each. The program must be there (./etcs --prove). Builds all else
 # first; what the builds have to say goes to standard error.
 #
 #     bench/journal.sh [SLOTS..]
@@ -15,7 +15,7 @@ slots=${*:-1024 4096 16384}
 memory=$(dirname "$(rt doc)")/c/liblibc_c.a
 "$top/bench/library" journal >&2
 gcc -O2 -Wall -Wextra "$top/bench/journal.c" "$out/libbench_journal.a" "$memory" -o "$out/journal" >&2
-rustc -O -C target-cpu=x86-64-v2 -g "$top/bench/plain_journal.rs" -o "$out/plain_journal" >&2
+"$top/bench/peer.sh" --build >&2
 cd "$out"
 
 # collected FUNCTION PROGRAM [ARGUMENT..]: the instructions within the function, with all that it calls
@@ -43,8 +43,6 @@ reads() {
 
 row 'commit, with the making of eight records' "$(commits 12)" "$(commits 24)"
 row 'commit, the disk reads' "$(reads 12)" "$(reads 24)"
-row 'plain Rust' "$(collected '*plain_journal::commit*' ./plain_journal 12)" "$(collected '*plain_journal::commit*' ./plain_journal 24)"
-row 'plain Rust, the disk reads' "$(collected '*Memory*read*' ./plain_journal 12)" "$(collected '*Memory*read*' ./plain_journal 24)"
 
 # milliseconds COMMAND ..: how long it takes
 milliseconds() {
@@ -60,13 +58,13 @@ for count in $slots; do
 done
 
 blocks=2000
-etcs=$top/crates/etcs/out/etcs
-if [ -x "$etcs" ]; then
-    python3 -I -c "import json
+python3 -I -c "import json
 steps = [step for moment in range($blocks) for step in ({'clock': moment}, {'flush': True})]
 json.dump({'groups': [], 'steps': steps}, open('scenario', 'w'))"
-    "$etcs" format image $((2 * blocks)) >&2
-    printf 'etcs run: %d blocks, %d ms\n' $((blocks + 1)) "$(milliseconds "$etcs" run scenario image)"
-fi
-printf 'plain Rust: %d blocks, %d ms\n' "$blocks" "$(milliseconds ./plain_journal "$blocks" image $((2 * blocks)) 1)"
-rm -f image scenario
+for program in "$top/crates/etcs/out/etcs" "$out/peer/release/etcs_peer"; do
+    [ -x "$program" ] || continue
+    "$program" format image $((2 * blocks)) >&2
+    printf '%s run: %d blocks, %d ms\n' "${program##*/}" $((blocks + 1)) "$(milliseconds "$program" run scenario image)"
+    rm -f image
+done
+rm -f scenario

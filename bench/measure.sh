@@ -1,14 +1,14 @@
 #!/bin/sh
 # Prints the instructions per call of each call on each telegram: what callgrind counts for 2,000 runs less what it
 # counts for 1,000, by 1,000. So what comes before and after the runs falls out, and what a run of the harness adds
-# stays in. Beside them those of plain Rust (bench/plain_telegram.rs), which answers random telegrams as the product
-# does. Builds what it needs first; what the builds have to say goes to standard error.
+# stays in. (bench/rows.sh counts those of the peer too.) Builds what it needs first; what the builds have to say goes
+# to standard error.
 #
-#     bench/measure.sh [CALL..]    the calls of the harness, and plain_decode and plain_encode
+#     bench/measure.sh [CALL..]    the calls of the harness
 set -e
 top=$(cd "$(dirname "$(readlink -f -- "$0")")/.." && pwd)
 out=$top/bench/out
-calls=${*:-decode decode_into encode walk walk_into etcs_decode etcs_packet_count plain_decode plain_encode}
+calls=${*:-decode decode_into encode walk walk_into etcs_decode etcs_packet_count}
 
 (cd "$top/crates/etcs_c" && rt lib) >&2
 "$top/bench/library" telegram >&2
@@ -17,19 +17,12 @@ gcc -O2 -Wall -Wextra -I "$top/include" "$top/tests/c/check.c" "$top/crates/etcs
 "$out/check" >&2
 gcc -O2 -Wall -Wextra -I "$top/include" "$top/bench/bench.c" \
     "$out/libbench_telegram.a" "$top/crates/etcs_c/out/libetcs_c.a" -o "$out/bench" >&2
-rustc --edition 2021 -O -C target-cpu=x86-64-v2 -g "$top/bench/plain_telegram.rs" -o "$out/plain_telegram" >&2
-PYTHONDONTWRITEBYTECODE=1 python3 "$top/tests/c/random_telegrams.py" "$out/plain_telegram" >&2
 
 # counted CALL HEX RUNS: the instructions of the whole process. The environment and the program's name are the same each
 # time, since the C library's memset and memcpy go by where the stack lies.
 cd "$out"
 counted() {
-    case $1 in
-        plain_*) program=./plain_telegram call=${1#plain_} ;;
-        *) program=./bench call=$1 ;;
-    esac
-    shift
-    if ! env -i PATH="$PATH" valgrind --tool=callgrind --callgrind-out-file=/dev/null $program "$call" "$@" >counted 2>&1; then
+    if ! env -i PATH="$PATH" valgrind --tool=callgrind --callgrind-out-file=/dev/null ./bench "$@" >counted 2>&1; then
         cat counted >&2
         return 1
     fi

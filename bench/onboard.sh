@@ -1,10 +1,9 @@
 #!/bin/sh
 # Prints what an event of a life costs over a disk in memory, in batches of eight (bench/calls/onboard): the instructions within
 # `Onboard::accept` and within an eighth of `Onboard::flush`, and how often memory is asked for in an accept. What callgrind counts for
-# 48 batches less what it counts for 24, by their events: all on slots that are used again. Beside them an eighth of a commit in plain Rust,
-# which makes the same calls of the disk (bench/plain_journal.rs). Then the events a second of lives in memory; and those of `etcs run` and of
-# plain Rust over a file, with the syncs of each batch. The program must be there (./etcs --prove). Builds all else first; what the builds have
-# to say goes to standard error.
+# 48 batches less what it counts for 24, by their events: all on slots that are used again. (bench/rows.sh counts the peer's.) Then the events
+# a second of lives in memory; and those of `etcs run` and of the peer (bench/peer) over a file, with the syncs of each batch. The program must
+# be there (./etcs --prove). Builds all else first; what the builds have to say goes to standard error.
 #
 #     bench/onboard.sh [BATCHES]
 set -e
@@ -15,7 +14,7 @@ batches=${1:-10000}
 memory=$(dirname "$(rt doc)")/c/liblibc_c.a
 "$top/bench/library" onboard >&2
 gcc -O2 -g -Wall -Wextra "$top/bench/onboard.c" "$out/libbench_onboard.a" "$memory" -o "$out/onboard" >&2
-rustc -O -C target-cpu=x86-64-v2 -g "$top/bench/plain_journal.rs" -o "$out/plain_journal" >&2
+"$top/bench/peer.sh" --build >&2
 cd "$out"
 
 # collected FUNCTION PROGRAM [ARGUMENT]: the instructions within the function, with all that it calls
@@ -53,8 +52,6 @@ unit() {
 
 unit 'a moment of the clock in Stand By' 0
 unit 'a reading of 1 cm in Full Supervision' 1
-row 'plain Rust: an eighth of a commit' "$(collected '*plain_journal::commit*' ./plain_journal 24)" \
-    "$(collected '*plain_journal::commit*' ./plain_journal 48)" 192
 
 # milliseconds COMMAND ..: how long it takes
 milliseconds() {
@@ -68,13 +65,12 @@ for lived in 70 0; do
     echo "200 lives of $((8 * lived)) readings: $(milliseconds ./onboard 1 "$lived" 200) ms"
 done
 
-etcs=$top/crates/etcs/out/etcs
-if [ -x "$etcs" ]; then
-    python3 -I -c "import json
+python3 -I -c "import json
 json.dump({'groups': [], 'steps': [{'clock': moment} for moment in range(8 * $batches)]}, open('scenario', 'w'))"
-    "$etcs" format image $((2 * batches)) >&2
-    printf 'etcs run over a file: %d events, %d ms\n' $((8 * batches)) "$(milliseconds "$etcs" run scenario image)"
+for program in "$top/crates/etcs/out/etcs" "$out/peer/release/etcs_peer"; do
+    [ -x "$program" ] || continue
+    "$program" format image $((2 * batches)) >&2
+    printf '%s run over a file: %d events, %d ms\n' "${program##*/}" $((8 * batches)) "$(milliseconds "$program" run scenario image)"
     rm -f image
-fi
-printf 'plain Rust over a file: %d events, %d ms\n' $((8 * batches)) "$(milliseconds ./plain_journal "$batches" image $((2 * batches)) 8)"
-rm -f image scenario
+done
+rm -f scenario

@@ -1,5 +1,5 @@
 #!/bin/bash
-# Seconds, of wall time and of a processor, and peak memory of `etcs run` on a scenario of so many steps (100,000), and of `etcs journal` on an image
+# Seconds, of wall time and of a processor, and peak memory of `etcs run` on scenarios of so many steps (100,000) and of ten times as many, and of `etcs journal` on an image
 # that is full with as many blocks, beside the peer's (bench/peer), which has to print the same and leave the same image. The program must be there
 # (./etcs --prove); with UNPROVED=yes one is compiled without a proof (bench/unproved).
 #
@@ -66,9 +66,11 @@ def scenario(name, steps):
 
 clocks = [{"clock": moment} for moment in range(count)]
 scenario("eights", clocks)
+scenario("tens", [{"clock": moment} for moment in range(10 * count)])
 scenario("ones", [step for clock in clocks for step in (clock, {"flush": True})])
 both("format", makes="image")
 both("run", "eights", makes="image")
+both("run", "tens", makes="image")
 both("run", "ones", makes="image")
 both("journal", "image.etcs")
 P

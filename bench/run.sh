@@ -43,12 +43,18 @@ def moved(centimetres):
     return {"drive": [centimetres, 10000]}
 
 
-START = [heard(0, 1), {"driver": [1, "IC 704"]}, {"driver": [4, 1]}, {"driver": [3, 20000, 160000, 70, 0, 15]}, {"driver": [6]}]
+def started(reaction_ms):
+    """The steps up to Full Supervision, of a train whose brakes act after so long."""
+    return [heard(0, 1), {"driver": [1, "IC 704"]}, {"driver": [4, 1]}, {"driver": [3, 20000, 160000, 70, reaction_ms, 15]}, {"driver": [6]}]
+
+
+START = started(0)
 LIVES = {
     "a moment of the clock in Stand By": ([], lambda at: {"clock": at}),
     "a reading of 1 cm in Full Supervision": (START, lambda at: moved(1)),
     "a reading of 10 cm in Full Supervision": (START, lambda at: moved(10)),
-    "the same, every eighth a telegram": (START, lambda at: heard(at // 8 + 1, 1) if at % 8 == 7 else moved(10)),
+    "the same with a reaction time of 1 s": (started(1000), lambda at: moved(10)),
+    "without it, every eighth a telegram": (START, lambda at: heard(at // 8 + 1, 1) if at % 8 == 7 else moved(10)),
     "the same, every second a telegram": (START, lambda at: heard(at // 2 + 1, 1) if at % 2 else moved(10)),
     "the same, of groups of two balises": (START, lambda at: heard(at // 2, 2) if at % 2 else moved(10)),
     "the same, of groups of eight balises": (START, lambda at: heard(at // 2, 8) if at % 2 else moved(10)),

@@ -14,7 +14,7 @@ import {Head, Order, RecordsReport, Report, SlotsReport, Unwritten} from "./mess
 import {drawRing, legendOf} from "./ring";
 import {brakeReason, brakeText, count, eventText, keptTexts, kmh, levelText, limitText} from "./shown";
 import {modeName} from "./shown";
-import {BySlots} from "./slots";
+import {BySlots, imageSize} from "./slots";
 import {choose} from "./tabs";
 import {offerApart} from "./telegram";
 import {BRIEF, DAY, SAY, STATUSES, WORDS} from "./texts";
@@ -179,9 +179,16 @@ export class Ask {
         scrub.max = String(Math.max(0, this.records.count - 1));
         scrub.disabled = this.records.count === 0;
         if (status !== END)
-            say("ask-error", SAY.noImage(this.name, STATUSES[status] ?? `status ${status}`) + this.bySlots.offer());
+            say("ask-error", this.whyUnread(status));
         if (this.records.count) this.followHash();
         else say("event-said", SAY.noRecord);
+    }
+
+    /** Why there is no journal, and what can be done. */
+    private whyUnread(status: number): string {
+        const slots = this.facts?.slots ?? 0, bytes = this.bytes.length;
+        if (this.slotsGiven === null && BySlots.isCut(bytes, slots)) return SAY.cutOff(this.name, bytes, slots, imageSize(slots));
+        return SAY.noImage(this.name, STATUSES[status] ?? `status ${status}`) + this.bySlots.offer();
     }
 
     private takeSlots({ slots, newest, unwritten, heads, isWhole }: SlotsReport): void {

@@ -5,6 +5,9 @@ import {ENTRY, SAY} from "./texts";
 
 const LEAST = 2, MOST = 1_048_576, PER_SLOT = 6;
 
+/** The bytes of an image with so many slots. */
+export const imageSize = (slots: number): number => SECTOR * (1 + PER_SLOT * slots);
+
 export class BySlots {
     private file: Blob|null = null;
 
@@ -22,6 +25,11 @@ export class BySlots {
     forget(file: Blob): void {
         this.file = file;
         at("by-slots").hidden = true;
+    }
+
+    /** Whether a file is shorter than an image with so many slots, and no image with fewer slots. */
+    static isCut(bytes: number, slots: number): boolean {
+        return bytes < imageSize(slots) && (bytes - SECTOR) % (SECTOR * PER_SLOT) !== 0;
     }
 
     /** Offers to read the image with another number; answers what is said of it. */

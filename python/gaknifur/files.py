@@ -179,6 +179,8 @@ def check(out: Out, inputs: Iterable[Path] = ()) -> os.stat_result | None:
     """Refuses a file that may not be written; answers what is there that it takes the place of."""
     path, found = out.path, standing(out.path)
     if found is None:
+        if not Path(os.path.realpath(path)).parent.is_dir():
+            raise Failed(f"{path}: its folder doesn't exist", DEVICE)
         return None
     check_plain(path, found, inputs)
     if not out.kind.is_own(bytes_of(path, None if out.kind.is_whole else FIRST_BYTES)):

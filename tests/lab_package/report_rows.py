@@ -117,7 +117,7 @@ def damaged(rows):
     rows.lab("report", "none", "none.html", status=1, said="lab: none: is not a formatted image")
     rows.same("no page of what is no image", (rows.room / "none.html").exists(), False)
     rows.lab("report", "missing", "none.html", status=3, said="lab: missing: no such file")
-    rows.lab("report", "trip", "no/folder.html", status=3, said="lab: no/folder.html: No such file or directory")
+    rows.lab("report", "trip", "no/folder.html", status=3, said="lab: no/folder.html: its folder doesn't exist")
     rows.lab("report", "trip", "none.html", "--from", "3.5", status=2,
              said="lab: 3.5: not an event (120), a place (300m) or a moment (20.5s)")
     rows.lab("database", "trip", "trip.db")

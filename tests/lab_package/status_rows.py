@@ -76,6 +76,9 @@ ROWS = """\
 1 lab test --section 3.99 good
 1 lab test hollow
 1 lab coverage hollow
+1 lab lint hollow
+1 lab verify hollow
+1 lab campaign hollow hollow.db
 1 lab sequence table.csv unmapped.yaml
 2 etcs decode
 2 etcs nosuch
@@ -93,6 +96,7 @@ ROWS = """\
 3 lab lint nosuch.json
 3 lab test nosuch
 3 lab table image /nosuch/out.csv
+3 lab test --junitxml=/nosuch/out.xml fails
 3 lab against image /nosuch/unit
 3 tools/settle nosuch
 3 tools/verify nosuch

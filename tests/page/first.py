@@ -10,6 +10,8 @@ from desks import board, name_of
 GREY = "return arguments[0].map(id => { const one = document.getElementById(id); return [one.getAttribute('aria-disabled') === 'true', one.title]; })"
 BITS = ((0, 1), (7, 0x80), (9, 1), (100, 4), (15, 1), (13, 0x40))
 """Bytes of the first sector, and what is flipped there: mark, version, zeros, and the number of slots."""
+CUTS = (512 + 12 * 3_072 + 700, 512 + 9 * 3_072 + 2_048)
+"""Where an image of 16 slots ends early, within a slot."""
 WRONG = (("length", "abc", "enter-train", "Length in m: a number from 0.01 to 4,095."), ("maximum", "-5", "enter-train", "Greatest speed in km/h: a number from 0.001 to 600."),
          ("deceleration", "0", "enter-train", "Deceleration in m/s²: a number from 0.01 to 3."), ("reaction", "11", "enter-train", "Reaction in s: a number from 0 to 10."),
          ("running", "", "enter-running", "Running number: a number from 0 to 99,999,999."), ("running", "100000000", "enter-running", "Running number: a number from 0 to"),
@@ -88,6 +90,24 @@ def by_slots(browser: Browser, _page: Path, folder: Path) -> int:
     return len(BITS)
 
 
+def cut_off(browser: Browser, _page: Path, folder: Path) -> int:
+    """An image that ends early is said to, with its bytes by the first sector, and no smaller number of slots is offered; a copy that is
+    lengthened with zeros has the journal that `etcs_lab examine` finds in it."""
+    data, path = image(folder, [example("power_cut"), example("trip")], 16), folder / "image"
+    for size in CUTS:
+        path.write_bytes(data[:size])
+        browser.ask(path)
+        error = browser.text("ask-error")
+        assert all(text in error for text in ("ends early", "16 slots", "49,664 bytes", f"here are {size:,}.", "truncate -s 49664")), (size, error)
+        assert not browser.run("return document.getElementById('by-slots').checkVisibility()"), size
+        path.write_bytes(data[:size].ljust(49_664, b"\0"))
+        browser.ask(path)
+        _, [wanted] = lab("examine", "--json", str(path))
+        last = browser.run("const { records } = window.gaknifur.ask; return records.event(records.count - 1)")
+        assert browser.text("ask-error") == "" and last == wanted["journal"]["last_event"], (size, last, wanted["journal"])
+    return len(CUTS)
+
+
 def own_words(browser: Browser, _page: Path, folder: Path) -> int:
     """A file that is no scenario is refused in words of the page's own."""
     scenario = json.dumps(example("trip"))
@@ -103,4 +123,4 @@ def own_words(browser: Browser, _page: Path, folder: Path) -> int:
     return 4
 
 
-CHECKS = {"first_steps": (steps, 12), "entries": (entries, 8), "by_slots": (by_slots, 6), "own_words": (own_words, 4)}
+CHECKS = {"first_steps": (steps, 12), "entries": (entries, 8), "by_slots": (by_slots, 6), "cut_off": (cut_off, 2), "own_words": (own_words, 4)}

@@ -128,6 +128,7 @@ pub fn write_gate(n: u64, gate: &mut [u8]) {
     gate[8..16].copy_from_slice(&n.to_be_bytes());
 }
 
+#[inline]
 fn put<const N: usize>(out: &mut [u8], at: usize, bytes: [u8; N]) {
     out[at..at + N].copy_from_slice(&bytes);
 }
@@ -147,7 +148,7 @@ fn value<T: Copy>(item: &Item<T>) -> Option<T> {
     }
 }
 
-/// `Kept` of a format below 3 is written with the statuses behind a power-up.
+/// A format below 3 stores `Kept` with the statuses after a power-up.
 pub fn write_block(format: Format, n: u64, records: &[Record], kept: &Kept, out: &mut [u8; BLOCK]) {
     write_gate(n, &mut out[..SECTOR]);
     let older;
@@ -158,6 +159,28 @@ pub fn write_block(format: Format, n: u64, records: &[Record], kept: &Kept, out:
         kept
     };
     write_head(format, n, records.len(), kept, &mut out[SECTOR..2 * SECTOR]);
+    if format == Format::Three {
+        for (place, r) in out[2 * SECTOR..].chunks_exact_mut(256).zip(records) {
+            let place: &mut [u8; 256] = place.try_into().unwrap();
+            let h = RecordHead {
+                kind: r.kind,
+                output: crate::kernel::Output {
+                    mode: r.mode,
+                    level: r.level,
+                    brake: r.brake,
+                    limit: r.limit,
+                    indications: r.indications,
+                },
+                event: r.event,
+                moment: r.moment,
+                estimate: r.estimate,
+                uncertainty: r.uncertainty,
+            };
+            put_record(place, &h, r.payload.bytes());
+        }
+        out[2 * SECTOR + 256 * records.len()..].fill(0);
+        return;
+    }
     let size = format.record_bytes();
     let mut records = records.iter();
     for place in out[2 * SECTOR..].chunks_exact_mut(size) {
@@ -169,6 +192,7 @@ pub fn write_block(format: Format, n: u64, records: &[Record], kept: &Kept, out:
 }
 
 fn write_head(format: Format, n: u64, records: usize, kept: &Kept, h: &mut [u8]) {
+    let h: &mut [u8; SECTOR] = h.try_into().unwrap();
     h.fill(0);
     h[..8].copy_from_slice(format.head_mark());
     put(h, 8, n.to_be_bytes());
@@ -208,6 +232,53 @@ fn write_head(format: Format, n: u64, records: usize, kept: &Kept, h: &mut [u8])
     }
 }
 
+/// The fields of a record without its payload.
+#[derive(Clone, Copy)]
+pub struct RecordHead {
+    pub kind: RecordKind,
+    pub output: crate::kernel::Output,
+    pub event: u64,
+    pub moment: u64,
+    pub estimate: i64,
+    pub uncertainty: u64,
+}
+
+/// Writes a record of format 3 in its place, and clears the rest of the place after the payload.
+#[inline]
+pub fn put_record(place: &mut [u8; 256], h: &RecordHead, payload: &[u8]) {
+    let o = &h.output;
+    let first = [
+        h.kind as u8,
+        o.mode as u8,
+        o.brake as u8,
+        payload.len() as u8,
+        o.level.unwrap_or(255),
+        0,
+        (o.indications >> 8) as u8,
+        o.indications as u8,
+    ];
+    place[..8].copy_from_slice(&first);
+    place[8..16].copy_from_slice(&h.event.to_be_bytes());
+    place[16..24].copy_from_slice(&h.moment.to_be_bytes());
+    place[24..32].copy_from_slice(&h.estimate.to_be_bytes());
+    place[32..40].copy_from_slice(&h.uncertainty.to_be_bytes());
+    place[40..48].copy_from_slice(&((o.limit as u64) << 32).to_be_bytes());
+    if let Ok(eight) = <[u8; 8]>::try_from(payload) {
+        place[48..56].copy_from_slice(&eight);
+        place[56..].fill(0);
+    } else {
+        place[48..48 + payload.len()].copy_from_slice(payload);
+        place[48 + payload.len()..].fill(0);
+    }
+}
+
+/// Writes the gate, the head and the zeros around records of format 3 that are in their places already.
+pub fn put_around(n: u64, records: usize, kept: &Kept, out: &mut [u8; BLOCK]) {
+    write_gate(n, &mut out[..SECTOR]);
+    write_head(Format::Three, n, records, kept, &mut out[SECTOR..2 * SECTOR]);
+    out[2 * SECTOR + 256 * records..].fill(0);
+}
+
 fn write_record(format: Format, r: &Record, out: &mut [u8]) {
     let payload = r.payload.bytes();
     out[0] = r.kind as u8;
@@ -239,6 +310,7 @@ fn u64_at(b: &[u8], at: usize) -> u64 {
 fn i64_at(b: &[u8], at: usize) -> i64 {
     u64_at(b, at) as i64
 }
+#[inline]
 fn zeros(b: &[u8]) -> bool {
     b.iter().fold(0, |all, x| all | *x) == 0
 }
@@ -382,6 +454,140 @@ fn read_record(format: Format, b: &[u8], event: u64) -> Option<Record> {
         && record.moment < 1 << 40
         && payload_in_limits(format, kind, payload);
     good.then_some(record)
+}
+
+/// Two digits of each byte.
+static HEX: [[u8; 2]; 256] = {
+    let digits = b"0123456789abcdef";
+    let mut table = [[0; 2]; 256];
+    let mut k = 0;
+    while k < 256 {
+        table[k] = [digits[k >> 4], digits[k & 15]];
+        k += 1;
+    }
+    table
+};
+
+fn put_number(out: &mut Vec<u8>, mut n: u64) {
+    let mut digits = [b'0'; 20];
+    let mut at = 20;
+    loop {
+        at -= 1;
+        digits[at] = b'0' + (n % 10) as u8;
+        n /= 10;
+        if n == 0 {
+            break;
+        }
+    }
+    out.extend_from_slice(&digits[at..]);
+}
+
+/// The line of a record of format 3, read as `read_record` does. `head` is the text that all lines of the block begin with.
+#[inline]
+fn list_record(b: &[u8; 256], event: u64, begins: &[u8], out: &mut Vec<u8>) -> Option<()> {
+    let kind = match b[0] {
+        1 => RecordKind::PowerUp,
+        2 => RecordKind::Telegram,
+        3 => RecordKind::Odometer,
+        4 => RecordKind::Clock,
+        5 => RecordKind::Driver,
+        _ => return None,
+    };
+    let length = b[3] as usize;
+    if length > 104 || b[5] != 0 {
+        return None;
+    }
+    // The payload of most records ends at 48 + 8.
+    let clear = if length <= 8 { zeros(&b[56..]) && zeros(&b[48 + length..56]) } else { zeros(&b[48 + length..]) };
+    let payload = &b[48..48 + length];
+    let (estimate, uncertainty, limit) = (i64_at(b, 24), u64_at(b, 32), u32_at(b, 40));
+    let indications = u16_at(b, 6);
+    let mode = Mode::from_number(b[1])?.name();
+    let brake = match b[2] {
+        0 => Brake::None,
+        1 => Brake::Service,
+        2 => Brake::Emergency,
+        _ => return None,
+    };
+    let level: &[u8] = match b[4] {
+        255 => b" -",
+        0 => b" 0",
+        1 => b" 1",
+        _ => return None,
+    };
+    let good = clear
+        && estimate.unsigned_abs() <= OVERRUN as u64
+        && limit <= 600_000
+        && u32_at(b, 44) == 0
+        && indications <= 127
+        && u64_at(b, 8) == event
+        && u64_at(b, 16) < 1 << 40
+        && payload_in_limits(Format::Three, kind, payload);
+    if !good {
+        return None;
+    }
+    out.extend_from_slice(begins);
+    put_number(out, event);
+    out.push(b' ');
+    out.extend_from_slice(kind.name().as_bytes());
+    out.push(b' ');
+    out.extend_from_slice(mode.as_bytes());
+    out.extend_from_slice(level);
+    out.push(b' ');
+    out.extend_from_slice(brake.name().as_bytes());
+    out.push(b' ');
+    put_number(out, indications as u64);
+    out.push(b' ');
+    if let Ok(eight) = <&[u8; 8]>::try_from(payload) {
+        let mut text = [0; 16];
+        for (two, x) in text.chunks_exact_mut(2).zip(eight) {
+            two.copy_from_slice(&HEX[*x as usize]);
+        }
+        out.extend_from_slice(&text);
+    } else {
+        for x in payload {
+            out.extend_from_slice(&HEX[*x as usize]);
+        }
+        if payload.is_empty() {
+            out.push(b'-');
+        }
+    }
+    out.extend_from_slice(if estimate < 0 { b" at -" } else { b" at " });
+    put_number(out, estimate.unsigned_abs());
+    out.extend_from_slice(b" unc ");
+    put_number(out, uncertainty);
+    out.extend_from_slice(b" limit ");
+    put_number(out, limit as u64);
+    out.push(b'\n');
+    Some(())
+}
+
+/// The lines of a block of format 3, read as `read_block` does; None where it can't be read or has another format.
+pub fn list_block(b: &[u8; BLOCK], out: &mut Vec<u8>) -> Option<()> {
+    let (gate, rest) = b.split_at(SECTOR);
+    let (head, records) = rest.split_at(SECTOR);
+    if zeros(gate) || head[..8] != *Format::Three.head_mark() {
+        return None;
+    }
+    let number = u64_at(head, 8);
+    let count = head[28] as usize;
+    read_kept(Format::Three, head)?;
+    let events = u64_at(head, 16);
+    let numbered = (1..=MAX_NUMBER).contains(&number) && (number..=16 * number).contains(&events);
+    if !numbered || !(1..=8).contains(&count) || events < count as u64 || !zeros(&records[count * 256..]) {
+        return None;
+    }
+    let mut begins = [0; 40];
+    let mut text = Vec::with_capacity(40);
+    text.extend_from_slice(b"block ");
+    put_number(&mut text, number);
+    text.extend_from_slice(b" event ");
+    begins[..text.len()].copy_from_slice(&text);
+    let first = events - count as u64;
+    for (k, r) in records.chunks_exact(256).take(count).enumerate() {
+        list_record(r.try_into().unwrap(), first + k as u64, &begins[..text.len()], out)?;
+    }
+    Some(())
 }
 
 pub fn read_block(format: Format, b: &[u8; BLOCK]) -> Result<Block, NoSpelling> {

@@ -166,9 +166,12 @@ impl<'a> Search<'a> {
             let r = self.reaction_distance(v);
             r < d && v as i64 * v as i64 <= whole - self.sums.up_to(self.front + r)
         };
-        // A speed fits up to the root of what is left behind its reaction; so the root for a greater reaction fits, and one for a smaller
-        // one is at least as great as any that fits.
+        // A speed fits up to the root of what is left after its reaction distance. So the root for a longer distance fits, and the root
+        // for a shorter one is at least as great as any speed that fits.
         let root = |v: u32| root_of(whole - self.sums.up_to(self.front + self.reaction_distance(v)));
+        if self.reaction == 0 {
+            return self.set(root(0).clamp(target.speed, self.speed));
+        }
         let mut low = target.speed;
         let mut high = self.speed.min(root(0) + 1);
         if self.reaction > 0 && self.reaction_distance(high) < d {
@@ -228,4 +231,139 @@ fn root_of(n: i64) -> u32 {
         root += 1;
     }
     root as u32
+}
+
+/// The demands of the targets ahead, as long as targets and sums stay the same. A speed meets a demand if it is at most the target's speed,
+/// or if its square and the sum up to where the brakes act are at most `most`. Sorted by `most`; their speeds fall.
+#[derive(Clone, Debug, Default)]
+pub struct Demands {
+    list: Vec<Demand>,
+    reaction: i64,
+    /// the part that held the last place
+    part: usize,
+}
+
+#[derive(Clone, Copy, Debug, Default)]
+pub struct Demand {
+    /// the square of the target's speed and the sum up to it
+    most: i64,
+    speed: u32,
+    /// the greatest speed that met it last time
+    last: u32,
+}
+
+impl Demand {
+    pub fn new(target: Target, sums: &BrakeSums) -> Demand {
+        Demand {
+            most: target.speed as i64 * target.speed as i64 + sums.up_to(target.at),
+            speed: target.speed,
+            last: u32::MAX - 1,
+        }
+    }
+}
+
+impl Demands {
+    pub fn restart(&mut self, reaction: u32) {
+        self.list.clear();
+        self.reaction = reaction as i64;
+        self.part = 0;
+    }
+
+    pub fn add(&mut self, one: Demand) {
+        let at = self.list.partition_point(|a| a.most < one.most);
+        if self.list[..at].iter().any(|a| a.speed <= one.speed) || self.list.get(at).is_some_and(|a| a.most == one.most && a.speed <= one.speed) {
+            return;
+        }
+        self.list.insert(at, one);
+        let mut k = at + 1;
+        while k < self.list.len() {
+            if self.list[k].speed >= one.speed {
+                self.list.remove(k);
+            } else {
+                k += 1;
+            }
+        }
+    }
+
+    /// The square of a speed and the sum up to where its brakes act, and the rate there.
+    #[inline]
+    fn needs(&mut self, sums: &BrakeSums, front: i64, v: u32) -> (i64, i64) {
+        let at = if self.reaction == 0 { front } else { front + (v as i64 * self.reaction + 35_999) / 36_000 };
+        let parts = &sums.parts[..];
+        let mut k = self.part.min(parts.len() - 1);
+        while parts[k].0 > at {
+            k -= 1;
+        }
+        while k + 1 < parts.len() && parts[k + 1].0 <= at {
+            k += 1;
+        }
+        self.part = k;
+        let (start, rate, sum) = parts[k];
+        (v as i64 * v as i64 + if rate == 0 { sum } else { sum + rate * (at - start) }, rate)
+    }
+
+    /// The greatest speed up to `v` that meets the demand, and whether that is also enough for all later demands.
+    #[inline]
+    pub fn lower(&mut self, sums: &BrakeSums, front: i64, v: u32, one: &mut Demand) -> (u32, bool) {
+        if v <= one.speed {
+            return (v, false);
+        }
+        let (need, rate) = self.needs(sums, front, v);
+        if need <= one.most {
+            return (v, true);
+        }
+        let found = self.seek(sums, front, v, need, rate, one);
+        one.last = found;
+        (found, found > one.speed)
+    }
+
+    /// The greatest speed that meets the demand, from the target's own speed on and below `v`, which doesn't meet it.
+    fn seek(&mut self, sums: &BrakeSums, front: i64, v: u32, need: i64, rate: i64, one: &Demand) -> u32 {
+        let (mut low, mut high) = (one.speed, v);
+        let (mut over, mut slope) = (need - one.most, 2 * v as i64 + rate * self.reaction / 36_000 + 1);
+        let mut from = high;
+        if one.last < v - 1 {
+            high = one.last + 1;
+            if high <= low {
+                return low;
+            }
+            let (need, rate) = self.needs(sums, front, high);
+            (over, slope, from) = (need - one.most, 2 * high as i64 + rate * self.reaction / 36_000 + 1, high);
+        }
+        let mut tries = 0;
+        while high - low > 1 {
+            // Newton's step from the last speed that was tried.
+            let step = if over > 0 { -((over + slope - 1) / slope) } else { -over / slope };
+            let aim = (from as i64 + step).clamp(low as i64 + 1, high as i64 - 1) as u32;
+            let middle = if tries < 10 { aim } else { low + (high - low) / 2 };
+            tries += 1;
+            let (need, rate) = self.needs(sums, front, middle);
+            if need <= one.most {
+                low = middle;
+            } else {
+                high = middle;
+            }
+            (over, slope, from) = (need - one.most, 2 * middle as i64 + rate * self.reaction / 36_000 + 1, middle);
+        }
+        low
+    }
+
+    /// The greatest speed up to a limit that meets all demands.
+    #[inline]
+    pub fn permitted(&mut self, sums: &BrakeSums, front: i64, limit: u32) -> u32 {
+        let mut v = limit;
+        for k in 0..self.list.len() {
+            let mut one = self.list[k];
+            if v <= one.speed {
+                continue;
+            }
+            let (found, all) = self.lower(sums, front, v, &mut one);
+            self.list[k].last = one.last;
+            v = found;
+            if all {
+                break;
+            }
+        }
+        v
+    }
 }

@@ -167,11 +167,8 @@ pub struct Taken {
 impl Assembler {
     pub fn take(&mut self, telegram: Telegram, sums: Sums) -> Taken {
         let mut taken = Taken::default();
-        if let Some((identity, last)) = &mut self.closed {
-            if identity.same_group(&telegram.header) && sums.path - *last <= GROUP_PATH {
-                *last = sums.path;
-                return taken;
-            }
+        if self.repeats(&telegram.header, sums.path) {
+            return taken;
         }
         if matches!(&self.open, Some(open) if !open.identity.same_group(&telegram.header)) {
             taken.ended = self.close();
@@ -184,6 +181,28 @@ impl Assembler {
             taken.whole = self.close();
         }
         taken
+    }
+
+    /// The path below which no open group ends.
+    pub fn quiet_until(&self) -> i64 {
+        self.open.as_ref().map_or(i64::MAX, |open| open.last_path + GROUP_PATH + 1)
+    }
+
+    #[inline]
+    pub fn would_repeat(&self, h: &Header, path: i64) -> bool {
+        matches!(&self.closed, Some((identity, last)) if identity.same_group(h) && path - *last <= GROUP_PATH)
+    }
+
+    /// Whether a telegram with this header is a repeat of the group that closed last, and is noted as one.
+    #[inline]
+    pub fn repeats(&mut self, h: &Header, path: i64) -> bool {
+        if let Some((identity, last)) = &mut self.closed {
+            if identity.same_group(h) && path - *last <= GROUP_PATH {
+                *last = path;
+                return true;
+            }
+        }
+        false
     }
 
     pub fn moved(&mut self, path: i64) -> Option<Closed> {

@@ -2,13 +2,14 @@
 
 use crate::areas::{announcement_of, areas_of, Acknowledgement, Area, Kind, LevelAnnouncement};
 use crate::authority::{Authority, End};
-use crate::braking::{BrakeSums, Brakes, Search, Target};
+use crate::braking::{BrakeSums, Brakes, Demand, Demands, Search, Target};
 use crate::driver::{AckKind, Action, DataItem, DriverId, TrainData};
 use crate::groups::{Assembler, Closed, Message};
 use crate::linking::{Effects, Links, Verdict};
 use crate::national::{National, NationalValues, NO_END};
 use crate::place::Place;
-use crate::telegram::{decode, Packet};
+use crate::place::OVERRUN;
+use crate::telegram::{decode, header_of, Packet, MAX_BYTES};
 use crate::track::{gradient_steps, speed_steps, Restrictions, SegmentStore, StaticSpeed};
 
 #[derive(Clone, Copy, Debug, PartialEq, Eq)]
@@ -139,7 +140,7 @@ pub struct Position {
     pub distance: i64,
 }
 
-/// What is kept behind a power-up: level and position with the status that they have.
+/// The data kept over a power-up; level and position with their status.
 #[derive(Clone, Debug, PartialEq, Eq)]
 pub struct Kept {
     pub identity: Item<DriverId>,
@@ -195,7 +196,7 @@ struct Revalidation {
     started: bool,
 }
 
-/// What of this event the mode rows ask for.
+/// The facts about this event that the rows of the mode table need.
 #[derive(Clone, Copy, Debug, Default)]
 struct Facts {
     overrun: bool,
@@ -203,6 +204,40 @@ struct Facts {
     zero_main: bool,
     level_zero_announced: bool,
     accepted: Option<Action>,
+}
+
+/// Results carried from event to event while events change only place, speed and moment. They hold while maximum front, minimum front,
+/// minimum rear, path and moment are below the bounds `*_until`.
+#[derive(Clone, Debug, Default)]
+struct Carry {
+    ok: bool,
+    /// the last event changed only place, speed or moment
+    quiet: bool,
+    front_until: i64,
+    min_until: i64,
+    rear_until: i64,
+    path_until: i64,
+    moment_until: u64,
+    length: i64,
+    /// whether targets ahead can lower the limit
+    has_targets: bool,
+    limit: u32,
+    targets: Demands,
+    /// the end of the authority and its supervised location, with the release speed
+    ends: Option<(Demand, Demand, u32)>,
+    level: Option<u8>,
+    emergency: bool,
+    service: bool,
+    must_stand: bool,
+    indications: u16,
+    roll: i64,
+}
+
+/// The last telegram that was decoded without a fault.
+#[derive(Clone, Debug)]
+struct LastRead {
+    length: usize,
+    bytes: [u8; MAX_BYTES],
 }
 
 #[derive(Clone, Debug)]
@@ -236,7 +271,7 @@ pub struct State {
     override_: Option<Override>,
     staff_path: i64,
     revalidation: Revalidation,
-    /// since the last reading with speed 0
+    /// backward movement since the last reading with speed 0
     back: i64,
     over_emergency: bool,
     service_cause: bool,
@@ -244,6 +279,11 @@ pub struct State {
     /// for the gradient and train data as they are, unless stale
     sums: BrakeSums,
     sums_stale: bool,
+    /// up to where track data was dropped; below `mark` after quiet events
+    dropped: i64,
+    has_new_data: bool,
+    carry: Carry,
+    last_read: LastRead,
 }
 
 pub fn power_up(kept: &Kept, cold: Cold) -> (State, Output) {
@@ -287,6 +327,13 @@ pub fn power_up(kept: &Kept, cold: Cold) -> (State, Output) {
         over_service: false,
         sums: BrakeSums::default(),
         sums_stale: true,
+        dropped: i64::MIN,
+        has_new_data: true,
+        carry: Carry::default(),
+        last_read: LastRead {
+            length: 0,
+            bytes: [0; MAX_BYTES],
+        },
     };
     state.forget();
     let output = state.output();
@@ -358,14 +405,324 @@ impl State {
         }
     }
 
+    #[cfg(not(debug_assertions))]
+    #[inline(never)]
     pub fn input(&mut self, input: &Input) -> Output {
+        self.input_by(input)
+    }
+
+    /// A debug build processes each event also without carried results, and compares.
+    #[cfg(debug_assertions)]
+    pub fn input(&mut self, input: &Input) -> Output {
+        let mut plain = self.clone();
+        plain.carry = Carry::default();
+        plain.last_read.length = 0;
+        plain.drop_forgotten();
+        let wanted = plain.slow(input);
+        let found = self.input_by(input);
+        assert_eq!(wanted, found, "{input:?} {:?}", self.carry);
+        assert_eq!(plain.kept(), self.kept());
+        assert_eq!((plain.place_of(), plain.mark, plain.back, plain.moment), (self.place_of(), self.mark, self.back, self.moment));
+        assert_eq!(
+            (plain.over_emergency, plain.service_cause, plain.over_service),
+            (self.over_emergency, self.service_cause, self.over_service)
+        );
+        found
+    }
+
+    #[inline]
+    fn input_by(&mut self, input: &Input) -> Output {
+        if self.carry.ok {
+            let quick = match input {
+                Input::Odometer { movement, speed } => self.quick_move(*movement as i64, *speed),
+                Input::Clock(moment) if *moment < self.carry.moment_until => {
+                    self.moment = *moment;
+                    true
+                }
+                Input::Telegram(bytes) => self.ignores(bytes),
+                Input::Driver(action) => !self.accepts(action),
+                _ => false,
+            };
+            if quick {
+                self.events += 1;
+                return self.quick_output();
+            }
+        }
+        self.slow(input)
+    }
+
+    /// Takes a reading that changes only place and speed; false where it may change more, and then nothing is changed.
+    #[inline]
+    fn quick_move(&mut self, movement: i64, speed: u32) -> bool {
+        let c = &self.carry;
+        let now = self.place.ahead(movement);
+        let (estimate, uncertainty) = (self.place.estimate_at(now), self.place.uncertainty_at(now));
+        let (front, min_front) = (estimate + uncertainty, estimate - uncertainty);
+        let rear = min_front - c.length;
+        if movement < 0 || now.path >= c.path_until || front >= c.front_until || min_front >= c.min_until || rear >= c.rear_until {
+            return false;
+        }
+        self.place.now = now;
+        self.speed = speed;
+        self.mark = self.mark.max(rear - 100_000);
+        if speed == 0 {
+            self.back = 0;
+            self.over_emergency = false;
+            self.service_cause = false;
+        }
+        true
+    }
+
+    /// Whether the telegram changes nothing: a repeat, or one that can't be decoded.
+    #[inline]
+    fn ignores(&mut self, bytes: &[u8]) -> bool {
+        let known = self.last_read.length == bytes.len() && bytes == &self.last_read.bytes[..self.last_read.length];
+        let Ok(header) = header_of(bytes) else { return true };
+        if !self.assembler.would_repeat(&header, self.place.now.path) {
+            return false;
+        }
+        if !known {
+            if decode(bytes).is_err() {
+                return true;
+            }
+            self.last_read.length = bytes.len();
+            self.last_read.bytes[..bytes.len()].copy_from_slice(bytes);
+        }
+        self.assembler.repeats(&header, self.place.now.path)
+    }
+
+    #[inline]
+    fn quick_output(&mut self) -> Output {
+        let speed = self.speed;
+        let front = self.place.max_front();
+        let c = &mut self.carry;
+        let mut limit = c.limit;
+        if c.has_targets {
+            limit = c.targets.permitted(&self.sums, front, limit);
+            if let Some((end, location, release)) = &mut c.ends {
+                let before = limit;
+                limit = c.targets.lower(&self.sums, front, before, end).0;
+                if *release > limit {
+                    let released = c.targets.lower(&self.sums, front, before.min(*release), location).0;
+                    limit = limit.max(released);
+                }
+            }
+        }
+        self.over_emergency |= speed > limit + 10_000;
+        self.over_service = speed > limit + 5_000 || self.over_service && speed > limit;
+        let brake = if c.emergency || self.over_emergency || self.back > c.roll {
+            Brake::Emergency
+        } else if c.service || self.service_cause || self.over_service || c.must_stand && speed > 0 {
+            Brake::Service
+        } else {
+            Brake::None
+        };
+        Output {
+            mode: self.mode,
+            level: c.level,
+            brake,
+            limit,
+            indications: c.indications + 64 * (speed > limit) as u16,
+        }
+    }
+
+    /// Prepares the results that quiet events carry from here on.
+    #[inline(never)]
+    fn prepare_carry(&mut self) {
+        use Mode::*;
+        let national = self.national.values;
+        let length = self.length();
+        let (min_front, front) = (self.place.min_front(), self.place.max_front());
+        let rear = min_front - length;
+        let mode = self.mode;
+        let mut front_until = OVERRUN.min(self.national.quiet_until());
+        let (mut min_until, mut rear_until) = (self.links.quiet_until(), i64::MAX);
+        let mut path_until = OVERRUN.min(self.assembler.quiet_until());
+        let mut moment_until = u64::MAX;
+        if self.override_.is_some() {
+            return;
+        }
+        if let Some(a) = &self.announcement {
+            for at in a.place.into_iter().flat_map(|p| [p, p - a.acknowledge]) {
+                if at > front {
+                    front_until = front_until.min(at);
+                }
+            }
+        }
+        if let Some(a) = &self.authority {
+            let (f, m, t) = a.quiet_until(self.moment);
+            front_until = front_until.min(f);
+            min_until = min_until.min(m);
+            moment_until = moment_until.min(t);
+        }
+        let end = self.end();
+        if let Some(e) = end {
+            if e.at > front {
+                front_until = front_until.min(e.at);
+            }
+            if e.at >= min_front {
+                min_until = min_until.min(e.at + 1);
+            }
+        }
+        for a in &self.areas {
+            for at in [a.start, a.start - a.acknowledge] {
+                if at > front {
+                    front_until = front_until.min(at);
+                }
+            }
+            if let Some(e) = a.end {
+                if e > min_front {
+                    min_until = min_until.min(e);
+                }
+            }
+        }
+        for r in &self.restrictions.list {
+            if r.start > front {
+                front_until = front_until.min(r.start);
+            }
+            if r.end > min_front {
+                min_until = min_until.min(r.end);
+            }
+            if r.end > rear {
+                rear_until = rear_until.min(r.end);
+            }
+        }
+        if mode != FS {
+            if let Some(b) = self.gradient.from(front).iter().find(|b| b.0 > front) {
+                front_until = front_until.min(b.0);
+            }
+        }
+        let statics = self.statics.from(rear);
+        let ahead = statics.iter().position(|b| b.0 > front).unwrap_or(statics.len());
+        if let Some(b) = statics.get(ahead) {
+            front_until = front_until.min(b.0);
+        }
+        if let Some(b) = statics.iter().find(|b| b.0 > rear) {
+            rear_until = rear_until.min(b.0);
+        }
+        if let Some(b) = statics.iter().find(|b| b.0 > min_front) {
+            min_until = min_until.min(b.0);
+        }
+        if mode == SR && national.staff_distance != NO_END {
+            let last = self.staff_path + national.staff_distance as i64;
+            if self.place.now.path <= last {
+                path_until = path_until.min(last + 1);
+            }
+        }
+        let mut owed = false;
+        for a in self.acknowledgements {
+            if let Acknowledgement::Owed(since) = a {
+                if self.moment - since >= 5_000 {
+                    owed = true;
+                } else {
+                    moment_until = moment_until.min(since + 5_000);
+                }
+            }
+        }
+        if front >= front_until || min_front >= min_until || rear >= rear_until || self.place.now.path >= path_until || self.moment >= moment_until {
+            return;
+        }
+        let train = self.train.valid();
+        let full = matches!(mode, FS | OS);
+        let has_targets = full && train.is_some();
+        let mut ends = None;
+        let mut targets = std::mem::take(&mut self.carry.targets);
+        let limit;
+        if full {
+            limit = self.limit_here();
+        } else {
+            limit = self.limit();
+        }
+        if has_targets {
+            if self.sums_stale || front < self.mark {
+                self.carry.targets = targets;
+                return;
+            }
+            let t = train.expect("it is valid");
+            let sums = &self.sums;
+            targets.restart(t.reaction as u32);
+            if let Some(e) = end {
+                if let Some(gap) = self.statics.first_gap(front + 1) {
+                    if gap < e.at {
+                        if gap == front + 1 {
+                            self.carry.targets = targets;
+                            return;
+                        }
+                        targets.add(Demand::new(Target { at: gap, speed: 0 }, sums));
+                    }
+                }
+                if e.at <= front || e.supervised <= front {
+                    self.carry.targets = targets;
+                    return;
+                }
+                ends = Some((
+                    Demand::new(Target { at: e.at, speed: e.loa }, sums),
+                    Demand::new(Target { at: e.supervised, speed: 0 }, sums),
+                    e.release,
+                ));
+            }
+            let mut add = |at: i64, speed: u32| {
+                if speed < limit {
+                    targets.add(Demand::new(Target { at, speed }, sums));
+                }
+            };
+            for &(at, value) in &self.statics.from(rear)[ahead..] {
+                if let Some(value) = value {
+                    add(at, value.speed(t.category));
+                }
+            }
+            for r in self.restrictions.list.iter().filter(|r| r.start > front) {
+                add(r.start, r.speed);
+            }
+            for a in self.areas.iter().filter(|a| a.start > front && a.end.is_none_or(|e| e > a.start)) {
+                add(a.start, a.speed(&national));
+            }
+        }
+        let [os, sh, level0] = self.acknowledgements.map(|a| a.is_open() as u16);
+        let revalidated = self.revalidated();
+        self.carry = Carry {
+            ok: true,
+            quiet: self.carry.quiet,
+            front_until,
+            min_until,
+            rear_until,
+            path_until,
+            moment_until,
+            length,
+            has_targets,
+            limit,
+            targets,
+            ends,
+            level: self.level.valid(),
+            emergency: !revalidated || matches!(mode, TR | SF) || self.trip,
+            service: owed,
+            must_stand: matches!(mode, SB | PT),
+            indications: os + 2 * sh + 4 * level0 + 8 * self.trip as u16 + 32 * !revalidated as u16,
+            roll: national.roll as i64,
+        };
+    }
+
+    #[inline(never)]
+    fn slow(&mut self, input: &Input) -> Output {
+        self.carry.ok = false;
         self.events += 1;
+        self.drop_forgotten();
         let mut facts = Facts::default();
+        let quiet;
         match input {
-            Input::Telegram(bytes) => self.telegram(bytes, &mut facts),
-            Input::Odometer { movement, speed } => self.odometer(*movement as i64, *speed, &mut facts),
-            Input::Clock(moment) => self.moment = *moment,
-            Input::Driver(action) => self.driver(*action, &mut facts),
+            Input::Telegram(bytes) => quiet = self.telegram(bytes, &mut facts),
+            Input::Odometer { movement, speed } => {
+                quiet = *movement >= 0;
+                self.odometer(*movement as i64, *speed, &mut facts)
+            }
+            Input::Clock(moment) => {
+                quiet = true;
+                self.moment = *moment
+            }
+            Input::Driver(action) => {
+                self.driver(*action, &mut facts);
+                quiet = facts.accepted.is_none();
+            }
         }
         self.service_cause |= facts.linking.service;
         let (min_front, max_front) = (self.place.min_front(), self.place.max_front());
@@ -383,17 +740,28 @@ impl State {
             self.forget();
         }
         self.acknowledgements_left(min_front);
-        self.output()
+        let output = self.output();
+        let quiet = quiet && row.is_none();
+        if quiet && self.carry.quiet {
+            self.prepare_carry();
+        }
+        self.carry.quiet = quiet;
+        output
     }
 
     // Own effects.
 
-    fn telegram(&mut self, bytes: &[u8], facts: &mut Facts) {
-        let Ok(telegram) = decode(bytes) else { return };
+    /// Answers whether the telegram changed nothing: a repeat, or one that can't be decoded.
+    fn telegram(&mut self, bytes: &[u8], facts: &mut Facts) -> bool {
+        let Ok(telegram) = decode(bytes) else { return true };
+        if self.assembler.repeats(&telegram.header, self.place.now.path) {
+            return true;
+        }
         let taken = self.assembler.take(telegram, self.place.now);
         for closed in [taken.ended, taken.whole].into_iter().flatten() {
             self.use_closed(closed, facts);
         }
+        false
     }
 
     fn odometer(&mut self, movement: i64, speed: u32, facts: &mut Facts) {
@@ -417,6 +785,7 @@ impl State {
     }
 
     fn use_closed(&mut self, closed: Closed, facts: &mut Facts) {
+        self.has_new_data = true;
         match closed {
             Closed::Broken(identity, _) => facts.linking.add(self.links.broken(&identity)),
             Closed::Whole(message) => self.use_message(message, facts),
@@ -501,6 +870,7 @@ impl State {
         self.speed == 0
     }
 
+    #[inline(never)]
     fn accepts(&self, action: &Action) -> bool {
         use Mode::*;
         let mode = self.mode;
@@ -611,15 +981,20 @@ impl State {
     /// The forgetting mark rises with the greatest `min_rear`.
     fn forget(&mut self) {
         let mark = self.place.min_rear(self.length()) - 100_000;
-        if mark > self.mark {
-            self.mark = mark;
-            self.gradient.drop_behind(mark);
-            self.statics.drop_behind(mark);
+        self.mark = self.mark.max(mark);
+        self.drop_forgotten();
+    }
+
+    /// New data may lie below the mark too.
+    #[inline]
+    fn drop_forgotten(&mut self) {
+        if self.dropped < self.mark || self.has_new_data {
+            self.gradient.drop_behind(self.mark);
+            self.statics.drop_behind(self.mark);
+            self.restrictions.drop_behind(self.mark);
+            self.dropped = self.mark;
+            self.has_new_data = false;
         }
-        // New facts may lie below the mark too.
-        self.gradient.drop_behind(self.mark);
-        self.statics.drop_behind(self.mark);
-        self.restrictions.drop_behind(self.mark);
     }
 
     fn override_active(&self) -> bool {
@@ -635,6 +1010,7 @@ impl State {
             .map(|a| a.end(self.moment, &self.national.values))
     }
 
+    #[inline(never)]
     fn full(&self) -> bool {
         let Some(end) = self.end() else { return false };
         let front = self.place.max_front();
@@ -860,11 +1236,18 @@ impl State {
             .unwrap_or(u32::MAX)
     }
 
-    fn full_limit(&mut self, train_maximum: u32) -> u32 {
+    /// The limit at the train's place, without targets ahead, in Full Supervision and On Sight.
+    fn limit_here(&self) -> u32 {
+        let train_maximum = self.train.valid().map_or(u32::MAX, |t| t.maximum);
+        self.limit_and_ahead(train_maximum, self.end()).0
+    }
+
+    /// That limit, and the index of the first static speed ahead among those from the rear on.
+    #[inline]
+    fn limit_and_ahead(&self, train_maximum: u32, end: Option<End>) -> (u32, usize) {
         let (min_front, front) = (self.place.min_front(), self.place.max_front());
         let min_rear = self.place.min_rear(self.length());
         let national = self.national.values;
-        let end = self.end();
         let mut limit = train_maximum.min(self.restrictions_limit());
         if let Some(a) = &self.authority {
             limit = limit.min(a.main);
@@ -893,18 +1276,29 @@ impl State {
                 limit = limit.min(a.speed(&national));
             }
         }
+        (limit, ahead)
+    }
+
+    fn full_limit(&mut self, train_maximum: u32) -> u32 {
+        let front = self.place.max_front();
+        let min_rear = self.place.min_rear(self.length());
+        let national = self.national.values;
+        let end = self.end();
+        let (limit, ahead) = self.limit_and_ahead(train_maximum, end);
         let Some(train) = self.train.valid() else { return limit };
+        let category = train.category;
         let brakes = Brakes {
             deceleration: train.deceleration as u32,
             reaction: train.reaction as u32,
         };
-        // What was dropped behind the mark matters only where the front is behind it.
+        // Data dropped below the mark matters only where the front is below it.
         if self.sums_stale || front < self.mark {
             self.sums.prepare(self.gradient.breaks(), brakes);
             self.sums_stale = front < self.mark;
         }
         #[cfg(debug_assertions)]
         self.check_sums(front, brakes);
+        let statics = self.statics.from(min_rear);
         let (reaction, sums) = (brakes.reaction, &self.sums);
         let gap = end.and_then(|e| {
             let gap = self.statics.first_gap(front + 1)?;
@@ -1021,7 +1415,6 @@ impl State {
     }
 }
 
-/// The first state.
 pub fn packet_allowed(number: u8, mode: Mode) -> bool {
     let known = crate::telegram::is_known(number);
     match mode {

@@ -142,6 +142,11 @@ impl Links {
         effects
     }
 
+    /// The minimum front below which no announced group counts as missed.
+    pub fn quiet_until(&self) -> i64 {
+        self.entries.iter().map(|e| e.at + e.accuracy + 1).min().unwrap_or(i64::MAX)
+    }
+
     pub fn missed(&mut self, min_front: i64) -> Effects {
         let mut effects = Effects::default();
         let mut k = 0;

@@ -148,6 +148,12 @@ impl National {
         });
     }
 
+    /// The maximum front below which no announced change is reached.
+    pub fn quiet_until(&self) -> i64 {
+        self.announced.as_ref().map_or(i64::MAX, |a| a.place.unwrap_or(i64::MIN))
+    }
+
+    #[inline]
     pub fn reached(&mut self, max_front: i64) {
         if matches!(&self.announced, Some(a) if a.place.is_none_or(|p| max_front >= p)) {
             let a = self.announced.take().expect("it was announced");

@@ -1,6 +1,6 @@
 //! Accept, flush, open, live over kernel and journal.
 
-use crate::blocks::{Format, Payload, Record, RecordKind};
+use crate::blocks::{put_record, Format, Payload, Record, RecordHead, RecordKind};
 use crate::disk::Disk;
 use crate::journal::{CommitError, Journal, OpenError};
 use crate::kernel::{power_up, Cold, Input, Output, State};
@@ -26,6 +26,8 @@ pub enum LiveError {
     Open(OpenError),
     Accept(usize, AcceptError),
     Flush(usize, FlushError),
+    /// what was released can't be printed
+    Print,
 }
 
 #[derive(Clone, Copy, Debug, PartialEq, Eq)]
@@ -126,14 +128,15 @@ impl<D: Disk> Onboard<D> {
         &self.state
     }
     pub fn pending(&self) -> usize {
-        self.pending.len()
+        self.outputs.len()
     }
 
+    #[inline]
     pub fn accept(&mut self, input: &Input) -> Result<(), AcceptError> {
         if self.failed {
             return Err(AcceptError::Failed);
         }
-        if self.pending.len() == self.journal.format().records() {
+        if self.outputs.len() == self.journal.format().records() {
             return Err(AcceptError::PendingFull);
         }
         if matches!(input, Input::Clock(m) if *m < self.state.moment()) {
@@ -141,6 +144,32 @@ impl<D: Disk> Onboard<D> {
         }
         let event = self.state.events();
         let output = self.state.input(input);
+        if self.journal.format() == Format::Three {
+            let (estimate, uncertainty) = self.state.place_of();
+            let h = |kind| RecordHead {
+                kind,
+                output,
+                event,
+                moment: self.state.moment(),
+                estimate,
+                uncertainty,
+            };
+            let k = self.outputs.len();
+            match input {
+                Input::Telegram(bytes) => put_record(self.journal.place_of(k), &h(RecordKind::Telegram), bytes),
+                Input::Odometer { movement, speed } => {
+                    let both = (*movement as u32 as u64) << 32 | *speed as u64;
+                    put_record(self.journal.place_of(k), &h(RecordKind::Odometer), &both.to_be_bytes())
+                }
+                Input::Clock(m) => put_record(self.journal.place_of(k), &h(RecordKind::Clock), &m.to_be_bytes()),
+                Input::Driver(action) => {
+                    action.payload(&mut self.scratch);
+                    put_record(self.journal.place_of(k), &h(RecordKind::Driver), &self.scratch)
+                }
+            }
+            self.outputs.push(Released { event, output });
+            return Ok(());
+        }
         let kind = match input {
             Input::Telegram(bytes) => {
                 self.scratch.clear();
@@ -169,48 +198,57 @@ impl<D: Disk> Onboard<D> {
         Ok(())
     }
 
-    pub fn flush(&mut self) -> Result<Vec<Released>, FlushError> {
+    /// Commits the block, and calls `print` with what is released.
+    #[inline]
+    pub fn flush(&mut self, print: impl FnOnce(&[Released])) -> Result<(), FlushError> {
         if self.failed {
             return Err(FlushError::Failed);
         }
-        if self.pending.is_empty() {
-            return Ok(Vec::new());
+        if self.outputs.is_empty() {
+            return Ok(());
         }
         if self.journal.worn_out() {
             return Err(FlushError::WornOut);
         }
         let kept = self.state.kept();
-        if self.journal.commit(&mut self.disk, &self.pending, &kept).is_err() {
+        let done = if self.journal.format() == Format::Three {
+            self.journal.commit_placed(&mut self.disk, self.outputs.len(), &kept)
+        } else {
+            self.journal.commit(&mut self.disk, &self.pending, &kept)
+        };
+        if done.is_err() {
             self.failed = true;
             return Err(FlushError::DeviceFault);
         }
         self.pending.clear();
-        Ok(std::mem::replace(&mut self.outputs, Vec::with_capacity(16)))
+        print(&self.outputs);
+        self.outputs.clear();
+        Ok(())
     }
 }
 
+/// One life over the steps. `print` answers whether the lines of a flush were written; the life stops before the next flush where they weren't.
 pub fn live<D: Disk>(
     disk: D,
     format: Format,
     cold: Cold,
     steps: &[Step],
-    released: &mut Vec<Released>,
+    mut print: impl FnMut(&[Released]) -> bool,
 ) -> (D, Result<(), LiveError>) {
     let mut onboard = match Onboard::open(disk, format, cold) {
         Ok(o) => o,
         Err((e, disk)) => return (disk, Err(LiveError::Open(e))),
     };
+    let mut is_printed = true;
     for (k, step) in steps.iter().enumerate() {
         let result = match step {
             Step::Accept(input) => onboard.accept(input).map_err(|e| LiveError::Accept(k, e)),
-            Step::Flush => onboard
-                .flush()
-                .map(|list| released.extend(list))
-                .map_err(|e| LiveError::Flush(k, e)),
+            Step::Flush if !is_printed => Err(LiveError::Print),
+            Step::Flush => onboard.flush(|outputs| is_printed = print(outputs)).map_err(|e| LiveError::Flush(k, e)),
         };
         if result.is_err() {
             return (onboard.close(), result);
         }
     }
-    (onboard.close(), Ok(()))
+    (onboard.close(), if is_printed { Ok(()) } else { Err(LiveError::Print) })
 }

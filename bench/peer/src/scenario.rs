@@ -16,16 +16,42 @@ pub enum ScenarioFault {
 }
 use ScenarioFault::*;
 
+/// The value of each hexadecimal digit; 255 for other bytes.
+static DIGITS: [u8; 256] = {
+    let mut table = [255; 256];
+    let mut k = 0;
+    while k < 10 {
+        table[b'0' as usize + k] = k as u8;
+        k += 1;
+    }
+    k = 0;
+    while k < 6 {
+        table[b'a' as usize + k] = 10 + k as u8;
+        table[b'A' as usize + k] = 10 + k as u8;
+        k += 1;
+    }
+    table
+};
+
 pub fn hex(text: &str) -> Option<Vec<u8>> {
-    let bytes = text.as_bytes();
+    hex_of(text.as_bytes())
+}
+
+fn hex_of(bytes: &[u8]) -> Option<Vec<u8>> {
     if bytes.len() % 2 != 0 {
         return None;
     }
-    let mut out = Vec::with_capacity(bytes.len() / 2);
-    for two in bytes.chunks_exact(2) {
-        let high = (two[0] as char).to_digit(16)?;
-        let low = (two[1] as char).to_digit(16)?;
-        out.push((high * 16 + low) as u8);
+    let mut wrong = 0;
+    let out = bytes
+        .chunks_exact(2)
+        .map(|two| {
+            let (high, low) = (DIGITS[two[0] as usize], DIGITS[two[1] as usize]);
+            wrong |= high | low;
+            high << 4 | low & 15
+        })
+        .collect();
+    if wrong > 15 {
+        return None;
     }
     Some(out)
 }
@@ -137,7 +163,7 @@ fn driver(value: Value) -> Result<Action, ScenarioFault> {
 }
 
 struct Simulator {
-    /// in order of place, equal places in the order of the file
+    /// by place; equal places in the order of the file
     balises: Vec<(i64, Vec<u8>)>,
     front: i64,
     pending: usize,
@@ -171,7 +197,7 @@ impl Simulator {
     }
 
     fn drive(&mut self, cm: i64, speed: u32) {
-        if cm <= 0 {
+        if cm <= 0 || cm <= 10_000 && self.balises.is_empty() {
             self.front += cm;
             return self.accept(Input::Odometer {
                 movement: cm as i32,
@@ -217,7 +243,184 @@ impl Simulator {
     }
 }
 
+/// Reads a text of the usual form in one pass: groups, then steps, each name once, no escapes. All else is left to `json::parse`.
+struct Quick<'a> {
+    bytes: &'a [u8],
+    at: usize,
+}
+
+impl<'a> Quick<'a> {
+    #[inline]
+    fn space(&mut self) {
+        while matches!(self.bytes.get(self.at), Some(b' ' | b'\t' | b'\n' | b'\r')) {
+            self.at += 1;
+        }
+    }
+    #[inline]
+    fn take(&mut self, b: u8) -> Option<()> {
+        if self.bytes.get(self.at) != Some(&b) {
+            self.space();
+            if self.bytes.get(self.at) != Some(&b) {
+                return None;
+            }
+        }
+        self.at += 1;
+        Some(())
+    }
+    #[inline]
+    fn take_text(&mut self, text: &[u8]) -> Option<()> {
+        if !self.bytes[self.at..].starts_with(text) {
+            self.space();
+            if !self.bytes[self.at..].starts_with(text) {
+                return None;
+            }
+        }
+        self.at += text.len();
+        Some(())
+    }
+    /// A whole number up to `most`, of at most 14 digits.
+    #[inline]
+    fn number(&mut self, most: i64) -> Option<i64> {
+        if matches!(self.bytes.get(self.at), Some(b' ' | b'\t' | b'\n' | b'\r')) {
+            self.space();
+        }
+        let negative = self.bytes.get(self.at) == Some(&b'-');
+        self.at += negative as usize;
+        let from = self.at;
+        let mut n = 0i64;
+        while let Some(&b @ b'0'..=b'9') = self.bytes.get(self.at) {
+            n = n.wrapping_mul(10).wrapping_add((b - b'0') as i64);
+            self.at += 1;
+        }
+        let count = self.at - from;
+        if count == 0 || count > 14 || n > most || self.bytes[from] == b'0' && (count > 1 || negative) {
+            return None;
+        }
+        if matches!(self.bytes.get(self.at), Some(b'.' | b'e' | b'E')) {
+            return None;
+        }
+        Some(if negative { -n } else { n })
+    }
+    fn text(&mut self) -> Option<&'a [u8]> {
+        self.take(b'"')?;
+        let rest = &self.bytes[self.at..];
+        let length = rest.iter().position(|&b| b == b'"' || b == b'\\' || b < 0x20)?;
+        if rest[length] != b'"' {
+            return None;
+        }
+        self.at += length + 1;
+        Some(&rest[..length])
+    }
+    #[inline]
+    fn step(&mut self, simulator: &mut Simulator) -> Option<()> {
+        self.take_text(b"{\"")?;
+        match self.bytes.get(self.at..self.at + 2)? {
+            b"dr" if self.bytes[self.at..].starts_with(b"drive\"") => {
+                self.at += 6;
+                self.take(b':')?;
+                self.take(b'[')?;
+                let cm = self.number(1_000_000)?;
+                self.take(b',')?;
+                let speed = self.number(600_000)?;
+                self.take(b']')?;
+                if cm < -10_000 || speed < 0 {
+                    return None;
+                }
+                simulator.drive(cm, speed as u32);
+            }
+            b"cl" => {
+                self.take_text(b"clock\"")?;
+                self.take(b':')?;
+                let ms = self.number((1 << 40) - 1)?;
+                if ms < 0 {
+                    return None;
+                }
+                simulator.accept(Input::Clock(ms as u64));
+            }
+            b"te" => {
+                self.take_text(b"telegram\"")?;
+                self.take(b':')?;
+                let text = self.text()?;
+                if text.is_empty() || text.len() > 208 {
+                    return None;
+                }
+                simulator.accept(Input::Telegram(hex_of(text)?));
+            }
+            b"fl" => {
+                self.take_text(b"flush\"")?;
+                self.take(b':')?;
+                self.take_text(b"true")?;
+                simulator.flush();
+            }
+            _ => {
+                self.take_text(b"driver\"")?;
+                self.take(b':')?;
+                let (value, length) = crate::json::parse_first(&self.bytes[self.at..])?;
+                self.at += length;
+                simulator.accept(Input::Driver(driver(value.value()).ok()?));
+            }
+        }
+        self.take(b'}')
+    }
+    fn all(&mut self, format: Format) -> Option<(Cold, Vec<Step>)> {
+        self.take(b'{')?;
+        self.take_text(b"\"groups\"")?;
+        self.take(b':')?;
+        let (groups, length) = crate::json::parse_first(&self.bytes[self.at..])?;
+        self.at += length;
+        let mut balises = Vec::new();
+        for g in groups.value().array()? {
+            group(g, &mut balises).ok()?;
+        }
+        balises.sort_by_key(|b| b.0);
+        self.take(b',')?;
+        self.take_text(b"\"steps\"")?;
+        self.take(b':')?;
+        self.take(b'[')?;
+        let mut simulator = Simulator {
+            balises,
+            front: 0,
+            pending: 0,
+            limit: format.records(),
+            steps: Vec::with_capacity(self.bytes.len() / 20),
+        };
+        self.space();
+        if self.bytes.get(self.at) == Some(&b']') {
+            self.at += 1;
+        } else {
+            loop {
+                self.step(&mut simulator)?;
+                if self.take(b',').is_none() {
+                    self.take(b']')?;
+                    break;
+                }
+            }
+        }
+        let mut cold = Cold::Unknown;
+        if self.take(b',').is_some() {
+            if format != Format::Three {
+                return None;
+            }
+            self.take_text(b"\"cold\"")?;
+            self.take(b':')?;
+            cold = [Cold::Unknown, Cold::Moved, Cold::NotMoved][usize::try_from(self.number(2)?).ok()?];
+        }
+        self.take(b'}')?;
+        self.space();
+        if self.at != self.bytes.len() {
+            return None;
+        }
+        if simulator.pending > 0 {
+            simulator.flush();
+        }
+        Some((cold, simulator.steps))
+    }
+}
+
 pub fn events_of(scenario: &[u8], format: Format) -> Result<(Cold, Vec<Step>), ScenarioFault> {
+    if let Some(read) = (Quick { bytes: scenario, at: 0 }).all(format) {
+        return Ok(read);
+    }
     let document = parse(scenario).map_err(|_| NotJson)?;
     let value = document.value();
     let mut list = value.members().ok_or(Shape)?;

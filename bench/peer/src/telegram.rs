@@ -776,7 +776,7 @@ fn packet_after_number(reader: &mut BitReader<'_>, number: u8, start: usize) -> 
     Ok(packet)
 }
 
-/// On a fault the reader stands where it stood.
+/// On a fault the reader's position is unchanged.
 pub fn read_packet(reader: &mut BitReader<'_>) -> Result<Packet, Fault> {
     let start = reader.position();
     let result = match reader.take(8) {
@@ -885,6 +885,15 @@ fn walk(bytes: &[u8], mut each: impl FnMut(Packet, usize, usize)) -> Result<Head
     }
 }
 
+/// The header of a telegram; its packets aren't read.
+#[inline]
+pub fn header_of(bytes: &[u8]) -> Result<Header, Fault> {
+    if bytes.len() > MAX_BYTES {
+        return Err(Fault::TooLong);
+    }
+    read_header(&mut BitReader::new(bytes))
+}
+
 pub fn decode(bytes: &[u8]) -> Result<Telegram, Fault> {
     let mut packets = Vec::new();
     let header = walk(bytes, |p, _, _| packets.push(p))?;
@@ -892,7 +901,7 @@ pub fn decode(bytes: &[u8]) -> Result<Telegram, Fault> {
 }
 
 impl Telegram {
-    /// Bits up to and with the end mark.
+    /// Bits up to and including the end mark.
     pub fn bits(&self) -> usize {
         58 + self.packets.iter().map(Packet::length).sum::<usize>()
     }

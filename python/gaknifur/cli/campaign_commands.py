@@ -24,7 +24,7 @@ def play_campaign(given: SimpleNamespace, progress: "Progress") -> int:
     files.check_all([out] if out else [], [given.out], [given.out])
     jobs: campaign.Folder | list[campaign.Job] = campaign.Folder(given.folder, given.slots) if given.folder else []
     if given.folder and not len(jobs):
-        raise Failed(f"{given.folder}: contains no test case and no scenario; nothing was run", DEVICE)
+        raise Failed(f"{given.folder}: contains no test case and no scenario; nothing was run", REFUSED)
     table = campaign_table.Table(given.out, campaign_table.settings_of())
     played = 0
 

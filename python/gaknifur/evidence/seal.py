@@ -346,6 +346,8 @@ def verify(folder: Path, trust: signing.Trust) -> Shown:
     found = Shown()
     if not folder.is_dir():
         raise Failed(f"{folder}: no such folder", DEVICE)
+    if not any(folder.iterdir()):
+        raise Failed(f"{folder}: the folder is empty, so there is no bag to verify", REFUSED)
     signatures, stamp = signing.signatures(folder, trust), signing.time_stamp(folder, trust)
     if vouched(signatures, stamp, trust, found):
         look_inside(folder, signatures, found)

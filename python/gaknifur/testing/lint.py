@@ -218,7 +218,7 @@ def paths_of(path: Path) -> list[Path]:
         return [path]
     found, others = case_files.below(path)
     if not found and not others:
-        raise Failed(f"{path}: contains no test case and no scenario", DEVICE)
+        raise Failed(f"{path}: contains no test case and no scenario", REFUSED)
     return [path / name for name in (*found, *others)]
 
 

@@ -1,11 +1,11 @@
-//! The rows that bench/ counts: lines of plain words on standard input, or a call so many times.
+//! The calls that bench/ counts: events on standard input, a line each, or one call several times.
 //!
-//!     rows                          reads events, a line each, and prints the output behind each: mode, level, brake, limit, indications
-//!                                   (the lines: hear HEX; move CM SPEED; clock MS; enter-identity TEXT; enter-running-number N;
+//!     rows                          reads events, and prints the output after each: mode, level, brake, limit, indications
+//!                                   (the events: hear HEX; move CM SPEED; clock MS; enter-identity TEXT; enter-running-number N;
 //!                                   enter-train-data LENGTH MAXIMUM DECELERATION REACTION CATEGORY; choose-level N; confirm WHAT; start;
 //!                                   choose-shunting; leave-shunting; override; acknowledge WHAT; close-desk)
-//!     rows lines                    the same, and prints the sum of the limits behind the line `count`
-//!     rows permitted GRADIENT RUNS  the permitted speed before a stop, as bench/kernel.c asks for it, and the sum
+//!     rows lines                    reads events, and prints the sum of the limits after the line `count`
+//!     rows permitted GRADIENT RUNS  the permitted speed before a stop, as in bench/kernel.c, and the sum
 //!     rows decode|walk|encode HEX RUNS, commit RUNS, block RUNS, unit SLOTS 0|1 BATCHES (1: in Full Supervision)
 use etcs_peer::blocks::*;
 use etcs_peer::braking::{permitted, BrakeSums, Brakes, Target};
@@ -112,7 +112,9 @@ fn accept_one<D: Disk>(o: &mut Onboard<D>, i: &Input) {
 }
 #[inline(never)]
 fn flush_one<D: Disk>(o: &mut Onboard<D>) -> usize {
-    o.flush().unwrap().len()
+    let mut n = 0;
+    o.flush(|outputs| n = black_box(outputs).len()).unwrap();
+    n
 }
 #[inline(never)]
 fn write_one(r: &[Record], k: &Kept, o: &mut [u8; BLOCK]) {
@@ -291,7 +293,7 @@ fn main() {
                 ] {
                     o.accept(&input(l)).unwrap();
                 }
-                o.flush().unwrap();
+                flush_one(&mut o);
             }
             let i = if fs == "1" {
                 Input::Odometer {

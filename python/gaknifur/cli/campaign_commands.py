@@ -6,7 +6,7 @@ from typing import TYPE_CHECKING
 from .. import files
 from ..errors import INTERRUPTED
 from ..escaping import shown
-from ..program import DEVICE, FOUND, WRONG_WORDS, Failed
+from ..program import FOUND, REFUSED, WRONG_WORDS, Failed
 from ..simulation import campaign, campaign_table
 
 if TYPE_CHECKING:

@@ -1,6 +1,7 @@
 """The pages of the documentation, and the rows of the mode table as the page of tables has them."""
 import functools
 import subprocess
+import sys
 
 from ..program import DEVICE, REFUSED, TOP, Failed
 
@@ -22,7 +23,8 @@ def tables() -> str:
     """The page of tables: that of an installed product, else what tools/tables reads from the definitions."""
     if (DOCS / "tables.md").is_file():
         return page("tables.md")
-    done = subprocess.run([TOP / "tools/tables", "--print"], stdin=subprocess.DEVNULL, capture_output=True, text=True, check=False)
+    done = subprocess.run([sys.executable, "-I", "-B", "-X", "utf8", TOP / "tools/tables", "--print"], stdin=subprocess.DEVNULL,
+                          capture_output=True, encoding="utf-8", check=False)
     if done.returncode:
         raise Failed(f"tools/tables: {done.stderr.strip()}", DEVICE)
     return done.stdout

@@ -79,6 +79,65 @@ def text(value):
     return json.dumps(value, separators=(",", ":"))
 
 
+# ---- for people
+
+FIELD_TEXTS = {"event": "number", "word": "movement without power", "time_ms": "time", "place": "having a place", "place_cm": "place",
+               "uncertainty_cm": "uncertainty", "limit_m_per_h": "limit", "events": "number of events", "lives": "number of lives",
+               "trip_outstanding": "trip", "identity": "driver's identity", "running_number": "running number", "train": "train data",
+               "national_values": "national values"}
+
+
+def seconds(ms):
+    return f"{ms // 1000}.{ms % 1000:03} s"
+
+
+def metres(cm):
+    return f"{'-' if cm < 0 else ''}{abs(cm) // 100}.{abs(cm) % 100:02} m"
+
+
+def speed(m_per_h):
+    return f"{m_per_h // 1000}.{m_per_h % 1000:03} km/h"
+
+
+def answer_text(answer):
+    level = "-" if answer["level"] is None else answer["level"]
+    parts = [f"event {answer['event']} at {seconds(answer['time_ms'])}", answer["mode"], f"level {level}", f"brake {answer['brake']}"]
+    if "place_cm" in answer:
+        parts += [f"front at {metres(answer['place_cm'])} within {metres(answer['uncertainty_cm'])}", f"limit {speed(answer['limit_m_per_h'])}"]
+    return ", ".join([*parts, f"indications {', '.join(answer['indications']) or 'none'}"])
+
+
+def train_text(train):
+    return (f"length {metres(train['length_cm'])}, maximum {speed(train['maximum_m_per_h'])}, category {train['category']}, "
+            f"deceleration {train['deceleration_cm_per_s2']} cm/s2, reaction {seconds(train['reaction_ms'])}")
+
+
+def national_text(values):
+    override = f"override from {speed(values['override_allowed_m_per_h'])} at {speed(values['override_speed_m_per_h'])}"
+    time, way = values["override_time_ms"], values["staff_responsible_distance_cm"]
+    return ", ".join([
+        f"Shunting {speed(values['shunting_m_per_h'])}", f"Staff Responsible {speed(values['staff_responsible_m_per_h'])}",
+        f"On Sight {speed(values['on_sight_m_per_h'])}", f"Unfitted {speed(values['unfitted_m_per_h'])}",
+        f"release {speed(values['release_m_per_h'])}", f"roll back {metres(values['roll_cm'])}", override,
+        f"override for {metres(values['override_distance_cm'])}" + ("" if time is None else f" and {seconds(time)}"),
+        *([] if way is None else [f"Staff Responsible for {metres(way)}"])])
+
+
+def kept_text(field, kept):
+    value = kept[field]
+    if field == "countries":
+        return " ".join(map(str, value)) or "none"
+    if field == "trip_outstanding":
+        return "outstanding" if value else "none outstanding"
+    if value is None:
+        return "unknown" if field in ("level", "position") else "none"
+    if field == "position":
+        return f"{metres(value['distance_cm'])} after group {value['group']} of country {value['country']}, {value['status']}"
+    if field == "level":
+        return f"{value['value']}, {value['status']}"
+    return {"identity": '"{}"'.format, "train": train_text, "national_values": national_text}.get(field, str)(value)
+
+
 class Walk:
     """A walk over the blocks of an image. Each life is run again by the plain kernel from its power-up on, behind what the head before it tells.
     Of each event `event` is called, with what it is left open for the next line, or `say` for a line of its own."""
@@ -164,7 +223,8 @@ class Replay(Walk):
     def differ(self, where, members, kind, field, told, wanted):
         self.tell()
         self.is_whole = False
-        plain = f"{where} differs in {field}\n  journal: {text(told)}\n  kernel:  {text(wanted)}"
+        journal, kernel = (answer_text(value) if kind == "record_differs" else kept_text(field, value) for value in (told, wanted))
+        plain = f"{where} differs in {FIELD_TEXTS.get(field, field)}\n  journal: {journal}\n  kernel:  {kernel}"
         self.say(plain, **members, replay=kind, field=field, journal=told, kernel=wanted)
 
     def event(self, block, record, life):

@@ -81,61 +81,29 @@ def text(value):
 
 # ---- for people
 
-FIELD_TEXTS = {"event": "number", "word": "movement without power", "time_ms": "time", "place": "having a place", "place_cm": "place",
-               "uncertainty_cm": "uncertainty", "limit_m_per_h": "limit", "events": "number of events", "lives": "number of lives",
-               "trip_outstanding": "trip", "identity": "driver's identity", "running_number": "running number", "train": "train data",
-               "national_values": "national values"}
+UNITS = {"_m_per_h": lambda number: f"{number // 1000}.{number % 1000:03} km/h", "_ms": lambda number: f"{number // 1000}.{number % 1000:03} s",
+         "_cm": lambda number: f"{'-' if number < 0 else ''}{abs(number) // 100}.{abs(number) % 100:02} m"}
 
 
-def seconds(ms):
-    return f"{ms // 1000}.{ms % 1000:03} s"
+def member_text(name, value):
+    unit = next((unit for unit in UNITS if name.endswith(unit)), "")
+    said = UNITS[unit](value) if unit and value is not None else value_text(value)
+    return f"{name.removesuffix(unit).replace('_', ' ')} {said}"
 
 
-def metres(cm):
-    return f"{'-' if cm < 0 else ''}{abs(cm) // 100}.{abs(cm) % 100:02} m"
-
-
-def speed(m_per_h):
-    return f"{m_per_h // 1000}.{m_per_h % 1000:03} km/h"
-
-
-def answer_text(answer):
-    level = "-" if answer["level"] is None else answer["level"]
-    parts = [f"event {answer['event']} at {seconds(answer['time_ms'])}", answer["mode"], f"level {level}", f"brake {answer['brake']}"]
-    if "place_cm" in answer:
-        parts += [f"front at {metres(answer['place_cm'])} within {metres(answer['uncertainty_cm'])}", f"limit {speed(answer['limit_m_per_h'])}"]
-    return ", ".join([*parts, f"indications {', '.join(answer['indications']) or 'none'}"])
-
-
-def train_text(train):
-    return (f"length {metres(train['length_cm'])}, maximum {speed(train['maximum_m_per_h'])}, category {train['category']}, "
-            f"deceleration {train['deceleration_cm_per_s2']} cm/s2, reaction {seconds(train['reaction_ms'])}")
-
-
-def national_text(values):
-    override = f"override from {speed(values['override_allowed_m_per_h'])} at {speed(values['override_speed_m_per_h'])}"
-    time, way = values["override_time_ms"], values["staff_responsible_distance_cm"]
-    return ", ".join([
-        f"Shunting {speed(values['shunting_m_per_h'])}", f"Staff Responsible {speed(values['staff_responsible_m_per_h'])}",
-        f"On Sight {speed(values['on_sight_m_per_h'])}", f"Unfitted {speed(values['unfitted_m_per_h'])}",
-        f"release {speed(values['release_m_per_h'])}", f"roll back {metres(values['roll_cm'])}", override,
-        f"override for {metres(values['override_distance_cm'])}" + ("" if time is None else f" and {seconds(time)}"),
-        *([] if way is None else [f"Staff Responsible for {metres(way)}"])])
-
-
-def kept_text(field, kept):
-    value = kept[field]
-    if field == "countries":
-        return " ".join(map(str, value)) or "none"
-    if field == "trip_outstanding":
-        return "outstanding" if value else "none outstanding"
+def value_text(value):
+    if isinstance(value, dict):
+        return f"({members_text(value)})"
+    if isinstance(value, list):
+        return f"({', '.join(map(value_text, value)) or 'none'})"
     if value is None:
-        return "unknown" if field in ("level", "position") else "none"
-    if field == "position":
-        return f"{metres(value['distance_cm'])} after group {value['group']} of country {value['country']}, {value['status']}"
-    if field == "level":
-        return f"{value['value']}, {value['status']}"
-    return {"identity": '"{}"'.format, "train": train_text, "national_values": national_text}.get(field, str)(value)
+        return "none"
+    return {True: "yes", False: "no"}[value] if isinstance(value, bool) else str(value)
+
+
+def members_text(value):
+    """An object, as people read it: its members by name, in the units that people use."""
+    return ", ".join(member_text(*member) for member in value.items())
 
 
 class Walk:
@@ -223,8 +191,7 @@ class Replay(Walk):
     def differ(self, where, members, kind, field, told, wanted):
         self.tell()
         self.is_whole = False
-        journal, kernel = (answer_text(value) if kind == "record_differs" else kept_text(field, value) for value in (told, wanted))
-        plain = f"{where} differs in {FIELD_TEXTS.get(field, field)}\n  journal: {journal}\n  kernel:  {kernel}"
+        plain = f"{where} differs in {field}\n  journal: {members_text(told)}\n  kernel:  {members_text(wanted)}"
         self.say(plain, **members, replay=kind, field=field, journal=told, kernel=wanted)
 
     def event(self, block, record, life):

@@ -3,15 +3,13 @@
 #![tactic(auto)]
 
 mod course;
+mod describing;
 mod json;
-mod kept_text;
 mod line;
 mod sink;
 mod text;
-mod units;
 mod visiting;
 mod walk;
-mod words;
 
 pub use line::{
     Answer, EndLine, HeadLine, LostBlock, Outcome, RecordLine, ReplayLine, StretchLine, Verdict,

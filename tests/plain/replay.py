@@ -79,6 +79,33 @@ def text(value):
     return json.dumps(value, separators=(",", ":"))
 
 
+# ---- for people
+
+UNITS = {"_m_per_h": lambda number: f"{number // 1000}.{number % 1000:03} km/h", "_ms": lambda number: f"{number // 1000}.{number % 1000:03} s",
+         "_cm": lambda number: f"{'-' if number < 0 else ''}{abs(number) // 100}.{abs(number) % 100:02} m"}
+
+
+def member_text(name, value):
+    unit = next((unit for unit in UNITS if name.endswith(unit)), "")
+    said = UNITS[unit](value) if unit and value is not None else value_text(value)
+    return f"{name.removesuffix(unit).replace('_', ' ')} {said}"
+
+
+def value_text(value):
+    if isinstance(value, dict):
+        return f"({members_text(value)})"
+    if isinstance(value, list):
+        return f"({', '.join(map(value_text, value)) or 'none'})"
+    if value is None:
+        return "none"
+    return {True: "yes", False: "no"}[value] if isinstance(value, bool) else str(value)
+
+
+def members_text(value):
+    """An object, as people read it: its members by name, in the units that people use."""
+    return ", ".join(member_text(*member) for member in value.items())
+
+
 class Walk:
     """A walk over the blocks of an image. Each life is run again by the plain kernel from its power-up on, behind what the head before it tells.
     Of each event `event` is called, with what it is left open for the next line, or `say` for a line of its own."""
@@ -164,7 +191,7 @@ class Replay(Walk):
     def differ(self, where, members, kind, field, told, wanted):
         self.tell()
         self.is_whole = False
-        plain = f"{where} differs in {field}\n  journal: {text(told)}\n  kernel:  {text(wanted)}"
+        plain = f"{where} differs in {field}\n  journal: {members_text(told)}\n  kernel:  {members_text(wanted)}"
         self.say(plain, **members, replay=kind, field=field, journal=told, kernel=wanted)
 
     def event(self, block, record, life):

@@ -2,11 +2,11 @@
 
 use crate::examined::verdict_of;
 use crate::images::{Image, opened_whole};
-use crate::replayed::stopped;
+use crate::replayed::{print_replay, stopped};
 use crate::status::{Status, told};
 use command_line::LabImage;
 use lab_examine::Verdict;
-use lab_replay::{Outcome, WalkError, replay};
+use lab_replay::{Outcome, WalkError};
 use std::fs::File;
 use std::io::Write;
 use std::rt::Files;
@@ -67,7 +67,7 @@ fn check<R: AllocGlobal + Eprint, W: Write>(
     out: &mut W,
 ) -> Result<Findings, Status> {
     let verdict = verdict_of(rt, image, form, out)?;
-    let outcome = match replay(rt.alloc(), &mut image.disk, form, out) {
+    let outcome = match print_replay(rt.alloc(), &mut image.disk, form, out) {
         Ok(outcome) => Some(outcome),
         // The examination tells which.
         Err(WalkError::NotFormatted | WalkError::Damaged) => None,

@@ -60,7 +60,7 @@ fn write_values<W: Write>(form: Form, kept: &Kept, out: &mut W) -> io::Result<()
 
 /// Writes the items that are kept: a line each for people, members of an object as JSON. The counts and the outstanding
 /// trip are not among them. The error is that of a write.
-pub fn write_kept_items<W: Write>(form: Form, kept: &Kept, out: &mut W) -> io::Result<()>
+pub(crate) fn write_kept_items<W: Write>(form: Form, kept: &Kept, out: &mut W) -> io::Result<()>
     ensures { OnOk result (Appends (W.contents out.old) (W.contents out.new) (items_text form kept.now)) }
 {
     write_identity(form, &kept.identity, out)?;

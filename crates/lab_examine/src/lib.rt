@@ -21,4 +21,3 @@ mod words;
 
 pub use examining::{ExamineError, Verdict, examine};
 pub use file_facts::FileFacts;
-pub use kept_lines::write_kept_items;

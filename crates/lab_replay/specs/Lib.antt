@@ -1,7 +1,5 @@
-pub mod Answers
 pub mod Courses
-pub mod KeptObject
 pub mod Lines
+pub mod Replays
+pub mod Sinks
 pub mod Steps
-pub mod Told
-pub mod Words

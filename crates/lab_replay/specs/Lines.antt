@@ -1,70 +1,72 @@
--- The lines of a replay, for people and as JSON objects (this project's profile). Events are numbered from 0, blocks
--- from 1.
-use Rattle.std.specs.Prelude.{ℕ, List, [], ◌∷◌, ◌++◌, codes, decimal}
+-- The lines of a replay, each as the value that it reports (this project's profile; docs/reference/json.md). Events are numbered
+-- from 0, blocks from 1.
+use Rattle.std.specs.Prelude.{ℕ, Some, None, option_map}
+use Rattle.blocks.specs.declared.block.Block.{Block}
 use Rattle.blocks.specs.declared.records.BlockRecord.{BlockRecord}
-use Rattle.events.specs.declared.kept.Kept.{Kept}
-use Rattle.text_output.specs.Pieces.{text_in, joined}
-use Rattle.text_output.specs.declared.piece.Form.{Form}
-use Rattle.replaying.specs.declared.differences.KeptField.{KeptField}
-use Rattle.replaying.specs.declared.differences.RecordField.{RecordField}
+use Rattle.blocks.specs.declared.records.Situation.{Situation}
+use Rattle.lab_events.specs.LeftOut.{reason_of}
+use Rattle.lab_events.specs.declared.left_out.Reason.TheVariants as a_reason
 use Rattle.lab_events.specs.declared.left_out.Stretch.{Stretch}
-use Rattle.lab_replay.specs.Answers.{answer_behind}
-use Rattle.lab_replay.specs.KeptObject.{kept_behind}
-use Rattle.lab_replay.specs.Words.{kept_field_text, record_field_text}
-use Rattle.lab_replay.specs.declared.walk.Outcome.{Outcome}
-use Rattle.lab_replay.specs.declared.walk.Outcome.TheVariants.{Whole, Differs}
+use Rattle.replaying.specs.declared.following.Found.{Found}
+use Rattle.replaying.specs.declared.heads.HeadFound.{HeadFound}
+use Rattle.replaying.specs.declared.judging.Judged.{Judged}
+use Rattle.replaying.specs.declared.judging.Judged.TheVariants.{Agrees, Unknown, BehindDifference}
+use Rattle.lab_replay.specs.declared.line.Answer.{Answer}
+use Rattle.lab_replay.specs.declared.line.Outcome.{Outcome}
+use Rattle.lab_replay.specs.declared.line.ReplayLine.{ReplayLine}
+use Rattle.lab_replay.specs.declared.line.ReplayLine.TheVariants as a_line
+use Rattle.lab_replay.specs.declared.line.Verdict.TheVariants as a_verdict
 
--- these events of this life agree
-abbrev pub agrees_text : Form → Stretch → List ℕ
-agrees_text form s =
-    joined (text_in form (codes "life ") (codes "{\"life\":") ∷ decimal s.life ∷ text_in form (codes " events ") (codes ",\"first_event\":")
-    ∷ decimal s.first ∷ text_in form (codes "..") (codes ",\"last_event\":") ∷ decimal s.last
-    ∷ text_in form (codes " agree\n") (codes ",\"replay\":\"agrees\"}\n") ∷ [])
+-- these events of this life agree, or aren't replayed, for a reason
+abbrev pub stretch_line : Judged → Stretch → ReplayLine
+stretch_line (Agrees replay) s =
+    a_line.Stretch (record { life = s.life; first_event = s.first; last_event = s.last; replay = a_verdict.Agrees; reason = None })
+stretch_line (Unknown why) s =
+    a_line.Stretch (record { life = s.life; first_event = s.first; last_event = s.last; replay = a_verdict.NotReplayed; reason = Some (reason_of why) })
+stretch_line BehindDifference s =
+    a_line.Stretch (record { life = s.life; first_event = s.first; last_event = s.last; replay = a_verdict.NotReplayed; reason = Some a_reason.BehindDifference })
 
--- before what the journal tells, and before what the kernel answers
-abbrev pub journal_text : Form → List ℕ
-journal_text form = text_in form (codes "\n  journal: ") (codes "\",\"journal\":")
+-- what a record holds next to its event; a place and a limit where its format records them
+abbrev pub answer_of : BlockRecord → Answer
+answer_of r = record {
+  event = r.number;
+  time_ms = r.moment;
+  mode = r.mode;
+  level = r.level;
+  brake = r.brake;
+  indications = r.indications;
+  place_cm = option_map (λ (s : Situation). s.estimate) r.situation;
+  uncertainty_cm = option_map (λ (s : Situation). s.uncertainty) r.situation;
+  limit_m_per_h = option_map (λ (s : Situation). s.limit) r.situation;
+}
 
-abbrev pub kernel_text : Form → List ℕ
-kernel_text form = text_in form (codes "\n  kernel:  ") (codes ",\"kernel\":")
+-- this record of a block and a life differs from the kernel's answer
+abbrev pub record_line : ℕ → ℕ → BlockRecord → Found → ReplayLine
+record_line life block r found = a_line.Record (record {
+  life = life;
+  block = block;
+  event = r.number;
+  replay = a_verdict.RecordDiffers;
+  field = found.field;
+  journal = answer_of r;
+  kernel = answer_of found.answer;
+})
 
-abbrev pub end_text : Form → List ℕ
-end_text form = text_in form (codes "\n") (codes "}\n")
+-- the head of a block differs from what the kernel keeps
+abbrev pub head_line : Block → HeadFound → ReplayLine
+head_line b found = a_line.Head (record {
+  life = b.kept.lives;
+  block = b.number;
+  replay = a_verdict.HeadDiffers;
+  field = found.field;
+  journal = b.kept;
+  kernel = found.kept;
+})
 
--- a record differs
-abbrev pub record_front : Form → ℕ → ℕ → RecordField → ℕ → List ℕ
-record_front form life block field event =
-    joined (text_in form (codes "life ") (codes "{\"life\":") ∷ decimal life ∷ text_in form (codes " block ") (codes ",\"block\":")
-    ∷ decimal block ∷ text_in form (codes " event ") (codes ",\"event\":") ∷ decimal event
-    ∷ text_in form (codes " differs in ") (codes ",\"replay\":\"record_differs\",\"field\":\"") ∷ record_field_text field
-    ∷ journal_text form ∷ [])
+-- the block of this number can't be read
+abbrev pub lost_line : ℕ → ReplayLine
+lost_line number = a_line.Lost (record { block = number; replay = a_verdict.Unreadable })
 
-abbrev pub record_text : Form → ℕ → ℕ → RecordField → BlockRecord → BlockRecord → List ℕ
-record_text form life block field told answer =
-    answer_behind (answer_behind (record_front form life block field told.number) told ++ kernel_text form) answer ++ end_text form
-
--- a head differs
-abbrev pub head_front : Form → ℕ → ℕ → KeptField → List ℕ
-head_front form life block field =
-    joined (text_in form (codes "life ") (codes "{\"life\":") ∷ decimal life ∷ text_in form (codes " head of block ") (codes ",\"block\":")
-    ∷ decimal block ∷ text_in form (codes " differs in ") (codes ",\"replay\":\"head_differs\",\"field\":\"") ∷ kept_field_text field
-    ∷ journal_text form ∷ [])
-
--- .. before what the kernel keeps, and the end, with the brace of the object before each
-abbrev pub kernel_kept_text : Form → List ℕ
-kernel_kept_text form = text_in form (codes "}\n  kernel:  ") (codes "},\"kernel\":")
-
-abbrev pub kept_end_text : Form → List ℕ
-kept_end_text form = text_in form (codes "}\n") (codes "}}\n")
-
-abbrev pub kernel_kept : Form → Kept → List ℕ
-kernel_kept form kept = kept_behind (kernel_kept_text form) kept ++ kept_end_text form
-
-abbrev pub head_text : Form → ℕ → ℕ → KeptField → Kept → Kept → List ℕ
-head_text form life block field told kept =
-    kept_behind (head_front form life block field) told ++ kernel_kept form kept
-
--- what it came to
-abbrev pub outcome_text : Form → Outcome → List ℕ
-outcome_text form Whole = text_in form (codes "nothing differs\n") (codes "{\"end\":\"nothing_differs\"}\n")
-outcome_text form Differs = text_in form (codes "something differs or is lost\n") (codes "{\"end\":\"differs_or_lost\"}\n")
+-- the result
+abbrev pub end_line : Outcome → ReplayLine
+end_line outcome = a_line.End (record { end = outcome })

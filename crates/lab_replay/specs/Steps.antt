@@ -1,64 +1,62 @@
--- What is told of a step of a walk, and how a replay goes on after it (this project's profile). Known bytes are those
--- that the writer holds.
-use Rattle.std.specs.Prelude.{◌≡◌, ℕ, ◌++◌, false, List, [], Option, Some, None}
-use Rattle.std.specs.Io.KnownBytes.{Appends}
+-- The lines of a step of a walk, and how a replay goes on after it (this project's profile).
+use Rattle.std.specs.Prelude.{◌≡◌, ℕ, ◌++◌, false, List, [], ◌∷◌, Option, Some, None, option_to_list}
 use Rattle.blocks.specs.declared.block.Block.{Block}
 use Rattle.blocks.specs.declared.records.BlockRecord.{BlockRecord}
 use Rattle.lives.specs.Steps.{Step}
-use Rattle.lab_events.specs.LeftOut.{lost_block_text}
 use Rattle.replaying.specs.Judgements.{GoesOn, Begins, IsHeadFound}
 use Rattle.replaying.specs.declared.following.Found.{Found}
 use Rattle.replaying.specs.declared.heads.HeadFound.{HeadFound}
 use Rattle.replaying.specs.declared.judging.Judged.{Judged}
-use Rattle.lab_replay.specs.Courses.{open_text, all_told, behind_gap, behind_difference, judged_so, left_open}
-use Rattle.lab_replay.specs.Lines.{record_text, head_text}
+use Rattle.lab_replay.specs.Courses.{open_line, all_reported, after_gap, after_difference, judged_so, left_open}
+use Rattle.lab_replay.specs.Lines.{record_line, head_line, lost_line}
 use Rattle.lab_replay.specs.declared.course.Course.{Course}
+use Rattle.lab_replay.specs.declared.line.ReplayLine.{ReplayLine}
+
+-- the line of the events that no line reports yet, and then this one
+abbrev pub left_and : Course → ReplayLine → List ReplayLine
+left_and c line = option_to_list (open_line c) ++ line ∷ []
 
 -- ---- a record of this life
 
--- it is left to be told, or it differs, and is told after what is left
-abbrev pub TellsFound : Block → ℕ → BlockRecord → Option Found → Course → Course → Option (List ℕ) → Option (List ℕ) → Type 0
-TellsFound b life r None c next old new = (next ≡ left_open life r.number c) × (new ≡ old)
-TellsFound b life r (Some found) c next old new =
-    (next ≡ behind_difference c)
-    × Appends old new (open_text c.form c ++ record_text c.form life b.number found.field r found.answer)
+-- it is left to be reported, or it differs, and is reported after what is left
+abbrev pub FoundLines : Block → ℕ → BlockRecord → Option Found → Course → Course → List ReplayLine → Type 0
+FoundLines b life r None c next lines = (next ≡ left_open life r.number c) × (lines ≡ [])
+FoundLines b life r (Some found) c next lines = (next ≡ after_difference c) × (lines ≡ left_and c (record_line life b.number r found))
 
--- Known bytes grew by what is told of a record that is judged so.
-pub record AddsRecord (IsSo : Judged → Option Found → Type 0) (b : Block) (life : ℕ) (r : BlockRecord) (c next : Course) (old new : Option (List ℕ)) : Type 0 where
+-- These are the lines of a record that is judged so.
+pub record RecordLines (IsSo : Judged → Option Found → Type 0) (b : Block) (life : ℕ) (r : BlockRecord) (c next : Course) (lines : List ReplayLine) : Type 0 where
   pub judged : Judged
   pub found : Option Found
   pub is_so : IsSo judged found
-  pub tells : TellsFound b life r found (judged_so c judged) next old new
+  pub lines_are : FoundLines b life r found (judged_so c judged) next lines
 
 -- ---- the head of a block
 
--- a head that differs is told, after what is left
-abbrev pub head_found_text : Block → Course → Option HeadFound → List ℕ
-head_found_text b c None = []
-head_found_text b c (Some found) =
-    open_text c.form c ++ head_text c.form b.kept.lives b.number found.field b.kept found.kept
+-- a head that differs is reported, after what is left
+abbrev pub HeadFoundLines : Block → Option HeadFound → Course → Course → List ReplayLine → Type 0
+HeadFoundLines b None c next lines = (next ≡ c) × (lines ≡ [])
+HeadFoundLines b (Some found) c next lines = (next ≡ record c { stretch = None; is_whole = false }) × (lines ≡ left_and c (head_line b found))
 
-abbrev pub behind_found : Course → Option HeadFound → Course
-behind_found c None = c
-behind_found c (Some found) = record c { stretch = None; is_whole = false }
-
--- Known bytes grew by what is told of a head.
-pub record AddsHead (b : Block) (c next : Course) (old new : Option (List ℕ)) : Type 0 where
+-- These are the lines of a head.
+pub record HeadLines (b : Block) (c next : Course) (lines : List ReplayLine) : Type 0 where
   pub found : Option HeadFound
   pub found_is : IsHeadFound c.judged b found
-  pub next_is : next ≡ behind_found c found
-  pub added : Appends old new (head_found_text b c found)
+  pub lines_are : HeadFoundLines b found c next lines
 
 -- ---- steps
 
--- known bytes grew by what is told of a step
-abbrev pub AddsStep : Step → Course → Course → Option (List ℕ) → Option (List ℕ) → Type 0
-AddsStep (Step.Unreadable number) c next old new =
-    (next ≡ behind_gap c) × Appends old new (open_text c.form c ++ lost_block_text c.form number)
-AddsStep Step.Missing c next old new = (next ≡ behind_gap c) × Appends old new (open_text c.form c)
-AddsStep (Step.Begins block life before r) c next old new =
-    (mid : Option (List ℕ)) × Appends old mid (open_text c.form c)
-    × AddsRecord (Begins before block.format r c.judged) block life r (all_told c) next mid new
-AddsStep (Step.GoesOn block life r) c next old new =
-    AddsRecord (GoesOn block.format r c.judged) block life r c next old new
-AddsStep (Step.Head block) c next old new = AddsHead block c next old new
+-- these are the lines of a step
+abbrev pub StepLines : Step → Course → Course → List ReplayLine → Type 0
+StepLines (Step.Unreadable number) c next lines = (next ≡ after_gap c) × (lines ≡ left_and c (lost_line number))
+StepLines Step.Missing c next lines = (next ≡ after_gap c) × (lines ≡ option_to_list (open_line c))
+StepLines (Step.Begins block life before r) c next lines = (later : List ReplayLine)
+    × RecordLines (Begins before block.format r c.judged) block life r (all_reported c) next later
+    × (lines ≡ option_to_list (open_line c) ++ later)
+StepLines (Step.GoesOn block life r) c next lines = RecordLines (GoesOn block.format r c.judged) block life r c next lines
+StepLines (Step.Head block) c next lines = HeadLines block c next lines
+
+-- .. of one step after another
+abbrev pub AllLines : List Step → Course → Course → List ReplayLine → Type 0
+AllLines [] c last lines = (last ≡ c) × (lines ≡ [])
+AllLines (step ∷ steps) c last lines = (next : Course) × (these : List ReplayLine) × (later : List ReplayLine)
+    × StepLines step c next these × AllLines steps next last later × (lines ≡ these ++ later)

@@ -1,17 +1,19 @@
-//! The replay of a journal, life after life, and its lines: for people, or as JSON objects (this project's profile). It
-//! writes nothing to the disk. Moments are milliseconds, places and lengths centimetres, speeds metres per hour; events
-//! are numbered from 0, blocks from 1.
+//! Replays a journal, life after life, and hands a line for each finding to a sink, which prints it as JSON or for people
+//! (this project's profile). It writes nothing to the disk. Events are numbered from 0, blocks from 1.
 #![tactic(auto)]
 
-mod answers;
 mod course;
-mod heads;
-mod kept;
-mod lines;
-mod reports;
+mod describing;
+mod json;
+mod line;
+mod sink;
+mod text;
 mod visiting;
 mod walk;
-mod words;
 
+pub use line::{
+    Answer, EndLine, HeadLine, LostBlock, Outcome, RecordLine, ReplayLine, StretchLine, Verdict,
+};
 pub use lives::WalkError;
-pub use walk::{Outcome, replay};
+pub use sink::{JsonLines, LineSink, TextLines};
+pub use walk::replay;

@@ -1,0 +1,21 @@
+-- What a sink takes (this project's profile; JSON: RFC 8259).
+use Rattle.std.specs.Prelude.{◌≡◌, ℕ, List, [], ◌∷◌, ◌++◌, codes, Option, Some}
+use Rattle.std.specs.Io.KnownBytes.{Appends}
+use Rattle.json.specs.Lex.{tokens}
+use Rattle.json.specs.Print.{print}
+use Rattle.serde.specs.Event.{Event, Log}
+use Rattle.serde_json.specs.Sent.{IsTextOf}
+
+-- one line after another was taken
+abbrev pub TakesAll : {S L : Type 0} → (S → L → S → Type 0) → List L → S → S → Type 0
+TakesAll Takes [] old new = new ≡ old
+TakesAll {S} Takes (line ∷ lines) old new = (mid : S) × Takes old line mid × TakesAll Takes lines mid new
+
+-- Known bytes grew by the JSON text of a value that serializes so, and by a line feed.
+pub record AddsJson (writes : Option (List Event) → Option (List Event) → Type 0) (old new : Option (List ℕ)) : Type 0 where
+  pub text : List ℕ
+  pub log : Log
+  pub serialized : writes (Some []) log
+  pub text_is : IsTextOf log text
+  pub compact : text ≡ print (tokens text)
+  pub added : Appends old new (text ++ codes "\n")

@@ -1,0 +1,220 @@
+//! The text of a value for people: its members by name, with the units that people use.
+use serde::{Case, Serialize, Serializer};
+use std::fmt;
+
+// The unit of a number, by the end of its member's name.
+#[derive(Clone, Copy)]
+enum Unit {
+    None,
+    Milliseconds,
+    Centimetres,
+    MetresPerHour,
+}
+
+// A number in seconds, metres or kilometres per hour: its thousandths or hundredths come after the point.
+fn write_number<W: fmt::Write>(
+    sign: &str,
+    number: u64,
+    unit: Unit,
+    f: &mut fmt::Formatter<W>,
+) -> fmt::Result {
+    let (whole, thousandths) = (number / 1000, number % 1000);
+    let (metres, hundredths) = (number / 100, number % 100);
+    match unit {
+        Unit::None => write!(f, "{sign}{number}"),
+        Unit::Milliseconds => write!(f, "{sign}{whole}.{thousandths:03} s"),
+        Unit::Centimetres => write!(f, "{sign}{metres}.{hundredths:02} m"),
+        Unit::MetresPerHour => write!(f, "{sign}{whole}.{thousandths:03} km/h"),
+    }
+}
+
+// Takes a value apart, and prints its parts.
+#[derive(Drop)]
+struct Describer<'a, W> {
+    f: &'a mut fmt::Formatter<W>,
+    unit: Unit,
+    // How many objects and lists are open.
+    depth: u8,
+    // Whether a name was printed last.
+    has_name: bool,
+    // Whether something comes before in this object or list.
+    is_later: bool,
+}
+
+impl<W: fmt::Write> Describer<'_, W> {
+    fn begin_part(&mut self) -> fmt::Result {
+        let has_comma = self.is_later && !self.has_name;
+        self.has_name = false;
+        self.is_later = true;
+        if has_comma {
+            self.f.write_str(", ")
+        } else {
+            Ok(())
+        }
+    }
+
+    fn number(&mut self, sign: &str, number: u64) -> fmt::Result {
+        self.begin_part()?;
+        write_number(sign, number, self.unit, self.f)
+    }
+
+    fn text(&mut self, text: &str) -> fmt::Result {
+        self.begin_part()?;
+        self.f.write_str(text)
+    }
+
+    fn open(&mut self) -> fmt::Result {
+        self.begin_part()?;
+        self.is_later = false;
+        self.depth = self.depth.saturating_add(1);
+        if self.depth > 1 {
+            self.f.write_str("(")
+        } else {
+            Ok(())
+        }
+    }
+
+    fn close(&mut self) -> fmt::Result {
+        let is_empty = !self.is_later;
+        self.is_later = true;
+        self.depth = self.depth.saturating_sub(1);
+        match (is_empty, self.depth) {
+            (true, _) => self.f.write_str("none)"),
+            (false, 0) => Ok(()),
+            (false, _) => self.f.write_str(")"),
+        }
+    }
+
+    fn name(&mut self, name: &str) -> fmt::Result {
+        self.begin_part()?;
+        self.has_name = true;
+        let (unit, name) = unit_of(name);
+        self.unit = unit;
+        for sign in name.chars() {
+            self.f.write_char(if sign == '_' { ' ' } else { sign })?;
+        }
+        self.f.write_str(" ")
+    }
+}
+
+// The unit of a member, and its name without it.
+fn unit_of(name: &str) -> (Unit, &str) {
+    if let Some(name) = name.strip_suffix("_m_per_h") {
+        return (Unit::MetresPerHour, name);
+    }
+    if let Some(name) = name.strip_suffix("_cm") {
+        return (Unit::Centimetres, name);
+    }
+    if let Some(name) = name.strip_suffix("_ms") {
+        return (Unit::Milliseconds, name);
+    }
+    (Unit::None, name)
+}
+
+impl<W: fmt::Write> Serializer for Describer<'_, W> {
+    type Error = fmt::Error;
+
+    fn bool(&mut self, v: bool) -> fmt::Result {
+        self.text(if v { "yes" } else { "no" })
+    }
+
+    fn i64(&mut self, v: i64) -> fmt::Result {
+        self.number(if v < 0 { "-" } else { "" }, v.unsigned_abs())
+    }
+
+    fn u64(&mut self, v: u64) -> fmt::Result {
+        self.number("", v)
+    }
+
+    fn i128(&mut self, _v: i128) -> fmt::Result {
+        Err(fmt::Error)
+    }
+
+    fn u128(&mut self, _v: u128) -> fmt::Result {
+        Err(fmt::Error)
+    }
+
+    fn f32(&mut self, _v: f32) -> fmt::Result {
+        Err(fmt::Error)
+    }
+
+    fn f64(&mut self, _v: f64) -> fmt::Result {
+        Err(fmt::Error)
+    }
+
+    fn char(&mut self, _v: char) -> fmt::Result {
+        Err(fmt::Error)
+    }
+
+    fn str(&mut self, v: &str) -> fmt::Result {
+        self.text(v)
+    }
+
+    fn bytes(&mut self, _v: &[u8]) -> fmt::Result {
+        Err(fmt::Error)
+    }
+
+    fn unit(&mut self) -> fmt::Result {
+        self.text("none")
+    }
+
+    fn str_cased(&mut self, name: &str, _case: Case) -> fmt::Result {
+        self.text(name)
+    }
+
+    fn begin_seq(&mut self, _len: Option<usize>) -> fmt::Result {
+        self.open()
+    }
+
+    fn end_seq(&mut self) -> fmt::Result {
+        self.close()
+    }
+
+    fn begin_map(&mut self, _len: Option<usize>) -> fmt::Result {
+        self.open()
+    }
+
+    fn end_map(&mut self) -> fmt::Result {
+        self.close()
+    }
+
+    fn key_cased(&mut self, name: &str, _case: Case) -> fmt::Result {
+        self.name(name)
+    }
+
+    fn variant_key(&mut self, name: &str, _case: Case) -> fmt::Result {
+        self.name(name)
+    }
+
+    fn begin_key(&mut self) -> fmt::Result {
+        Err(fmt::Error)
+    }
+
+    fn end_key(&mut self) -> fmt::Result {
+        Err(fmt::Error)
+    }
+
+    fn flatten_next(&mut self) -> fmt::Result {
+        Err(fmt::Error)
+    }
+
+    fn custom(&self, _message: &str) -> fmt::Error {
+        fmt::Error
+    }
+}
+
+/// Prints the members of a value, with commas between them, and what is inside one in parentheses. Names of variants are
+/// printed without the case of `rename_all`; a value with a float, a map, bytes or a flattened member is an error.
+pub(crate) fn describe<T: Serialize, W: fmt::Write>(
+    value: &T,
+    f: &mut fmt::Formatter<W>,
+) -> fmt::Result {
+    let mut describer = Describer {
+        f,
+        unit: Unit::None,
+        depth: 0,
+        has_name: false,
+        is_later: false,
+    };
+    value.serialize(&mut describer)
+}

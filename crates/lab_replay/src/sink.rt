@@ -1,0 +1,68 @@
+//! Takers of lines: one prints them as JSON, the other for people.
+ghost use Rattle.std.specs.Prelude.{OnOk, ⊤};
+ghost use Rattle.lab_replay.specs.Sinks.{AddsJson};
+
+use lives::LateError;
+use serde::Serialize;
+use std::alloc::Global;
+use std::fmt::Display;
+use std::io::Write;
+
+/// Takes lines, one after another.
+pub trait LineSink<L> {
+    /// What taking a line makes of the sink.
+    ghost Takes: { Self → L → Self → Type 0 };
+
+    /// Takes a line. After an error no further line is handed to it.
+    fn take(&mut self, line: &L) -> Result<(), LateError>
+        ensures { OnOk result (Takes self.old line.now self.new) };
+}
+
+/// Prints each line as one JSON object and a line feed.
+#[derive(Drop)]
+pub struct JsonLines<W> {
+    alloc: Global,
+    out: W,
+}
+
+impl<W> JsonLines<W> {
+    /// Lines go to this writer.
+    pub fn new(alloc: Global, out: W) -> Self {
+        JsonLines { alloc, out }
+    }
+}
+
+impl<L: Serialize, W: Write> LineSink<L> for JsonLines<W> {
+    ghost Takes = { λ old line new. AddsJson (L.writes line) (W.contents old.out) (W.contents new.out) };
+
+    fn take(&mut self, line: &L) -> Result<(), LateError> {
+        let Ok(text) = serde_json::to_vec(self.alloc, line) else {
+            return Err(LateError::NoMemory);
+        };
+        self.out.write_all(text.as_slice())?;
+        self.out.write_all(b"\n")?;
+        Ok(())
+    }
+}
+
+/// Prints each line as people read it.
+#[derive(Drop)]
+pub struct TextLines<W> {
+    out: W,
+}
+
+impl<W> TextLines<W> {
+    /// Lines go to this writer.
+    pub fn new(out: W) -> Self {
+        TextLines { out }
+    }
+}
+
+impl<L: Display, W: Write> LineSink<L> for TextLines<W> {
+    ghost Takes = { λ _ _ _. ⊤ };
+
+    fn take(&mut self, line: &L) -> Result<(), LateError> {
+        writeln!(self.out, "{line}")?;
+        Ok(())
+    }
+}

@@ -21,7 +21,7 @@ from gaknifur.journal.reading import Json
 from gaknifur.program import Failed
 from gaknifur.simulation import campaign, campaign_jobs, campaign_table, dask_scheduler
 from gaknifur.simulation.campaign import MOST_AT_ONCE, Batches, Job, Row
-from gaknifur.testing import outputs, soundness
+from gaknifur.testing import soundness
 
 from .samples import AUTHORITY, journal, record
 
@@ -253,16 +253,6 @@ class Judged(unittest.TestCase):
         self.assertRegex(rows[0]["ended"], "^failed: FileNotFoundError")
 
 
-LINES = ('{"image":{"sectors":25,"slots":4,"first_block":1,"newest_block":1}}', '{"end":"done"}')
-NO_RECORDS = ('{"unreadable":{"block":1}}', "{", json.dumps(record(9)), json.dumps({"byte": 0} | record(9), separators=(",", ":")))
-
-
-def lines_of(*records: Json, first: str = LINES[0], last: str = LINES[1] + "\n") -> str:
-    """The lines that `etcs_lab events` prints of records."""
-    told = [json.dumps({"block": one["block"], "byte": 0, **one}, separators=(",", ":")) for one in records]
-    return "\n".join([first, *told, last])
-
-
 def random_records(numbers: random.Random) -> list[Json]:
     """Records of one or two lives, from any event on, in which states hold for a while."""
     found, state, first = list[Json](), dict[str, Any](), numbers.choice((0, 7, 98))
@@ -284,67 +274,41 @@ def altered(lines: list[str], numbers: random.Random) -> list[str]:
                            [changed, *lines], [*lines, "stopped 1 PowerLost"], lines[numbers.randrange(len(lines)):]))
 
 
-class OutputsAlone(unittest.TestCase):
-    """Outputs that are read off the form of lines, beside all records as JSON."""
+class Released(unittest.TestCase):
+    """Outputs that were released, compared with the records."""
 
-    def test_are_judged_as_records_are(self) -> None:
+    def test_each_is_that_of_its_record(self) -> None:
         numbers, found = random.Random(1), Counter[bool]()
         for _ in range(2000):
             records = random_records(numbers)
             older = [soundness.output_text(record(event)) for event in range(numbers.randrange(3), records[0]["event"])]
             printed = altered([*older, *map(soundness.output_text, records)], numbers)
-            told = outputs.of_lines(lines_of(*records))
-            assert told is not None
-            self.assertEqual(campaign_jobs.told_of(told.changes()) | {"events": len(records)}, campaign_jobs.told_of(records))
+            outputs = {str(one["event"]): soundness.output_text(one) for one in records}
+            is_sound = all(line == outputs.get(line.split()[1], line) for line in printed if line.startswith("event "))
+            found[is_sound] += 1
             try:
                 soundness.check_released(printed, records)
-                is_sound = True
             except soundness.Missed:
-                is_sound = False
-            self.assertEqual(told.are_those(printed), is_sound, (printed, records))
-            found[is_sound] += 1
+                self.assertFalse(is_sound, (printed, records))
+            else:
+                self.assertTrue(is_sound, (printed, records))
         self.assertGreater(min(found[True], found[False]), 300)
 
-    def test_one_that_is_told_twice_is_left_to_the_records(self) -> None:
-        records = [record(event) for event in (5, 6)]
-        told, lines = outputs.of_lines(lines_of(*records)), list(map(soundness.output_text, records))
-        assert told is not None
-        for others, wanted in ((lines[:0], True), ([soundness.output_text(record(4))], True), (lines[:1], False)):
-            self.assertEqual(told.are_those([*others, *lines]), wanted)
 
-    def test_lines_of_another_form(self) -> None:
-        self.assertIsNotNone(outputs.of_lines(lines_of(record(8))))
-        self.assertIsNone(outputs.of_lines(lines_of()))
-        self.assertIsNone(outputs.of_lines(lines_of(record(8), last="")))
-        self.assertIsNone(outputs.of_lines(lines_of(record(8), first="{}")))
-        self.assertIsNone(outputs.of_lines(lines_of(record(8, place_cm=None, limit_m_per_h=None))))
-        self.assertIsNone(outputs.of_lines(lines_of(record(8, indications=["a b"]))))
-        for line in NO_RECORDS:
-            self.assertIsNone(outputs.of_lines(lines_of(record(8), last=f"{line}\n{LINES[1]}\n")), line)
+REPLAY: list[Json] = [{"life": 1, "replay": "not_replayed", "reason": "before_oldest_block"}, {"life": 2, "replay": "agrees"}, {"end": "nothing_differs"}]
 
 
-CHECKED = (f'{{"image":{{"bytes":12800,"sha256":"{"ab" * 32}","slots":4}},"slots":[{{"slot":0}}],"whole":true}}',
-           '{"life":1,"replay":"not_replayed","reason":"before_oldest_block"}', '{"life":2,"replay":"agrees"}',
-           '{"end":"nothing_differs"}', '{"check":{"whole":true,"replay":"nothing_differs"}}')
-UNSOUND = (('"whole":true', '"whole":false'), ("before_oldest_block", "gap"), ('"agrees"', '"record_differs"'), ("nothing_differs", "differs_or_lost"),
-           ('{"end":"nothing_differs"}\n', ""), ('"life":2', "life"), ("ab" * 32, "ab"))
+class Replayed(unittest.TestCase):
+    """The lines of a replay."""
 
-
-class Checked(unittest.TestCase):
-    """What `etcs_lab check` tells of an image that is sound."""
-
-    def digest(self, text: str | None) -> str | None:
-        """The digest that is read of what is told."""
-        with patch.object(outputs, "told", lambda words, image: text):
-            return outputs.digest_of_sound(Path("image"))
-
-    def test_the_digest(self) -> None:
-        text = "\n".join([*CHECKED, ""])
-        self.assertEqual((self.digest(text), self.digest(None), self.digest("")), ("ab" * 32, None, None))
-        for one, other in UNSOUND:
-            self.assertIn(one, text)
-            self.assertIsNone(self.digest(text.replace(one, other)), other)
-            self.assertIsNone(self.digest(text.replace(one, other, 1)), other)
+    def test_of_a_sound_journal(self) -> None:
+        soundness.check_replay(REPLAY)
+        for at, other in ((0, {"reason": "gap"}), (1, {"replay": "record_differs"}), (1, {"replay": "head_differs"}), (2, {"end": "differs_or_lost"})):
+            with self.assertRaises(soundness.Missed):
+                soundness.check_replay([*REPLAY[:at], REPLAY[at] | other, *REPLAY[at + 1:]])
+        for count in (0, 2):
+            with self.assertRaises(soundness.Missed):
+                soundness.check_replay(REPLAY[:count])
 
 
 def played_of(job: Job, room: Path) -> dict[str, Any]:

@@ -3,6 +3,7 @@ import contextlib
 import io
 import json
 import os
+import pty
 import re
 import shlex
 import subprocess
@@ -12,11 +13,12 @@ import xml.etree.ElementTree
 from collections.abc import Sequence
 from dataclasses import asdict
 from pathlib import Path
-from typing import Any
+from typing import Any, TextIO
 from unittest.mock import patch
 
 from gaknifur.__main__ import main
 from gaknifur.cli.commands import COMPLETE, Command, lab
+from gaknifur.cli.progress import Terminal
 from gaknifur.journal.causes import CAUSES
 from gaknifur.journal.plausibility import Thresholds
 from gaknifur.journal.reading import Json
@@ -132,6 +134,32 @@ class Completion(unittest.TestCase):
         options = set(re.findall(r'\.long\("([a-z]+)"\)', (crates / "command_line/src/lab_app.rt").read_text(encoding="utf-8")))
         self.assertEqual(self.completed(""), words | {"--version", "--help"})
         self.assertEqual(self.completed("check", "-"), {f"--{name}" for name in options})
+
+
+class Progress(unittest.TestCase):
+    """The bar on standard error."""
+
+    def shown(self, stderr: TextIO, begun: float) -> None:
+        """Half of the events are done, some seconds after the beginning."""
+        with patch("sys.stderr", stderr), patch.dict(os.environ, {"TERM": "xterm", "COLUMNS": "80"}):
+            bar = Terminal()
+            bar.begun, bar.last = bar.begun - begun, bar.last - begun
+            bar("events", 1, 2)
+            bar.end()
+
+    def test_only_on_a_terminal_and_not_at_once(self) -> None:
+        pipe = io.StringIO()
+        self.shown(pipe, 2)
+        self.assertEqual(pipe.getvalue(), "")
+        for begun, wanted in ((0, False), (2, True)):
+            screen, terminal = pty.openpty()
+            with open(terminal, "w", encoding="utf-8") as stderr:
+                self.shown(stderr, begun)
+                stderr.write("end")
+                stderr.flush()
+                text = os.read(screen, 65536).decode()
+            os.close(screen)
+            self.assertEqual(("events" in text, " 50%" in text, text.endswith("end")), (wanted, wanted, True), text)
 
 
 class Sets(unittest.TestCase):

@@ -13,7 +13,6 @@ import sys
 import tempfile
 import time
 from pathlib import Path
-from unittest.mock import patch
 
 TOP = Path(__file__).resolve().parents[2]
 PYTHON = sys.executable
@@ -116,28 +115,6 @@ def second(out):
     unless(took < MOST_REFUSING, f"a second campaign: refused after {took:.0f} s")
 
 
-def both_ways(room, lives):
-    """Lives that are judged by their outputs alone come to the rows to which all of their records come; few images have room for all
-    records. Of hardly any the records have to be read."""
-    sys.path.insert(0, str(TOP / "python"))
-    from gaknifur.simulation import campaign, campaign_jobs
-    from gaknifur.testing import outputs
-    of_records, by_records = campaign_jobs.of_records, []
-
-    def kept(*told):
-        by_records.append(told)
-        return of_records(*told)
-
-    for job in campaign.at_random(lives, 8, 4):
-        with patch.object(campaign_jobs, "of_records", kept):
-            quick = campaign_jobs.play(job, room)
-        with patch.object(outputs, "read", lambda image: None):
-            slow = campaign_jobs.play(job, room)
-        differ = [name for name in quick if quick[name] != slow[name] and name not in campaign.NOT_COMPARED]
-        unless(not differ, f"{job.name}: by outputs {quick}, by records {slow}")
-    unless(10 * len(by_records) < lives, f"of {lives} lives the records of {len(by_records)} were read")
-
-
 def faults(room, whole):
     """What has to be told: a row that differs, a table of other programs, a case that fails, words that are none."""
     other = room / "other.db"
@@ -190,7 +167,6 @@ def main():
         for made in (by_two_workers(room, lives), interrupted(room, lives)):
             told = lab("compare", whole, made)
             unless(told.returncode == 0 and told.stdout == "0 rows differ\n", f"{made.name}: {told.stdout}{told.stderr}")
-        both_ways(room, lives // 5)
         faults(room, whole)
     print(f"campaign_rows: {lives} lives here, by two workers of which one was killed, and interrupted: the same table; "
           f"{1000 * seconds / lives:.0f} ms a life by two processes; {failed} failed")

@@ -125,7 +125,7 @@ def damaged(rows):
     rows.lab("database", "trip", "trip", status=1, said="lab: trip: is the input file trip")
     rows.lab("report", "trip", "byte", "--force", status=1, said="lab: byte: holds a journal, which is never overwritten")
     for word in ("table", "database", "report"):
-        rows.same(f"lab {word} --help", f"usage: lab {word}" in rows.lab(word, "--help"), True)
+        rows.same(f"lab {word} --help", f"Usage: lab {word}" in rows.lab(word, "--help"), True)
     rows.same("./lab table", rows.script("table", rows.room / "trip"), rows.lab("table", "trip"))
 
 

@@ -9,7 +9,7 @@ from pathlib import Path
 from .. import program
 from ..journal.reading import Json, read
 from ..program import Failed
-from ..testing import outputs, soundness
+from ..testing import soundness
 from .campaign import Job, Row, row_without
 
 
@@ -38,19 +38,11 @@ def play_scenario(job: Job, room: Path) -> Row:
     program.format_image(image, job.slots)
     status, printed = program.etcs("run", "--", str(scenario), str(image))
     ended = "carried out" if status == 0 else printed[-1] if printed else f"status {status}"
-    return {"ended": ended, "sound": 1} | (of_outputs(image, printed) or of_records(image, printed))
-
-
-def of_outputs(image: Path, printed: list[str]) -> Row | None:
-    """What an image comes to, by its outputs alone; None where these can't be read so, or anything isn't sound."""
-    told, sha256 = outputs.read(image), outputs.digest_of_sound(image)
-    if told is None or sha256 is None or not told.are_those(printed):
-        return None
-    return {"image_sha256": sha256} | told_of(told.changes()) | {"events": len(told.events)}
+    return {"ended": ended, "sound": 1} | of_records(image, printed)
 
 
 def of_records(image: Path, printed: list[str]) -> Row:
-    """What an image comes to, by all of its records; of one that isn't sound it is told what is wrong."""
+    """The part of a row that an image gives; of one that isn't sound with what is wrong."""
     journal = read(image, replay=True, is_own=True)
     row: Row = {"image_sha256": journal.sha256}
     try:

@@ -57,9 +57,9 @@ for ((turn = 0; turn < turns; turn++)); do
     keep three "$(took three_processes)"
 done
 "$ETCS_LAB" play --slots $slots --outputs all lines >printed
-told=$(python3 -I -c 'import json, sys; lives = [json.loads(line)["outputs"] for line in open("printed")]
+found=$(python3 -I -c 'import json, sys; lives = [json.loads(line)["outputs"] for line in open("printed")]
 print(len(lives), sum(map(len, lives)), sum(one["limit_m_per_h"] for life in lives for one in life))')
-[ "$told" = "$("$out/play" calls $slots | cut -d' ' -f 1-3)" ] || { echo "bench/play.sh: etcs_lab and the library give other limits" >&2; exit 1; }
+[ "$found" = "$("$out/play" calls $slots | cut -d' ' -f 1-3)" ] || { echo "bench/play.sh: etcs_lab and the library give other limits" >&2; exit 1; }
 
 # row TITLE SECONDS SCENARIOS
 row() { printf '%-52s %10s %8s\n' "$1" "$(awk -v n="$3" -v s="$2" 'BEGIN { printf "%.0f", n / s }')" \

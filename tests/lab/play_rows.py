@@ -87,9 +87,9 @@ class Case:
         self.name, self.scenario, self.slots, self.given, self.digest = name, scenario, slots, given, digest
         asked = scenario if given is None else scenario | {"cold": given}
         lines = lived(asked) if lines is None or given is not None else lines
-        told, self.status = wanted_of(asked, lines)
-        self.asked, self.end = asked, told[-1]
-        self.outputs = [{name: one[name] for name in OUTPUT} for one in told[1:-1]]
+        printed, self.status = wanted_of(asked, lines)
+        self.asked, self.end = asked, printed[-1]
+        self.outputs = [{name: one[name] for name in OUTPUT} for one in printed[1:-1]]
         disk = Disk([first_sector(slots)] + [bytes(SECTOR_BYTES)] * (6 * slots))
         live(disk, asked)
         self.image = b"".join(disk.held)
@@ -177,10 +177,10 @@ class Plays(Compared):
         if not self.unless((status, said, len(found)) == (1, "", 2 * len(FAULTS)), f"faults: status {status}, {said}, {len(found)} lines"):
             return
         for number, (line, wanted) in enumerate(FAULTS):
-            one, behind = found[2 * number], found[2 * number + 1]
+            one, after = found[2 * number], found[2 * number + 1]
             all_of = {"id": wanted["id"], "line": 2 * number + 1, "status": "refused"} | wanted
             self.same(line, json.dumps(one), json.dumps(all_of if "wanted" in wanted else all_of | {"wanted": one.get("wanted")}))
-            self.unless(behind["status"] == "done" and behind["line"] == 2 * number + 2, f"behind {line}: {behind}")
+            self.unless(after["status"] == "done" and after["line"] == 2 * number + 2, f"after {line}: {after}")
         path = self.folder / "faulty.json"
         path.write_text('{"groups":[],"steps":[{"clock":-1}]}')
         (one,), status, _ = self.play(None, path)
@@ -212,7 +212,7 @@ class Plays(Compared):
         self.images(path)
 
     def images(self, path):
-        """An image that is there stays, and one that can't be written isn't left behind."""
+        """An image that is there stays, and no part of one that can't be written is left."""
         images = self.folder / "few"
         self.same("no folder", self.play(None, "--images", images, path), ([], 3, f"etcs_lab: {images}/1.image: can't be made\n"))
         images.mkdir()

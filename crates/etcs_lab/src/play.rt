@@ -3,7 +3,7 @@
 use crate::line_input::{Line, MOST_LINE, read_line};
 use crate::request::{LineFault, Request, id_of, members_of, request_of, scenario_in};
 use crate::result_line::{
-    Named, Outputs, Shown, write_fault, write_played, write_refused, write_unplayed,
+    LineOptions, Named, Outputs, write_fault, write_played, write_refused, write_unplayed,
 };
 use crate::status::{Status, fail, no_memory, refused_args, told, unread, unread_for};
 use json_values::Outline;
@@ -40,8 +40,9 @@ For more information, try '--help'.
 
 const SLOTS: u32 = 16;
 
-// As many bytes as a scenario mostly takes. The C library keeps freed memory of up to twice the greatest block that was freed before, and hands
-// what is above that back to the system: without this block it does so after each scenario, and takes it again for the next one.
+// A block that is taken and given back before the first scenario. The C library hands the free end of its heap back to
+// the system where it is greater than twice the greatest such block: without this one it does so after each scenario,
+// and takes the same memory again for the next one.
 const KEPT_BYTES: usize = 8_388_608;
 
 // The scenarios of a file, as far as they were played.
@@ -57,7 +58,7 @@ struct Player<'a> {
 
 // Which scenario it is, and where its text is in its line.
 #[derive(Clone, Copy)]
-struct Place<'v> {
+struct Source<'v> {
     named: Named<'v>,
     pointer: &'static str,
 }
@@ -142,10 +143,10 @@ fn write_image<R: Files<File = File> + AllocGlobal + Eprint>(
 
 impl<'a> Player<'a> {
     // Prints the line of a life that was played.
-    fn tell_played<R: Files<File = File> + AllocGlobal + Eprint, W: Write>(
+    fn print_played<R: Files<File = File> + AllocGlobal + Eprint, W: Write>(
         &mut self,
         rt: &R,
-        place: Place<'_>,
+        source: Source<'_>,
         scenario: &Scenario,
         played: &Played,
         digest: bool,
@@ -165,17 +166,21 @@ impl<'a> Player<'a> {
             }
             None => None,
         };
-        let shown = Shown {
+        let options = LineOptions {
             outputs: self.outputs,
             step,
             digest,
             image,
         };
-        told(rt, self.path, write_played(place.named, played, shown, out))
+        told(
+            rt,
+            self.path,
+            write_played(source.named, played, options, out),
+        )
     }
 
     // Prints the line of a scenario that memory was refused for.
-    fn tell_no_memory<R: Eprint, W: Write>(
+    fn print_no_memory<R: Eprint, W: Write>(
         &mut self,
         rt: &R,
         named: Named<'_>,
@@ -190,27 +195,27 @@ impl<'a> Player<'a> {
     }
 
     // Prints the line of a scenario with a fault.
-    fn tell_fault<R: AllocGlobal + Eprint, W: Write>(
+    fn print_fault<R: AllocGlobal + Eprint, W: Write>(
         &mut self,
         rt: &R,
-        place: Place<'_>,
+        source: Source<'_>,
         scenario: &Scenario,
         out: &mut W,
     ) -> Result<(), Status> {
         let Ok(outline) = Outline::of(rt.alloc(), scenario.bytes.as_slice()) else {
-            return self.tell_no_memory(rt, place.named, out);
+            return self.print_no_memory(rt, source.named, out);
         };
         let Err(faults) = faults_of(rt.alloc(), scenario, &outline) else {
-            return self.tell_no_memory(rt, place.named, out);
+            return self.print_no_memory(rt, source.named, out);
         };
         let first = faults.first;
         if let ScenarioFault::NoMemory = first.fault {
-            return self.tell_no_memory(rt, place.named, out);
+            return self.print_no_memory(rt, source.named, out);
         }
         self.all_done = false;
         let (number, fault, wanted) = (first.fault.number(), first.fault, first.wanted);
-        let (before, pointer) = (place.pointer, outline.pointer(first.place));
-        told(rt, self.path, write_refused(place.named, out))?;
+        let (before, pointer) = (source.pointer, outline.pointer(first.place));
+        told(rt, self.path, write_refused(source.named, out))?;
         let written = writeln!(
             out,
             ",\"pointer\":\"{before}{pointer}\",\"fault\":{number},\"name\":\"{fault}\",\"wanted\":\"{wanted}\"}}"
@@ -222,7 +227,7 @@ impl<'a> Player<'a> {
     fn play_one<R: Files<File = File> + AllocGlobal + Eprint, W: Write>(
         &mut self,
         rt: &R,
-        place: Place<'_>,
+        source: Source<'_>,
         scenario: &Scenario,
         request: Request,
         out: &mut W,
@@ -232,14 +237,14 @@ impl<'a> Player<'a> {
             None => self.slots,
         };
         match play(rt.alloc(), scenario, request.cold, slots) {
-            Ok(played) => self.tell_played(rt, place, scenario, &played, request.digest, out),
-            Err(PlayError::Scenario(_)) => self.tell_fault(rt, place, scenario, out),
-            Err(_) => self.tell_no_memory(rt, place.named, out),
+            Ok(played) => self.print_played(rt, source, scenario, &played, request.digest, out),
+            Err(PlayError::Scenario(_)) => self.print_fault(rt, source, scenario, out),
+            Err(_) => self.print_no_memory(rt, source.named, out),
         }
     }
 
     // Prints the line of a line that has a fault.
-    fn tell_line_fault<R: Eprint, W: Write>(
+    fn print_line_fault<R: Eprint, W: Write>(
         &mut self,
         rt: &R,
         named: Named<'_>,
@@ -247,7 +252,7 @@ impl<'a> Player<'a> {
         out: &mut W,
     ) -> Result<(), Status> {
         if let ScenarioFault::NoMemory = found.fault {
-            return self.tell_no_memory(rt, named, out);
+            return self.print_no_memory(rt, named, out);
         }
         self.all_done = false;
         told(rt, self.path, write_fault(named, found, out))
@@ -268,16 +273,16 @@ impl<'a> Player<'a> {
         };
         let request = match request_of(members) {
             Ok(request) => request,
-            Err(found) => return self.tell_line_fault(rt, named, &found, out),
+            Err(found) => return self.print_line_fault(rt, named, &found, out),
         };
         let Ok(bytes) = copy_of(rt.alloc(), scenario) else {
-            return self.tell_no_memory(rt, named, out);
+            return self.print_no_memory(rt, named, out);
         };
-        let place = Place {
+        let source = Source {
             named,
             pointer: "/scenario",
         };
-        self.play_one(rt, place, &Scenario { bytes }, request, out)
+        self.play_one(rt, source, &Scenario { bytes }, request, out)
     }
 
     // Plays the scenario of a line.
@@ -303,7 +308,7 @@ impl<'a> Player<'a> {
             copy_of(rt.alloc(), line)
         };
         let Ok(without) = without else {
-            return self.tell_no_memory(rt, named, out);
+            return self.print_no_memory(rt, named, out);
         };
         match members_of(rt.alloc(), without.as_slice()) {
             Ok(members) => {
@@ -313,12 +318,12 @@ impl<'a> Player<'a> {
                 };
                 self.play_members(rt, number, &members, scenario, out)
             }
-            Err(found) => self.tell_line_fault(rt, named, &found, out),
+            Err(found) => self.print_line_fault(rt, named, &found, out),
         }
     }
 
     // Prints the line of a line that is too long.
-    fn tell_too_long<R: Eprint, W: Write>(
+    fn print_too_long<R: Eprint, W: Write>(
         &mut self,
         rt: &R,
         number: u64,
@@ -352,7 +357,7 @@ impl<'a> Player<'a> {
         for number in 1..u64::MAX {
             match read_line(input, &mut line) {
                 Ok(Line::End) => break,
-                Ok(Line::TooLong) => return self.tell_too_long(rt, number, out),
+                Ok(Line::TooLong) => return self.print_too_long(rt, number, out),
                 Ok(Line::Whole) if is_blank(line.as_slice()) => {}
                 Ok(Line::Whole) => self.play_line(rt, number, line.as_slice(), out)?,
                 Err(error) => return Err(unread_line(rt, self.path, number, &error)),
@@ -373,13 +378,13 @@ impl<'a> Player<'a> {
             id: None,
             line: None,
         };
-        let place = Place { named, pointer: "" };
+        let source = Source { named, pointer: "" };
         let request = Request {
             cold: None,
             slots: None,
             digest: false,
         };
-        self.play_one(rt, place, &Scenario { bytes }, request, out)
+        self.play_one(rt, source, &Scenario { bytes }, request, out)
     }
 
     // Plays what a file or standard input holds.
@@ -419,7 +424,7 @@ fn unread_line<R: Eprint>(rt: &R, path: &str, number: u64, error: &io::Error) ->
 }
 
 /// Plays all scenarios, prints a line for each, and answers the status.
-pub(crate) fn played_all<R: Files<File = File> + Input + AllocGlobal + Eprint, W: Write>(
+pub(crate) fn play_scenarios<R: Files<File = File> + Input + AllocGlobal + Eprint, W: Write>(
     rt: &R,
     args: PlayArgs<'_>,
     out: &mut W,

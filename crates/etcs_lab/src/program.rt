@@ -5,7 +5,7 @@ use crate::event_lines::events_told;
 use crate::examined::examined;
 use crate::linted::linted;
 use crate::packet_names::packets_told;
-use crate::play::{PlayArgs, played_all};
+use crate::play::{PlayArgs, play_scenarios};
 use crate::replayed::replayed;
 use crate::run::played;
 use crate::status::{Status, no_memory, refused_args, text_told};
@@ -62,7 +62,7 @@ fn execute<R: Files<File = File> + Input + AllocGlobal + Eprint, W: Write>(
                 outputs,
                 folder,
             };
-            played_all(rt, args, out)
+            play_scenarios(rt, args, out)
         }
     }
 }

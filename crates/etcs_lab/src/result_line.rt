@@ -50,7 +50,7 @@ pub(crate) struct Named<'v> {
 
 /// What is printed of a life.
 #[derive(Clone, Copy)]
-pub(crate) struct Shown {
+pub(crate) struct LineOptions {
     /// Which outputs.
     pub outputs: Outputs,
     /// The step of the scenario at which it stopped.
@@ -234,16 +234,16 @@ fn write_digest<W: Write>(image: &[u8], out: &mut W) -> io::Result<()> {
     out.write_all(b"\"")
 }
 
-fn write_image<W: Write>(played: &Played, shown: Shown, out: &mut W) -> io::Result<()> {
+fn write_image<W: Write>(played: &Played, options: LineOptions, out: &mut W) -> io::Result<()> {
     out.write_all(b",\"sha256\":")?;
-    if shown.digest {
+    if options.digest {
         write_digest(played.image.as_slice(), out)?;
     } else {
         out.write_all(b"null")?;
     }
     write_pieces(
         Form::Json,
-        &[Piece::Same(",\"image\":"), known(shown.image)],
+        &[Piece::Same(",\"image\":"), known(options.image)],
         out,
     )
 }
@@ -252,19 +252,19 @@ fn write_image<W: Write>(played: &Played, shown: Shown, out: &mut W) -> io::Resu
 pub(crate) fn write_played<W: Write>(
     named: Named<'_>,
     played: &Played,
-    shown: Shown,
+    options: LineOptions,
     out: &mut W,
 ) -> io::Result<()> {
     match played.ended {
         Ok(()) => write_front(named, "done", out)?,
         Err(error) => {
             write_front(named, "stopped", out)?;
-            write_end(error, shown.step, out)?;
+            write_end(error, options.step, out)?;
         }
     }
     write_counts(played, out)?;
-    write_image(played, shown, out)?;
-    write_outputs(played.released.as_slice(), shown.outputs, out)
+    write_image(played, options, out)?;
+    write_outputs(played.released.as_slice(), options.outputs, out)
 }
 
 /// Prints the line of a scenario that isn't played for a fault of its line.

@@ -30,7 +30,7 @@ pub record IsEmpty (slots : ℕ) (disk : State) : Type 0 where
   -- the first sector is the one for so many slots, and the gates hold zeros
   pub emptied : IsEmptied slots (contents_of disk)
   -- no sector is open, and no block is there
-  pub rest : (told : Account) → TellsNothing told → IsAtRest slots 0 told disk
+  pub rest : (account : Account) → TellsNothing account → IsAtRest slots 0 account disk
 
 -- the bytes are those of the disk's sectors, one after the other
 abbrev pub AreBytesOf : State → List ℕ → Type 0
@@ -98,10 +98,10 @@ pub record IsPlayed {T : Type 0} (slots : ℕ) (cold : Cold) (steps : List Step)
 
 -- what the train knows of movements without power: what is given, else what the scenario says
 abbrev pub cold_by : Option Cold → Cold → Cold
-cold_by None told = told
-cold_by (Some given) told = given
+cold_by None own_cold = own_cold
+cold_by (Some given) own_cold = given
 
--- the life that the scenario tells, of a word and steps, was played
+-- the life that the bytes of the scenario describe was played
 abbrev pub PlaysOne : {T : Type 0} → List ℕ → Option Cold → ℕ → Result T LiveError → List Released → List ℕ → Type 0
 PlaysOne bytes given slots ended released image =
-    (told : Cold) × (steps : List Step) × Tells bytes told steps × IsPlayed slots (cold_by given told) steps ended released image
+    (own_cold : Cold) × (steps : List Step) × Tells bytes own_cold steps × IsPlayed slots (cold_by given own_cold) steps ended released image

@@ -19,12 +19,12 @@ fn has_journal(slots: u32) -> bool
     LEAST_SLOTS <= slots && slots <= MOST_SLOTS
 }
 
-fn cold_by(given: Option<Cold>, told: Cold) -> Cold
-    ensures { result ≡ cold_by given told }
+fn cold_by(given: Option<Cold>, own_cold: Cold) -> Cold
+    ensures { result ≡ cold_by given own_cold }
 {
     match given {
         Some(cold) => cold,
-        None => told,
+        None => own_cold,
     }
 }
 
@@ -47,7 +47,12 @@ pub fn play(
         return Err(PlayError::BadSlots);
     }
     match events_of(alloc, scenario) {
-        Ok((told, steps)) => match play_life(alloc, slots, cold_by(given, told), steps.as_slice()) {
+        Ok((own_cold, steps)) => match play_life(
+            alloc,
+            slots,
+            cold_by(given, own_cold),
+            steps.as_slice(),
+        ) {
             Ok(played) => Ok(played),
             Err(_) => Err(PlayError::NoMemory),
         },

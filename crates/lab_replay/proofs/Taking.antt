@@ -50,7 +50,7 @@ module _ {S : Type 0} (Takes : S → ReplayLine → S → Type 0) where
           formatted = on.formatted;
           retained = on.retained;
           last = last;
-          reported = all.0;
+          before_end = all.0;
           steps = all.1;
           lines_are = refl;
           outcome_is = is;

@@ -29,8 +29,8 @@ abbrev pub at_start : Course
 at_start = record { judged = Unknown BeforeOldest; stretch = None; is_whole = true }
 
 -- all events are reported
-abbrev pub all_reported : Course → Course
-all_reported c = record c { stretch = None }
+abbrev pub without_stretch : Course → Course
+without_stretch c = record c { stretch = None }
 
 -- after blocks or events that are missing
 abbrev pub after_gap : Course → Course

@@ -21,9 +21,9 @@ pub record IsReplay (sectors : ℕ) (image : ℕ → List ℕ) (lines : List Rep
   pub formatted : IsFormatted sectors slots (image 0)
   pub retained : IsScanned slots (valid_at slots image) first newest
   pub last : Course
-  pub reported : List ReplayLine
-  pub steps : AllLines (steps_of slots (valid_at slots image) first newest) at_start last reported
-  pub lines_are : lines ≡ reported ++ left_and last (end_line outcome)
+  pub before_end : List ReplayLine
+  pub steps : AllLines (steps_of slots (valid_at slots image) first newest) at_start last before_end
+  pub lines_are : lines ≡ before_end ++ left_and last (end_line outcome)
   pub outcome_is : outcome ≡ outcome_of last.is_whole
 
 -- Each number that an image retains has a block that can be read.

@@ -7,7 +7,7 @@ use Rattle.replaying.specs.Judgements.{GoesOn, Begins, IsHeadFound}
 use Rattle.replaying.specs.declared.following.Found.{Found}
 use Rattle.replaying.specs.declared.heads.HeadFound.{HeadFound}
 use Rattle.replaying.specs.declared.judging.Judged.{Judged}
-use Rattle.lab_replay.specs.Courses.{open_line, all_reported, after_gap, after_difference, judged_so, left_open}
+use Rattle.lab_replay.specs.Courses.{open_line, without_stretch, after_gap, after_difference, judged_so, left_open}
 use Rattle.lab_replay.specs.Lines.{record_line, head_line, lost_line}
 use Rattle.lab_replay.specs.declared.course.Course.{Course}
 use Rattle.lab_replay.specs.declared.line.ReplayLine.{ReplayLine}
@@ -50,7 +50,7 @@ abbrev pub StepLines : Step → Course → Course → List ReplayLine → Type 0
 StepLines (Step.Unreadable number) c next lines = (next ≡ after_gap c) × (lines ≡ left_and c (lost_line number))
 StepLines Step.Missing c next lines = (next ≡ after_gap c) × (lines ≡ option_to_list (open_line c))
 StepLines (Step.Begins block life before r) c next lines = (later : List ReplayLine)
-    × RecordLines (Begins before block.format r c.judged) block life r (all_reported c) next later
+    × RecordLines (Begins before block.format r c.judged) block life r (without_stretch c) next later
     × (lines ≡ option_to_list (open_line c) ++ later)
 StepLines (Step.GoesOn block life r) c next lines = RecordLines (GoesOn block.format r c.judged) block life r c next lines
 StepLines (Step.Head block) c next lines = HeadLines block c next lines

@@ -1,5 +1,5 @@
 //! The lines for people.
-use crate::describing::describe;
+use crate::describing::describe_value;
 use crate::json::{KeptObject, kept_field_word, record_field_word};
 use crate::line::{HeadLine, Outcome, RecordLine, ReplayLine, StretchLine};
 use lab_events::Reason;
@@ -38,9 +38,9 @@ impl fmt::Display for RecordLine {
             f,
             "life {life} block {block} event {event} differs in {field}\n  journal: "
         )?;
-        describe(&self.journal, f)?;
+        describe_value(&self.journal, f)?;
         f.write_str("\n  kernel:  ")?;
-        describe(&self.kernel, f)
+        describe_value(&self.kernel, f)
     }
 }
 
@@ -51,9 +51,9 @@ impl fmt::Display for HeadLine {
             f,
             "life {life} head of block {block} differs in {field}\n  journal: "
         )?;
-        describe(&KeptObject::of(&self.journal), f)?;
+        describe_value(&KeptObject::of(&self.journal), f)?;
         f.write_str("\n  kernel:  ")?;
-        describe(&KeptObject::of(&self.kernel), f)
+        describe_value(&KeptObject::of(&self.kernel), f)
     }
 }
 

@@ -1,6 +1,6 @@
 #!/bin/bash
 # Runs the scripts of bench/, one after another, and prints each row that they print with the numbers that bench/figures.txt keeps of an earlier
-# run behind it. What the builds have to say goes to bench/out/said. With UNPROVED=yes the parts that know it compile the product without a
+# run after it. What the builds have to say goes to bench/out/said. With UNPROVED=yes the parts that know it compile the product without a
 # proof (bench/unproved): their rows are kept apart.
 #
 #     bench/all.sh [--keep] [PART..]    the parts: measure kernel blocks journal onboard rows run program worst mixed; with --keep the new rows are kept

@@ -1,6 +1,6 @@
 #!/bin/sh
 # Prints the instructions of a block of eight records in format 3 that is written (into an array; and into a writer that
-# is there, as a commit of the journal does it) and read, and of the number in a slot, and beside each those of the same
+# is there, as a commit of the journal does it) and read, and of the number in a slot, and along with each those of the same
 # in plain C: what callgrind counts for twice as many runs less what it counts for so many, by so many. Builds what it
 # needs first; what the builds have to say goes to standard error.
 #

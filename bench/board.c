@@ -1,7 +1,7 @@
-/* Lives scenarios (bench/worst.scenarios) on the bare board of aarch64, and tells of each counted call how many instructions it took and how far
+/* Lives scenarios (bench/worst.scenarios) on the bare board of aarch64, and says about each counted call how many instructions it took and how far
  * down it wrote on the stack. The processor counts (PMU, event INST_RETIRED), as it does on a board of one's own; QEMU does so with -icount.
  *
- * The lines are those of bench/worst.c. Behind each counted call a line is printed:
+ * The lines are those of bench/worst.c. After each counted call a line is printed:
  *
  *     N M STATUS INSTRUCTIONS STACK
  *
@@ -73,7 +73,7 @@ __attribute__((noinline)) static uint32_t measured(const call *one, uint32_t *to
 
 /* ---- scenarios */
 
-static void carries_out(const etcs_unit_request_told *request, const uint8_t *bytes) {
+static void carries_out(const etcs_unit_request_info *request, const uint8_t *bytes) {
     const size_t from = (size_t)request->sector * ETCS_UNIT_SECTOR, count = (size_t)request->sectors * ETCS_UNIT_SECTOR;
     if (request->kind == ETCS_REQUEST_WRITE)
         for (size_t i = 0; i < count && from + i < sizeof medium; i++)
@@ -83,7 +83,7 @@ static void carries_out(const etcs_unit_request_told *request, const uint8_t *by
 static void release(void) {
     static uint8_t bytes[ETCS_UNIT_REQUEST_BYTES];
     etcs_unit_output outputs[ETCS_UNIT_OUTPUTS];
-    etcs_unit_request_told request;
+    etcs_unit_request_info request;
     uint32_t count = 0;
     while (etcs_unit_request(&unit, count, &request, bytes, sizeof bytes) == ETCS_UNIT_OK) {
         carries_out(&request, bytes);
@@ -105,7 +105,7 @@ static void end_life(void) {
 
 static void begin(uint32_t slots) {
     static uint8_t bytes[ETCS_UNIT_SECTOR];
-    etcs_unit_request_told request;
+    etcs_unit_request_info request;
     end_life();
     if (etcs_memory_use(buffer, sizeof buffer) != ETCS_UNIT_OK)
         return;

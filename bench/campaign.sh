@@ -1,17 +1,17 @@
 #!/bin/bash
 # How much of what the processors could do a campaign plays: wall time and processor time, in seconds, of the same scenarios
 #
-#     by a plain loop        N shells that play one scenario behind another with the programs that a job runs: a copy of an empty image,
+#     by a plain loop        N shells that play one scenario after another with the programs that a job runs: a copy of an empty image,
 #                            `etcs run`, `etcs_lab events`, `etcs_lab check`. They judge nothing, and keep no table
 #     by `./lab campaign`    by N processes here, and by N workers of Dask, which are warm
-#     by xargs, GNU parallel a shell for each scenario, which formats the image, and examines and replays it one behind the other
+#     by xargs, GNU parallel a shell for each scenario, which formats the image, and examines and replays it one after the other
 #
-# with N of 1, 2 and 4. Each is counted so often, in turn, and the least stands, beside its share of what the plain loop does in that time, and in
-# that processor time, which tells more where the machine has other work. Images lie in memory (/dev/shm), where there is that, so that no disk is
+# with N of 1, 2 and 4. Each is counted so often, in turn, and the least stands, along with its share of what the plain loop does in that time, and in
+# that processor time, which says more where the machine has other work. Images lie in memory (/dev/shm), where there is that, so that no disk is
 # waited for.
 #
 #     bench/campaign.sh [SCENARIOS [SEED [TURNS]]]    2,000 random lives of seed 7, three turns
-#     bench/campaign.sh --drives ..                   lives as the drives of drives/ come to: 200 s, told five times a second
+#     bench/campaign.sh --drives ..                   lives as the drives of drives/ come to: 200 s, reported five times a second
 #     bench/campaign.sh [--drives] --dask ..          the plain loop, and `./lab campaign` in both ways, alone
 #
 # The programs are the proved ones, or those that GAKNIFUR_ETCS and GAKNIFUR_ETCS_LAB name. What isn't there is left out: Dask (tools/python
@@ -35,7 +35,7 @@ done
 scenarios=${1:-2000} seed=${2:-7} turns=${3:-3}
 [ -w /dev/shm ] && [ -z "$TMPDIR" ] && memory=/dev/shm
 room=$(mktemp -d ${memory:+-p "$memory"}) || exit 1
-# A scheduler and workers that are told to end at once may wait for one another: those that are there after 5 seconds are ended as they are.
+# A scheduler and workers that are reported to end at once may wait for one another: those that are there after 5 seconds are ended as they are.
 finish() {
     local turn left
     for ((turn = 0; turn <= 50; turn++)); do

@@ -2,7 +2,7 @@
 # Prints the instructions of a commit of eight records over a disk in memory (bench/calls/journal), and how much of that the disk's reads take.
 # (bench/rows.sh counts a commit without the making of its records, and the peer's.) What callgrind counts within the commits for 24
 # of them less what it counts for 12, by 12: all on slots that are used again. Then the calls of Journal::open on so many slots without blocks,
-# and its seconds beside those of making the disk and the journal alone. Then the blocks that are put into a new image a second, with the syncs
+# and its seconds along with those of making the disk and the journal alone. Then the blocks that are put into a new image a second, with the syncs
 # of each: by `etcs run` and by the peer (bench/peer), a moment of the clock and a flush each. The program must be there (./etcs --prove). Builds all else
 # first; what the builds have to say goes to standard error.
 #

@@ -9,7 +9,7 @@
 #include <stdlib.h>
 #include <string.h>
 
-/* TELEGRAM: the room of a telegram, in bytes. AT_ONCE: static speeds in one telegram. WHOLE: kilometres told by a telegram that
+/* TELEGRAM: the room of a telegram, in bytes. AT_ONCE: static speeds in one telegram. WHOLE: kilometres reported by a telegram that
  * is a whole group. STRETCHES: those of one gradient before the stop. */
 enum { TELEGRAM = 104, TELEGRAMS = 5, LONGEST = 30, AT_ONCE = 15, RESTRICTIONS = 10, WHOLE = 5, STRETCHES = 32 };
 
@@ -176,7 +176,7 @@ static void print_telegram(const uint8_t *telegram) {
     printf("\n");
 }
 
-/* The same events for the peer (bench/peer), a line each; those that are counted stand behind the line count. */
+/* The same events for the peer (bench/peer), a line each; those that are counted come after the line count. */
 static void print_lines(const uint8_t *before, uint32_t number, const uint8_t *telegrams, uint32_t turns, const struct counted *counted) {
     printf("enter-identity A\nchoose-level 1\nenter-train-data 20000 160000 70 0 15\n");
     for (uint32_t i = 0; i < number; i++) {

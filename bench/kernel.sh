@@ -1,7 +1,7 @@
 #!/bin/sh
 # Prints the instructions of the kernel per event, and of the permitted speed per call: what callgrind
-# counts within the call for twice as many less what it counts for so many, by so many. So what is told at the start
-# falls out, and the harness and the making of the inputs don't count. Beside them those of the peer (bench/peer)
+# counts within the call for twice as many less what it counts for so many, by so many. So what is reported at the start
+# falls out, and the harness and the making of the inputs don't count. Along with them those of the peer (bench/peer)
 # on the same events; it answers random lives as tests/plain does, and the same limits here.
 # Then how often some functions were called in so many events. Builds what it needs first; what the builds have to say
 # goes to standard error.

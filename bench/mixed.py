@@ -102,7 +102,7 @@ def in_plain_words(told):
 
 
 def check():
-    """How often each action was accepted, and the modes; the exit status tells whether each was."""
+    """How often each action was accepted, and the modes; the exit status says whether each was."""
     life, accepted, modes = Life(), Counter(), []
     for word, value in plain_lines():
         life.take(word, value)
@@ -123,7 +123,7 @@ PLAIN_FUNCTIONS = {"telegram": "hear", "odometer": "read", "clock": "tick"}
 
 
 def by_the_peer(text):
-    """The instructions of each kind of event, and the mode and limit behind each event."""
+    """The instructions of each kind of event, and the mode and limit after each event."""
     told = "".join(f"{word} {value}".strip() + "\n" for word, value in plain_lines())
     took = {}
     for function in ("hear", "read", "tick", "act"):

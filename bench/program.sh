@@ -1,6 +1,6 @@
 #!/bin/bash
 # Seconds, of wall time and of a processor, and peak memory of `etcs run` on scenarios of so many steps (100,000) and of ten times as many, and of `etcs journal` on an image
-# that is full with as many blocks, beside the peer's (bench/peer), which has to print the same and leave the same image. The program must be there
+# that is full with as many blocks, along with the peer's (bench/peer), which has to print the same and leave the same image. The program must be there
 # (./etcs --prove); with UNPROVED=yes one is compiled without a proof (bench/unproved).
 #
 #     bench/program.sh [STEPS]

@@ -5,7 +5,7 @@
 
 The program is of x86-64 or of aarch64. The bytes are those of the return address, of what is pushed, and of what is taken from the stack
 pointer, in each function on the way. It holds where no function calls itself again, and where each call names its function: a call by a
-pointer, or a circle, is told instead. What the C library takes (malloc, realloc, free, memcpy, memset, memcmp) isn't counted.
+pointer, or a circle, is reported instead. What the C library takes (malloc, realloc, free, memcpy, memset, memcmp) isn't counted.
 """
 import re
 import subprocess

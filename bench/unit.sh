@@ -1,8 +1,8 @@
 #!/bin/sh
-# Prints what an event costs through the calls of include/etcs_unit.h, beside the same call in Rattle: the instructions within an accept and
+# Prints what an event costs through the calls of include/etcs_unit.h, along with the same call in Rattle: the instructions within an accept and
 # within an eighth of a flush (prepare, each request with its bytes, done, release). An accept in Rattle is a function of bench/calls/relayed
 # that makes the input of the same numbers and hands it to the same kind of unit. What callgrind counts for 48 batches less what it counts for
-# 24, by their events, as bench/onboard.sh has it. Then an opening by sectors beside one over a copy, on rings that were written over. The
+# 24, by their events, as bench/onboard.sh has it. Then an opening by sectors along with one over a copy, on rings that were written over. The
 # library is that of PREFIX (tools/library PREFIX); the names within it stand in its static library alone. With UNPROVED=yes, and no PREFIX,
 # all is compiled without a proof (bench/unproved).
 #

@@ -1,6 +1,6 @@
 /* Lives scenarios by the calls of include/etcs_unit.h, and says for callgrind where each counted call ends.
  *
- *     worst [told | mute | stack]    reads scenarios from standard input, an input a line
+ *     worst [reported | mute | stack]    reads scenarios from standard input, an input a line
  *
  * The lines, of which those that tests/unit/life.c has mean the same:
  *
@@ -11,15 +11,15 @@
  *     train LENGTH MAXIMUM DECELERATION REACTION CATEGORY
  *     flush             prepares, carries out and releases; only the first is counted
  *
- * A flush that isn't counted comes of itself before a ninth pending input, and where `told` is asked for behind each
- * counted one. Behind each counted call callgrind writes what it took ("scenario N line M"), and a line is printed:
+ * A flush that isn't counted comes of itself before a ninth pending input, and where `told` is asked for after each
+ * counted one. After each counted call callgrind writes what it took ("scenario N line M"), and a line is printed:
  *
  *     N M STATUS MODE LEVEL BRAKE LIMIT HEAP PEAK REQUESTS GREATEST STACK
  *
- * MODE, LEVEL, BRAKE and LIMIT are those of the last release. HEAP is what the unit holds of the heap behind the call,
+ * MODE, LEVEL, BRAKE and LIMIT are those of the last release. HEAP is what the unit holds of the heap after the call,
  * PEAK the most within it, REQUESTS how often it asked for memory, GREATEST the largest request. STACK is how far down the
  * call wrote on the stack, where `stack` is asked for: the room below the harness is filled before each call, and looked
- * through behind it. The linker hands the library's requests to the functions below (--wrap=malloc,--wrap=realloc,
+ * through after it. The linker hands the library's requests to the functions below (--wrap=malloc,--wrap=realloc,
  * --wrap=free). */
 #include <inttypes.h>
 #include <valgrind/callgrind.h>
@@ -199,7 +199,7 @@ static uint32_t take(const struct input *in, size_t *stack) {
     return status;
 }
 
-/* Hands in one input, lets callgrind write what its call took, and tells of it. */
+/* Hands in one input, lets callgrind write what its call took, and says about it. */
 static void count_one(const struct input *in) {
     char label[64];
     size_t stack;
@@ -219,7 +219,7 @@ static void count_one(const struct input *in) {
 
 /* Makes the medium an empty journal. */
 static void format(uint32_t slots) {
-    etcs_unit_request_told request;
+    etcs_unit_request_info request;
     uint8_t bytes[ETCS_UNIT_SECTOR];
     disk.len = (1 + 6 * (size_t)slots) * ETCS_UNIT_SECTOR;
     memset(disk.bytes, 0, disk.len);

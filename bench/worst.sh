@@ -9,7 +9,7 @@
 #     bench/worst.sh --search [TRIES SEED]   looks for more (10,000 tries, seed 46), keeps what takes more, and counts them
 #     bench/worst.sh --minutes MINUTES SEED  the same, for so many minutes
 #     bench/worst.sh --hand                  keeps what was made by hand where it takes more, and counts them
-#     bench/worst.sh --build                 builds what counts, and no more; then bench/worst_bound.py has a bound beside it
+#     bench/worst.sh --build                 builds what counts, and no more; then bench/worst_bound.py has a bound next to it
 #     bench/worst.sh --grown                 a reading where restrictions and gradients double, of the unit and of the peer
 #
 # The search is a hill climb (bench/worst_search.py): it begins with what is kept, with what was made by hand and with

@@ -1,11 +1,11 @@
 #!/usr/bin/env python3
-"""What docs/project/performance.md argues that a call takes at most, beside what was counted: of each kept scenario (bench/worst.scenarios), each row of the
+"""What docs/project/performance.md argues that a call takes at most, along with what was counted: of each kept scenario (bench/worst.scenarios), each row of the
 doubling and of the stairs, each crowd of gradients, and each reading that takes the forgetting mark past such a crowd. WHAT, COUNTED, BOUND, and the numbers that the bound goes by, a line each, tab between. It
 ends with status 1 where more was counted.
 
     bench/worst_bound.py [kept] [grown] [stairs] [anew] [crowds] [forgotten]     all of them, or some
 
-What lies ahead is told by the plain program of tests/plain, which lives each scenario. `bench/worst.sh --build` builds what counts.
+What lies ahead is reported by the plain program of tests/plain, which lives each scenario. `bench/worst.sh --build` builds what counts.
 """
 import sys
 from pathlib import Path
@@ -19,7 +19,7 @@ from worst_search import ANEW, CROWDS, FORGOTTEN, GROWN, STAIRS, TWICE, anew, ba
 
 CALL = 10_000  # what a call takes that goes along nothing
 PIECE, SUMS = 44, 2  # of a sum for each gradient, and how many sums there are
-BACK, WALKS = 80, 2  # of a way back for each gradient before the brakes act, and how often each is passed, beside once for each target
+BACK, WALKS = 80, 2  # of a way back for each gradient before the brakes act, and how often each is passed, along with once for each target
 TARGET = 800  # for each restriction, mode area and static speed, and for both last targets: it lowers the speed
 TURNS, TURN = 20, 40  # with a reaction time: how often a lowering halves, and what each time takes
 MOVED = 9  # for each gradient and static speed that is left, where the forgetting mark passes one

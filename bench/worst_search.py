@@ -232,7 +232,7 @@ ENTERED = ["cold 0", "identity 41", "action 2", "train 20000 160000 70 0 15", "a
 
 
 def seeds(r):
-    """Lives in Full Supervision over a told track, and lives at random behind the entries."""
+    """Lives in Full Supervision over a reported track, and lives at random after the entries."""
     told = [heard(number, fitting([packet(r, kind) for kind in kinds]))
             for number, kinds in ((2, (12,)), (3, (21,)), (4, (27,)), (5, (65,) * 10), (6, (5,)), (7, (80,)), (8, (3, 41)))]
     full = [*ENTERED, *told, "action 7", *(["odometer 100 100000"] * 4), "clock 1000", "odometer 1400 100000"]
@@ -418,8 +418,8 @@ def ran(program, scenarios, *words):
 
 
 def counted(scenarios, told=False):
-    """What callgrind counted of each counted line: (scenario, line) to (instructions, status, mode, limit). Mode and limit are those behind
-    the line where they are to be told."""
+    """What callgrind counted of each counted line: (scenario, line) to (instructions, status, mode, limit). Mode and limit are those after
+    the line where they are to be reported."""
     profile = OUT / f"profile.{os.getpid()}"
     toggles = [f"--toggle-collect=etcs_unit_{call}_" for call in CALLS]
     lines = ran(["valgrind", "--tool=callgrind", f"--callgrind-out-file={profile}", "--combine-dumps=yes", "--collect-atstart=no", *toggles],
@@ -528,7 +528,7 @@ class Best:
 
 
 def by_hand():
-    """What takes the most of the heap: the room for all packets that a group may have is made before it closes. And each kind of call behind a crowd
+    """What takes the most of the heap: the room for all packets that a group may have is made before it closes. And each kind of call after a crowd
     of gradients."""
     header = dict(zip(HEADER, (0, 7, 0, 255, 1, 9, 1)))
     parts = [("telegram", header | {"N_PIG": place}, [(SKIPPED, [("Q_DIR", 2)])] * 33) for place in range(8)]
@@ -608,8 +608,8 @@ def track(restricted=0, speeds=1, grades=1, reaction=0):
 
 
 def backwards(restricted, grades, step=2, reaction=0, turns=False, near=False):
-    """Full Supervision with brakes that hardly act, so many gradients ahead, one every so many metres, and so many restrictions: stops behind
-    them, one every metre, told from the farthest to the nearest, or from the nearest on; or by turns one such and one before all gradients, each 5 km/h slower."""
+    """Full Supervision with brakes that hardly act, so many gradients ahead, one every so many metres, and so many restrictions: stops after
+    them, one every metre, reported from the farthest to the nearest, or from the nearest on; or by turns one such and one before all gradients, each 5 km/h slower."""
     whole = [("Q_DIR", 2), ("Q_SCALE", 1)]
     lines = [*ENTERED, f"train 20000 160000 1 {reaction} 15"]
     lines.append(heard(2, [(12, [*whole, ("V_MAIN", 120), ("V_LOA", 0), ("T_LOA", 1023), ("N_ITER", 0), ("L_ENDSECTION", 32_767),
@@ -629,7 +629,7 @@ def backwards(restricted, grades, step=2, reaction=0, turns=False, near=False):
 def stairs(grades, restricted=0, areas=0, speeds=0, rising=True, step=2, reaction=0, near_end=False):
     """Full Supervision with brakes that hardly act at up to 600 km/h, so many gradients ahead, and after all of them so many restrictions, mode
     areas and static speeds by turns, one every 5 m. Each is 5 km/h faster than the nearer one, so that each slower one is nearer; or each is
-    5 km/h slower than the nearer one. The authority ends behind them, or before them and after all gradients."""
+    5 km/h slower than the nearer one. The authority ends after them, or before them and after all gradients."""
     *lines, action, first, last = [line.replace("160000", "600000") if isinstance(line, str) else line
                                    for line in backwards(0, grades, step, reaction)]
     kinds = [kind for _, kind in sorted((at, kind) for kind, many in enumerate((restricted, areas, speeds)) for at in range(many))]
@@ -651,7 +651,7 @@ def stairs(grades, restricted=0, areas=0, speeds=0, rising=True, step=2, reactio
 
 def anew(grades, reaction=0, step=2):
     """The same train and gradients, and after all of them in turn the end of the authority, its danger point, two restrictions, of which the farther
-    one was told first, and a static speed, after which none is known. Each is slower than the next one, and nearer: so the sums for all but the two
+    one was reported first, and a static speed, after which none is known. Each is slower than the next one, and nearer: so the sums for all but the two
     last targets, for the end and for the danger point each begin anew, and go along all gradients."""
     *lines, action, first, last = [line.replace("160000", "600000") if isinstance(line, str) else line
                                    for line in backwards(0, grades, step, reaction)]
@@ -762,7 +762,7 @@ STAIRS = [(grades, reaction, near_end, many) for near_end in (False, True) for r
           for many in KINDS]
 
 
-# Crowds of gradients, and what is told ahead of them: each place is nearer than where the brakes act at the speed so far.
+# Crowds of gradients, and what is reported ahead of them: each place is nearer than where the brakes act at the speed so far.
 # (The static speed is no stop: before one, no further static speed would be asked for.)
 STOPS = {"statics": [(16_263, 1), (16_264, 127)], "restricted": [(5_381, 0), (2_046, 0)], "end": 875, "location": 875}
 CROWDS = [{"grades": grades, **STOPS, "reaction": reaction} for grades, reaction in ((172, 10_000), (345, 10_000), (690, 10_000), (690, 5_000), (690, 1_000))]

@@ -103,7 +103,7 @@ static inline uint32_t etcs_file_failed_(etcs_file *file, uint32_t answer) {
     return answer;
 }
 
-static inline uint32_t etcs_file_told_(etcs_file *file, uint32_t status) {
+static inline uint32_t etcs_file_status_(etcs_file *file, uint32_t status) {
     file->status = status;
     return status == ETCS_UNIT_OK ? (uint32_t)ETCS_FILE_OK : (uint32_t)ETCS_FILE_UNIT;
 }
@@ -227,7 +227,7 @@ static inline uint32_t etcs_file_sync_folder_(etcs_file *file, const char *path)
 }
 
 /* Carries out one request. */
-static inline uint32_t etcs_file_do_(etcs_file *file, const etcs_unit_request_told *request, const uint8_t *bytes) {
+static inline uint32_t etcs_file_do_(etcs_file *file, const etcs_unit_request_info *request, const uint8_t *bytes) {
     if (request->kind == ETCS_REQUEST_WRITE)
         return etcs_file_write_(file, bytes, (size_t)request->sectors * ETCS_UNIT_SECTOR,
                                 request->sector * ETCS_UNIT_SECTOR);
@@ -279,7 +279,7 @@ static inline uint32_t etcs_file_open_(etcs_file *file, const char *path, etcs_u
     uint8_t *bytes = etcs_file_bytes_(file, &len, &answer);
     if (bytes == NULL)
         return answer;
-    answer = etcs_file_told_(file, etcs_unit_open(unit, bytes, len, cold));
+    answer = etcs_file_status_(file, etcs_unit_open(unit, bytes, len, cold));
     free(bytes);
     return answer;
 }
@@ -288,12 +288,12 @@ static inline uint32_t etcs_file_open_(etcs_file *file, const char *path, etcs_u
 static inline uint32_t etcs_file_hand_in_(etcs_file *file, etcs_opening *opening, etcs_unit *unit) {
     uint8_t bytes[ETCS_UNIT_SECTOR];
     uint64_t sector = 0;
-    uint32_t answer = etcs_file_told_(file, opening ? etcs_opening_wanted(opening, &sector) : etcs_unit_wanted(unit, &sector));
+    uint32_t answer = etcs_file_status_(file, opening ? etcs_opening_wanted(opening, &sector) : etcs_unit_wanted(unit, &sector));
     if (answer == ETCS_FILE_OK)
         answer = etcs_file_read_(file, bytes, sizeof bytes, sector * ETCS_UNIT_SECTOR);
     if (answer != ETCS_FILE_OK)
         return answer;
-    return etcs_file_told_(file, opening ? etcs_opening_provide(opening, sector, bytes, sizeof bytes)
+    return etcs_file_status_(file, opening ? etcs_opening_provide(opening, sector, bytes, sizeof bytes)
                                          : etcs_unit_provide(unit, sector, bytes, sizeof bytes));
 }
 
@@ -304,14 +304,14 @@ static inline uint32_t etcs_file_power_up_(etcs_file *file, etcs_unit *unit, uin
     memset(&opening, 0, sizeof opening);
     if (end < 0)
         return etcs_file_failed_(file, ETCS_FILE_CANT_READ);
-    uint32_t answer = etcs_file_told_(file, etcs_opening_begin(&opening, (uint64_t)end / ETCS_UNIT_SECTOR, cold));
+    uint32_t answer = etcs_file_status_(file, etcs_opening_begin(&opening, (uint64_t)end / ETCS_UNIT_SECTOR, cold));
     if (answer == ETCS_FILE_OK)
-        answer = etcs_file_told_(file, etcs_opening_go_on(&opening, unit));
+        answer = etcs_file_status_(file, etcs_opening_go_on(&opening, unit));
     while (file->status == ETCS_UNIT_SECTOR_WANTED) {
         answer = etcs_file_hand_in_(file, &opening, NULL);
         if (answer != ETCS_FILE_OK)
             break;
-        answer = etcs_file_told_(file, etcs_opening_go_on(&opening, unit));
+        answer = etcs_file_status_(file, etcs_opening_go_on(&opening, unit));
     }
     etcs_opening_close(&opening);
     return answer;
@@ -339,11 +339,11 @@ static inline uint32_t etcs_file_empty_(etcs_file *file, const char *path, off_t
 
 static inline uint32_t etcs_file_format_(etcs_file *file, const char *path, uint32_t slots) {
     uint8_t bytes[ETCS_UNIT_SECTOR];
-    etcs_unit_request_told request;
+    etcs_unit_request_info request;
     /* Whether there can be so many slots is asked before the file is touched. */
     uint32_t status = etcs_unit_format_request(slots, 0, &request, bytes, sizeof bytes);
     if (status != ETCS_UNIT_OK)
-        return etcs_file_told_(file, status);
+        return etcs_file_status_(file, status);
     uint32_t answer = etcs_file_lock_(file, path, O_CREAT);
     if (answer == ETCS_FILE_OK)
         answer = etcs_file_empty_(file, path, (off_t)(1 + 6 * (uint64_t)slots) * ETCS_UNIT_SECTOR);
@@ -351,7 +351,7 @@ static inline uint32_t etcs_file_format_(etcs_file *file, const char *path, uint
         status = etcs_unit_format_request(slots, index, &request, bytes, sizeof bytes);
         if (status == ETCS_UNIT_NO_SUCH_REQUEST)
             break;
-        answer = etcs_file_told_(file, status);
+        answer = etcs_file_status_(file, status);
         if (answer == ETCS_FILE_OK)
             answer = etcs_file_do_(file, &request, bytes);
     }
@@ -361,7 +361,7 @@ static inline uint32_t etcs_file_format_(etcs_file *file, const char *path, uint
 /* What a file that is open answers to being opened or formatted: it stays open, and all else as it was. */
 static inline uint32_t etcs_file_is_open_(etcs_file *file) {
     file->error = 0;
-    return etcs_file_told_(file, ETCS_UNIT_IS_OPEN);
+    return etcs_file_status_(file, ETCS_UNIT_IS_OPEN);
 }
 
 /* ---- the calls */
@@ -373,7 +373,7 @@ static inline uint32_t etcs_file_is_open_(etcs_file *file) {
  * its size it reads no more than that. */
 ETCS_MUST_USE
 static inline uint32_t etcs_file_open(etcs_file *file, const char *path, etcs_unit *unit, uint32_t cold) {
-    etcs_unit_state_told state;
+    etcs_unit_state_info state;
     if (etcs_file_at_(file) >= 0 || etcs_unit_state(unit, &state) == ETCS_UNIT_OK)
         return etcs_file_is_open_(file);
     const uint32_t answer = etcs_file_open_(file, path, unit, cold);
@@ -386,7 +386,7 @@ static inline uint32_t etcs_file_open(etcs_file *file, const char *path, etcs_un
  * needs, one after the other, and takes no memory for others. */
 ETCS_MUST_USE
 static inline uint32_t etcs_file_open_by_sectors(etcs_file *file, const char *path, etcs_unit *unit, uint32_t cold) {
-    etcs_unit_state_told state;
+    etcs_unit_state_info state;
     if (etcs_file_at_(file) >= 0 || etcs_unit_state(unit, &state) == ETCS_UNIT_OK)
         return etcs_file_is_open_(file);
     const uint32_t answer = etcs_file_open_by_sectors_(file, path, unit, cold);
@@ -399,14 +399,14 @@ static inline uint32_t etcs_file_open_by_sectors(etcs_file *file, const char *pa
  * sector that the unit needs; where that fails it reports that to the unit (etcs_unit_fail). */
 ETCS_MUST_USE
 static inline uint32_t etcs_file_prepare(etcs_file *file, etcs_unit *unit) {
-    uint32_t answer = etcs_file_told_(file, etcs_unit_prepare(unit));
+    uint32_t answer = etcs_file_status_(file, etcs_unit_prepare(unit));
     while (file->status == ETCS_UNIT_SECTOR_WANTED) {
         answer = etcs_file_hand_in_(file, NULL, unit);
         if (answer != ETCS_FILE_OK) {
             etcs_unit_fail(unit);
             break;
         }
-        answer = etcs_file_told_(file, etcs_unit_prepare(unit));
+        answer = etcs_file_status_(file, etcs_unit_prepare(unit));
     }
     return answer;
 }
@@ -416,17 +416,17 @@ static inline uint32_t etcs_file_prepare(etcs_file *file, etcs_unit *unit) {
 ETCS_MUST_USE
 static inline uint32_t etcs_file_carry_out(etcs_file *file, etcs_unit *unit) {
     uint8_t bytes[ETCS_UNIT_REQUEST_BYTES];
-    etcs_unit_request_told request;
-    etcs_unit_state_told state;
-    uint32_t answer = etcs_file_told_(file, etcs_unit_state(unit, &state));
+    etcs_unit_request_info request;
+    etcs_unit_state_info state;
+    uint32_t answer = etcs_file_status_(file, etcs_unit_state(unit, &state));
     if (answer != ETCS_FILE_OK)
         return answer;
     for (uint32_t index = (uint32_t)state.done; answer == ETCS_FILE_OK && index < state.requests; index++) {
-        answer = etcs_file_told_(file, etcs_unit_request(unit, index, &request, bytes, sizeof bytes));
+        answer = etcs_file_status_(file, etcs_unit_request(unit, index, &request, bytes, sizeof bytes));
         if (answer == ETCS_FILE_OK)
             answer = etcs_file_do_(file, &request, bytes);
         if (answer == ETCS_FILE_OK)
-            answer = etcs_file_told_(file, etcs_unit_done(unit, index + 1));
+            answer = etcs_file_status_(file, etcs_unit_done(unit, index + 1));
         else
             etcs_unit_fail(unit);
     }
@@ -438,7 +438,7 @@ static inline uint32_t etcs_file_release_(etcs_file *file, etcs_unit *unit, etcs
     const uint32_t answer = etcs_file_carry_out(file, unit);
     if (answer != ETCS_FILE_OK)
         return answer;
-    return etcs_file_told_(file, etcs_unit_release(unit, outputs, ETCS_UNIT_OUTPUTS, count));
+    return etcs_file_status_(file, etcs_unit_release(unit, outputs, ETCS_UNIT_OUTPUTS, count));
 }
 
 /** Writes the accepted inputs to the file, and releases their outputs: `count` of them, the oldest first, in room for
@@ -462,7 +462,7 @@ static inline uint32_t etcs_file_flush(etcs_file *file, etcs_unit *unit, etcs_un
  * opened again. What isn't released is lost to this life. It may be called on a file and a unit that aren't open, also of
  * zeros. Returns OK, or UNIT (the unit wasn't open). */
 static inline uint32_t etcs_file_close(etcs_file *file, etcs_unit *unit) {
-    const uint32_t answer = etcs_file_told_(file, etcs_unit_close(unit));
+    const uint32_t answer = etcs_file_status_(file, etcs_unit_close(unit));
     etcs_file_shut_(file);
     return answer;
 }
@@ -700,7 +700,7 @@ static inline uint32_t etcs_archive_slots_(etcs_file *own, etcs_file *file, uint
     etcs_image facts;
     uint32_t answer = etcs_file_read_(file, first, sizeof first, 0);
     if (answer == ETCS_FILE_OK)
-        answer = etcs_file_told_(own, etcs_image_facts(first, sizeof first, &facts));
+        answer = etcs_file_status_(own, etcs_image_facts(first, sizeof first, &facts));
     if (answer == ETCS_FILE_OK)
         *slots = (uint32_t)facts.slots;
     return answer;

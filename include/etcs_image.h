@@ -70,9 +70,9 @@ enum etcs_verdict {
     ETCS_VERDICT_RECORD_DIFFERS = 2,   /**< this record differs: the rest of its life isn't replayed */
     ETCS_VERDICT_HEAD_DIFFERS = 3,     /**< the head of a block differs: the replay goes on after it */
     ETCS_VERDICT_BEFORE_OLDEST = 4,    /**< not replayed: the power-up of their life, or the head before it, is in no slot any more */
-    ETCS_VERDICT_BEHIND_GAP = 5,       /**< not replayed: a block before them can't be read, or events are missing before them */
+    ETCS_VERDICT_AFTER_GAP = 5,       /**< not replayed: a block before them can't be read, or events are missing before them */
     ETCS_VERDICT_WITHIN_BLOCK = 6,     /**< not replayed: their life begins within a block, after events that aren't replayed, so no head contains what was kept */
-    ETCS_VERDICT_BEHIND_DIFFERENCE = 7 /**< not replayed: they come after a record that differs */
+    ETCS_VERDICT_AFTER_DIFFERENCE = 7 /**< not replayed: they come after a record that differs */
 };
 
 /** What of a record differs first, in the order in which it is compared. */
@@ -296,7 +296,7 @@ static inline const char *etcs_slot_state_name(uint32_t number) {
 static inline const char *etcs_verdict_name(uint32_t number) {
     static const char *const names[] = {
         NULL, "agrees", "record_differs", "head_differs", "before_oldest_block", "gap", "within_block",
-        "behind_difference"
+        "after_difference"
     };
     return etcs_name_(names, (uint32_t)(sizeof names / sizeof names[0]), number);
 }

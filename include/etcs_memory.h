@@ -64,9 +64,9 @@ typedef struct {
     uint64_t most_used; /**< the most that they took at once since the buffer is used */
     uint64_t pieces;    /**< how many there are now */
     uint64_t refused;   /**< how many requests were refused since the buffer is used */
-} etcs_memory_told;
+} etcs_memory_info;
 
-ETCS_UNIT_ASSERT(sizeof(etcs_memory_told) == 40u && offsetof(etcs_memory_told, most_used) == 16u && offsetof(etcs_memory_told, refused) == 32u);
+ETCS_UNIT_ASSERT(sizeof(etcs_memory_info) == 40u && offsetof(etcs_memory_info, most_used) == 16u && offsetof(etcs_memory_info, refused) == 32u);
 
 /** Makes the library take all memory from this buffer, which may lie anywhere. Call it once, before the first unit is
  * opened: before that every request is refused. Returns OK; OUT_OF_RANGE where the buffer has fewer bytes than

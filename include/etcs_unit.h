@@ -255,7 +255,7 @@ enum etcs_brake_cause {
     ETCS_CAUSE_OWES_TRIP = 3,
     ETCS_CAUSE_FAR_TOO_FAST = 4,
     ETCS_CAUSE_ROLLED_TOO_FAR = 5,
-    ETCS_CAUSE_ASKED_FOR_SERVICE = 6,
+    ETCS_CAUSE_SERVICE_BRAKE_REQUESTED = 6,
     ETCS_CAUSE_TOO_FAST = 7,
     ETCS_CAUSE_MUST_STAND = 8,
     ETCS_CAUSE_OWES_TOO_LONG = 9
@@ -322,7 +322,7 @@ typedef struct {
     uint64_t sector;  /**< of a write: the first sector, from 0 on; else 0 */
     uint64_t sectors; /**< of a write: how many sectors, with ETCS_UNIT_SECTOR bytes each; else 0 */
     uint64_t kind;    /**< enum etcs_request_kind */
-} etcs_unit_request_told;
+} etcs_unit_request_info;
 
 /** Train data (SUBSET-026, 3.18.3). */
 typedef struct {
@@ -344,7 +344,7 @@ typedef struct {
     uint64_t moment_ms;    /**< the last moment of this life that was taken; 0 before one */
     int64_t front_cm;      /**< the estimated front after all inputs that were taken, from where this life began */
     uint64_t uncertainty_cm; /**< how far that may be wrong to either side */
-} etcs_unit_state_told;
+} etcs_unit_state_info;
 
 /** Why the newest released output is what it is, and what a display shows of it. ERA's names for displays are in brackets.
  * What isn't there is 0. */
@@ -378,7 +378,7 @@ typedef struct {
     uint8_t has_override;               /**< 1 where the trip is overridden */
     uint8_t override_ends;              /**< 1 where the override ends by time too */
     uint8_t reserved[4];                /**< zeros */
-} etcs_unit_why_told;
+} etcs_unit_why_info;
 
 /** What came of a telegram that may be of an installed track (etcs_telegram_adapt). */
 enum etcs_adaptation {
@@ -443,16 +443,16 @@ typedef struct {
 ETCS_UNIT_ASSERT((sizeof(void *) < 8u) || ((sizeof(etcs_unit) == 16u) && (offsetof(etcs_unit, is_open) == 8u)));
 ETCS_UNIT_ASSERT(sizeof(etcs_unit_output) == 16u && offsetof(etcs_unit_output, limit_m_per_h) == 8u && offsetof(etcs_unit_output, mode) == 12u
                  && offsetof(etcs_unit_output, level) == 13u && offsetof(etcs_unit_output, brake) == 14u && offsetof(etcs_unit_output, indications) == 15u);
-ETCS_UNIT_ASSERT(sizeof(etcs_unit_request_told) == 24u && offsetof(etcs_unit_request_told, sectors) == 8u && offsetof(etcs_unit_request_told, kind) == 16u);
+ETCS_UNIT_ASSERT(sizeof(etcs_unit_request_info) == 24u && offsetof(etcs_unit_request_info, sectors) == 8u && offsetof(etcs_unit_request_info, kind) == 16u);
 ETCS_UNIT_ASSERT(sizeof(etcs_train_data) == 20u && offsetof(etcs_train_data, length_cm) == 0u && offsetof(etcs_train_data, category) == 16u);
-ETCS_UNIT_ASSERT(sizeof(etcs_unit_state_told) == 80u && offsetof(etcs_unit_state_told, requests) == 16u && offsetof(etcs_unit_state_told, has_failed) == 40u
-                 && offsetof(etcs_unit_state_told, pending) == 48u && offsetof(etcs_unit_state_told, moment_ms) == 56u
-                 && offsetof(etcs_unit_state_told, front_cm) == 64u && offsetof(etcs_unit_state_told, uncertainty_cm) == 72u);
-ETCS_UNIT_ASSERT(sizeof(etcs_unit_why_told) == 144u && offsetof(etcs_unit_why_told, backward_cm) == 16u && offsetof(etcs_unit_why_told, on_sight_ms) == 56u
-                 && offsetof(etcs_unit_why_told, override_ms) == 80u && offsetof(etcs_unit_why_told, service_brake_m_per_h) == 96u
-                 && offsetof(etcs_unit_why_told, holds) == 120u && offsetof(etcs_unit_why_told, limit_cause) == 130u
-                 && offsetof(etcs_unit_why_told, level_0) == 137u && offsetof(etcs_unit_why_told, has_override) == 138u
-                 && offsetof(etcs_unit_why_told, reserved) == 140u);
+ETCS_UNIT_ASSERT(sizeof(etcs_unit_state_info) == 80u && offsetof(etcs_unit_state_info, requests) == 16u && offsetof(etcs_unit_state_info, has_failed) == 40u
+                 && offsetof(etcs_unit_state_info, pending) == 48u && offsetof(etcs_unit_state_info, moment_ms) == 56u
+                 && offsetof(etcs_unit_state_info, front_cm) == 64u && offsetof(etcs_unit_state_info, uncertainty_cm) == 72u);
+ETCS_UNIT_ASSERT(sizeof(etcs_unit_why_info) == 144u && offsetof(etcs_unit_why_info, backward_cm) == 16u && offsetof(etcs_unit_why_info, on_sight_ms) == 56u
+                 && offsetof(etcs_unit_why_info, override_ms) == 80u && offsetof(etcs_unit_why_info, service_brake_m_per_h) == 96u
+                 && offsetof(etcs_unit_why_info, holds) == 120u && offsetof(etcs_unit_why_info, limit_cause) == 130u
+                 && offsetof(etcs_unit_why_info, level_0) == 137u && offsetof(etcs_unit_why_info, has_override) == 138u
+                 && offsetof(etcs_unit_why_info, reserved) == 140u);
 ETCS_UNIT_ASSERT(sizeof(etcs_adapted) == 16u && offsetof(etcs_adapted, len) == 4u && offsetof(etcs_adapted, start) == 8u && offsetof(etcs_adapted, bits) == 12u);
 ETCS_UNIT_ASSERT(sizeof(etcs_value_dropped) == 16u && offsetof(etcs_value_dropped, variable) == 8u && offsetof(etcs_value_dropped, bits) == 12u);
 ETCS_UNIT_ASSERT(sizeof(etcs_packet_unused) == 24u && offsetof(etcs_packet_unused, bits) == 8u && offsetof(etcs_packet_unused, number) == 16u
@@ -477,14 +477,14 @@ uint32_t etcs_opening_close_(etcs_opening *opening);
 uint32_t etcs_unit_wanted_(etcs_unit *unit, uint64_t *sector);
 uint32_t etcs_unit_provide_(etcs_unit *unit, uint64_t sector, const uint8_t *bytes, uint64_t size);
 uint32_t etcs_unit_prepare_(etcs_unit *unit);
-uint32_t etcs_unit_request_(etcs_unit *unit, uint32_t index, etcs_unit_request_told *request, uint8_t *bytes, uint64_t room);
+uint32_t etcs_unit_request_(etcs_unit *unit, uint32_t index, etcs_unit_request_info *request, uint8_t *bytes, uint64_t room);
 uint32_t etcs_unit_done_(etcs_unit *unit, uint32_t count);
 uint32_t etcs_unit_fail_(etcs_unit *unit);
 uint32_t etcs_unit_release_(etcs_unit *unit, etcs_unit_output *outputs, uint64_t room, uint32_t *count);
-uint32_t etcs_unit_state_(etcs_unit *unit, etcs_unit_state_told *state);
-uint32_t etcs_unit_why_(etcs_unit *unit, etcs_unit_why_told *why);
+uint32_t etcs_unit_state_(etcs_unit *unit, etcs_unit_state_info *state);
+uint32_t etcs_unit_why_(etcs_unit *unit, etcs_unit_why_info *why);
 uint32_t etcs_unit_close_(etcs_unit *unit);
-uint32_t etcs_unit_format_request_(uint32_t slots, uint32_t index, etcs_unit_request_told *request, uint8_t *bytes, uint64_t room);
+uint32_t etcs_unit_format_request_(uint32_t slots, uint32_t index, etcs_unit_request_info *request, uint8_t *bytes, uint64_t room);
 uint32_t etcs_telegram_adapt_(const uint8_t *bytes, uint64_t len, uint8_t *out, uint64_t room, etcs_adapted *told);
 uint32_t etcs_telegram_dropped_(const uint8_t *bytes, uint64_t len, uint32_t index, etcs_value_dropped *value);
 uint32_t etcs_telegram_unused_(const uint8_t *bytes, uint64_t len, uint32_t mode, uint32_t direction, uint32_t index, etcs_packet_unused *packet);
@@ -539,7 +539,7 @@ static inline const char *etcs_indication_name(uint32_t number) {
 static inline const char *etcs_brake_cause_name(uint32_t number) {
     static const char *const names[] = {
         "not_revalidated", "in_trip", "in_system_failure", "owes_trip", "far_too_fast", "rolled_too_far",
-        "asked_for_service", "too_fast", "must_stand", "owes_too_long"
+        "service_brake_requested", "too_fast", "must_stand", "owes_too_long"
     };
     return etcs_name_(names, (uint32_t)(sizeof names / sizeof names[0]), number);
 }
@@ -822,7 +822,7 @@ static inline uint32_t etcs_unit_prepare(etcs_unit *unit) {
  * NO_SUCH_REQUEST, and carry each out before the next one. Returns OK, NOT_OPEN, NO_SUCH_REQUEST, or NO_ROOM where the
  * request writes more than `room` bytes; nothing is written but with OK. ETCS_UNIT_REQUEST_BYTES are always enough. */
 ETCS_MUST_USE
-static inline uint32_t etcs_unit_request(etcs_unit *unit, uint32_t index, etcs_unit_request_told *request, uint8_t *bytes, size_t room) {
+static inline uint32_t etcs_unit_request(etcs_unit *unit, uint32_t index, etcs_unit_request_info *request, uint8_t *bytes, size_t room) {
     return ((unit != NULL) && (request != NULL) && (bytes != NULL)) ? etcs_unit_request_(unit, index, request, bytes, room) : (uint32_t)ETCS_UNIT_NULL_POINTER;
 }
 
@@ -882,7 +882,7 @@ static inline uint32_t etcs_unit_command(const etcs_unit_output *outputs, uint32
 
 /** Reports how far the unit is, and what is known of its life. Call it at any time. Returns OK, or NOT_OPEN; then `state`
  * isn't written. */
-static inline uint32_t etcs_unit_state(etcs_unit *unit, etcs_unit_state_told *state) {
+static inline uint32_t etcs_unit_state(etcs_unit *unit, etcs_unit_state_info *state) {
     return ((unit != NULL) && (state != NULL)) ? etcs_unit_state_(unit, state) : (uint32_t)ETCS_UNIT_NULL_POINTER;
 }
 
@@ -890,7 +890,7 @@ static inline uint32_t etcs_unit_state(etcs_unit *unit, etcs_unit_state_told *st
  * and changes nothing. After the release of the opening it explains the power-up, whose output no release hands out. Since
  * when a cause holds, and why a trip was entered, etcs_image_why finds in the bytes of the medium. Returns OK, NOT_OPEN, or
  * NOT_RELEASED, exactly while an input is pending or requests aren't released; `why` is written only with OK. */
-static inline uint32_t etcs_unit_why(etcs_unit *unit, etcs_unit_why_told *why) {
+static inline uint32_t etcs_unit_why(etcs_unit *unit, etcs_unit_why_info *why) {
     return ((unit != NULL) && (why != NULL)) ? etcs_unit_why_(unit, why) : (uint32_t)ETCS_UNIT_NULL_POINTER;
 }
 
@@ -905,7 +905,7 @@ static inline uint32_t etcs_unit_close(etcs_unit *unit) {
  * request in turn, until it answers NO_SUCH_REQUEST; it needs no unit. Returns OK, BAD_SLOTS, NO_SUCH_REQUEST after the
  * last one, or NO_ROOM (fewer than ETCS_UNIT_SECTOR bytes). */
 ETCS_MUST_USE
-static inline uint32_t etcs_unit_format_request(uint32_t slots, uint32_t index, etcs_unit_request_told *request, uint8_t *bytes, size_t room) {
+static inline uint32_t etcs_unit_format_request(uint32_t slots, uint32_t index, etcs_unit_request_info *request, uint8_t *bytes, size_t room) {
     return ((request != NULL) && (bytes != NULL)) ? etcs_unit_format_request_(slots, index, request, bytes, room) : (uint32_t)ETCS_UNIT_NULL_POINTER;
 }
 

@@ -35,7 +35,7 @@ static void copy_forward(uint8_t *put, const uint8_t *got, size_t count) {
     }
 }
 
-/* Copies from the last byte on: right too where `to` lies behind `from`. */
+/* Copies from the last byte on: right too where `to` lies beyond `from`. */
 static void copy_backward(uint8_t *put, const uint8_t *got, size_t count) {
     size_t i = count;
     for (; i >= FOUR; i -= FOUR) {

@@ -23,7 +23,7 @@
 typedef struct block block;
 struct block {
     block *before;  /* the block that lies before it, or NULL */
-    uint64_t size;  /* of what lies behind this head, a multiple of UNIT, and IS_FREE */
+    uint64_t size;  /* of what lies beyond this head, a multiple of UNIT, and IS_FREE */
     block *next;    /* of a free block: the next one of its list, and the one before; else the piece begins here */
     block *previous;
 };
@@ -44,8 +44,8 @@ typedef struct {
 
 static pool *our = NULL;
 
-/* What is told of it. It doesn't lie in the buffer, which a maker may write to once nothing is out. */
-static etcs_memory_told counts;
+/* What is reported of it. It doesn't lie in the buffer, which a maker may write to once nothing is out. */
+static etcs_memory_info counts;
 
 /* The place of the highest and of the lowest bit of a number that isn't 0. */
 static uint32_t highest(uint64_t number) {
@@ -163,7 +163,7 @@ static block *found_for(uint64_t size) {
     return found;
 }
 
-/* Joins a block that isn't free to a free one behind it. */
+/* Joins a block that isn't free to a free one after it. */
 static void join(block *one) {
     block *const next = behind(one);
     if (is_free(next)) {
@@ -316,7 +316,7 @@ uint32_t etcs_memory_use(void *buffer, uint64_t size) {
     return status;
 }
 
-uint32_t etcs_memory_state(etcs_memory_told *told) {
+uint32_t etcs_memory_state(etcs_memory_info *told) {
     uint32_t status = ETCS_UNIT_OK;
     if (told == NULL) {
         status = ETCS_UNIT_NULL_POINTER;

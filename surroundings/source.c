@@ -155,7 +155,7 @@ void etcs_source_ends(void) {
 
 static const char *const told_fields = "8";
 
-uint32_t etcs_memory_state(etcs_memory_told *told) {
+uint32_t etcs_memory_state(etcs_memory_info *told) {
     uint32_t status = (uint32_t)ETCS_UNIT_NOT_OPEN;
     if (told == NULL) {
         status = (uint32_t)ETCS_UNIT_NULL_POINTER;
@@ -168,7 +168,7 @@ uint32_t etcs_memory_state(etcs_memory_told *told) {
 }
 
 uint32_t etcs_memory_use(void *with, uint64_t size) {
-    etcs_memory_told told = {0};
+    etcs_memory_info told = {0};
     uint32_t status = (uint32_t)ETCS_UNIT_OK;
     if (with == NULL) {
         status = (uint32_t)ETCS_UNIT_NULL_POINTER;

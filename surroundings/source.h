@@ -14,7 +14,7 @@ int etcs_source_begins(void);
 void etcs_source_ends(void);
 
 /* Copies what a call is handed into the module's memory; the answer is where, or 0 where there is no room, which
- * etcs_source_is_refused tells then. `fields` has a digit for the bytes of each number of a struct. */
+ * etcs_source_is_refused reports then. `fields` has a digit for the bytes of each number of a struct. */
 uint32_t etcs_source_put(const void *from, uint64_t size, const char *fields);
 uint32_t etcs_source_put_handle(const void *at, uint64_t is_open);
 int etcs_source_is_refused(void);

@@ -1,4 +1,4 @@
-/* What is inside the C source of the library (tools/library --c), beside the proved module: where its memory begins, and a
+/* What is inside the C source of the library (tools/library --c), along with the proved module: where its memory begins, and a
  * place for what a call is handed. source.c calls these. */
 #include "pieces.h"
 

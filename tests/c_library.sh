@@ -1,6 +1,6 @@
 #!/bin/bash
 # The C library as C and C++ programs call it: telegrams whose answers were worked out by hand (check.c), the program of its README, and random
-# telegrams beside the plain decoder. Each program is compiled as C and as C++. It needs gcc, g++ and Python.
+# telegrams compared with the plain decoder. Each program is compiled as C and as C++. It needs gcc, g++ and Python.
 #
 #     tests/c_library.sh [LIBRARY]    proves and builds the library first, or takes this one
 export PYTHONDONTWRITEBYTECODE=1

@@ -19,20 +19,20 @@ class Compared:
         return self.unless(found == wanted, f"{name}:\n  found  {str(found)[:1500]}\n  wanted {str(wanted)[:1500]}")
 
     def unless(self, holds, text):
-        """Whether it holds; else the text is told."""
+        """Whether it holds; else the text is reported."""
         self.count += 1
         if not holds:
             self.tell(text)
         return holds
 
     def tell(self, text):
-        """Tells a difference."""
+        """Reports a difference."""
         self.differ += 1
         if self.differ <= SHOWN:
             print(text)
 
     def end(self, what):
-        """Tells what was compared, and answers the exit status. Nothing compared is a failure too."""
+        """Reports what was compared, and answers the exit status. Nothing compared is a failure too."""
         print(f"{what}, {self.differ} failures")
         return 1 if self.differ or not self.count else 0
 

@@ -1,6 +1,6 @@
 #!/bin/bash
 # Trains in a closed loop with the onboard unit (drives/), over the library that tests/unit.sh left, or one that is built: each result comes, each
-# planted fault is told, and the program answers to the same events as the library. And the commands of docs/howto/closed-loop.md.
+# planted fault is reported, and the program answers to the same events as the library. And the commands of docs/howto/closed-loop.md.
 #
 #     tests/drive.sh [ETCS_LAB ETCS [PREFIX]]    on other programs, and on the library below PREFIX
 top=$(cd "$(dirname "$(readlink -f -- "$0")")/.." && pwd) || exit 1

@@ -1,6 +1,6 @@
 #!/bin/bash
 # The built programs under hostile use: every request for memory refused in turn, an output that can't be written, power
-# cut at each write of an image file, syncs that fail and power that is lost behind them, altered bytes, the bytes and
+# cut at each write of an image file, syncs that fail and power that is lost after them, altered bytes, the bytes and
 # the calls of image files over random lives, random telegrams and scenarios. What they must answer stands in the plain
 # programs, or in the tests themselves.
 #
@@ -9,7 +9,7 @@
 #     tests/hostile.sh files [LIVES [SEED]]                   lives on image files, more or others
 #     tests/hostile.sh inputs [TELEGRAMS SCENARIOS [SEED]]    random inputs, more or others
 #
-# ETCS=PROGRAM and ETCS_LAB=PROGRAM name other programs than those that the gate leaves behind.
+# ETCS=PROGRAM and ETCS_LAB=PROGRAM name other programs than those that the gate leaves after.
 [ -z "$ETCS" ] || ETCS=$(realpath "$ETCS") || exit 1
 [ -z "$ETCS_LAB" ] || ETCS_LAB=$(realpath "$ETCS_LAB") || exit 1
 cd "$(dirname "$(readlink -f -- "$0")")" || exit 1

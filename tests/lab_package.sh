@@ -1,6 +1,6 @@
 #!/bin/bash
-# The package python/gaknifur and its script ./lab, on the programs that the gate leaves behind: types, the package's own tests,
-# exit statuses, tables and database beside plain readers, reports, sealed copies, releases,
+# The package python/gaknifur and its script ./lab, on the programs that the gate leaves after: types, the package's own tests,
+# exit statuses, tables and database compared with plain readers, reports, sealed copies, releases,
 # differences of images, archives of blocks, and journals that are followed.
 #
 #     tests/lab_package.sh [ETCS_LAB ETCS [IMAGES [SEED]]]    on other programs, with more or other images

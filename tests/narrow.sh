@@ -20,7 +20,7 @@ lives=${1:-100} calls=${2:-6000} telegrams=${3:-2000}
 
 fails() { echo "$*"; status=1; }
 
-# side_by_side NAME COMMAND..: a command in the background, which may fail; ended NAME waits for those that run, and tells what this one said
+# side_by_side NAME COMMAND..: a command in the background, which may fail; ended NAME waits for those that run, and says what this one said
 side_by_side() {
     while [ "$(jobs -rp | wc -l)" -ge 3 ]; do wait -n; done
     { "${@:2}" >"$made/$1.said" 2>&1; echo $? >"$made/$1.status"; } &
@@ -105,7 +105,7 @@ fi
 "$python" "$top/tests/unit/layout.py" --program >"$made/places.c" || fails "layout.py prints no program"
 strict=(-std=c99 -Wall -Wextra -Werror -Wconversion -Wsign-conversion -pedantic)
 
-# over ARCHIVE.. -- COMPILER WORDS..: the driver, and a program that tells sizes and places, over a library for 32 bits
+# over ARCHIVE.. -- COMPILER WORDS..: the driver, and a program that says sizes and places, over a library for 32 bits
 arm() {
     local from=$libraries/$1
     arm-linux-gnueabihf-gcc "${strict[@]}" -O2 -static -DOWN_MEMORY -I "$made" -I "$from/include" -I "$here" "$here/driver.c" "$here/hosted.c" "$from/lib/libetcs_unit_static.a" \

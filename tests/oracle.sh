@@ -1,5 +1,5 @@
 #!/bin/bash
-# Another unit beside the proved one, and searches (docs/howto/oracle.md, docs/howto/searching.md): a unit in C, one in Python and `./lab serve` about the
+# Another unit along with the proved one, and searches (docs/howto/oracle.md, docs/howto/searching.md): a unit in C, one in Python and `./lab serve` about the
 # journals of the examples; the whole of suites/ against the unit in C; each unit that is wrong on purpose is found out; wrong properties are
 # found and made small, the safety laws hold; what tshark shows of telegrams; and the commands of these pages and WIRESHARK.
 #

@@ -1,6 +1,6 @@
 #!/bin/bash
-# The page of tools/page in headless Chromium, on the programs that the gate leaves behind: its types; what is driven beside `etcs run`, also with
-# cuts of power, and beside the library for C; what is asked beside `etcs_lab`, also of altered images; telegrams that are taken apart; hostile files
+# The page of tools/page in headless Chromium, on the programs that the gate leaves after: its types; what is driven along with `etcs run`, also with
+# cuts of power, and along with the library for C; what is asked along with `etcs_lab`, also of altered images; telegrams that are taken apart; hostile files
 # and texts; that it connects to nobody; contrast and names; how long an image takes.
 #
 #     tests/page.sh [ETCS_LAB ETCS [PAGE [NAME..]]]    on other programs, of a page that is there, these checks alone

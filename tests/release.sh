@@ -3,7 +3,7 @@
 # altered in it; and where its packages are unpacked, without the kit and these sources, the commands of README.md run, a report is made, the
 # package is imported, and a program in C is built with the library.
 #
-#     tests/release.sh    on the programs and the library that the gate leaves behind; else on tried programs, and the library that
+#     tests/release.sh    on the programs and the library that the gate leaves after; else on tried programs, and the library that
 #                         ETCS_UNIT_ARCHIVE names
 self=$(readlink -f -- "$0" && echo .) || exit 1
 top=${self%/*/*}
@@ -85,7 +85,7 @@ altered() {
     (cd "$room/altered" && eval "$3") || fails "$1: can't be altered"
     refuses "$1" "$2" tools/verify --signers "${4:-$room/signers}" "$room/altered"
 }
-# (the digests told anew, as one would who alters more)
+# (the digests reported anew, as one would who alters more)
 again='sha256sum -- $(ls | grep -v "^SHA256SUMS") >SHA256SUMS; rm -f SHA256SUMS.sig; ssh-keygen -q -Y sign -f "$room/key" -n gaknifur-release SHA256SUMS 2>/dev/null'
 altered "a byte of a package" "$deb is another one than SHA256SUMS tells" "printf x >>$deb"
 altered "a package that is gone" "$deb is missing" "rm $deb"

@@ -1,6 +1,6 @@
 #!/bin/bash
 # The rows of the crates, by a program that is compiled for them of the crates' sources, unproved (rows/tried). Each module of rows/ makes
-# numbers of its rows, all are asked in one go, and each makes words of what it was told, and compares with the answers that are wanted.
+# numbers of its rows, all are asked in one go, and each makes words of what it was reported, and compares with the answers that are wanted.
 # The rows are those by hand (rows/*.row) and the ones that plain/make_rows.py makes. Fails where one differs, where the sources don't compile, where a run came to no end or an answer is missing, where fewer rows were tried
 # than stand here, and where a question that is too long for the program is asked.
 #

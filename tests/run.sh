@@ -1,5 +1,5 @@
 #!/bin/bash
-# The plain program beside the kernel's rows and the program's: the answers that the kernel's rows want are its own too,
+# The plain program along with the kernel's rows and the program's: the answers that the kernel's rows want are its own too,
 # and there are as many rows, events and answers as stand here. So are the answers that the rows of the program and the
 # examples want. The reader that was written from the page of the format alone lists what the plain unit wrote. The tables
 # of the plain program are those of the definitions. The safety laws hold after each event of the kernel's rows.

@@ -1,5 +1,5 @@
 #!/bin/bash
-# The corpus of test cases in suites/, on the programs that the gate leaves behind: each result comes, each section and transition has
+# The corpus of test cases in suites/, on the programs that the gate leaves after: each result comes, each section and transition has
 # a case or a reason, what the records reach is measured and all that can be is reached, what is untrue fails, what is weak on a track is
 # found, and docs/start/tests.md, docs/howto/testing-a-train.md and docs/howto/sequences.md print what they say, in one folder; and a search over random lives.
 #

@@ -59,7 +59,7 @@ done
 qemu-aarch64 "$made/aarch64" <"$made/script" >"$made/told.aarch64" || fails "the driver on aarch64 ends with another status than 0"
 qemu-aarch64 "$made/aarch64_static" <"$made/script" >"$made/told.aarch64_own_memory" || fails "the driver over a buffer on aarch64 ends with another status than 0"
 board "$made/board.elf" "$made/script" >"$made/told.board"
-# (behind a version of node that has such memories as they are, the word is unknown)
+# (after a version of node that has such memories as they are, the word is unknown)
 wide=--experimental-wasm-memory64
 node $wide -e '' 2>/dev/null || wide=
 node $wide --no-warnings "$here/driver.mjs" "$wasm/lib/etcs.wasm" <"$made/script" >"$made/told.wasm64" || fails "the driver in WebAssembly ends with another status than 0"

@@ -1,6 +1,6 @@
 #!/bin/bash
-# Telegrams in JSON, their packets by name, and what is told of scenarios, on the programs that the gate leaves behind: what the program etcs_lab writes of an object and
-# tells of bytes beside what plain readers and writers do, each message once, the schema; what is wrong in a scenario, and where.
+# Telegrams in JSON, their packets by name, and what is reported of scenarios, on the programs that the gate leaves after: what the program etcs_lab writes of an object and
+# says about bytes along with what plain readers and writers do, each message once, the schema; what is wrong in a scenario, and where.
 #
 #     tests/telegrams.sh [ETCS_LAB ETCS]    on other programs
 lab=${1:-$(dirname "$(readlink -f -- "$0")")/../crates/etcs_lab/out/etcs_lab}

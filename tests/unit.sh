@@ -1,7 +1,7 @@
 #!/bin/bash
 # The unit as C, C++, Python and Rust programs call it, all of it built from the folder that tools/library makes: the headers alone, the names
-# that the library shows, sizes and places, wrong calls, files, archives of blocks and marks beside the journal, two units at once, the
-# examples, images beside `etcs journal`, random lives beside `etcs run`, instructions beside kept counts and bounds, memory that is refused,
+# that the library shows, sizes and places, wrong calls, files, archives of blocks and marks along with the journal, two units at once, the
+# examples, images along with `etcs journal`, random lives along with `etcs run`, instructions along with kept counts and bounds, memory that is refused,
 # and the commands of docs/howto/embedding.md. It needs gcc, g++, valgrind, rustc and Debian's Python; clang is tried where it is there.
 #
 #     tests/unit.sh [PREFIX [LIVES]]    builds and installs the library first, or takes the one below PREFIX; 400 lives; $ETCS and $ETCS_LAB name
@@ -187,12 +187,12 @@ counted "trains that brake" $trains 5
 
 "$python" "$top/tests/unit/images.py" "$made/listing.gcc" "$made/listing.checked" "$made"/image.* || status=1
 
-# ---- lives that are run again: beside the plain programs and etcs_lab; and memory that is refused
+# ---- lives that are run again: compared with the plain programs and etcs_lab; and memory that is refused
 
 gcc -std=gnu11 -O2 -fPIC -shared "$top/tests/hostile/refuse.c" -o "$made/refuse.so" || fails "tests/hostile/refuse.c doesn't compile"
 "$python" "$top/tests/unit/again.py" "$lab" "$made/refuse.so" "$made"/again.gcc "$made"/again.checked "$made"/again.cpp || status=1
 
-# ---- why an output is what it is, of a unit that runs: beside the plain program, and beside the image
+# ---- why an output is what it is, of a unit that runs: compared with the plain program, and along with the image
 
 "$python" "$top/tests/unit/explained.py" "$made"/explained.gcc "$made"/explained.checked "$made"/explained.cpp || status=1
 
@@ -201,12 +201,12 @@ gcc -std=gnu11 -O2 -fPIC -shared "$top/tests/hostile/refuse.c" -o "$made/refuse.
 "$python" "$top/tests/unit/kept.py" "$lab" "$made"/kept.gcc "$made"/kept.checked "$made"/kept.cpp || status=1
 "$python" "$top/tests/unit/kept_cuts.py" "$made/kept.gcc" || status=1
 
-# ---- lives beside the program
+# ---- lives along with the program
 
 "$python" "$top/tests/unit/lives.py" "$made/life.gcc" "${2:-400}" || status=1
 "$python" "$top/tests/unit/lives.py" "$made/life.checked" "$((${2:-400} / 20))" 7 || status=1
 
-# ---- instructions: rows beside kept ones, and the worst case beside its bounds
+# ---- instructions: rows along with kept ones, and the worst case along with its bounds
 
 gcc -std=gnu11 -O2 -Wl,-z,now,--wrap=malloc,--wrap=realloc,--wrap=free -I "$include" -I "$top/tests/unit" "$top/bench/worst.c" "$archive" \
     -o "$made/worst" || fails "bench/worst.c doesn't compile"
@@ -217,7 +217,7 @@ gcc -std=gnu11 -O2 -Wl,-z,now,--wrap=malloc,--wrap=realloc,--wrap=free -I "$incl
 others=$(nm -u "$archive" | grep -Ew 'calloc|aligned_alloc|posix_memalign|memalign|mmap|sbrk' | tr -s ' \n' ' ')
 [ -z "$others" ] || fails "the library takes memory in a way that no test refuses:$others"
 
-# ---- memory of the maker's own: the allocator beside a plain model, what a unit needs at most, and refusals by the buffer
+# ---- memory of the maker's own: the allocator compared with a plain model, what a unit needs at most, and refusals by the buffer
 
 link=("$archive")
 for name in pieces string_calls; do

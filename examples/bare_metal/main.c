@@ -56,7 +56,7 @@ void board_brake(void) {
 /* ---- the medium */
 
 /* Carries out one request; 0 where the medium failed. A sync waits until all that was written is kept: here it is. */
-static int carries_out(const etcs_unit_request_told *request, const uint8_t *bytes) {
+static int carries_out(const etcs_unit_request_info *request, const uint8_t *bytes) {
     const uint64_t length = request->sectors * ETCS_UNIT_SECTOR;
     if ((request->kind == ETCS_REQUEST_WRITE) && ((request->sector + request->sectors) > SECTORS)) {
         return 0;
@@ -107,7 +107,7 @@ static uint32_t prepare(etcs_unit *unit) {
 /* Carries out the list, one request after the other, and releases what was held back. */
 static uint32_t release(etcs_unit *unit, etcs_unit_output *outputs, uint32_t *count) {
     static uint8_t bytes[ETCS_UNIT_REQUEST_BYTES];
-    etcs_unit_request_told request;
+    etcs_unit_request_info request;
     uint32_t index = 0, status;
     while ((status = etcs_unit_request(unit, index, &request, bytes, sizeof bytes)) == ETCS_UNIT_OK) {
         if (carries_out(&request, bytes) == 0) {
@@ -122,7 +122,7 @@ static uint32_t release(etcs_unit *unit, etcs_unit_output *outputs, uint32_t *co
 
 static uint32_t format(void) {
     static uint8_t bytes[ETCS_UNIT_SECTOR];
-    etcs_unit_request_told request;
+    etcs_unit_request_info request;
     uint32_t index = 0, status;
     while ((status = etcs_unit_format_request(SLOTS, index, &request, bytes, sizeof bytes)) == ETCS_UNIT_OK) {
         (void)carries_out(&request, bytes);
@@ -234,7 +234,7 @@ static uint32_t live(int is_ready, int cycles) {
 }
 
 int main(void) {
-    etcs_memory_told told = {0, 0, 0, 0, 0};
+    etcs_memory_info told = {0, 0, 0, 0, 0};
     board_paint();
     board_watch(WATCHDOG_MS);
     uint32_t status = etcs_memory_use(memory, sizeof memory);

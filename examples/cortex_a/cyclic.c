@@ -92,7 +92,7 @@ static void *cyclic(void *unused) {
         const uint64_t due = from + cycle * cycle_ms * 1000u;
         wait_until(due);
         pthread_mutex_lock(&our.lock);
-        /* (a reading of a sensor tells whole centimetres; what is left goes into the next one) */
+        /* (a reading of a sensor reports whole centimetres; what is left goes into the next one) */
         if (our.fault == ETCS_UNIT_OK && did(etcs_unit_odometer(&our.unit, 0, 0)) && did(etcs_unit_clock(&our.unit, cycle * cycle_ms))) {
             if (cycle == 3 && enter("an identity that is far too long") != ETCS_UNIT_OK)
                 (void)enter("IC 704");
@@ -128,7 +128,7 @@ static uint32_t power_up(const char *path) {
 
 int main(int count, char **words) {
     pthread_t task;
-    etcs_memory_told told = {0, 0, 0, 0, 0};
+    etcs_memory_info told = {0, 0, 0, 0, 0};
     if (count < 2 || etcs_memory_use(memory, sizeof memory) != ETCS_UNIT_OK)
         return 2;
     most_cycles = count > 2 ? strtoull(words[2], NULL, 10) : most_cycles;

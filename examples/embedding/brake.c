@@ -11,7 +11,7 @@
 enum { CYCLE_MS = 500, MOST_CYCLES = 1000, SLOTS = 64 };
 
 /* The equipment around the unit. Here it is a train that is simulated: it pulls up to 100 km/h, and slows where a brake
- * is commanded. A reading tells whole centimetres: what is left of a movement is carried over to the next one, since cut
+ * is commanded. A reading reports whole centimetres: what is left of a movement is carried over to the next one, since cut
  * off it would be lost, at 5 km/h and ten readings a second 64 m of 1,000. */
 typedef struct {
     uint64_t moment_ms;
@@ -76,7 +76,7 @@ static uint32_t make_ready(etcs_unit *unit) {
     return status;
 }
 
-/* What the sensors tell in one cycle. */
+/* What the sensors report in one cycle. */
 static uint32_t accept(const train *our, etcs_unit *unit) {
     const uint32_t status = etcs_unit_odometer(unit, our->movement_cm, our->speed_m_per_h);
     return status == ETCS_UNIT_OK ? etcs_unit_clock(unit, our->moment_ms) : status;

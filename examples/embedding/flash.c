@@ -1,6 +1,6 @@
-/* The journal on a flash behind a driver of the maker's own, without a file and without memory of the C library's own use.
+/* The journal on a flash after a driver of the maker's own, without a file and without memory of the C library's own use.
  * The unit holds no copy of it: the driver reads the sectors that are wanted.
- * Power is lost behind each number of requests of a flush, and the next power-up goes on from what is on the flash: either
+ * Power is lost after each number of requests of a flush, and the next power-up goes on from what is on the flash: either
  * all of the batch is there, or nothing of it, and none of its outputs reached the train before all of it was.
  *
  *     flash */
@@ -45,13 +45,13 @@ static int flash_sync(void) {
 
 /* ---- the unit's requests, by the driver */
 
-static int flash_does(const etcs_unit_request_told *request, const uint8_t *bytes) {
+static int flash_does(const etcs_unit_request_info *request, const uint8_t *bytes) {
     return request->kind == ETCS_REQUEST_SYNC ? flash_sync() : flash_write(request->sector, bytes, request->sectors);
 }
 
 /* Makes the flash an empty journal. */
 static uint32_t format(void) {
-    etcs_unit_request_told request;
+    etcs_unit_request_info request;
     uint8_t bytes[ETCS_UNIT_SECTOR];
     uint32_t status, index = 0;
     memset(cells, 0, sizeof cells);
@@ -62,7 +62,7 @@ static uint32_t format(void) {
 
 /* Carries out the list, and says that all of it is done. Where the flash fails it says so to the unit. */
 static uint32_t carry_out(etcs_unit *unit) {
-    etcs_unit_request_told request;
+    etcs_unit_request_info request;
     static uint8_t bytes[ETCS_UNIT_REQUEST_BYTES];
     uint32_t status, count = 0;
     while ((status = etcs_unit_request(unit, count, &request, bytes, sizeof bytes)) == ETCS_UNIT_OK) {
@@ -134,7 +134,7 @@ static uint32_t accept(etcs_unit *unit, uint32_t events) {
     return status;
 }
 
-/* A life of one batch, whose power is lost behind so many of its requests; how many outputs were released goes to `count`. */
+/* A life of one batch, whose power is lost after so many of its requests; how many outputs were released goes to `count`. */
 static uint32_t first_life(int requests, uint32_t *count) {
     etcs_unit unit = {0};
     etcs_unit_output outputs[ETCS_UNIT_OUTPUTS];
@@ -152,7 +152,7 @@ static uint32_t first_life(int requests, uint32_t *count) {
     return status;
 }
 
-/* The next life: the number of its first event behind the power-up tells how many events there are before it. */
+/* The next life: the number of its first event after the power-up says how many events there are before it. */
 static uint32_t second_life(uint64_t *event) {
     etcs_unit unit = {0};
     etcs_unit_output outputs[ETCS_UNIT_OUTPUTS];

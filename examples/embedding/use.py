@@ -33,7 +33,7 @@ class Train:
         return moved
 
     def obey(self, output: Output) -> None:
-        """Does what is commanded, and tells of it."""
+        """Does what is commanded, and says about it."""
         if (output.brake, output.mode) != (self.brake, self.mode):
             print(f"event {output.event}: mode {LETTERS[output.mode]}, brake {output.brake.name.lower()}, limit {output.limit_m_per_h} m/h, "
                   f"speed {self.speed} m/h")

@@ -1,7 +1,7 @@
 /* Why a train braked: runs the life of an event through the kernel again, by the calls of etcs_image.h alone.
  *
- *     why IMAGE          tells of each life whether the journal agrees with the kernel, and of each command to the brakes why it was given
- *     why IMAGE EVENT    tells of one event
+ *     why IMAGE          says about each life whether the journal agrees with the kernel, and of each command to the brakes why it was given
+ *     why IMAGE EVENT    says about one event
  */
 #include <stdio.h>
 #include <stdlib.h>

@@ -44,7 +44,7 @@ int main(void) {
             return 1;
         take(&unit, line);
         printf("{\"event\":%lld,\"mode\":\"SB\",\"level\":%s,\"brake\":\"emergency\"}\n", strtoll(number, NULL, 10), unit.level);
-        fflush(stdout); /* each answer at once: the next event comes behind it */
+        fflush(stdout); /* each answer at once: the next event comes after it */
     }
     return 0;
 }

@@ -16,7 +16,7 @@ enum { SLOTS = 64, LINE = 8192 };
 static uint8_t medium[ETCS_UNIT_SECTOR * (1 + 6 * SLOTS)], bytes[ETCS_UNIT_REQUEST_BYTES];
 static etcs_unit unit;
 
-/* The member of a message, behind its name: the messages have no objects within, and no name stands in a text. */
+/* The member of a message, after its name: the messages have no objects within, and no name stands in a text. */
 static const char *member(const char *line, const char *name) {
     char sought[40];
     snprintf(sought, sizeof sought, "\"%s\":", name);
@@ -88,14 +88,14 @@ static uint32_t power_up(const char *line) {
 }
 
 /* Carries out a request of the unit; its medium is memory, which needs no sync. */
-static void carry_out(const etcs_unit_request_told *request) {
+static void carry_out(const etcs_unit_request_info *request) {
     if (request->kind == ETCS_REQUEST_WRITE)
         memcpy(medium + ETCS_UNIT_SECTOR * request->sector, bytes, ETCS_UNIT_SECTOR * (size_t)request->sectors);
 }
 
 static uint32_t flush(void) {
     etcs_unit_output outputs[ETCS_UNIT_OUTPUTS];
-    etcs_unit_request_told request;
+    etcs_unit_request_info request;
     uint32_t count = 0;
     while (etcs_unit_request(&unit, count, &request, bytes, sizeof bytes) == ETCS_UNIT_OK) {
         carry_out(&request);
@@ -117,7 +117,7 @@ static uint32_t take(const char *line) {
     return status == ETCS_UNIT_OK ? flush() : status;
 }
 
-/* The answer: what the journal's last record tells, which that of a power-up tells too. */
+/* The answer: what the journal's last record says, which that of a power-up reports too. */
 static void answer(void) {
     static const char *const modes[] = {"FS", "OS", "SR", "SH", "UN", "", "SB", "TR", "PT", "SF"};
     static const char *const brakes[] = {"none", "service", "emergency"};
@@ -141,7 +141,7 @@ static void answer(void) {
 
 int main(void) {
     static char line[LINE];
-    etcs_unit_request_told request;
+    etcs_unit_request_info request;
     for (uint32_t i = 0; etcs_unit_format_request(SLOTS, i, &request, bytes, sizeof bytes) == ETCS_UNIT_OK; i++)
         carry_out(&request);
     if (fgets(line, sizeof line, stdin))
@@ -155,7 +155,7 @@ int main(void) {
             return 1;
         }
         answer();
-        fflush(stdout); /* each answer at once: the next event comes behind it */
+        fflush(stdout); /* each answer at once: the next event comes after it */
     }
     etcs_unit_close(&unit);
     return 0;

@@ -3,7 +3,7 @@
 
     ./lab test suites --against examples/oracle/unit.py
 
-It knows Stand By, the identity and the level, and tells its mode, its level and its brake; it never starts. So it
+It knows Stand By, the identity and the level, and says its mode, its level and its brake; it never starts. So it
 differs from the proved unit where a train is made ready. Where `Unit` stands, a maker puts his own.
 """
 import json

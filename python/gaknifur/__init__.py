@@ -32,14 +32,14 @@ def __getattr__(name: str) -> Any:
 def journal(path: str | Path, other_blocks: bool = False) -> "pd.DataFrame":
     """The records of an image as a table, one row each, the oldest first; `tables` has its columns.
 
-    With `other_blocks` also the records that aren't of the journal, which column `source` tells.
+    With `other_blocks` also the records that aren't of the journal, which column `source` reports.
     """
     from .journal import reading, tables  # (pandas takes a while to load, which the words of ./lab that have no table needn't)
     return tables.frame(reading.read(path, other_blocks=other_blocks, replay=True, why=True))
 
 
 def brake_causes(path: str | Path) -> "pd.DataFrame":
-    """A row for each cause that holds behind an event of which causes are told, the oldest first: since which event, what it
+    """A row for each cause that holds after an event of which causes are reported, the oldest first: since which event, what it
     says and how it ends."""
     import pandas as pd
 

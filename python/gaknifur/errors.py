@@ -60,7 +60,7 @@ def told_of(error: BaseException) -> str:
 
 
 def caught(do: Callable[[], int]) -> int:
-    """Does something, and answers its status; whatever it raises is told in a line."""
+    """Does something, and answers its status; whatever it raises is reported in a line."""
     try:
         status = do()
         sys.stdout.flush()

@@ -1,8 +1,8 @@
 """The files that `lab` makes, and how nothing that stands under a name is lost by it.
 
 What is made is a new file. In place of one that is there it comes only with `--force`, and only where that is a regular
-file which this package made before, as its first bytes tell (`Kind`). An image is never written over, whatever its name
-is. A file is written beside its name and synced, and takes the name once it is whole.
+file which this package made before, as its first bytes say (`Kind`). An image is never written over, whatever its name
+is. A file is written along with its name and synced, and takes the name once it is whole.
 """
 import contextlib
 import ctypes
@@ -42,7 +42,7 @@ AT_CURRENT, RENAME_NOREPLACE = -100, 1
 LEFT = re.compile(r"\.lab-[0-9]+-[0-9a-f]{16}")
 """The names of what isn't finished."""
 MAKER = "gaknifur lab"
-"""The maker that pages, pictures and workbooks tell."""
+"""The maker that pages, pictures and workbooks report."""
 
 
 @dataclass(frozen=True)
@@ -70,7 +70,7 @@ def beginning(name: str, *marks: bytes) -> Kind:
 
 
 def holding(name: str, beginning: bytes, mark: bytes) -> Kind:
-    """A kind whose first bytes begin as told and hold a mark."""
+    """A kind whose first bytes begin as reported and hold a mark."""
     return Kind(name, lambda data: data.startswith(beginning) and mark in data)
 
 
@@ -217,7 +217,7 @@ def write(out: Out, data: str | bytes | Iterable[str], inputs: Iterable[Path] = 
 
 @contextlib.contextmanager
 def filled(path: Path, before: os.stat_result | None = None) -> Iterator[BinaryIO]:
-    """A file that is filled beside its name, and gets the name once it is whole and synced: a new one where nothing stood there
+    """A file that is filled along with its name, and gets the name once it is whole and synced: a new one where nothing stood there
     (FileExistsError where something does now), else in place of what did."""
     beside = path.with_name(f".lab-{os.getpid()}-{secrets.token_hex(8)}")
     descriptor = os.open(beside, os.O_WRONLY | os.O_CREAT | os.O_EXCL | os.O_CLOEXEC, 0o666)
@@ -449,7 +449,7 @@ class Appended:
         return os.pread(self.descriptor, size, at)
 
     def drop(self, size: int) -> None:
-        """Drops what stands behind so many bytes: a part of what was being appended where power was lost."""
+        """Drops what comes after so many bytes: a part of what was being appended where power was lost."""
         if size < self.size:
             os.ftruncate(self.descriptor, size)
             self.size = size
@@ -468,7 +468,7 @@ class Appended:
         return self.is_in_doubt or self.kept < self.size
 
     def sync(self) -> None:
-        """Returns when the system says that all is kept. Behind a sync that failed the system takes for kept what perhaps isn't, so all that
+        """Returns when the system says that all is kept. After a sync that failed the system takes for kept what perhaps isn't, so all that
         was appended since the last good one is written again first."""
         if self.is_in_doubt:
             self.write_again()

@@ -4,9 +4,9 @@
         print(line.first_event, line.last_event, line.verdict.name)
     print(gaknifur.why("image", 8).causes)
 
-`replay(path)` tells line by line, as `etcs_lab replay` does, which events agree with the kernel, which record or head
+`replay(path)` reports line by line, as `etcs_lab replay` does, which events agree with the kernel, which record or head
 differs, and which events can't be run again;
-`why(path, event)` tells which causes of a brake hold behind an event and since when, why the train was tripped, and what
+`why(path, event)` says which causes of a brake hold after an event and since when, why the train was tripped, and what
 decides the limit. `lines`, `why_at` and `why_in` read bytes. Each life is run from its power-up on, so `why` takes as long as the
 life is up to the event.
 """
@@ -25,7 +25,7 @@ __all__ = ["BrakeCause", "Datum", "Difference", "Kept", "KeptField", "LimitCause
 
 @dataclass(frozen=True, slots=True)
 class Kept:
-    """What a head tells of what is kept, or what the kernel keeps. The position is a country, a group, and how far behind
+    """What a head says about what is kept, or what the kernel keeps. The position is a country, a group, and how far beyond
     it the front lies, in cm; the national values stand in the order of etcs_national, None without an end."""
 
     trip_outstanding: bool
@@ -64,7 +64,7 @@ class Line:
 @dataclass(frozen=True, slots=True)
 class Why:
     """Why an event was answered so, as this kernel answers it. Of each cause of the brake that holds the first event of the
-    run behind each of which it has held; of what decides the limit its speed, its place and a restriction's number."""
+    run after each of which it has held; of what decides the limit its speed, its place and a restriction's number."""
 
     event: int
     brake: Brake
@@ -111,7 +111,7 @@ def _line(told: _header.etcs_replay) -> Line:
 
 def lines(image: bytes) -> Iterator[Line]:
     """Each line of a replay of the journal that an image holds, the oldest first. A block that can't be read is passed
-    over: what is behind it has the verdict BEHIND_GAP, up to the next power-up."""
+    over: what is after it has the verdict BEHIND_GAP, up to the next power-up."""
     cursor, told = _header.etcs_journal(), _header.etcs_replay()
     unit._told(unit._called("etcs_journal_open_", image, len(image), unit.ABI, ctypes.byref(cursor)))
     while (status := unit._called("etcs_image_replay_", image, len(image), unit.ABI, ctypes.byref(cursor), ctypes.byref(told))) != Status.END:
@@ -127,7 +127,7 @@ def replay(path: str | Path) -> list[Line]:
 
 
 def why_at(image: bytes, block: int, event: int) -> Why:
-    """Why an event of a block was answered so, as its `Record` tells both numbers. NOT_REPLAYED where its life can't be run
+    """Why an event of a block was answered so, as its `Record` reports both numbers. NOT_REPLAYED where its life can't be run
     again, NO_SUCH_BLOCK and NO_SUCH_RECORD where the image hasn't it."""
     told = _header.etcs_why()
     unit._told(unit._called("etcs_image_why_", image, len(image), unit.ABI, unit._number(block, 64), unit._number(event, 64),

@@ -3,7 +3,7 @@
 `$GAKNIFUR_ETCS_LAB` and `$GAKNIFUR_ETCS` name the programs. Without them the scripts are asked, once a process, whether
 there is a proved program of these sources: then that is run. Else the one is that a script compiles of the sources,
 unproved, and keeps; it says so on standard error. The scripts are those of this repository; of a package that is
-installed, those beside it, or else on the PATH.
+installed, those next to it, or else on the PATH.
 """
 import contextlib
 import functools
@@ -37,7 +37,7 @@ class Failed(Exception):
 HERE = Path(__file__).resolve()
 VERSION_TOOL = HERE.parents[2] / "tools" / "version"
 TOP = HERE.parents[2] if VERSION_TOOL.exists() else HERE.parents[3] / "gaknifur"
-"""The repository that this package lies in; else the folder of an installed product, which is beside that of Python."""
+"""The repository that this package lies in; else the folder of an installed product, which is besides that of Python."""
 
 
 @functools.cache
@@ -84,7 +84,7 @@ def tried(script: Path) -> Path:
 
 @dataclass(frozen=True)
 class Told:
-    """What a tool of the system told: its status, its output, and what it said on standard error."""
+    """What a tool of the system reported: its status, its output, and what it said on standard error."""
 
     status: int
     output: str
@@ -151,7 +151,7 @@ class Ran:
 
 
 def ran(words: Sequence[str]) -> Ran:
-    """Runs a program to its end. Its output goes to a file in memory, so that nobody has to read beside it, and the process is
+    """Runs a program to its end. Its output goes to a file in memory, so that nobody has to read next to it, and the process is
     made without a copy of this one: that takes less than half of the time that `subprocess` takes, which a program of a
     millisecond shows."""
     if not hasattr(os, "memfd_create"):  # (Linux alone has it)
@@ -218,7 +218,7 @@ def all_of(file: int) -> bytes:
 
 
 class Run:
-    """A run of `etcs_lab` on an image: its lines as they come, and behind them its status and what it said."""
+    """A run of `etcs_lab` on an image: its lines as they come, and after them its status and what it said."""
 
     def __init__(self, words: Sequence[str], image: Path, *more: str) -> None:
         self.image = str(image.absolute())
@@ -241,7 +241,7 @@ class Run:
             self.said = os.fsdecode(errors.read()).split("\n")[:-1]
 
     def all_text(self) -> str:
-        """All of standard output at once, of a run that tells little."""
+        """All of standard output at once, of a run that says little."""
         try:
             done = ran(self.words)
         except OSError as error:

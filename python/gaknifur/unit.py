@@ -5,7 +5,7 @@
         for output in unit.flush():
             obey(output)
 
-`$GAKNIFUR_ETCS_UNIT` names the library; without it the one that is installed beside this package is taken, or else the
+`$GAKNIFUR_ETCS_UNIT` names the library; without it the one that is installed along with this package is taken, or else the
 system's loader looks for `libetcs_unit.so.N`, N being the number of the interface (`ABI`). A unit opens no file: its
 journal lies on a `Medium`, here a file (`FileMedium`) or sectors in memory (`MemoryMedium`), or a class of the user's
 own. A `Unit` holds a copy of its medium. A `SectorUnit` holds 16 sectors, whatever the medium's size, and reads those that
@@ -135,8 +135,8 @@ class UnitWhy:
 
 @dataclass(frozen=True, slots=True)
 class Record:
-    """A record of a journal with all that its block tells of it. Place, uncertainty and limit are None in format 1. The
-    payload is what the event tells (docs/reference/format.md)."""
+    """A record of a journal with all that its block says about it. Place, uncertainty and limit are None in format 1. The
+    payload is what the event reports (docs/reference/format.md)."""
 
     event: int
     block: int
@@ -156,7 +156,7 @@ class Record:
 
 @dataclass(frozen=True, slots=True)
 class Facts:
-    """What an image has at first sight: whole sectors, the slots that are told, those that are there, the newest block."""
+    """What an image has at first sight: whole sectors, the slots that are reported, those that are there, the newest block."""
 
     sectors: int
     slots: int
@@ -166,7 +166,7 @@ class Facts:
 
 @dataclass(frozen=True, slots=True)
 class Slot:
-    """What a slot holds. A field that isn't one is told by its record, from 1 on, and its offset behind the gate."""
+    """What a slot holds. A field that isn't one is reported by its record, from 1 on, and its offset after the gate."""
 
     state: SlotState
     number: int | None
@@ -184,7 +184,7 @@ class Refused(Exception):
 
 
 class Writable(Protocol):
-    """What a journal is written to. A call that fails raises, and then the unit is told that its medium failed."""
+    """What a journal is written to. A call that fails raises, and then the unit is given that its medium failed."""
 
     def write(self, sector: int, data: bytes) -> None:
         """Writes whole sectors from this one on."""
@@ -383,7 +383,7 @@ def _output(told: _header.etcs_unit_output) -> Output:
                   Indication(told.indications))
 
 
-def _unit_why(told: _header.etcs_unit_why_told) -> UnitWhy:
+def _unit_why(told: _header.etcs_unit_why_info) -> UnitWhy:
     def waiting(name: str) -> Waiting:
         return Waiting(Acknowledgement(getattr(told, name)), getattr(told, f"{name}_ms"))
     return UnitWhy(
@@ -396,25 +396,25 @@ def _unit_why(told: _header.etcs_unit_why_told) -> UnitWhy:
         OverrideLeft(told.override_ms if told.override_ends else None, told.override_cm) if told.has_override else None)
 
 
-def _carry_out(medium: Writable, request: _header.etcs_unit_request_told, room: ctypes.Array[ctypes.c_char]) -> None:
+def _carry_out(medium: Writable, request: _header.etcs_unit_request_info, room: ctypes.Array[ctypes.c_char]) -> None:
     if request.kind == RequestKind.WRITE:
         medium.write(request.sector, room.raw[:SECTOR * request.sectors])
     else:
         medium.sync()
 
 
-def _format_request(slots: int, index: int, request: _header.etcs_unit_request_told, room: ctypes.Array[ctypes.c_char]) -> int:
+def _format_request(slots: int, index: int, request: _header.etcs_unit_request_info, room: ctypes.Array[ctypes.c_char]) -> int:
     return _called("etcs_unit_format_request_", _number(slots, 32), index, ctypes.byref(request), room, SECTOR)
 
 
 def first_request(slots: int) -> None:
     """BAD_SLOTS where a journal can't have so many slots."""
-    _told(_format_request(slots, 0, _header.etcs_unit_request_told(), ctypes.create_string_buffer(SECTOR)))
+    _told(_format_request(slots, 0, _header.etcs_unit_request_info(), ctypes.create_string_buffer(SECTOR)))
 
 
 def format_medium(medium: Writable, slots: int) -> None:
     """Makes a medium of 1 + 6 * slots sectors an empty journal."""
-    request, room, index = _header.etcs_unit_request_told(), ctypes.create_string_buffer(SECTOR), 0
+    request, room, index = _header.etcs_unit_request_info(), ctypes.create_string_buffer(SECTOR), 0
     while (status := _format_request(slots, index, request, room)) == Status.OK:
         _carry_out(medium, request, room)
         index += 1
@@ -509,7 +509,7 @@ def _record(told: _header.etcs_record) -> Record:
 
 
 def records(image: bytes) -> Iterator[Record]:
-    """The records of the journal that an image holds, the oldest first. IMAGE_DAMAGED where one can't be read, behind those
+    """The records of the journal that an image holds, the oldest first. IMAGE_DAMAGED where one can't be read, after those
     before it."""
     cursor, told = _header.etcs_journal(), _header.etcs_record()
     _told(_called("etcs_journal_open_", image, len(image), ABI, ctypes.byref(cursor)))
@@ -659,7 +659,7 @@ class AnyUnit(_Handle, ABC):
             raise
 
     def _carry_out(self) -> None:
-        request, room = _header.etcs_unit_request_told(), ctypes.create_string_buffer(REQUEST_BYTES)
+        request, room = _header.etcs_unit_request_info(), ctypes.create_string_buffer(REQUEST_BYTES)
         state = self.state()
         for index in range(state.done, state.requests):
             self._call("request", index, ctypes.byref(request), room, REQUEST_BYTES)
@@ -669,14 +669,14 @@ class AnyUnit(_Handle, ABC):
 
     def state(self) -> State:
         """How far it is."""
-        told = _header.etcs_unit_state_told()
+        told = _header.etcs_unit_state_info()
         self._call("state", ctypes.byref(told))
         return State(_output(told.last), told.requests, told.done, told.held, told.has_failed != 0, told.pending,
                      told.moment_ms, told.front_cm, told.uncertainty_cm)
 
     def why(self) -> UnitWhy:
         """Why the newest released output is what it is. NOT_RELEASED while an input is pending or requests aren't released."""
-        told = _header.etcs_unit_why_told()
+        told = _header.etcs_unit_why_info()
         self._call("why", ctypes.byref(told))
         return _unit_why(told)
 
@@ -728,7 +728,7 @@ class Opening(_Wanting):
 
 class SectorUnit(AnyUnit, _Wanting):
     """A unit that holds 16 sectors, whatever the size of its medium, and reads those that it has to know: in a power-up the
-    gate of each slot and the head behind it, in a flush one gate."""
+    gate of each slot and the head after it, in a flush one gate."""
 
     def __init__(self, medium: SectorMedium, cold: Cold = Cold.UNKNOWN) -> None:
         super().__init__(medium, cold)

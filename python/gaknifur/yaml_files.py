@@ -1,7 +1,7 @@
-"""YAML whose values know where they stand: each fault is told with its file, line and column.
+"""YAML whose values know where they stand: each fault is reported with its file, line and column.
 
 Every scalar is a text as it was written, so `on`, `no` and `3.10` stay what they are; who asks for a number or a truth
-gets one or a fault. A key told twice is refused. Anchors and aliases of YAML work; merge keys and tags don't. What a file
+gets one or a fault. A key reported twice is refused. Anchors and aliases of YAML work; merge keys and tags don't. What a file
 may hold has bounds, so that each file is read in a bounded time, and each fault is one line.
 """
 import difflib
@@ -141,7 +141,7 @@ class Value:
         return text
 
     def file(self) -> Path:
-        """The file that a text names, beside the one where it stands."""
+        """The file that a text names, along with the one where it stands."""
         text = self.text()
         path = self.path.parent / text
         try:
@@ -259,7 +259,7 @@ def text_of(path: Path) -> str:
 
 
 def at_end_of(path: Path, before: str, said: str) -> BadFile:
-    """The fault behind a text."""
+    """The fault after a text."""
     return BadFile(path, before.count("\n") + 1, len(before) - before.rfind("\n"), said)
 
 

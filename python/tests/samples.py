@@ -1,4 +1,4 @@
-"""A journal as `etcs_lab` might tell it, made without any program."""
+"""A journal as `etcs_lab` might say it, made without any program."""
 from pathlib import Path
 from typing import Any
 
@@ -14,7 +14,7 @@ AUTHORITY: Json = {
 
 
 def record(event: int, kind: str = "clock", **told: Any) -> Json:
-    """A record; what isn't told is usual."""
+    """A record; what isn't reported is usual."""
     usual = {"block": 1 + event // 8, "event": event, "life": 1, "kind": kind, "time_ms": 0, "mode": "FS", "level": 1,
              "brake": "none", "indications": [], "place_cm": 100 * event, "uncertainty_cm": 500,
              "min_safe_front_cm": 100 * event - 500, "max_safe_front_cm": 100 * event + 500, "limit_m_per_h": 40_000}
@@ -33,7 +33,7 @@ def action(event: int, what: str, **told: Any) -> Json:
 
 
 def line(event: int, brake: str, **since: int) -> Json:
-    """What `etcs_lab why` tells of an event: the causes, each since an event."""
+    """What `etcs_lab why` says about an event: the causes, each since an event."""
     return {"event": event, "brake": brake, "limit_m_per_h": 40_000, "speed_m_per_h": 0, "backward_cm": 0,
             "allowed_backward_cm": 200, **dict.fromkeys(CAUSES), **since}
 
@@ -41,7 +41,7 @@ def line(event: int, brake: str, **since: int) -> Json:
 def journal(*records: Json, **told: Any) -> Journal:
     """A journal of these records."""
     examination: Json = {
-        "image": {"bytes": 12_800, "sectors": 25, "slots": 4, "whole_slots": 4, "bytes_behind": 0, "sha256": "ab" * 32},
+        "image": {"bytes": 12_800, "sectors": 25, "slots": 4, "whole_slots": 4, "trailing_bytes": 0, "sha256": "ab" * 32},
         "slots": [], "between": [],
         "journal": {"first_block": 1, "newest_block": 1, "first_event": 0, "last_event": len(records) - 1, "lives": 1},
         "power_up": {"opens": True, "refusal": None, "kept": None}, "whole": True}

@@ -140,7 +140,7 @@ class Future:
 
 class Scheduler:
     """A stand-in of Dask: it plays what is handed out when its turn comes. Workers of some jobs are killed, with all that was handed
-    out beside them, until the scheduler gives these up; others are stopped once they have played, before they hand over the rows."""
+    out next to them, until the scheduler gives these up; others are stopped once they have played, before they hand over the rows."""
 
     def __init__(self, stopped: set[str]) -> None:
         self.stopped, self.played, self.futures = stopped, list[list[str]](), list[Future]()

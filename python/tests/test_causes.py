@@ -1,4 +1,4 @@
-"""Causes of brakes: those that are told, and those that aren't known."""
+"""Causes of brakes: those that are reported, and those that aren't known."""
 import unittest
 
 from gaknifur.journal import causes, tables
@@ -58,9 +58,9 @@ class Told(unittest.TestCase):
 
     def test_where_it_does_not(self) -> None:
         table = tables.frame(replayed({"replay": "agrees", "first_event": 0, "last_event": 1}, {"replay": "record_differs", "event": 2},
-                                      {"replay": "not_replayed", "first_event": 3, "last_event": 4, "reason": "behind_difference"}))
+                                      {"replay": "not_replayed", "first_event": 3, "last_event": 4, "reason": "after_difference"}))
         self.assertEqual(list(table["causes"]), ["not_revalidated since 0", "", None, None, None])
-        self.assertEqual(list(table["causes_not_known"]), [None, None, DIFFERS, *[REASONS["behind_difference"]] * 2])
+        self.assertEqual(list(table["causes_not_known"]), [None, None, DIFFERS, *[REASONS["after_difference"]] * 2])
 
     def test_behind_a_record_that_differs(self) -> None:
         table = tables.frame(replayed({"replay": "agrees", "first_event": 0, "last_event": 1}, {"replay": "record_differs", "event": 2},

@@ -1,4 +1,4 @@
-"""Trains in a closed loop: how they move, by hand; and over the plain kernel what comes of a drive, and what is told of it."""
+"""Trains in a closed loop: how they move, by hand; and over the plain kernel what comes of a drive, and what is reported of it."""
 import contextlib
 import importlib
 import io
@@ -66,7 +66,7 @@ def plain_lines(digits: str) -> list[str]:
 
 
 def output_told(output: Output) -> dict[str, Any]:
-    """An output as a record tells it."""
+    """An output as a record says it."""
     return {"mode": driving.MODES[output.mode], "level": None if output.level.value > 1 else output.level.value,
             "brake": driving.BRAKES[output.brake], "limit_m_per_h": output.limit_m_per_h,
             "indications": [one.name.lower() for one in output.indications if one.name]}
@@ -129,7 +129,7 @@ class Trains(unittest.TestCase):
         motion = Motion(train)
         for second in range(10):
             motion.move(1000 * second, 1000, 1.0)
-        # Behind 5 s it runs 18 km/h just so, and pulls a second more with 1 m/s2.
+        # After 5 s it runs 18 km/h just so, and pulls a second more with 1 m/s2.
         self.assertEqual(motion.speed, 500.0 + 100 + 4 * 50)
         self.assertEqual([train.rate("emergency", speed) for speed in (36_000, 36_001)], [120, 90])
         self.assertEqual((train.rate("service", 1), train.strongest), (70, 120))
@@ -236,7 +236,7 @@ class Loops(unittest.TestCase):
         scenario, drive = self.written(DRIVE.replace("lasts: 100 s", "lasts: 4 s"), 'groups: [{at: 1 m, spacing: 1 m, balises: ["9000", "9001"]}]\n')
         driven = driving.play(PlainUnit(), scenario, drive)
         told = [step for step in driven.steps if "flush" not in step][5:]
-        # With 60 cm/s2 the front is at 30 * t * t cm: 8, 30, 68, 120 behind the first four half seconds.
+        # With 60 cm/s2 the front is at 30 * t * t cm: 8, 30, 68, 120 after the first four half seconds.
         self.assertEqual(told[:9], [{"clock": 500}, {"drive": [8, 1080]}, {"clock": 1000}, {"drive": [22, 2160]}, {"clock": 1500},
                                     {"drive": [38, 3240]}, {"clock": 2000}, {"drive": [32, 4320]}, {"telegram": "9000"}])
         self.assertEqual(told[9:13], [{"drive": [20, 4320]}, {"clock": 2500}, {"drive": [68, 5400]}, {"clock": 3000}])
@@ -264,7 +264,7 @@ class Loops(unittest.TestCase):
         words = "build_up: 1 s, speedometer: 90 %, reading_error: 20 cm"
         scenario, drive = self.written(DRIVE.replace("build_up: 1 s", words).replace("lasts: 100 s", "lasts: 2 s"))
         told = [step["drive"] for step in driving.play(PlainUnit(), scenario, drive).steps if "drive" in step]
-        # The front is at 8, 30, 68, 120. It is told 28, then not 10 but as before, 88, 100.
+        # The front is at 8, 30, 68, 120. It is reported 28, then not 10 but as before, 88, 100.
         self.assertEqual(told, [[28, 972], [0, 1944], [60, 2916], [12, 3888]])
 
     def test_an_antenna_behind_the_front(self) -> None:
@@ -338,7 +338,7 @@ class Loops(unittest.TestCase):
         self.assertTrue(document(path).is_mapping())
 
     def test_where_no_drive_is_to_be_judged(self) -> None:
-        """A record of a life that isn't driven tells nothing of the train."""
+        """A record of a life that isn't driven says nothing of the train."""
         self.written()
         (self.folder / "x.case.yaml").write_text(CASE + "  - {note: never beyond, never: {train_place_m: {least: 300}}}\n", encoding="utf-8")
         case, = cases.read(self.folder / "x.case.yaml")

@@ -52,7 +52,7 @@ class Room(unittest.TestCase):
         return sorted(path.name for path in self.room.iterdir())
 
     def refuses(self, said: str, out: Out, *inputs: Path) -> None:
-        """A file isn't written, and nothing is left beside it."""
+        """A file isn't written, and nothing is left next to it."""
         before = self.names()
         with self.assertRaisesRegex(Failed, said) as caught:
             files.write(out, b"new", inputs)
@@ -224,7 +224,7 @@ class Images(Room):
         self.given: list[str] = []
 
     def on_medium(self, medium: Medium, scenario: Scenario, drive: drives.Drive) -> Driven:
-        """A stand-in of the unit: it writes two sectors in turn, each behind a sync, and releases then."""
+        """A stand-in of the unit: it writes two sectors in turn, each after a sync, and releases then."""
         self.assertEqual(medium.read(), IMAGE * 3)
         for sector in (2, 1):
             medium.write(sector, bytes([sector]) * 512)

@@ -32,7 +32,7 @@ class Course(unittest.TestCase):
         def told(kind: str, **more: Any) -> dict[str, Any]:
             return {"kind": kind, **more}
 
-        # The odometer tells 160 and 305 cm of the ways of 150 and 300 cm.
+        # The odometer reports 160 and 305 cm of the ways of 150 and 300 cm.
         records = [told("clock"), told("odometer", movement_cm=160), told("telegram", telegram="aa"), told("odometer", movement_cm=305),
                    told("telegram", telegram="bb"), told("odometer", movement_cm=-5), told("driver")]
         self.assertEqual([(event.pointer, event.place_cm) for event in course.driven(TRACK, 0, records)],

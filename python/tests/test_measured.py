@@ -1,4 +1,4 @@
-"""What the records of a journal reach, and what is told of floors."""
+"""What the records of a journal reach, and what is reported of floors."""
 import tempfile
 import unittest
 from pathlib import Path
@@ -21,7 +21,7 @@ POWER_UP = record(0, kind="powerup", word="unknown", mode="SB", level=None)
 
 
 def life(*told: dict[str, Any]) -> list[Json]:
-    """Records behind a power-up."""
+    """Records after a power-up."""
     return [record(number, **one) for number, one in enumerate(told, 1)]
 
 
@@ -46,7 +46,7 @@ class Reaching(unittest.TestCase):
         for cause, row in (("staff_distance", "6 from SR"), ("stop", "5 from SR"), ("end_passed", "5 from SR")):
             found = reached(life({"kind": "clock", "mode": "SR"}, {"kind": "clock", "mode": "TR"}), {2: cause})
             self.assertEqual({one for one in found["mode rows"] if "from SR" in one}, {row})
-        # Without a cause it can't be told which.
+        # Without a cause it can't be reported which.
         found = reached(life({"kind": "clock", "mode": "SR"}, {"kind": "clock", "mode": "TR"}))
         self.assertEqual({one for one in found.get("mode rows", ()) if "from SR" in one}, set())
 

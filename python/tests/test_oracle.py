@@ -245,19 +245,19 @@ greet("; ".join((tried(lambda: open(WRITTEN, "w")), tried(lambda: open(scratch +
 
 
 def asked(records: list[Json], **changes: Json) -> oracle.Asked:
-    """What a unit answers that tells all, with some answers that are other ones: `e3={..}` of event 3."""
+    """What a unit answers that says all, with some answers that are other ones: `e3={..}` of event 3."""
     answers = [protocol.answer_of(one, protocol.ANSWER) | changes.get(f"e{one['event']}", {}) for one in records]
     return oracle.Asked(records, protocol.Greeting("x", protocol.ANSWER), answers)
 
 
 class Compared(unittest.TestCase):
-    """What is told of answers."""
+    """What is reported of answers."""
 
     records = [record(0, "powerup"), *(record(event) for event in range(1, 4)), record(4, "powerup", life=2),
                record(5, life=2)]
 
     def told(self, **changes: Json) -> list[Json]:
-        """The lines behind the first one."""
+        """The lines after the first one."""
         return [one.told for one in oracle.lines(asked(self.records, **changes))][1:]
 
     def test_all_agree(self) -> None:
@@ -273,7 +273,7 @@ class Compared(unittest.TestCase):
                           (None, None)])
         self.assertEqual(told[2],
                          {"life": 1, "first_event": 2, "last_event": 3, "against": "not_compared",
-                          "reason": "behind_difference"})
+                          "reason": "after_difference"})
         self.assertFalse(asked(self.records, e5={"limit_m_per_h": 39_999}).agrees)
 
     def test_each_member_is_compared(self) -> None:

@@ -159,7 +159,7 @@ class Briefs(unittest.TestCase):
 
     def test_faults(self) -> None:
         differs = {"replay": "record_differs", "life": 1, "block": 1, "event": 3, "field": "brake", "journal": {}, "kernel": {}}
-        left = {"replay": "not_replayed", "life": 1, "first_event": 4, "last_event": 4, "reason": "behind_difference"}
+        left = {"replay": "not_replayed", "life": 1, "first_event": 4, "last_event": 4, "reason": "after_difference"}
         head = {"replay": "head_differs", "life": 1, "block": 2, "field": "level", "journal": {}, "kernel": {}}
         old = {"replay": "not_replayed", "life": 1, "first_event": 0, "last_event": 4, "reason": "before_oldest_block"}
         ends = {"end": "nothing_differs"}, {"end": "differs_or_lost"}
@@ -169,7 +169,7 @@ class Briefs(unittest.TestCase):
                 ([differs, left, ends[1]], {}, ["the replay differs: life 1, event 3, in brake"]),
                 ([differs, head, ends[1]], {"whole": False}, [lost, "the replay differs: life 1, event 3, in brake, and 1 more"]),
                 ([head, ends[1]], {}, ["the replay differs: life 1, the head of block 2, in level"]),
-                ([left | {"reason": "within_block"}, ends[1]], {}, ["events 4 to 4 can't be replayed: no head tells what was kept before its power-up"]),
+                ([left | {"reason": "within_block"}, ends[1]], {}, ["events 4 to 4 can't be replayed: no head contains what was kept before its power-up"]),
                 ([ends[1]], {}, ["the replay says that something differs or is lost"]),
                 ([ends[0]], {"whole": False, "image": {"first_sector": {"slots": 16, "size_slots": 17}}},
                  [f"{lost}: the file has 17 slots, and its first sector says 16. So a power-up and an examination accept no journal in it; "
@@ -310,7 +310,7 @@ class Databases(unittest.TestCase):
             database.add(self.connection, one, tables.frame(one))
         found = self.connection.execute("SELECT image, causes FROM brake_intervention ORDER BY image, first_event").fetchall()
         self.assertEqual(found, [(1, "not_revalidated since 0"), (1, "far_too_fast since 3"), *[(2, "not known: no replay was made")] * 2])
-        found = self.connection.execute("SELECT cause, since_event, told_until_event, ends FROM intervention_cause").fetchall()
+        found = self.connection.execute("SELECT cause, since_event, held_until_event, ends FROM intervention_cause").fetchall()
         self.assertEqual(found, [("not_revalidated", 0, 0, CAUSES["not_revalidated"][1]), ("far_too_fast", 3, 3, "ends when the train stands")])
         self.assertEqual(self.count("why"), 4)
 

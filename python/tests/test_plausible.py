@@ -68,7 +68,7 @@ class Movement(unittest.TestCase):
 
     def test_by_hand_at_the_bound(self) -> None:
         # 36 km/h are 10 m a second. Three readings, 1 s apart, of which the second moved further: 10 m and 10 % for the second itself and
-        # for the second behind it, and 15 m, are 37 m.
+        # for the second after it, and 15 m, are 37 m.
         for moved, is_one in ((3_700, False), (3_701, True)):
             told = drive([36_000] * 4, 1_000)
             told[4]["movement_cm"] = moved
@@ -105,10 +105,10 @@ class Movement(unittest.TestCase):
 
 
 class Altered(unittest.TestCase):
-    """What is told of drives that were altered within the limits."""
+    """What is reported of drives that were altered within the limits."""
 
     def told(self, alter: Callable[[random.Random, list[Json]], None], count: int = 40) -> int:
-        """How many of some drives are told, each altered in one way."""
+        """How many of some drives are reported, each altered in one way."""
         numbers, found = random.Random(1), 0
         for _ in range(count):
             records = drive(usual(numbers, 400))

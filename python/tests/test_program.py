@@ -127,7 +127,7 @@ class Reading(unittest.TestCase):
 
 
 class Whole(unittest.TestCase):
-    """A program that is run to its end, and told all at once."""
+    """A program that is run to its end, and reported all at once."""
 
     def setUp(self) -> None:
         folder = tempfile.TemporaryDirectory()

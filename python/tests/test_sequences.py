@@ -126,7 +126,7 @@ class Workbooks(unittest.TestCase):
 
     def test_of_a_formula_what_it_came_to(self) -> None:
         def saved(xml: str) -> str:
-            """As a spreadsheet saves it: a formula, and beside it what it came to."""
+            """As a spreadsheet saves it: a formula, and next to it what it came to."""
             for place, formula, kind, value in (("A2", "1+1", "n", "2.0"), ("C2", "B2&amp;A2", "str", "ODO2"), ("D2", 'IF(1,"","x")', "str", "")):
                 told = f'<c r="{place}"><f>{formula}</f><v></v></c>'
                 assert told in xml or told.replace("<v></v>", "<v />") in xml, xml

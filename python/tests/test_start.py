@@ -1,4 +1,4 @@
-"""The script ./lab: nothing of the current folder is run, and whatever goes wrong is told in a line."""
+"""The script ./lab: nothing of the current folder is run, and whatever goes wrong is reported in a line."""
 import json
 import os
 import shutil
@@ -31,7 +31,7 @@ TESTS = ("conftest.py", "test_a.py", "__init__.py", "setup.py")
 
 
 class Room(unittest.TestCase):
-    """A folder whose Python tells, by a file, that it was run."""
+    """A folder whose Python reports, by a file, that it was run."""
 
     def setUp(self) -> None:
         folder = tempfile.TemporaryDirectory()
@@ -41,7 +41,7 @@ class Room(unittest.TestCase):
         self.work.mkdir()
 
     def plant(self, folder: Path, *names: str) -> None:
-        """Modules that tell."""
+        """Modules that say."""
         for name in names:
             (folder / name).write_text(f"open({str(self.room / 'ran')!r}, 'a').write({name + ' '!r})\n")
 

@@ -1,4 +1,4 @@
-"""Sweeps: parameters and what stands in their places, what is told of a point, tables and maps."""
+"""Sweeps: parameters and what stands in their places, what is reported of a point, tables and maps."""
 import tempfile
 import unittest
 from collections.abc import Callable
@@ -43,7 +43,7 @@ drive:
 
 
 def played(case: Case, keep: object = None, why: bool = False) -> Played:
-    """The records of a life that moved as its last step says; one of 30 km/h over 20 m doesn't end as told."""
+    """The records of a life that moved as its last step says; one of 30 km/h over 20 m doesn't end as reported."""
     scenario = case.lives[0].scenario
     assert scenario is not None
     way, speed = scenario.steps[-1]["drive"]
@@ -167,7 +167,7 @@ class Sweeps(unittest.TestCase):
                 (replaced("count: {kind: odometer}", "count: {kind: wheel}"), '8:36: "wheel" is not allowed here'),
                 (replaced("[10, 20]", "[10, 20000]"), None)):
             if said is None:
-                # What a later point makes wrong is told with its place too.
+                # What a later point makes wrong is reported with its place too.
                 sweep = self.read(text)
                 with self.assertRaisesRegex(Failed, '3:5[0-9]: "20000 m" is not between'):
                     sweeps.at_point(sweep, sweep.points()[-1])

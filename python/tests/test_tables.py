@@ -16,7 +16,7 @@ from .samples import AUTHORITY, action, journal, reading, record
 
 
 class Speeds(unittest.TestCase):
-    """The speed that holds behind a record."""
+    """The speed that holds after a record."""
 
     def test_holds_until_the_next_reading(self) -> None:
         table = tables.frame(journal(record(0, "powerup"), reading(1, 36_000), record(2), reading(3, 0)))
@@ -34,7 +34,7 @@ class Speeds(unittest.TestCase):
 
 
 class Columns(unittest.TestCase):
-    """What the columns tell."""
+    """What the columns report."""
 
     def test_missing_is_not_zero(self) -> None:
         table = tables.frame(journal(record(0, level=None, place_cm=None, uncertainty_cm=None, limit_m_per_h=None)))

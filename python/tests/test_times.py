@@ -1,4 +1,4 @@
-"""The time of day by marks beside a journal."""
+"""The time of day by marks along with a journal."""
 import random
 import tempfile
 import unittest
@@ -52,7 +52,7 @@ class Room(unittest.TestCase):
 
 
 class Moments(Room):
-    """What is told of a moment."""
+    """What is reported of a moment."""
 
     def test_at_a_mark_and_between_marks(self) -> None:
         told = self.times(LINES)
@@ -138,7 +138,7 @@ class Events(Room):
 
     def test_an_event_came_before_the_next_moment(self) -> None:
         told = self.times(f"{times.FIRST}\n,,3,2026-03-01T10:00:01.000Z,100,traffic log\n", 0)
-        self.assertEqual(told.utc(1, 1_000), (TEN_MS + 750, 350))  # from 600 ms before, where it came at 1,500 ms, to 100 ms behind
+        self.assertEqual(told.utc(1, 1_000), (TEN_MS + 750, 350))  # from 600 ms before, where it came at 1,500 ms, to 100 ms after
 
     def test_a_moment_of_the_clock_is_told_as_it_is(self) -> None:
         told = self.times(f"{times.FIRST}\n,,2,2026-03-01T10:00:01.000Z,100,traffic log\n", 0)
@@ -207,7 +207,7 @@ class Files(Room):
 
 
 class Outputs(Room):
-    """What outputs tell."""
+    """What outputs report."""
 
     def test_the_table_has_columns_of_its_own(self) -> None:
         told = lives()

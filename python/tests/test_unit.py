@@ -28,7 +28,7 @@ BEFORE = Output(0, Mode.STAND_BY, Level.INVALID, Brake.EMERGENCY, 0, Indication.
 
 
 class Names(unittest.TestCase):
-    """Beside the headers, as they read without `tools/bindings`."""
+    """Along with the headers, as they read without `tools/bindings`."""
 
     def test_enums(self) -> None:
         enums: list[type[enum.IntEnum | enum.IntFlag]] = [
@@ -68,7 +68,7 @@ class Failing(MemoryMedium):
 
 
 class Noted(MemoryMedium):
-    """A medium that tells which sectors were read, and fails, or reads too little, at one of them."""
+    """A medium that says which sectors were read, and fails, or reads too little, at one of them."""
 
     def __init__(self, data: bytes = b"") -> None:
         super().__init__(data)

@@ -1,4 +1,4 @@
-"""Packets that the unit uses in no mode and in no direction, as records tell them: the places and lengths are by hand, after SUBSET-026,
+"""Packets that the unit uses in no mode and in no direction, as records say them: the places and lengths are by hand, after SUBSET-026,
 7.4.2 and 8.4.2."""
 import sqlite3
 import unittest
@@ -37,7 +37,7 @@ def skipped(*packets: tuple[int, str | None, int]) -> list[tuple[tuple[int, str 
 
 
 class Told(unittest.TestCase):
-    """Where they are told."""
+    """Where they are reported."""
 
     def test_a_column_of_the_table(self) -> None:
         table = tables.frame(journal(

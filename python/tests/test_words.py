@@ -163,7 +163,7 @@ class Progress(unittest.TestCase):
 
 
 class Sets(unittest.TestCase):
-    """Words that stand beside the numbers of the headers: there is one for each number, in the same order."""
+    """Words that stand along with the numbers of the headers: there is one for each number, in the same order."""
 
     def test_of_indications(self) -> None:
         wanted, top = {int(one): str(one.name).lower() for one in Indication}, Path(__file__).parents[2]

@@ -1,5 +1,5 @@
 /* Reads telegrams in hex, one a line, and prints of each what the calls of include/etcs.h answer: the number of the fault, and how many
- * packets. The bytes of each end where a page begins that can't be read, so a call that reads behind them ends the program. */
+ * packets. The bytes of each end where a page begins that can't be read, so a call that reads after them ends the program. */
 #include <stdint.h>
 #include <stdio.h>
 #include <string.h>

@@ -1,5 +1,5 @@
 #!/usr/bin/env python3
-"""Random telegrams, the same in every run: what the C library answers is what the plain decoder tells.
+"""Random telegrams, the same in every run: what the C library answers is what the plain decoder reports.
 
     tests/c/random_telegrams.py PROGRAM [COUNT [SEED]]    PROGRAM is answers.c with the library; 2,000 telegrams, seed 2026
 """

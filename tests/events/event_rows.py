@@ -2,8 +2,8 @@
 """The lines of `etcs_lab events`, read back as JSON and compared field by field with what the plain readers find in the image.
 
     tests/events/event_rows.py PROGRAM [RINGS [SEED]]     on a built program
-    tests/events/event_rows.py --images FOLDER            writes the images, to be told by an unproved run (rt try --cases)
-    tests/events/event_rows.py --told FILE                compares what such a run printed
+    tests/events/event_rows.py --images FOLDER            writes the images, to be reported by an unproved run (rt try --cases)
+    tests/events/event_rows.py --reported FILE                compares what such a run printed
 """
 import json
 import subprocess
@@ -18,8 +18,8 @@ from told import Refused, told  # noqa: E402
 
 RINGS, SEED = 300, 41
 LEAST_LINES, LEAST_IMAGES = 45_000, 2_800
-SOURCES = {"journal", "behind_gap", "replaced", "unwritten", "misplaced", "damaged"}
-# Each image is told with and without the other blocks; of the damaged forms of an image each so many.
+SOURCES = {"journal", "after_gap", "replaced", "unwritten", "misplaced", "damaged"}
+# Each image is reported with and without the other blocks; of the damaged forms of an image each so many.
 EACH = 5
 
 
@@ -99,7 +99,7 @@ def as_read(value):
 
 
 def by_hand_rows(run):
-    """By hand: a block in slot 1 of two, whose third record has a mode that is none, and the same block, whole, in slot 0. Slot 1 begins behind
+    """By hand: a block in slot 1 of two, whose third record has a mode that is none, and the same block, whole, in slot 0. Slot 1 begins after
     seven sectors of 512 bytes, its records two sectors further on, with 256 bytes each."""
     whole = blocks.data_of(blocks.block(3, 1, 8, 1, [blocks.entry(k, ("clock", k), moment=k) for k in range(8)]))
     data = bytearray(whole)
@@ -132,7 +132,7 @@ def markup_row(run):
 
 
 def body_row(run):
-    """By hand: packets 44, which is skipped, with so many bits of 101010101 behind its head, as hexadecimal digits padded with zero bits."""
+    """By hand: packets 44, which is skipped, with so many bits of 101010101 after its head, as hexadecimal digits padded with zero bits."""
     header = "1" "0010000" "0" "000" "000" "00" "11111111" "0000000001" "00000000000010" "1"
     wrong = 0
     for digits in ("", "80", "A8", "AA", "AA80"):

@@ -176,7 +176,7 @@ def random_images(count, seed):
 
 
 def resized(numbers, image):
-    """An image that is cut off anywhere, within a sector too, or has bytes behind its slots."""
+    """An image that is cut off anywhere, within a sector too, or has bytes after its slots."""
     if numbers.below(3):
         return image[:numbers.below(len(image))]
     return image + bytes(numbers.below(2) for _ in range(1 + numbers.below(14 * SECTOR)))
@@ -197,7 +197,7 @@ EIGHT = [("powerup", 0), ("clock", 5), ("odometer", 100, 3_600), ("telegram", b"
 
 def damaged_images():
     """A ring of three blocks of each format, of which the second, or the newest, has an altered byte in each field of its head and of its
-    records, or is without a sector; also behind a closed gate, and in a slot of another number."""
+    records, or is without a sector; also after a closed gate, and in a slot of another number."""
     for form in (1, 2, 3):
         told = [("powerup", 0) if kind == "powerup" else (kind, *values) for kind, *values in EIGHT]
         three = [(n, blocks.block(form, n, 8 * n, n, [blocks.entry(8 * n - 8 + k, one, moment=k) for k, one in enumerate(told)])) for n in (1, 2, 3)]

@@ -42,7 +42,7 @@ class Altered:
         return self.whole[:at] + bytes([value]) + self.whole[at + 1:]
 
     def answers(self, data):
-        """What a listing answers, what the next life answers, and the bytes behind it."""
+        """What a listing answers, what the next life answers, and the bytes after it."""
         self.image.write_bytes(data)
         return ran(["journal", self.image]), ran(["run", self.next, self.image]), self.image.read_bytes()
 

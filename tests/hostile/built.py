@@ -1,4 +1,4 @@
-"""The built program, as tests run it, and what is given to it. `ETCS` names another one than the gate leaves behind."""
+"""The built program, as tests run it, and what is given to it. `ETCS` names another one than the gate leaves after."""
 import os
 import struct
 import subprocess
@@ -17,7 +17,7 @@ from ran import ran as run_to_end  # noqa: E402
 SECTOR = 512
 SLOT = 6 * SECTOR
 
-# The life of a restriction ahead: read, the driver's entries and Start, and readings up to its end and behind it.
+# The life of a restriction ahead: read, the driver's entries and Start, and readings up to its end and after it.
 RESTRICTION = "90007F802001506023A0E0190019427F80"
 AUTHORITY = "90007F802001432024A8007FE007D002B00D900010000DC03A400020801FE0"
 ENTRIES = [{"driver": [1, "A"]}, {"driver": [4, 1]}, {"driver": [3, 20000, 160000, 70, 0, 15]}, {"driver": [6]}]

@@ -2,9 +2,9 @@
 """Cuts the power of a run of the program over an image file: records its writes and syncs, makes the images that a cut before each of
 them, or within it, may leave (each sector since the last sync old, new, 512 bytes of 0xFF, or torn), and takes each of them up again.
 
-What each image must list is known without reading its blocks: the plain program tells what each block holds, the recorded calls which block
-was synced behind each gate, and the image which gates are open. The listing is just that, it has all that was printed before the cut, and
-the next life and the listing behind it are those of the plain program behind the same blocks.
+What each image must list is known without reading its blocks: the plain program says what each block holds, the recorded calls which block
+was synced after each gate, and the image which gates are open. The listing is just that, it has all that was printed before the cut, and
+the next life and the listing after it are those of the plain program after the same blocks.
 """
 import json
 import random
@@ -16,7 +16,7 @@ from compared import Compared
 from program import Image, listed
 
 NEXT = {"groups": [], "steps": [{"driver": [5, 1]}]}
-MIXED = 3  # so many images beside those of one choice for all open sectors
+MIXED = 3  # so many images along with those of one choice for all open sectors
 
 
 def images(settled, written, numbers):
@@ -46,7 +46,7 @@ class Ring:
         self.held = {number % slots: number for number in range(max(1, newest - slots + 1), newest + 1)}
 
     def sync(self, written):
-        """A sync of what lies behind a gate: a block is there."""
+        """A sync of what lies beyond a gate: a block is there."""
         if any((sector - 1) % 6 for sector in written):
             self.held[self.next % self.slots] = self.next
             self.next += 1

@@ -2,13 +2,13 @@
 """One sync of a life fails, lives go on, and then power is lost at each later call: no event that was released is lost, and each image is
 listed.
 
-A life is recorded with one of its syncs failing, each in turn, and two more lives behind it. What a failed sync leaves is told in two ways:
+A life is recorded with one of its syncs failing, each in turn, and two more lives after it. What a failed sync leaves is reported in two ways:
 
 - as `crates/disk/README.md` has it: nothing is settled, and the next sync that succeeds settles it;
 - as Linux does: what was written may have reached the medium or not, or in part; later syncs write it no more; and reads find what was written
   until the system drops its copies of the pages. What is read then is what the medium has (record.c hands it out).
 
-Behind the failed sync the image is settled, as docs/reference/refusals.md asks for (tools/settle), before it is opened again; then a listing is to list
+After the failed sync the image is settled, as docs/reference/refusals.md asks for (tools/settle), before it is opened again; then a listing is to list
 what a loss of power would leave. So that this test can fail, the same is tried with a Linux whose pages nobody drops: there some event has to
 be lost.
 """
@@ -22,7 +22,7 @@ from built import ENTRIES, SECTOR, built, formatted, ran, recorded_by, room, sec
 from compared import Compared
 from cut_files import images
 
-CUTS = 2  # so many images at a call, and behind the failed sync
+CUTS = 2  # so many images at a call, and after the failed sync
 SHAPES = (32, 1), (4, 3)  # slots, and lives before the one whose sync fails
 BATCHES = {"groups": [], "steps": [ENTRIES[0], {"flush": True}, {"clock": 7}]}
 LEAST = {"the model": (15, 500), "Linux": (15, 700), "Linux that drops nothing": (3, 20)}  # syncs and cuts
@@ -50,7 +50,7 @@ class Medium:
         return found if len(found) <= CUTS else numbers.sample(found, CUTS)
 
     def behind_failure(self, numbers):
-        """What the medium may be behind the failed sync: here no other than before."""
+        """What the medium may be after the failed sync: here no other than before."""
         return [self]
 
     def settles(self, record, image):
@@ -139,7 +139,7 @@ class Tried:
         return any(kind == "f" for kind, _, _ in calls)
 
     def listed(self, medium):
-        """A listing lists what a loss of power would leave behind its own sync."""
+        """A listing lists what a loss of power would leave after its own sync."""
         self.image.write_bytes(medium.read)
         medium.settles(self.record, self.image)
         found = self.listing_of(medium.read)
@@ -147,7 +147,7 @@ class Tried:
         self.lost += found != self.listing_of(medium.kept)
 
     def fails_at(self, way, before, earlier, number):
-        """A life whose sync of this number fails, and two more behind it; whether it has so many."""
+        """A life whose sync of this number fails, and two more after it; whether it has so many."""
         medium, released = way(before), list(earlier)
         if not self.life(medium, released, False, RECORD_FAILS_AT=str(number)):
             return False
@@ -164,7 +164,7 @@ class Tried:
 
 
 def tried(way, slots, lives, folder, record, numbers):
-    """Each sync of a life behind some lives fails in turn; where nothing is dropped, until something is lost. Answers how many syncs, how many
+    """Each sync of a life after some lives fails in turn; where nothing is dropped, until something is lost. Answers how many syncs, how many
     cuts, and what is lost."""
     image, earlier = folder / "image", []
     formatted(image, slots)

@@ -1,6 +1,6 @@
 #!/usr/bin/env python3
 """A sync that fails on a real file system: ext4 over a loop device that is cut off while one sync of a life runs, each in turn. The image is
-settled (tools/settle). Behind two more lives power is lost (the file system is unmounted, so that only what is on the medium is left), and what
+settled (tools/settle). After two more lives power is lost (the file system is unmounted, so that only what is on the medium is left), and what
 was released is listed.
 
 It needs root, a loop device and mkfs.ext4. Where one of these can't be had it says so, in one line, and ends with 0.

@@ -22,7 +22,7 @@ MOST, LEAST = 100_000, 300
 
 
 def says_so(words, found, undisturbed):
-    """Whether a run says that memory was refused, behind no other line than the undisturbed run's."""
+    """Whether a run says that memory was refused, after no other line than the undisturbed run's."""
     status, printed, said = found
     if words[0] == "decode" and (status, printed in ANSWERS, said) == (1, True, ""):
         return True

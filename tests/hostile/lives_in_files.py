@@ -1,9 +1,9 @@
 #!/usr/bin/env python3
-"""Pseudo-random lives on image files, since no contract speaks of a file of the system: behind each life the file holds the bytes that the
+"""Pseudo-random lives on image files, since no contract speaks of a file of the system: after each life the file holds the bytes that the
 plain unit leaves on the plain disk, and its calls were right.
 
 Calls are right where the file is synced before anything is read or written; where a sync stands between any write of a gate and a write of
-what lies behind a gate, and before anything is printed and at the end; and where they tell the story of the plain unit: between two syncs just
+what lies beyond a gate, and before anything is printed and at the end; and where they say the story of the plain unit: between two syncs just
 the sectors that the plain disk is handed there, with their bytes, and between the same two just what is released there. A format syncs the
 file and its folder before it says that it is done.
 
@@ -50,7 +50,7 @@ class Story:
 
 
 class Telling(Disk):
-    """A disk that tells its story."""
+    """A disk that says its story."""
 
     story = Story()
 
@@ -75,7 +75,7 @@ class Known:
 
 
 def part_of(sector):
-    """The slot of a sector, and whether it is a gate or lies behind one."""
+    """The slot of a sector, and whether it is a gate or lies beyond one."""
     slot, at = divmod(sector - 1, 6)
     return (slot, "what lies behind the gate" if at else "the gate") if sector else (FIRST, "the first sector")
 

@@ -25,7 +25,7 @@ CODES = {"enter-identity": 1, "enter-running-number": 2, "enter-train-data": 3, 
 
 
 def headed(numbers):
-    """A header that can be read, and random bits behind it; the number of the first packet is mostly one that is known."""
+    """A header that can be read, and random bits after it; the number of the first packet is mostly one that is known."""
     fields = dict(HEADER, N_TOTAL=numbers.randrange(8), M_DUP=numbers.randrange(3), M_MCOUNT=numbers.randrange(256),
                   NID_C=numbers.randrange(1024), NID_BG=numbers.randrange(1 << 14), Q_LINK=numbers.randrange(2))
     fields["N_PIG"] = numbers.randrange(fields["N_TOTAL"] + 1)
@@ -38,7 +38,7 @@ def headed(numbers):
 
 
 def mutated(numbers):
-    """A telegram some of whose bits behind the header are turned, or that lacks its end, or has more."""
+    """A telegram some of whose bits after the header are turned, or that lacks its end, or has more."""
     data = bytearray.fromhex(numbers.choice(TELEGRAMS))
     for _ in range(numbers.randrange(4)):
         at = numbers.randrange(50, 8 * len(data))
@@ -65,7 +65,7 @@ def telegrams(count, numbers, failures):
 
 
 class Made:
-    """A scenario as it is made: each step is chosen by what the plain program knows behind the ones before."""
+    """A scenario as it is made: each step is chosen by what the plain program knows after the ones before."""
 
     def __init__(self, numbers, image):
         places = sorted(1 + numbers.below(40_000) for _ in range(numbers.below(5)))
@@ -135,7 +135,7 @@ def has_value(text):
 
 
 def scenarios(count, numbers, folder, failures):
-    """Lives one behind the other on one image, made anew now and then; a changed text of each is judged too."""
+    """Lives one after the other on one image, made anew now and then; a changed text of each is judged too."""
     image, path = folder / "image", folder / "scenario"
     for number in range(count):
         if number % LIVES == 0:
@@ -153,7 +153,7 @@ def scenarios(count, numbers, folder, failures):
 
 
 def judge(name, text, path, folder, failures):
-    """A text that is no value is told so; one that is a scenario asks for an image that isn't there, or has another fault."""
+    """A text that is no value is reported so; one that is a scenario asks for an image that isn't there, or has another fault."""
     path.write_text(text)
     status, said = ran(["run", path, folder / "none"])
     is_fault = (status, said) == (1, "refused 1 NotJson\n")

@@ -1,5 +1,5 @@
-"""What `etcs_lab why` is to tell of the balise groups that an event closes, worked out by hand (SUBSET-026, 3.4, 3.4.4, 3.16.2 and 4.8): lives,
-the event that is asked for, and the groups that its line tells. A line that is to tell of none has no `; group`.
+"""What `etcs_lab why` is to say about the balise groups that an event closes, worked out by hand (SUBSET-026, 3.4, 3.4.4, 3.16.2 and 4.8): lives,
+the event that is asked for, and the groups that its line says. A line that is to say about none has no `; group`.
 
 Places are centimetres. The front is 500 cm ahead of where the train is thought to be, and 5 % of the way more. A group of one balise is whole
 at once; of one of two the second balise makes it whole, or a telegram of another group ends it, or more than 1,300 cm without a telegram of it.
@@ -17,7 +17,7 @@ def announcing(metres, reaction, accuracy=5):
 
 
 def full(metres, reaction):
-    """In Full Supervision behind event 5, with group 3 announced; reaction 0 is a trip, 1 the service brake, 2 none."""
+    """In Full Supervision after event 5, with group 3 announced; reaction 0 is a trip, 1 the service brake, 2 none."""
     return (heard(announcing(metres, reaction), authority(3_000), LEVEL, FAST), *SR)
 
 
@@ -26,7 +26,7 @@ ACCEPTED_ANNOUNCED = (*full(10, 0), "move 1000 20000",
 TWO_BALISES = "3, N_TOTAL 1"
 # Name, life, the event that is asked for, its groups.
 GROUPS_BY_HAND = (
-    # The announcement says nominal, and one balise tells no direction: so packet 66, which is valid in reverse, isn't used.
+    # The announcement says nominal, and one balise says no direction: so packet 66, which is valid in reverse, isn't used.
     ("accepted as announced", ACCEPTED_ANNOUNCED, 7,
      f"; group 1 3 in mode FS, direction nominal: accepted as announced, announcement 0 (3.4.4), {LIMIT_NAME}, {REVOKED_NAME} (other direction), "
      "packet 68 Track Condition (not known)"),

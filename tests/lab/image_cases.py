@@ -62,7 +62,7 @@ def shut(data):
 
 
 def states():
-    """Each state of a slot, alone and beside others."""
+    """Each state of a slot, alone and along with others."""
     told = blocks_of(11)
     good = ring(6, told)
     yield "whole", image_of(6, good)
@@ -143,7 +143,7 @@ def lost():
 
 
 def lives():
-    """Lives at each limit: of the first readable block, of a neighbour and behind a gap; and at the greatest number."""
+    """Lives at each limit: of the first readable block, of a neighbour and after a gap; and at the greatest number."""
     def alone(count, events, number, told, kinds):
         records = [entry(events - len(kinds) + k, (name, 0)) for k, name in enumerate(kinds)]
         return f"{count} lives, events up to {events}, {' '.join(kinds)}", image_of(4, {number % 4: data_of(block(3, number, events, count, records)), **told})
@@ -163,7 +163,7 @@ def lives():
 
 
 def given():
-    """Images whose first sector is damaged, or tells other slots, read as images of a given number of slots."""
+    """Images whose first sector is damaged, or reports other slots, read as images of a given number of slots."""
     good = image_of(6, ring(6, blocks_of(11)))
     for at in (0, 7, 8, 11, 12, 13, 14, 15, 16, 300, 511):
         for bit in (1, 4, 128):
@@ -179,7 +179,7 @@ def given():
 
 
 def cuts():
-    """What a cut leaves within a commit: the gate being closed, each choice of the sectors behind it, the gate being opened."""
+    """What a cut leaves within a commit: the gate being closed, each choice of the sectors after it, the gate being opened."""
     for slots, newest in ((4, 2), (4, 7)):
         told = blocks_of(newest + 1)
         before = ring(slots, {n: told[n] for n in range(1, newest + 1)})

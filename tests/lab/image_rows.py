@@ -182,7 +182,7 @@ def compare_cut_off(program, room, compared):
 
 
 def compare_given(program, etcs, room, compared):
-    """Of an image whose first sector is damaged, all words tell with its slots what they tell of the image as it was."""
+    """Of an image whose first sector is damaged, all words report with its slots what they say about the image as it was."""
     image, damaged = room / "lives", room / "damaged"
     for words in (["format", str(image), "16"], *(["run", str(HERE.parents[1] / f"examples/{name}.json"), str(image)] for name in ("power_cut/scenario", "power_cut/restart"))):
         subprocess.run([etcs, *words], check=True, stdout=subprocess.DEVNULL)
@@ -230,7 +230,7 @@ def compare_huge(program, room, compared):
     printed, _, status = run(program, ["examine", str(path)])
     seconds = time.monotonic() - before
     compared.same("a terabyte of holes", (printed.splitlines()[:3], status, seconds < 10),
-                  (["image bytes 1099511627776 sectors 2147483648 slots ? whole 0 bytes behind 1099511627264", "sha256 not taken",
+                  (["image bytes 1099511627776 sectors 2147483648 slots ? whole 0 trailing bytes 1099511627264", "sha256 not taken",
                     "first sector unreadable field mark at byte 0 size of ? slots"], 1, True))
     report = loaded(run(program, ["examine", "--json", str(path)])[0])
     compared.same("a terabyte of holes, json", (report["image"]["sha256"], report["image"]["bytes"]), (None, 2**40))
@@ -238,7 +238,7 @@ def compare_huge(program, room, compared):
 
 
 def watch_memory(process, seen):
-    """Notes the most memory that a process held, in kB, until it ends. (What a parent is told behind its end counts the parent's own.)"""
+    """Notes the most memory that a process held, in kB, until it ends. (What a parent is reported beyond its end counts the parent's own.)"""
     while True:
         try:
             status = Path(f"/proc/{process}/status").read_text()
@@ -265,7 +265,7 @@ def timed(words, stderr=None):
 
 
 def big_journal(path, slots, newest):
-    """An image of as many blocks of eight clock events as slots, behind a first one."""
+    """An image of as many blocks of eight clock events as slots, after a first one."""
     with open(path, "wb") as out:
         out.write(first_sector(slots))
         out.truncate(SECTOR * (1 + 6 * slots))
@@ -299,7 +299,7 @@ def compare_big(program, etcs, room, compared):
     read = [2**26 * step // 10**6 for step in range(1, 49)]
     compared.same("how far it is read, on a terminal", shown, "".join(f"\r{megabytes} of 3221 MB read" for megabytes in read) + f"\r{'':30}\r")
     compared.same("an empty image of 1,048,576 slots", (lines[0], lines[2:], status),
-                  ("image bytes 3221225984 sectors 6291457 slots 1048576 whole 1048576 bytes behind 0",
+                  ("image bytes 3221225984 sectors 6291457 slots 1048576 whole 1048576 trailing bytes 0",
                    ["journal empty", "power-up opens", "whole"], 0))
     print(f"an empty image of 1,048,576 slots: {seconds:.1f} s, {most:.0f} MB")
     empty.unlink()

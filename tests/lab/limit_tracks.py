@@ -54,12 +54,12 @@ BY_HAND = (
      "; the limit is the greatest speed of the train: 25000 m/h (3.11.8)\n"),
     # V_MAIN 6 is 30 km/h.
     ("main_speed", (heard(authority(3_000, main=6), LEVEL, FAST), *DRIVER), "; the limit is V_MAIN of the authority: 30000 m/h (3.11.6)\n"),
-    # At 29,000 the front is at 29,000 + 500 + 1,450, behind the end at 30,000.
+    # At 29,000 the front is at 29,000 + 500 + 1,450, beyond the end at 30,000.
     ("end_speed", (heard(authority(300, end_speed=6), LEVEL, FAST), *DRIVER, *["move 10000 20000"] * 2, "move 9000 20000"),
      "; the limit is V_LOA, the end of authority being reached: 30000 m/h (3.8)\n"),
     ("static_speed", (heard(authority(3_000), LEVEL, statics((0, 12))), *DRIVER),
      "; the limit is the static speed over the train: 60000 m/h at 0 cm (3.11.3)\n"),
-    # From 10 m behind the group on for 500 m; at 2,000 the front is at 2,600.
+    # From 10 m beyond the group on for 500 m; at 2,000 the front is at 2,600.
     ("restriction", (heard("65: NID_TSR 9, D_TSR 10, L_TSR 500, Q_FRONT 1, V_TSR 4", authority(3_000), LEVEL, FAST), *DRIVER,
                      "move 2000 10000"),
      "; the limit is that of a temporary speed restriction over the train: 20000 m/h at 1000 cm, number 9 (3.11.5)\n"),
@@ -155,7 +155,7 @@ def without(track, told):
         return track._replace(restrictions=[it for it in track.restrictions if it[0] != number])
     if kind in ("static_speed", "static_speed_ahead"):
         starts = [at for at in places(it[0] for it in track.statics) if at <= place]
-        # The first one holds behind the start too: the train may cover the track behind the group, of which nothing is known.
+        # The first one holds beyond the start too: the train may cover the track beyond the group, of which nothing is known.
         fast = [(metres, 120 if number == len(starts) - 1 else speed) for number, (metres, speed) in enumerate(track.statics)]
         return track._replace(statics=fast) if starts else None
     if kind in ("mode_area", "mode_area_ahead"):
@@ -183,7 +183,7 @@ def forces(inputs):
 
 
 def unanswered(inputs):
-    """An image with a life of which it isn't told what was answered: who runs it again doesn't ask."""
+    """An image with a life of which it isn't reported what was answered: who runs it again doesn't ask."""
     life = Life()
     kept, output, place = life.kept(), life.now.output, life.place()
     said = [("powerup", 0), *(event_of(*parts(it)) for it in inputs)]

@@ -32,7 +32,7 @@ LONGEST = 16_777_216
 CLOCK = '{"groups":[],"steps":[{"clock":1000}]}'
 MEMBERS = "an object of scenario, and perhaps id, cold, slots and sha256"
 
-# By hand: a line, and what is printed for it beside its number.
+# By hand: a line, and what is printed for it along with its number.
 FAULTS = (
     ("{", {"id": None, "pointer": "", "fault": 1, "name": "NotJson", "wanted": "a JSON object on one line"}),
     ("[]", {"id": None, "pointer": "", "fault": 2, "name": "Shape", "wanted": MEMBERS}),

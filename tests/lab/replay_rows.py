@@ -58,7 +58,7 @@ def on(data):
 
 
 def life_on(disk, word, inputs, flushes=5):
-    """A life of the plain unit; a flush comes behind so many inputs each."""
+    """A life of the plain unit; a flush comes after so many inputs each."""
     unit = Unit(disk, word)
     for done, said in enumerate(inputs, 1):
         kind, _, value = said.partition(" ")
@@ -221,7 +221,7 @@ def altered():
 
 
 def finding(text, whole):
-    """What tells that a byte was altered."""
+    """What says that a byte was altered."""
     for word, said in (("unreadable", "can't be read"), ("record", " event "), ("head", " head of ")):
         if any(said in line and (word == "unreadable" or "differs in" in line) for line in text.splitlines()):
             return word
@@ -260,7 +260,7 @@ def cases():
 
 
 def lay(folder, words):
-    """Cases of `rt try`: each image twice, behind the program's words."""
+    """Cases of `rt try`: each image twice, after the program's words."""
     folder.mkdir(parents=True, exist_ok=True)
     lines, some = [], 0
     for number, (name, data) in enumerate(cases()):

@@ -1,5 +1,5 @@
 #!/usr/bin/env python3
-"""What `etcs_lab run` is to print of scenarios: by hand, and beside the plain program all lines of the examples and of random scenarios, with
+"""What `etcs_lab run` is to print of scenarios: by hand, and compared with the plain program all lines of the examples and of random scenarios, with
 the causes that it works out (tests/plain/why.py); and what `etcs run` prints of the same scenario on an empty image says the same of each
 output.
 
@@ -27,7 +27,7 @@ SCENARIOS, SEED = 2_000, 42
 LEAST_LINES = 20_000  # so many outputs at least
 MOST_PENDING = 8
 COLD = ("unknown", "moved", "not_moved")
-BEHIND = "allowed_backward_cm"  # behind this member come those of the step and of the output
+BEHIND = "allowed_backward_cm"  # after this member come those of the step and of the output
 
 # By hand. Each step of a scenario gives the events that it says: a drive of 250 m three readings, and a telegram where it passes a balise.
 SR_STEPS = [{"driver": [1, "A 1"]}, {"driver": [4, 1]}, {"driver": [3, 20000, 160000, 70, 0, 15]}, {"driver": [6]}]
@@ -63,7 +63,7 @@ def placed(scenario):
 
 
 class Told(Life):
-    """A life that tells of each event what `etcs_lab run` does, but for the step."""
+    """A life that says about each event what `etcs_lab run` does, but for the step."""
 
     def __init__(self, kept=Kept(), cold="unknown"):
         super().__init__(kept, cold)
@@ -93,7 +93,7 @@ def joined(members, step, more):
 
 
 def wanted_of(scenario, lines):
-    """The lines of a run and its status, by what is told of each event of the life."""
+    """The lines of a run and its status, by what is reported of each event of the life."""
     steps = scenario["steps"]
     told, pending, moment, event = [{"scenario": {"cold": COLD[scenario.get("cold", 0)], "steps": len(steps)}}], [], 0, 0
     for at, asked in placed(scenario):
@@ -117,7 +117,7 @@ def text_of(told):
 
 
 def lived(scenario):
-    """What is told of each event of a scenario, worked out anew."""
+    """What is reported of each event of a scenario, worked out anew."""
     life = Told(Kept(), program.WORDS[scenario.get("cold", 0)])
     for asked in program.inputs_of(scenario):
         if asked is not None:
@@ -126,7 +126,7 @@ def lived(scenario):
 
 
 class Played(Made):
-    """A random scenario, made beside a life that is told."""
+    """A random scenario, made along with a life that is reported."""
 
     def __init__(self, numbers):
         super().__init__(numbers, self)
@@ -168,7 +168,7 @@ class Tried(Compared):
             self.met["stopped"] += end != "done"
 
     def faults(self):
-        """What is no scenario is told on standard error, as `etcs run` does, and plays nothing."""
+        """What is no scenario is reported on standard error, as `etcs run` does, and plays nothing."""
         for text in ("", "[]", '{"groups":[],"steps":[{"clock":-1}]}', '{"groups":[],"steps":[{"telegram":"9"}]}'):
             status, out, said = self.play(text)
             other, refusal, _ = self.ran(self.etcs, "run", self.path, self.image)
@@ -180,7 +180,7 @@ class Tried(Compared):
         self.unless(status == 1, f"a full device: status {status}")
 
     def beside(self, name, scenario, lines):
-        """Beside the plain program, and beside `etcs run` on an empty image."""
+        """Compared with the plain program, and along with `etcs run` on an empty image."""
         status, text, said = self.play(json.dumps(scenario))
         told, wanted = wanted_of(scenario, lines)
         self.unless((status, text, said) == (wanted, text_of(told), ""), f"{name}: {json.dumps(scenario)}\n  printed {status} {said}{text}\n"

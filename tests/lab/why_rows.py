@@ -1,6 +1,6 @@
 #!/usr/bin/env python3
 """Images of journals, and what `etcs_lab why` is to print of them. By hand, for each cause of a brake, each kind of what decides a limit and
-each outcome of a balise group, a life and the words that its line has; beside the plain program (tests/plain/why.py) all lines of the
+each outcome of a balise group, a life and the words that its line has; compared with the plain program (tests/plain/why.py) all lines of the
 examples, of pseudo-random lives, of all formats, and of damaged journals; and tracks from which what decides the limit is taken away: then
 the limit is a greater one.
 
@@ -30,8 +30,8 @@ LEAST_LINES = 2_000  # so many lines with what decides a limit
 TRACKS, LEAST_RAISED = 560, 500  # so many tracks, and limits that are greater without what decided them
 # 2^40 cm would take more events than an image holds; the two modes that supervise by train data are entered with valid ones, and keep them.
 UNMET = ("in_system_failure", "no_train_data")
-LEFT_OUT = ("before_oldest_block", "gap", "within_block", "unreadable")  # what is told of events and blocks that aren't run again
-RANDOM = 150  # images of pseudo-random lives, beside those of the replays
+LEFT_OUT = ("before_oldest_block", "gap", "within_block", "unreadable")  # what is reported of events and blocks that aren't run again
+RANDOM = 150  # images of pseudo-random lives, along with those of the replays
 
 SR = ("enter-identity A 1", "choose-level 1", "enter-train-data 20000 160000 70 0 15", "start")
 # By hand: a life in Staff Responsible (limit 40 km/h) or in Stand By, the event that is asked for, and what its line says of a cause.
@@ -74,7 +74,7 @@ TRIPS_BY_HAND = (
      "; the train was tripped: the level was 1, and the authority or the track ahead was not known (event 5, 5.10); no train may run in this "
      "mode: 0 m/h (4.4); group 1 2 in mode UN, direction not known: accepted, linking not being in use (3.4.4), packet 41 Level Transition "
      "Order\n"),
-    # It stays told while the trip is owed.
+    # It stays reported while the trip is owed.
     ("the event behind a trip", (*SUPERVISED, heard(authority(3_000, main=0), group=3), "move 10 0"), 7,
      "; the train was tripped: an authority with V_MAIN 0 was used (event 6, 3.11.6); no train may run in this mode: 0 m/h (4.4)\n"),
 )
@@ -189,7 +189,7 @@ class Tried(Compared):
             self.met[f"trip {told['trip_cause']}"] += 1
 
     def decided(self, inputs):
-        """What decides the limit behind the last event of a life, or None where the program tells nothing."""
+        """What decides the limit after the last event of a life, or None where the program says nothing."""
         status, text = self.run(unanswered(inputs), "--json", "@", str(len(inputs)))
         return json.loads(text) if status == 0 else None
 

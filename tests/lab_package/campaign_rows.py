@@ -116,7 +116,7 @@ def second(out):
 
 
 def faults(room, whole):
-    """What has to be told: a row that differs, a table of other programs, a case that fails, words that are none."""
+    """What has to be reported: a row that differs, a table of other programs, a case that fails, words that are none."""
     other = room / "other.db"
     other.write_bytes(whole.read_bytes())
     with sqlite3.connect(other) as connection:

@@ -1,5 +1,5 @@
 #!/usr/bin/env python3
-"""What `./lab diff` says of pairs of images, beside what was done to make the second one of the first.
+"""What `./lab diff` says of pairs of images, along with what was done to make the second one of the first.
 
     tests/lab_package/diff_rows.py ETCS_LAB [PAIRS [SEED]]
 
@@ -28,7 +28,7 @@ SECTOR, SLOT = 512, 3072
 FIELDS = {"mode": (1, 1, "FS", "OS"), "brake": (2, 1, "none", "service"), "level": (4, 255, 1, None), "limit_m_per_h": (43, 1, 40_000, 40_001),
           "time_ms": (23, 1, 0, 1), "place_cm": (31, 1, 0, 1), "uncertainty_cm": (39, 1, 500, 501), "movement_cm": (51, 1, 100, 101),
           "speed_m_per_h": (55, 1, 3_000, 3_001), "indications": (7, 64, [], ["overspeed"])}
-"""Of each field of the record of a reading its byte, what is put there, and what it tells before and behind that."""
+"""Of each field of the record of a reading its byte, what is put there, and what it says before and after that."""
 
 
 def reading(number, moment=0, speed=3_000, place=0):
@@ -108,7 +108,7 @@ class Pairs(Compared):
         return found
 
     def told(self, name, a, b, verdict, **told):
-        """A pair has this verdict, and what else is told of it."""
+        """A pair has this verdict, and what else is reported of it."""
         found = self.found(a, b)
         self.same(name, {key: found[key] for key in ("verdict", *told)}, {"verdict": verdict, **told})
 

@@ -5,7 +5,7 @@
 
 A stand-in of a unit holds the lock that a unit holds, and commits blocks as one does: it closes the gate, writes head and records
 sector by sector, and opens the gate, with waits between, so that whoever reads a slot at once finds parts of two blocks. Each record is
-told once, in its order, with the byte at which it stands, and each block is in the archive; where the unit runs away from it, what was
+reported once, in its order, with the byte at which it stands, and each block is in the archive; where the unit runs away from it, what was
 overwritten is said to be. No lock is ever asked for on the image.
 """
 import fcntl
@@ -35,7 +35,7 @@ WAIT = 0.0015
 
 class Unit:
     """A stand-in of a unit: it writes a journal from a block on, in the order of a commit. Where it is to, it waits with each block
-    until the one that it overwrites was told."""
+    until the one that it overwrites was reported."""
 
     def __init__(self, path, told, lines=None):
         self.path, self.told, self.lines = path, told, lines
@@ -94,7 +94,7 @@ def followed(rows, events, room, is_awaited):
 
 
 def torn(rows, room):
-    """A block is written over while it is read, behind each of its sectors: then it isn't taken."""
+    """A block is written over while it is read, after each of its sectors: then it isn't taken."""
     told, image, pread = journal(), room / "torn", os.pread
     for sectors in range(7):
         write(image, SLOTS, told, 10)

@@ -4,10 +4,10 @@
     tests/lab_package/join_rows.py ETCS_LAB
 
 - Lives in a ring of few slots, of which each block is kept before it is written over: what is joined is, block by block, the
-  image that a larger ring has, and etcs_lab tells the same events, replay and causes of both.
-- An archive is cut within its last block, or has zeros there: no block is lost, what a cut left is told, and what is kept then goes
-  on behind it. Gaps stay gaps, blocks that contradict are named, and what can't be read is taken from where it can.
-- Blocks of two units are told, and so is a block that can't be read in one source. A gate with a bit altered stops no archive.
+  image that a larger ring has, and etcs_lab reports the same events, replay and causes of both.
+- An archive is cut within its last block, or has zeros there: no block is lost, what a cut left is reported, and what is kept then goes
+  on after it. Gaps stay gaps, blocks that contradict are named, and what can't be read is taken from where it can.
+- Blocks of two units are reported, and so is a block that can't be read in one source. A gate with a bit altered stops no archive.
 - A sync that fails is owed, and made good by the next call. An archive is settled when it is opened.
 - Files that are there, no archives, and archives that another program holds, stay as they are.
 """
@@ -56,7 +56,7 @@ def data_in(path):
 
 
 def words_of(lab, path):
-    """What etcs_lab tells of an image, without the bytes at which records begin and the lines of the image itself."""
+    """What etcs_lab says about an image, without the bytes at which records begin and the lines of the image itself."""
     told = []
     for words in (["events"], ["replay", "--json"], ["why", "--json"]):
         text, _, status = run(lab, [*words, path])
@@ -168,7 +168,7 @@ def contradictions(rows, room):
 
 
 def strangers(rows, room):
-    """Blocks of two units in one image: it is made, and what doesn't follow is told."""
+    """Blocks of two units in one image: it is made, and what doesn't follow is reported."""
     told, other = journal(), {block["number"]: block for block in blocks_of([("unknown", (*STARTED, "clock 5", "move 7 3")), *TWO, *TWO], 3)}
     one, two = room / "unit-1", room / "unit-2"
     write(one, 16, told, 12)
@@ -183,7 +183,7 @@ def strangers(rows, room):
 
 
 def gates(rows, room):
-    """A gate with a bit altered names no block, and what comes behind it is kept all the same."""
+    """A gate with a bit altered names no block, and what comes after it is kept all the same."""
     told, image, path = journal(), room / "gates", room / "gates-archive"
     for bit in (0, 2, 5, 20, 39, 40, 62):
         path.unlink(missing_ok=True)

@@ -6,13 +6,13 @@
 - A bag of the example trip, signed by OpenSSH and OpenPGP and stamped by an authority made here, is as it was sealed, and
   sha256sum and sha512sum find each file so.
 - A byte of each file, a file less, more, renamed, cut off, in place of another one, a link in its place; lines of manifests;
-  signatures and time stamps of others: each is told, by the name of the file. So is what was closed anew behind the
+  signatures and time stamps of others: each is reported, by the name of the file. So is what was closed anew after the
   alteration, where a signature or a time stamp is asked for.
 - What was closed anew and never signed: values that seal.json can't have, files that are no JSON, pipes, links to devices, files of 2^40 bytes,
-  names and texts that hide or fake a line. Each is told, and in time.
+  names and texts that hide or fake a line. Each is reported, and in time.
 - A seal that is killed leaves no folder of its name, and the next one takes away what it left, and nothing else.
 - The image that is sealed stays as it is, and is opened once, to be read alone. What is no image, is held by a unit, or has
-  its folder already isn't sealed; images that are damaged or not formatted are, with all that can be told of them.
+  its folder already isn't sealed; images that are damaged or not formatted are, with all that can be reported of them.
 """
 import errno
 import fcntl
@@ -109,7 +109,7 @@ def trust(room, name="one"):
     return Trust(room / f"signers-{name}", room / f"{name}.gpg", room / f"{name}.pem")
 
 
-# ---- alterations: a name, what does it, and the file that is to be told
+# ---- alterations: a name, what does it, and the file that is to be reported
 
 def flip(name, at):
     def do(folder):
@@ -126,7 +126,7 @@ def alterations():
             yield flip(name, at)
         yield f"{name} less", lambda folder, name=name: (folder / name).unlink(), name
         yield f"{name} renamed", lambda folder, name=name: (folder / name).rename(folder / f"{name}.old"), f"{name}.old"
-        if name != signing.SSH:  # (what is behind the end mark of one of OpenSSH is nobody's)
+        if name != signing.SSH:  # (what is beyond the end mark of one of OpenSSH is nobody's)
             yield f"{name} cut off", lambda folder, name=name: os.truncate(folder / name, (folder / name).stat().st_size // 2), name
     for name in ("data/more", "more.txt", "data/deep/more", "more/more", "data/image.times", f"{bag.SIGNED}.pem"):
         def more(folder, name=name):
@@ -168,7 +168,7 @@ def others():
 
 
 def close_anew(folder):
-    """Closes a bag behind an alteration, as whoever altered it might."""
+    """Closes a bag after an alteration, as whoever altered it might."""
     info = [line.split(": ", 1) for line in (folder / bag.INFO).read_text().splitlines()]
     for name in (bag.SIGNED, "tagmanifest-sha256.txt"):
         (folder / name).unlink()
@@ -182,7 +182,7 @@ def close_anew(folder):
 
 
 def closed_anew(room):
-    """Alterations behind which the bag was closed anew: only a signature, a time stamp or `etcs_lab` tells them."""
+    """Alterations after which the bag was closed anew: only a signature, a time stamp or `etcs_lab` reports them."""
     def table(folder):
         text = (folder / "data/table.csv").read_text()
         (folder / "data/table.csv").write_text(text.replace("emergency", "none"))
@@ -253,7 +253,7 @@ def put(folder, member, value):
 
 
 def forged():
-    """Bags that were closed anew and that nobody signed: a name, the steps, and the file that is to be told."""
+    """Bags that were closed anew and that nobody signed: a name, the steps, and the file that is to be reported."""
     for member, value in ODD:
         yield f"{member} is {str(value)[:40]!r}", [lambda folder, member=member, value=value: put(folder, member, value), strip], "data/seal.json"
     for text in TEXTS:
@@ -282,7 +282,7 @@ def retag(folder):
 
 
 def endless():
-    """Files that never end, or hardly ever: a name, what does it, the file that is to be told."""
+    """Files that never end, or hardly ever: a name, what does it, the file that is to be reported."""
     def pipe(folder, name):
         (folder / name).unlink(missing_ok=True)
         os.mkfifo(folder / name)
@@ -360,7 +360,7 @@ class Count(Compared):
         self.unless(bool(faults) and took < SLOW, f"{name}: took {took:.1f} s: {faults}")
 
     def told(self, name, steps, file, trusted):
-        """An altered bag is told by the name of the file, in time."""
+        """An altered bag is reported by the name of the file, in time."""
         folder = self.made(steps)
         self.altered += 1
         faults, took = timed(folder, trusted)

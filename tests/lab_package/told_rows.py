@@ -1,5 +1,5 @@
 #!/usr/bin/env python3
-"""What `./lab` makes of images, beside what plain readers find in them.
+"""What `./lab` makes of images, along with what plain readers find in them.
 
     tests/lab_package/told_rows.py ETCS_LAB [IMAGES [SEED]]
 
@@ -41,7 +41,7 @@ from told import Refused, told  # noqa: E402
 
 IMAGES, SEED = 200, 44
 LIVES, EACH = 25, 7
-"""Images of each kind of lives; of the events of which nothing new is told each seventh is compared."""
+"""Images of each kind of lives; of the events of which nothing new is reported each seventh is compared."""
 LEAST_KNOWN, LEAST_UNKNOWN, LEAST_TRIPS = 150, 20, 3
 LEAST_RECORDS, LEAST_INTERVENTIONS, LEAST_TELEGRAMS, LEAST_UNUSED = 4_000, 500, 300, 100
 PLAIN = ("block event life kind time_ms mode level brake place_cm uncertainty_cm min_safe_front_cm max_safe_front_cm limit_m_per_h movement_cm "
@@ -59,7 +59,7 @@ SELECT image, block, event FROM (
     FROM event WINDOW w AS (PARTITION BY image, stretch ORDER BY block, event))
 WHERE (mode_before, level_before, brake_before, speed_before_m_per_h, next_event, next_ms, next_cm)
     IS NOT (mode_was, level_was, brake_was, speed_was, event_is, ms_is, cm_is)"""
-"""Records beside which something else stands than what the record before and the next one of their stretch tell."""
+"""Records along with which something else stands than what the record before and the next one of their stretch report."""
 
 
 def plain_records(image, all_blocks):
@@ -75,7 +75,7 @@ def plain_strays(image):
 
 
 def with_speeds(records):
-    """Each record with the speed that holds behind it, and whether it goes on from the record before."""
+    """Each record with the speed that holds after it, and whether it goes on from the record before."""
     before, speed = None, None
     for record in records:
         goes_on = before is not None and (before["event"] + 1, before["life"], before.get("source")) == (
@@ -90,7 +90,7 @@ def with_speeds(records):
 
 
 def wanted_row(record, beside):
-    """A row of the table as CSV tells it, with what stands there beside the record's own members."""
+    """A row of the table as CSV says it, with what stands there along with the record's own members."""
     row = {name: record.get(name) for name in PLAIN}
     row |= {"reading_m_per_h": record.get("speed_m_per_h"), "source": record.get("source"), **beside}
     row |= {f"shows_{sign}": sign in record["indications"] for sign in SIGNS}
@@ -108,7 +108,7 @@ def unused_in(record):
 
 
 def not_obeyed(record):
-    """These as a column tells them."""
+    """These as a column reports them."""
     return ", ".join(f"{one['packet']} {one['why']}" for one in unused_in(record)) or None
 
 
@@ -230,7 +230,7 @@ def compare_database(count, name, connection, journal, table, records):
 
 
 def compare_views(count, name, connection, image, records):
-    """Interventions and runs above the limit, as the views tell them. Where events come twice, views may not tell them."""
+    """Interventions and runs above the limit, as the views report them. Where events come twice, views may not report them."""
     for view, holds in (("brake_intervention", lambda record, _: record["brake"] != "none"), ("above_limit", is_above)):
         got = [list(row) for row in connection.execute(
             f"SELECT first_event, last_event FROM {view} WHERE image = ? ORDER BY first_event, last_event", [image])]
@@ -292,12 +292,12 @@ def plain_reasons(image):
 
 
 def plain_lines(walk, event=None):
-    """What the plain program tells of each event that it has a line of, or of one event."""
+    """What the plain program says about each event that it has a line of, or of one event."""
     return [line for line in map(json.loads, told_of(walk, True, event)[1].splitlines()) if "event" in line]
 
 
 def plain_causes(lines):
-    """Of each event the causes that such lines tell, and the events since which they hold."""
+    """Of each event the causes that such lines say, and the events since which they hold."""
     return {line["event"]: {word: line[word] for word, *_ in WORDS.values() if line[word] is not None} for line in lines}
 
 
@@ -328,7 +328,7 @@ def causes_agree(room):
         table = tables.frame(journal)
         count.same(f"{name}, reasons", dict(table.loc[table["causes_not_known"].notna(), ["event", "causes_not_known"]].values), reasons)
         got = {event: held for event, held in zip(table["event"], table["held"]) if held is not None}
-        # each change is told, and the last event of each command; those and some others are asked of the plain program
+        # each change is reported, and the last event of each command; those and some others are asked of the plain program
         ends = {last for _, last in wanted_runs(records, lambda record, _: record["brake"] != "none")} - set(reasons)
         found = plain_causes(lines)
         count.same(f"{name}, events that are told", (found.keys() - set(reasons)) | ends <= set(got), True)
@@ -358,7 +358,7 @@ def causes_agree(room):
 
 
 def trips_agree(count, name, lines, table, reasons):
-    """The trips of the table, their causes and the events by which they were entered, are those that the plain program's lines tell."""
+    """The trips of the table, their causes and the events by which they were entered, are those that the plain program's lines say."""
     told = {event: (cause, None if at is pd.NA else int(at))
             for event, cause, at in zip(table["event"], table["trip_cause"], table["trip_cause_event"])}
     wanted = {line["event"]: (line["trip_cause"], line["trip_cause_event"]) for line in lines if line["event"] not in reasons}

@@ -41,7 +41,7 @@ def cells_of(text):
 
 
 def is_same(wanted, is_text, told):
-    """Whether a cell tells what the table tells."""
+    """Whether a cell says what the table reports."""
     if is_text or wanted == told:
         return wanted == told
     if wanted in ("True", "False"):

@@ -1,12 +1,12 @@
 #!/usr/bin/env python3
-"""What tshark shows by the dissector of `./lab dissector`, beside the plain decoder (tests/plain/decoded.py), of random
+"""What tshark shows by the dissector of `./lab dissector`, compared with the plain decoder (tests/plain/decoded.py), of random
 telegrams.
 
     tests/oracle/dissector_rows.py [COUNT [SEED]]    2,000 telegrams, seed 2026
 
 Each variable of a telegram that can be decoded is shown, with its number and what that means, in its place. Of one that ends too early, or
 whose L_PACKET is wrong, that is shown; what the decoder refuses for another cause (a number out of range) has its
-variables. Two altered layouts and an altered meaning are told.
+variables. Two altered layouts and an altered meaning are reported.
 """
 import random
 import subprocess
@@ -29,7 +29,7 @@ FAULTS = {"1": "etcs_balise.truncated", "2": "etcs_balise.wrong_length"}
 
 
 def told(data):
-    """The variables that the plain decoder tells, in their order; None where it refuses, and the number of its
+    """The variables that the plain decoder reports, in their order; None where it refuses, and the number of its
     cause."""
     lines = decoded.answer(data).splitlines()
     if lines[-1].startswith("refused"):

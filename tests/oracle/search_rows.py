@@ -6,7 +6,7 @@ hold.
 
 Each wrong property (wrong.search.yaml) is found, is made small to fewer than 12 steps of which none can be left out,
 and is kept as a case that says what it should. The safety laws (suites/safety_laws.search.yaml) are each judged, and
-hold of the proved unit; of each of them an altered answer is told; and in a unit whose brake is late a search finds one
+hold of the proved unit; of each of them an altered answer is reported; and in a unit whose brake is late a search finds one
 of them broken.
 """
 import copy

@@ -1,12 +1,12 @@
 #!/usr/bin/env python3
-"""Another unit beside the proved one: a right one agrees, and each one that is wrong on purpose is found out by what is
+"""Another unit along with the proved one: a right one agrees, and each one that is wrong on purpose is found out by what is
 wrong.
 
     tests/oracle/unit_rows.py ETCS ETCS_LAB UNIT STANDS
 
 UNIT is examples/oracle/unit.c, compiled, STANDS least.c. They, examples/oracle/unit.py and `./lab serve` are asked
 about the journals of the examples. Each kind of tests/oracle/wrong.py is asked about one of them, in which a train is
-tripped and power is lost, and has to be told by what stands here. Nothing of any of them may be left.
+tripped and power is lost, and has to be reported by what stands here. Nothing of any of them may be left.
 """
 import os
 import shlex
@@ -26,7 +26,7 @@ from gaknifur.units.other_unit import OtherUnit  # noqa: E402
 
 WITHIN_S, HANGS_S, LEAST = 60.0, 8.0, 30
 AT = "event 8: "
-# What is told of each kind. By hand, from docs/howto/oracle.md and what the example does: it is made ready by event 5, too
+# What is reported of each kind. By hand, from docs/howto/oracle.md and what the example does: it is made ready by event 5, too
 # fast at event 8.
 FOUND = {
     "brake_late": "differs in brake", "other_mode": "differs in mode",
@@ -86,7 +86,7 @@ def journals(room):
 
 
 def told(command, records, within_s):
-    """What is told of a unit, and whether it agrees."""
+    """What is reported of a unit, and whether it agrees."""
     asked = oracle.ask(command, "tried", records, within_s)
     return "\n".join(line.text for line in oracle.lines(asked)), asked.agrees
 
@@ -106,7 +106,7 @@ expected:
 
 
 def tested(unit):
-    """A case against a unit that tells little: what it tells is judged, what it doesn't tell is skipped and said."""
+    """A case against a unit that says little: what it says is judged, what it doesn't report is skipped and said."""
     with tempfile.TemporaryDirectory() as room:
         (Path(room) / "case.yaml").write_text(CASE)
         done = subprocess.run([TOP / "lab", "test", room, "-rs", "--against", shlex.quote(str(unit))], capture_output=True, text=True)

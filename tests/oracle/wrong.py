@@ -47,7 +47,7 @@ class Wrong:
         return line({**told, "limit_m_per_h": told["limit_m_per_h"] + (told["mode"] == "FS")})
 
     def level_kept(self, told):
-        """The level is thought to be known behind each power-up."""
+        """The level is thought to be known after each power-up."""
         return line({**told, "level": 1 if told["level"] is None else told["level"]})
 
     def lower_uncertainty(self, told):

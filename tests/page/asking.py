@@ -1,4 +1,4 @@
-"""Asking images: what the page tells is what `etcs_lab` tells, also of altered ones."""
+"""Asking images: what the page reports is what `etcs_lab` reports, also of altered ones."""
 import hashlib
 import json
 import random
@@ -14,8 +14,8 @@ ALTERED = 200
 STATES = ("empty", "block", "unreadable", "misplaced", "foreign", "unwritten", "replaced", "remains")
 RECORD = ("", "event", "word", "time_ms", "mode", "level", "brake", "indications", "place", "place_cm", "uncertainty_cm", "limit_m_per_h")
 HEAD = ("", "events", "lives", "trip_outstanding", "identity", "running_number", "train", "level", "position", "national_values", "countries")
-REASONS = {4: "before_oldest_block", 5: "gap", 6: "within_block", 7: "behind_difference"}
-CAUSES = ("not_revalidated", "in_trip", "in_system_failure", "owes_trip", "far_too_fast", "rolled_too_far", "asked_for_service", "too_fast",
+REASONS = {4: "before_oldest_block", 5: "gap", 6: "within_block", 7: "after_difference"}
+CAUSES = ("not_revalidated", "in_trip", "in_system_failure", "owes_trip", "far_too_fast", "rolled_too_far", "service_brake_requested", "too_fast",
           "must_stand", "owes_too_long")
 LIMITS = ("", "no_speed", "no_train_data", "national_staff_responsible", "national_override", "national_shunting", "national_unfitted",
           "train_maximum", "main_speed", "end_speed", "static_speed", "restriction", "mode_area", "static_speed_ahead", "unknown_speed_ahead",
@@ -68,7 +68,7 @@ def altered(data: bytes, dice: random.Random) -> bytes:
     elif kind == 5:  # a slot is put elsewhere
         to = SECTOR + SLOT * dice.randrange(slots)
         it[to:to + SLOT] = data[first:first + SLOT]
-    elif kind == 6:  # cut off, or more behind it
+    elif kind == 6:  # cut off, or more after it
         return bytes(it[:dice.randrange(SECTOR, len(it))]) if dice.random() < 0.7 else bytes(it) + bytes(dice.randrange(1, 1600))
     elif kind == 7:  # a slot is wiped
         it[first:first + SLOT] = bytes(SLOT)
@@ -95,7 +95,7 @@ def compare_slots(told: dict[str, Any], wanted: dict[str, Any], at: str) -> int:
 
 
 def told_of(line: dict[str, Any]) -> Any:
-    """What the page tells by a line of a replay."""
+    """What the page reports by a line of a replay."""
     first, last, verdict = line["first"], line["last"], line["verdict"]
     if verdict == 2:
         return "differs", line["event"], RECORD[line["field"]]

@@ -40,7 +40,7 @@ class Browser:
         raise NotImplementedError
 
     def complaints(self) -> list[str]:
-        """What the browser complained of since the last time, where it tells that."""
+        """What the browser complained of since the last time, where it says that."""
         return []
 
     def open(self, page: Path, hash_: str = "") -> None:

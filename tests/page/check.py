@@ -1,5 +1,5 @@
 #!/usr/bin/python3 -IB
-"""The page of tools/page in headless Chromium, beside the programs `etcs` and `etcs_lab` and the library for C.
+"""The page of tools/page in headless Chromium, along with the programs `etcs` and `etcs_lab` and the library for C.
 
     tests/page/check.py PAGE [NAME..]    all checks of a page, or those of these names; `opens_long` runs by its name alone
 
@@ -41,7 +41,7 @@ def opened() -> tuple[Browser, list[str]]:
 
 
 def main() -> int:
-    """Runs the checks, also behind one that failed."""
+    """Runs the checks, also after one that failed."""
     page, counted, failed = Path(sys.argv[1]).resolve(), 0, 0
     browser, names = opened()
     names = sys.argv[2:] or names

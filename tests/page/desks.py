@@ -29,7 +29,7 @@ def etcs(*words: str) -> list[str]:
 
 
 def image_of(folder: Path, scenarios: list[Any], slots: int = SLOTS) -> tuple[bytes, list[str]]:
-    """The image that `etcs run` makes of some scenarios, one life behind the other, and what it prints."""
+    """The image that `etcs run` makes of some scenarios, one life after the other, and what it prints."""
     image, printed = folder / "image", []
     etcs("format", str(image), str(slots))
     for scenario in scenarios:
@@ -182,7 +182,7 @@ class Lost(Exception):
 
 
 class Cut(unit.MemoryMedium):
-    """A medium that loses power within a request: of the write that is open then each sector is left as it is told."""
+    """A medium that loses power within a request: of the write that is open then each sector is left as it is reported."""
 
     left: list[str] | None = None
     request = 0
@@ -211,7 +211,7 @@ class Cut(unit.MemoryMedium):
 
 
 def act(one: unit.Unit, step: dict[str, Any]) -> None:
-    """Hands the unit of the library for C what a step of a scenario tells."""
+    """Hands the unit of the library for C what a step of a scenario reports."""
     (word, value), = step.items()
     if word == "telegram":
         one.telegram(bytes.fromhex(value))

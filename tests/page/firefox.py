@@ -22,7 +22,7 @@ class Failed(Exception):
 
 
 class Firefox(Browser):
-    """The browser, with a profile of its own that is gone behind it."""
+    """The browser, with a profile of its own that is gone after it."""
 
     def __init__(self) -> None:
         self.profile = Path(tempfile.mkdtemp(prefix="gaknifur-firefox-"))

@@ -1,4 +1,4 @@
-"""How long an image takes to be told, and that the page stays usable meanwhile. A busy machine makes single runs slow, so the best of several counts."""
+"""How long an image takes to be reported, and that the page stays usable meanwhile. A busy machine makes single runs slow, so the best of several counts."""
 import base64
 import json
 import time
@@ -50,7 +50,7 @@ def long_image(folder: Path, events: int) -> Path:
 
 
 def measured(browser: Browser, folder: Path, events: int, runs: int, is_long: bool = False) -> int:
-    """Opens an image several times, and goes through its events. One that is long tells meanwhile how far it is."""
+    """Opens an image several times, and goes through its events. One that is long reports meanwhile how far it is."""
     path, found = long_image(folder, events), []
     for _ in range(runs):
         browser.run(WATCH)
@@ -75,7 +75,7 @@ def opens(browser: Browser, _page: Path, folder: Path) -> int:
 
 
 def opens_long(browser: Browser, _page: Path, folder: Path) -> int:
-    """100,000 events open in 3 s, and the page is told meanwhile how far it is."""
+    """100,000 events open in 3 s, and the page is given meanwhile how far it is."""
     return measured(browser, folder, MOST_EVENTS, MOST_RUNS, is_long=True)
 
 

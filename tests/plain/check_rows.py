@@ -1,6 +1,6 @@
 #!/usr/bin/env python3
 """Works each answer of the kernel's rows out by the plain program, and prints where it is another one than the row wants. A
-telegram that a row hears is named behind its bytes; its fields stand beside the name at the head of the part, and have to spell
+telegram that a row hears is named after its bytes; its fields stand along with the name at the head of the part, and have to spell
 those bytes.
 
     tests/plain/check_rows.py [FILE ..]

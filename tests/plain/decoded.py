@@ -1,4 +1,4 @@
-"""Telegrams as `etcs decode` tells them: each field by its name, or the first fault in the order of the bits (SUBSET-026, chapters 7
+"""Telegrams as `etcs decode` reports them: each field by its name, or the first fault in the order of the bits (SUBSET-026, chapters 7
 and 8; packet 3 in this project's order).
 """
 from collections import namedtuple
@@ -20,7 +20,7 @@ HEADER = "Q_UPDOWN M_VERSION Q_MEDIA N_PIG N_TOTAL M_DUP M_MCOUNT NID_C NID_BG Q
 NATIONAL = ("V_NVSHUNT V_NVSTFF V_NVONSIGHT V_NVUNFIT V_NVREL D_NVROLL V_NVALLOWOVTRP V_NVSUPOVTRP D_NVOVTRP T_NVOVTRP D_NVSTFF")
 
 
-# Fields are pairs of a name and a number; those of a packet begin behind NID_PACKET, and of one that is skipped the body isn't read.
+# Fields are pairs of a name and a number; those of a packet begin after NID_PACKET, and of one that is skipped the body isn't read.
 Telegram = namedtuple("Telegram", "header packets bits")
 Packet = namedtuple("Packet", "number fields is_skipped")
 

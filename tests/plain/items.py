@@ -27,7 +27,7 @@ class Kept:
     running_number: object = None
     train_data: object = None
     level: Item = NOTHING
-    position: Item = NOTHING  # a group, and how far the estimate lies behind it
+    position: Item = NOTHING  # a group, and how far the estimate lies beyond it
     national: InForce = InForce()
     trip: bool = False
     events: int = 0

@@ -1,12 +1,12 @@
 #!/usr/bin/env python3
-"""Tries the safety laws on the plain program: each is looked at behind each event of the kernel's rows, and may fail nowhere. The
+"""Tries the safety laws on the plain program: each is looked at after each event of the kernel's rows, and may fail nowhere. The
 last lines say of each law how often its premise held.
 
     tests/plain/law_rows.py [LAW ..]
 
-Speeds are metres per hour, places centimetres, moments milliseconds. A law is a function of the life behind an event, of what was
+Speeds are metres per hour, places centimetres, moments milliseconds. A law is a function of the life after an event, of what was
 remembered before it (`Before`), and of the line that the row has. It answers None where its premise doesn't hold, else whether it
-is kept. The exit status is 1 where one isn't, or where fewer events met its premise than are told here.
+is kept. The exit status is 1 where one isn't, or where fewer events met its premise than are reported here.
 """
 import os
 import sys
@@ -28,7 +28,7 @@ END_MODES = ("FS", "OS", "SR")
 
 @dataclass
 class Course:
-    """A train that brakes at its greatest front from a speed: behind the way of its reaction each centimetre takes off what its
+    """A train that brakes at its greatest front from a speed: after the way of its reaction each centimetre takes off what its
     brakes are known to, or all."""
 
     situation: Situation
@@ -104,8 +104,8 @@ def no_brake_only_where(life, before, line):
 
 
 def passing_end_trips(life, before, line):
-    """Where the mode stays one of these, the end is that behind the event; where it deletes the authority, that before, unless this event
-    told another one."""
+    """Where the mode stays one of these, the end is that after the event; where it deletes the authority, that before, unless this event
+    reported another one."""
     stays = life.mode() in END_MODES
     end = life.end() if stays else before.end
     if before.mode not in END_MODES or end is None or end.speed or life.stretch().min_front <= end.place:
@@ -209,7 +209,7 @@ def starts_by_kind_decide(life, before, line):
 
 
 def release_rule(life, before, line):
-    """A speed is up to the limit where the train may run at it: tried at the speeds that count, and beside them."""
+    """A speed is up to the limit where the train may run at it: tried at the speeds that count, and next to them."""
     if not is_supervised(life):
         return None
     situation, end, limit = life.situation(), life.situation().end, life.now.output.limit
@@ -266,7 +266,7 @@ LEAST = {
 
 
 def tried(row, laws):
-    """Each law behind each event of a row, with what came of it."""
+    """Each law after each event of a row, with what came of it."""
     before, trips = Before("SB", 0, None, False, False), False
     for line, life in row.lives():
         if line.word in rows.ASKED:

@@ -97,7 +97,7 @@ class Life(History):
         self.now.output = output_of(self)
 
     def remember(self):
-        """The forgetting mark never falls. It rises by the place after the event's fixes, before the mode is looked for and behind
+        """The forgetting mark never falls. It rises by the place after the event's fixes, before the mode is looked for and after
         what the mode makes of the train data."""
         self.mark = max(self.mark, self.stretch().min_rear - REMEMBERED_CM)
 

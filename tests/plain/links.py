@@ -30,7 +30,7 @@ class Verdict:
 
 
 def entries_of(packet, group, place):
-    """The announced groups. Each distance counts from the one before, the first from the group that tells the list; so
+    """The announced groups. Each distance counts from the one before, the first from the group that says the list; so
     does a country that isn't given."""
     entries, country = [], group[0]
     for link in packet.links:
@@ -62,7 +62,7 @@ class Links:
             self.has_missed = True
 
     def missed(self, min_front):
-        """At a reading of the odometer: entries that lie wholly behind the least front are missed, each on its own."""
+        """At a reading of the odometer: entries that lie wholly after the least front are missed, each on its own."""
         verdict = Verdict(IGNORE)
         self.miss([e for e in self.left if min_front > e.last_place()], verdict)
         self.left = [e for e in self.left if min_front <= e.last_place()]

@@ -1,5 +1,5 @@
 #!/usr/bin/env python3
-"""Makes all rows of the crates: those by hand (tests/rows), and behind them the ones that the plain programs make.
+"""Makes all rows of the crates: those by hand (tests/rows), and after them the ones that the plain programs make.
 
     tests/plain/make_rows.py FOLDER [SEED]
 

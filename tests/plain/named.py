@@ -1,9 +1,9 @@
 """Telegrams written from named fields (SUBSET-026, 7.4 and 8.4; packet 3 in this project's order, or in that of the issue, with
 seven fields more).
 
-A telegram is told as its header and its packets, one behind another: `NID_BG 2; 65: NID_TSR 7, D_TSR 100, L_TSR 50, Q_FRONT 1,
+A telegram is reported as its header and its packets, one after another: `NID_BG 2; 65: NID_TSR 7, D_TSR 100, L_TSR 50, Q_FRONT 1,
 V_TSR 4; 66: NID_TSR 8`. The fields of a packet stand in their order, each by its name; of the header and of a packet's head only
-what isn't usual is told. L_PACKET is reckoned, where it isn't told. A packet with a number alone has no more than its head.
+what isn't usual is reported. L_PACKET is reckoned, where it isn't reported. A packet with a number alone has no more than its head.
 
 The widths stand in python/gaknifur/testing/telegrams.py too, on purpose: what tests write doesn't come from the program that they test.
 """
@@ -65,7 +65,7 @@ def packet_of(text):
 
 
 def written(text):
-    """The bytes of a telegram in hex digits: the end mark stands behind the packets, and zeros fill the last byte."""
+    """The bytes of a telegram in hex digits: the end mark comes after the packets, and zeros fill the last byte."""
     header, *packets = re.split(r"\s*;\s*", text.strip())
     bits = header_of(header) + "".join(map(packet_of, packets)) + bits_of("NID_PACKET", 255)
     bits += "0" * (-len(bits) % 8)

@@ -2,7 +2,7 @@
 the plain unit answers.
 
 As they are made, each cut is held against the table: before the gate is written what is found is what was durable, while it is written
-or not synced that or the same with the whole batch, behind it the latter.
+or not synced that or the same with the whole batch, after it the latter.
 """
 from itertools import product
 
@@ -43,7 +43,7 @@ class Made:
 
 
 def of_lives(lives, form, flushes):
-    """The blocks of some lives in a format: a power-up has a block of its own, and a flush comes behind so many inputs each. A life
+    """The blocks of some lives in a format: a power-up has a block of its own, and a flush comes after so many inputs each. A life
     whose block before is of format 1 or 2 knows nothing of movements."""
     kept, made = Kept(), []
     for inputs in lives:
@@ -138,7 +138,7 @@ LIFE = "open not-moved; clock 7; enter-running-number 5; flush"
 
 
 EVERY = 4_096  # so many combinations are tried at most for one cut: all of them
-BOTH = 64  # .. and for a cut and another one in the opening behind it; where there are more, those of `some`
+BOTH = 64  # .. and for a cut and another one in the opening after it; where there are more, those of `some`
 SAMPLE = 40
 
 
@@ -153,7 +153,7 @@ def text_of(lists):
 
 def some(first, second):
     """The lists of combinations of many sectors: a sample; and for up to six sectors, but where the first cut is already split, old and
-    new in any mixture, and all words for one beside only old or only new ones."""
+    new in any mixture, and all words for one along with only old or only new ones."""
     both = first + second
     split = lambda lists: f"{text_of(lists[:len(first)])} / {text_of(lists[len(first):])}"
     if len(first) > 1 and len(both) <= 6:
@@ -240,7 +240,7 @@ def first_cuts(lists):
 
 
 def cuts_twice(made, numbers):
-    """The same, and another cut in the opening behind it."""
+    """The same, and another cut in the opening after it."""
     for name, _, prepare in RINGS:
         if name not in TWICE:
             continue
@@ -255,7 +255,7 @@ def cuts_twice(made, numbers):
 
 
 def cut_again(made, numbers, number, first, before):
-    """A cut in each write and sync of the opening behind a first cut."""
+    """A cut in each write and sync of the opening after a first cut."""
     for again in range(8):
         made.session.set_disk(lived(made, number))
         made.session.do_settle(*(words[0] for words in first))
@@ -272,7 +272,7 @@ def cut_again(made, numbers, number, first, before):
 
 
 def faults(made):
-    """In each call of an opening and a flush, reads too, power is lost; or it fails, and the disk goes on, or power is lost behind it."""
+    """In each call of an opening and a flush, reads too, power is lost; or it fails, and the disk goes on, or power is lost after it."""
     for name, _, prepare in RINGS:
         prepare(made)
         made.say("keep")
@@ -327,7 +327,7 @@ class World:
 
     def __init__(self, made, numbers):
         self.made, self.numbers, self.session = made, numbers, made.session
-        self.kept = [self.on_the_disk()]  # what is kept behind what is found, and behind each event accepted since
+        self.kept = [self.on_the_disk()]  # what is kept after what is found, and after each event accepted since
         self.released = self.first = self.kept[0].events
 
     def on_the_disk(self):

@@ -6,7 +6,7 @@ NONE, SERVICE, EMERGENCY = "none", "service", "emergency"
 
 Output = namedtuple("Output", "mode level brake limit indications")
 
-# The first row that holds commands its brake. Behind `from` stands what an event brings, behind `until` what ends it; where both
+# The first row that holds commands its brake. After `from` stands what an event brings, after `until` what ends it; where both
 # are at one event it begins. What is above the limit is metres per hour.
 ROWS = """
 emergency  while  not revalidated
@@ -48,7 +48,7 @@ def since(ends, moments):
 
 
 def moments_of(life, limit):
-    """Each event with the speed and the limit behind it; the last one has no output yet."""
+    """Each event with the speed and the limit after it; the last one has no output yet."""
     return [(entry, entry.speed, limit if entry.output is None else entry.output.limit) for entry in life.entries]
 
 

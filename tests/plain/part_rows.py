@@ -39,7 +39,7 @@ def read(total):
 
 
 def missed(total, missing, before, behind):
-    """Groups of which one balise isn't read, with these M_DUP before and behind it: a neighbour repeats it, or not."""
+    """Groups of which one balise isn't read, with these M_DUP before and after it: a neighbour repeats it, or not."""
     yield "balises new", "done"
     for place in range(total + 1):
         if place != missing:
@@ -61,7 +61,7 @@ def groups():
 
 
 def slowing(train, gradient, place):
-    """The deceleration at a centimetre, in cm/s2, rounded down; 0 where no gradient is told."""
+    """The deceleration at a centimetre, in cm/s2, rounded down; 0 where no gradient is reported."""
     if not gradient.begins <= place < gradient.ends:
         return 0
     steepness = gradient.before if place < gradient.changes else gradient.behind

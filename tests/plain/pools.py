@@ -13,15 +13,15 @@ RESTRICTIONS = (
     "NID_BG 11; 65: NID_TSR 255, D_TSR 0, L_TSR 12, Q_FRONT 1, V_TSR 7",
     # 7 is revoked.
     "NID_BG 5; 66: NID_TSR 7",
-    # 8 is revoked, and restriction 9 of 15 km/h is told, from the group on for 2.5 m.
+    # 8 is revoked, and restriction 9 of 15 km/h is reported, from the group on for 2.5 m.
     "NID_BG 6; 66: NID_TSR 8; 65: Q_SCALE 0, NID_TSR 9, D_TSR 0, L_TSR 25, Q_FRONT 1, V_TSR 3",
-    # 255 is revoked, and restriction 7 is told for the nominal direction.
+    # 255 is revoked, and restriction 7 is reported for the nominal direction.
     "NID_BG 7; 66: NID_TSR 255; 65: Q_DIR 1, NID_TSR 7, D_TSR 0, L_TSR 30, Q_FRONT 1, V_TSR 1",
     # Counter 254.
     "M_MCOUNT 254, NID_BG 2; 65: NID_TSR 7, D_TSR 0, L_TSR 50, Q_FRONT 1, V_TSR 2",
     # No packet.
     "NID_BG 8",
-    # Restriction 10 of 25 km/h, 3 m ahead for 4 m; behind packet 136 restriction 11 of 5 km/h.
+    # Restriction 10 of 25 km/h, 3 m ahead for 4 m; after packet 136 restriction 11 of 5 km/h.
     "NID_BG 9; 65: NID_TSR 10, D_TSR 3, L_TSR 4, Q_FRONT 1, V_TSR 5; 136; 65: NID_TSR 11, D_TSR 0, L_TSR 50, "
     "Q_FRONT 1, V_TSR 1",
     # Restriction 8 with no length.
@@ -36,7 +36,7 @@ RESTRICTIONS = (
 # Groups of one, two and three balises, and linking.
 GROUPS = (
     # Group 2 announces group 3 in its nominal direction, 10 m ahead, to 5 m, and group 4 in its reverse direction, 15
-    # m behind it, to 10 m.
+    # m after it, to 10 m.
     "NID_BG 2; 5: D_LINK 10, Q_NEWCOUNTRY 0, NID_BG 3, Q_LINKORIENTATION 1, Q_LINKREACTION 2, Q_LOCACC 5, N_ITER 1, "
     "D_LINK 15, Q_NEWCOUNTRY 0, NID_BG 4, Q_LINKORIENTATION 0, Q_LINKREACTION 2, Q_LOCACC 10",
     # Group 5 announces group 6 in its nominal direction, 8 m ahead, to 2 m.
@@ -73,32 +73,32 @@ GROUPS = (
 
 # National values, authorities, gradients and static speeds.
 TRACK = (
-    # Group 2: an authority of 40 km/h over 20 m, 15 km/h at its end for 5 s, a danger point 4 m behind it with 10
+    # Group 2: an authority of 40 km/h over 20 m, 15 km/h at its end for 5 s, a danger point 4 m after it with 10
     # km/h; level track; 50 km/h.
     "NID_BG 2; 12: V_MAIN 8, V_LOA 3, T_LOA 5, N_ITER 0, L_ENDSECTION 20, Q_SECTIONTIMER 0, Q_ENDTIMER 0, "
     "Q_DANGERPOINT 1, D_DP 4, V_RELEASEDP 2, Q_OVERLAP 0; 21: D_GRADIENT 0, Q_GDIR 1, G_A 0, N_ITER 0; "
     "27: D_STATIC 0, V_STATIC 10, Q_FRONT 0, N_ITER 0, N_ITER 0",
-    # Group 3: 30 km/h, after 10 m 10 km/h, an end mark 15 m behind that.
+    # Group 3: 30 km/h, after 10 m 10 km/h, an end mark 15 m after that.
     "NID_BG 3; 27: D_STATIC 0, V_STATIC 6, Q_FRONT 0, N_ITER 0, N_ITER 2, D_STATIC 10, V_STATIC 2, Q_FRONT 0, "
     "N_ITER 0, D_STATIC 15, V_STATIC 127, Q_FRONT 0, N_ITER 0",
-    # Group 4: 25 km/h from 8 m ahead on, of category 3 20 km/h; 6 m behind that 45 km/h, of category 3 35 km/h; both
+    # Group 4: 25 km/h from 8 m ahead on, of category 3 20 km/h; 6 m after that 45 km/h, of category 3 35 km/h; both
     # until the front has left them.
     "NID_BG 4; 27: D_STATIC 8, V_STATIC 5, Q_FRONT 1, N_ITER 1, NC_DIFF 3, V_DIFF 4, N_ITER 1, D_STATIC 6, "
     "V_STATIC 9, Q_FRONT 1, N_ITER 2, NC_DIFF 15, V_DIFF 1, NC_DIFF 3, V_DIFF 7",
-    # Group 5: an authority of 60 km/h over 10 m and 15 m; timers of 6 s and 9 s, that stop 8 m and 10 m behind the
+    # Group 5: an authority of 60 km/h over 10 m and 15 m; timers of 6 s and 9 s, that stop 8 m and 10 m after the
     # entries; an overlap of 6 m with V_NVREL, for 5 s from 12 m before the end on.
     "NID_BG 5; 12: V_MAIN 12, V_LOA 0, T_LOA 0, N_ITER 1, L_SECTION 10, Q_SECTIONTIMER 1, T_SECTIONTIMER 6, "
     "D_SECTIONTIMERSTOPLOC 8, L_ENDSECTION 15, Q_SECTIONTIMER 1, T_SECTIONTIMER 9, D_SECTIONTIMERSTOPLOC 10, "
     "Q_ENDTIMER 0, Q_DANGERPOINT 0, Q_OVERLAP 1, D_STARTOL 12, T_OL 5, D_OL 6, V_RELEASEOL 127",
     # Group 6: an authority of 80 km/h over 7 m and 5 m, 10 km/h at its end for 3 s; a timer of 4 s from 6 m before the
-    # end; a danger point 3 m behind it with 5 km/h, and an overlap of 6 m with 10 km/h, for 3 s from 9 m before the
+    # end; a danger point 3 m after it with 5 km/h, and an overlap of 6 m with 10 km/h, for 3 s from 9 m before the
     # end.
     "NID_BG 6; 12: V_MAIN 16, V_LOA 2, T_LOA 3, N_ITER 1, L_SECTION 7, Q_SECTIONTIMER 0, L_ENDSECTION 5, "
     "Q_SECTIONTIMER 0, Q_ENDTIMER 1, T_ENDTIMER 4, D_ENDTIMERSTARTLOC 6, Q_DANGERPOINT 1, D_DP 3, V_RELEASEDP 1, "
     "Q_OVERLAP 1, D_STARTOL 9, T_OL 3, D_OL 6, V_RELEASEOL 2",
     # Group 7: 20 per mille uphill for 14 m.
     "NID_BG 7; 21: D_GRADIENT 0, Q_GDIR 1, G_A 20, N_ITER 1, D_GRADIENT 14, Q_GDIR 0, G_A 255",
-    # Group 8: 30 per mille downhill from 2 m ahead and 25 uphill from 10 m behind that on, in steps of 10 cm.
+    # Group 8: 30 per mille downhill from 2 m ahead and 25 uphill from 10 m after that on, in steps of 10 cm.
     "NID_BG 8; 21: Q_SCALE 0, D_GRADIENT 20, Q_GDIR 0, G_A 30, N_ITER 1, D_GRADIENT 100, Q_GDIR 1, G_A 25",
     # Group 9: national values at once, also for country 2: 30 km/h, and 5 km/h to release.
     "NID_BG 9; 3: D_VALIDNV 32767, N_ITER 1, NID_C 2, V_NVSHUNT 6, V_NVSTFF 6, V_NVONSIGHT 6, V_NVUNFIT 20, "
@@ -110,7 +110,7 @@ TRACK = (
     "NID_C 2, NID_BG 10",
     "NID_C 3, NID_BG 11",
     # Group 2 announces group 3 in its nominal direction, 10 m ahead, to 5 m, and group 4 in its reverse direction, 15
-    # m behind it, to 10 m.
+    # m after it, to 10 m.
     "NID_BG 2; 5: D_LINK 10, Q_NEWCOUNTRY 0, NID_BG 3, Q_LINKORIENTATION 1, Q_LINKREACTION 2, Q_LOCACC 5, N_ITER 1, "
     "D_LINK 15, Q_NEWCOUNTRY 0, NID_BG 4, Q_LINKORIENTATION 0, Q_LINKREACTION 2, Q_LOCACC 10",
     # Group 3: restriction 7 of 10 km/h, 5 m ahead for 10 m; in its nominal direction 35 km/h.
@@ -125,7 +125,7 @@ TRACK = (
     # Group 13: end marks for the gradient and for the static speed.
     "NID_BG 13; 21: D_GRADIENT 0, Q_GDIR 0, G_A 255, N_ITER 0; 27: D_STATIC 0, V_STATIC 127, Q_FRONT 0, N_ITER 0, "
     "N_ITER 0",
-    # Group 14: 10 per mille uphill, 70 km/h; behind packet 136 5 km/h.
+    # Group 14: 10 per mille uphill, 70 km/h; after packet 136 5 km/h.
     "NID_BG 14; 21: D_GRADIENT 0, Q_GDIR 1, G_A 10, N_ITER 0; 27: D_STATIC 0, V_STATIC 14, Q_FRONT 0, N_ITER 0, "
     "N_ITER 0; 136; 27: D_STATIC 0, V_STATIC 1, Q_FRONT 0, N_ITER 0, N_ITER 0",
     # The two balises of group 15: an authority of 50 km/h over 5 m in the nominal direction, 20 km/h at its end for 3
@@ -153,12 +153,12 @@ SUPERVISION = (
     + "; 80: D_MAMODE 30, M_MAMODE 1, V_MAMODE 127, L_MAMODE 10, L_ACKMAMODE 15, N_ITER 0",
     # Group 23: V_MAIN 0.
     "NID_BG 23; 12: V_MAIN 0, " + OPEN.format(50, 10),
-    # Level 0 at once; level 1 in 20 m, behind an element for STM; level 0 in 25 m, to be acknowledged from 15 m before it on; level 2.
+    # Level 0 at once; level 1 in 20 m, after an element for STM; level 0 in 25 m, to be acknowledged from 15 m before it on; level 2.
     "NID_BG 24; 41: D_LEVELTR 32767, M_LEVELTR 0, L_ACKLEVELTR 10, N_ITER 0",
     "NID_BG 25; 41: D_LEVELTR 20, M_LEVELTR 1, NID_STM 5, L_ACKLEVELTR 3, N_ITER 1, M_LEVELTR 2, L_ACKLEVELTR 5",
     "NID_BG 26; 41: D_LEVELTR 25, M_LEVELTR 0, L_ACKLEVELTR 15, N_ITER 0",
     "NID_BG 27; 41: D_LEVELTR 5, M_LEVELTR 3, L_ACKLEVELTR 5, N_ITER 0",
-    # Group 28 announces group 29, 15 m ahead, to 3 m, with the reaction trip, and group 30, 10 m behind it, with a service brake.
+    # Group 28 announces group 29, 15 m ahead, to 3 m, with the reaction trip, and group 30, 10 m after it, with a service brake.
     "NID_BG 28; 5: D_LINK 15, Q_NEWCOUNTRY 0, NID_BG 29, Q_LINKORIENTATION 1, Q_LINKREACTION 0, Q_LOCACC 3, N_ITER 1, "
     "D_LINK 10, Q_NEWCOUNTRY 0, NID_BG 30, Q_LINKORIENTATION 1, Q_LINKREACTION 1, Q_LOCACC 4",
     "NID_BG 29",
@@ -175,7 +175,7 @@ SUPERVISION = (
     "NID_BG 32; 3: D_VALIDNV 10, N_ITER 1, NID_C 3, " + NATIONAL.format(5, 9, 4, 10, 5, 4, 5, 100, 255, 32767),
     # At once: Override never lasts, and Staff Responsible neither.
     "NID_BG 34; 3: D_VALIDNV 32767, N_ITER 0, " + NATIONAL.format(6, 8, 6, 20, 2, 10, 6, 0, 0, 5),
-    # Two areas: On Sight 5 m ahead for 10 m, and Shunting of no length 10 m behind its start.
+    # Two areas: On Sight 5 m ahead for 10 m, and Shunting of no length 10 m beyond its start.
     "NID_BG 33; 80: D_MAMODE 5, M_MAMODE 0, V_MAMODE 4, L_MAMODE 10, L_ACKMAMODE 3, N_ITER 1, D_MAMODE 10, M_MAMODE 1, "
     "V_MAMODE 2, L_MAMODE 0, L_ACKMAMODE 8",
     # Group 35: an On Sight area without an end, of the national speed, with an authority over 80 m.
@@ -200,7 +200,7 @@ SUPERVISION = (
     # Group 42: the same as group 40, with an On Sight area of 20 km/h for 15 m.
     "NID_BG 42; 12: V_MAIN 16, " + OPEN.format(70, 12) + "; 41: D_LEVELTR 32767, M_LEVELTR 2, L_ACKLEVELTR 0, N_ITER 0; "
     "80: D_MAMODE 0, M_MAMODE 0, V_MAMODE 4, L_MAMODE 15, L_ACKMAMODE 5, N_ITER 0",
-    # Group 43: an authority over 80 m, an On Sight area for 15 m, and a Shunting area behind it.
+    # Group 43: an authority over 80 m, an On Sight area for 15 m, and a Shunting area after it.
     "NID_BG 43; 12: V_MAIN 20, " + OPEN.format(80, 14) + "; 80: D_MAMODE 0, M_MAMODE 0, V_MAMODE 5, L_MAMODE 15, L_ACKMAMODE 5, "
     "N_ITER 1, D_MAMODE 15, M_MAMODE 1, V_MAMODE 3, L_MAMODE 20, L_ACKMAMODE 2",
 )

@@ -19,7 +19,7 @@ ALONE = {6: "start", 7: "choose-shunting", 8: "leave-shunting", 9: "override", 1
 # ---- the steps of a scenario
 
 def action_of(code, *values):
-    """A driver's action as the plain kernel takes it, and its payload behind the code."""
+    """A driver's action as the plain kernel takes it, and its payload after the code."""
     first = values[0] if values else None
     if code == 1:
         return "enter-identity", first, first.encode()
@@ -92,7 +92,7 @@ def event_of(kind, *values):
 
 @functools.lru_cache(maxsize=4096)
 def kept_behind(lives):
-    """What is kept behind lives, each its word and its events: they are lived again, the same ones once."""
+    """What is kept after lives, each its word and its events: they are lived again, the same ones once."""
     if not lives:
         return Kept()
     *before, (word, taken) = lives
@@ -107,7 +107,7 @@ class Image:
         self.slots, self.lives, self.blocks, self.events = slots, [], [], 0
 
     def begun(self, cold):
-        """The next life, behind all that is durable."""
+        """The next life, after all that is durable."""
         kept = kept_behind(tuple((word, tuple(taken)) for word, taken in self.lives))
         self.lives.append((cold, []))
         return Life(kept, cold)

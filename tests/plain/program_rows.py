@@ -4,10 +4,10 @@
     tests/plain/program_rows.py PROGRAM [FILE ..]     runs them by this program
     tests/plain/program_rows.py --check [FILE ..]     works out by the plain program what they want
 
-A file has cases, each in a folder of its own that is empty at its start, but for the scenarios (*.json) beside the file:
+A file has cases, each in a folder of its own that is empty at its start, but for the scenarios (*.json) along with the file:
 
     # a comment
-    case NAME                a further case; behind it may stand `by hand`, then the plain program doesn't know the answers
+    case NAME                a further case; after it may stand `by hand`, then the plain program doesn't know the answers
     file NAME TEXT           makes a file with this text; <<N TEXT>> in it is the text N times
     bytes NAME HEX           makes a file of these bytes
     put NAME OFFSET HEX      writes bytes into a file
@@ -59,7 +59,7 @@ F_SETPIPE_SZ = 1031
 Line = namedtuple("Line", "number word given rest output status")
 # The name of a telegram in a comment and its bytes, and below them its fields.
 NAMED = re.compile(r"^#     (\S.*): ([0-9A-F]+)\n((?:#       .*\n)+)", re.M)
-# The words with an exit status, and those with words for the program behind a `$`.
+# The words with an exit status, and those with words for the program after a `$`.
 RUNS = {"$", "full", "closed", "without", "into", "end"}
 GIVEN = {"full", "closed", "without", "into", "begin"}
 LOCKS = {"lock": fcntl.LOCK_EX, "share": fcntl.LOCK_SH}

@@ -1,5 +1,5 @@
 #!/usr/bin/env python3
-"""Replays the journal of an image by the plain kernel: each life from its power-up on, behind what the head before it tells.
+"""Replays the journal of an image by the plain kernel: each life from its power-up on, after what the head before it says.
 
     tests/plain/replay.py [--json] IMAGE     prints what `etcs_lab replay` prints, and ends with its status
 """
@@ -26,8 +26,8 @@ KEPT_FIELDS = (("events", "events"), ("lives", "lives"), ("trip_outstanding", "t
 REASONS = {
     "before_oldest_block": "what was kept before its power-up is in no block that is retained",
     "gap": "blocks or events are missing before",
-    "within_block": "no head tells what was kept before its power-up",
-    "behind_difference": "they follow a record that differs",
+    "within_block": "no head contains what was kept before its power-up",
+    "after_difference": "they follow a record that differs",
 }
 
 
@@ -52,7 +52,7 @@ def input_of(event):
 
 
 def answer_object(record, form):
-    """What is told of an event beside the event."""
+    """What is reported of an event along with the event."""
     told = {"event": record["number"], "time_ms": record["moment"], "mode": MODE_WORDS[record["mode"]],
             "level": None if record["level"] == 255 else record["level"], "brake": BRAKES[record["brake"]],
             "indications": signs_of(record["ind"])}
@@ -107,14 +107,14 @@ def members_text(value):
 
 
 class Walk:
-    """A walk over the blocks of an image. Each life is run again by the plain kernel from its power-up on, behind what the head before it tells.
+    """A walk over the blocks of an image. Each life is run again by the plain kernel from its power-up on, after what the head before it says.
     Of each event `event` is called, with what it is left open for the next line, or `say` for a line of its own."""
 
     def __init__(self):
         self.lines, self.is_whole = [], True
         self.life, self.reason = None, "before_oldest_block"  # the plain life, or why there is none
-        self.open = []  # life and number of each event that no line tells yet
-        self.kept = None  # what the head of the block before tells
+        self.open = []  # life and number of each event that no line says yet
+        self.kept = None  # what the head of the block before reports
 
     def leave(self, life, number):
         self.open.append((max(0, life), number))
@@ -134,7 +134,7 @@ class Walk:
         self.life, self.reason, self.kept, self.is_whole = None, "gap", None, False
 
     def begin(self, block, at):
-        """A power-up: behind what the head of the block before tells, or the kernel keeps where the life begins in a block."""
+        """A power-up: after what the head of the block before reports, or the kernel keeps where the life begins in a block."""
         self.tell()
         record = block["records"][at]
         if at:
@@ -204,7 +204,7 @@ class Replay(Walk):
                 where = f"life {life} block {block['number']} event {record['number']}"
                 members = dict(life=life, block=block["number"], event=record["number"])
                 self.differ(where, members, "record_differs", field, answer_object(record, form), answer_object(wanted, form))
-                self.life, self.reason = None, "behind_difference"
+                self.life, self.reason = None, "after_difference"
                 return
         self.leave(life, record["number"])
 

@@ -28,7 +28,7 @@ class Fields:
         return self.all(names) if self.take(asks) else None
 
     def elements(self, element, first=()):
-        """The elements of a list behind the first ones, which stand before N_ITER."""
+        """The elements of a list after the first ones, which stand before N_ITER."""
         return [*first, *(element(self) for _ in range(self.take("N_ITER")))]
 
     def listed(self, element):
@@ -79,7 +79,7 @@ def linking(fields, packet):
 
 
 def section(fields, name="L_SECTION"):
-    """A section with its timer: its time in seconds, and where it stops behind the section's entry."""
+    """A section with its timer: its time in seconds, and where it stops after the section's entry."""
     length = fields.take(name)
     timer = fields.optional("Q_SECTIONTIMER", "T_SECTIONTIMER D_SECTIONTIMERSTOPLOC")
     return SimpleNamespace(length=length, timer=timer)

@@ -1,4 +1,4 @@
-"""Gradients, static speeds and restrictions, read off all that a life was told (SUBSET-026, 3.11; the forgetting mark is
+"""Gradients, static speeds and restrictions, read off all that a life was reported (SUBSET-026, 3.11; the forgetting mark is
 this project's). Each question is answered for one centimetre; `starts` names the centimetres at which an answer may change,
 so it is the same from one of them up to the next."""
 from collections import namedtuple
@@ -41,7 +41,7 @@ def speed_for(static, category):
 
 
 class Profile:
-    """What facts tell of each centimetre, the newest fact first."""
+    """What facts say about each centimetre, the newest fact first."""
 
     def __init__(self, facts, mark):
         self.facts = facts[::-1]
@@ -49,7 +49,7 @@ class Profile:
 
     def at(self, place):
         """The value of the last element at or below a centimetre, in the latest fact whose first place is at or below it;
-        none behind an end mark of that fact, and none below the forgetting mark."""
+        none beyond an end mark of that fact, and none below the forgetting mark."""
         if place < self.mark:
             return None
         for steps in self.facts:

@@ -1,6 +1,6 @@
 #!/usr/bin/env python3
-"""Tells why the plain unit brakes, and what decides its limit: each life of an image is run again from its power-up on, behind what the
-head before it tells, and each event has a line at which brake, limit, a cause of the brake or the kind of the limit's cause is another
+"""Reports why the plain unit brakes, and what decides its limit: each life of an image is run again from its power-up on, after what the
+head before it says, and each event has a line at which brake, limit, a cause of the brake or the kind of the limit's cause is another
 one than before in its life. Events whose life can't be run again have one line with the reason, and each block that can't be read has one.
 
     tests/plain/why.py [--json] IMAGE [EVENT]     prints what `etcs_lab why` prints, and ends with its status
@@ -26,7 +26,7 @@ WORDS = {
     "rolled back too far": (
         "rolled_too_far", "the train rolled backward too far since it stood", "ends when the train stands, or a greater D_NVROLL comes into force"),
     "service asked for": (
-        "asked_for_service", "linking or a balise group asked for the service brake, and the train has not stood since",
+        "service_brake_requested", "linking or a balise group asked for the service brake, and the train has not stood since",
         "ends when the train stands"),
     "above the limit by 5000": (
         "too_fast", "the speed was above the limit by more than 5000 m/h, and not within it since", "ends when the speed is within the limit"),

@@ -1,20 +1,20 @@
 """Rows of text as rows of numbers: what the program of rows is asked, and what it answers.
 
-A file of rows holds each question with its wanted answer behind it: `QUESTION: ANSWER`, or `QUESTION:` and lines that
+A file of rows holds each question with its wanted answer after it: `QUESTION: ANSWER`, or `QUESTION:` and lines that
 are indented. Empty lines, and lines that begin with `#`, are comments.
 
 Each module `test_..` takes these words:
 
     test_disk.py                  asks the program, and compares its answers with those that are wanted
     test_disk.py --ask FOLDER     writes the questions into FOLDER alone, as cases of the program
-    test_disk.py --told FOLDER    compares the answers that FOLDER has to these cases
+    test_disk.py --reported FOLDER    compares the answers that FOLDER has to these cases
 
 The rows are those of the folder that the variable ROWS names, which `tests/plain/make_rows.py` makes; without it, those
 by hand alone, which stand here.
 
 tests/rows.sh has all of them ask first, so that the program is compiled once (tests/rows/tried). A case is a file of
 questions, of which the program answers each on what those before it left. Since a case has bounds, a module's questions
-are split: a `Block` can be asked behind the one before, or begin a case behind questions that make what it needs.
+are split: a `Block` can be asked after the one before, or begin a case after questions that make what it needs.
 """
 import os
 import subprocess
@@ -24,7 +24,7 @@ from collections import namedtuple
 from pathlib import Path
 
 HERE = Path(__file__).resolve().parent
-MOST = 512  # numbers that the program takes in a row (number_rows::MOST); it drops those behind them
+MOST = 512  # numbers that the program takes in a row (number_rows::MOST); it drops those after them
 MOST_QUESTIONS = 8_000  # of a case, so that its answers stay below the 1 MiB that is taken of a run
 
 ROWS = Path(os.environ.get("ROWS") or HERE)
@@ -79,7 +79,7 @@ class Told:
         return taken[0] if count == 1 else taken
 
     def data(self, size, count):
-        """So many bytes, of so many numbers; the bytes behind them have to be zero."""
+        """So many bytes, of so many numbers; the bytes after them have to be zero."""
         numbers = self.take(count)
         data = b"".join(number.to_bytes(8, "big") for number in numbers)
         if size > len(data) or any(data[size:]):
@@ -100,7 +100,7 @@ def text_of(name, questions):
 
 
 def cases_of(name, blocks):
-    """The cases of a module: blocks behind one another, up to so many questions."""
+    """The cases of a module: blocks after one another, up to so many questions."""
     cases = []
     for block in blocks:
         if not cases or len(cases[-1].questions) + len(block.questions) > MOST_QUESTIONS:
@@ -175,7 +175,7 @@ def main(name, question_of, answer_of):
 
 
 def answer_to(asking, told):
-    """The lines of a row that has asked, of what it was told."""
+    """The lines of a row that has asked, of what it was reported."""
     try:
         asking.send(told)
     except StopIteration as end:
@@ -199,7 +199,7 @@ def compare_asked(name, rows, askings, questions, answers):
 
 
 def main_by_words(name, asked_by):
-    """Runs a file of rows whose first words are functions: each takes the other words, yields its questions, is sent what they were told,
+    """Runs a file of rows whose first words are functions: each takes the other words, yields its questions, is sent what they were reported,
     and returns the lines."""
     rows, askings = rows_of(text_in(name)), []
     for _, question, _ in rows:

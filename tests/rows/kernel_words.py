@@ -14,7 +14,7 @@
     acknowledge trip                 or on-sight, shunting, level-0
     place                            asks for the estimate and its uncertainty (cm)
     kept level                       asks for what is kept, also of identity (its bytes), running-number, train-data,
-                                     position (a group and the distance behind it, cm), trip, counts (events and
+                                     position (a group and the distance beyond it, cm), trip, counts (events and
                                      lives), and national (the values, and the countries that they are of)
 
 An event is answered by the mode, the level, the brake, the limit (m/h) and the indications: `SR 1 none 40000 0`. The
@@ -152,6 +152,6 @@ def national(told):
     return " ".join(map(str, [*values, "of", *(told.take() for _ in range(told.take()))]))
 
 
-# In the order in which they are told.
+# In the order in which they are reported.
 ITEMS = {"counts": counts, "trip": trip, "identity": identity, "running-number": running_number,
          "train-data": train_data, "level": level, "position": position, "national": national}

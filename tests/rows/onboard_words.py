@@ -12,7 +12,7 @@
     fail-any 3
     open unknown             or moved, not-moved: the unit powers up
     clock 1000               an input: a moment of the clock
-    move 100 5000            .. a reading: the movement, and the speed, which is 0 where none is told
+    move 100 5000            .. a reading: the movement, and the speed, which is 0 where none is reported
     hear 90007F80            .. the bytes of a telegram
     start                    .. an action of the driver (ACTIONS)
     flush                    with each pair that is released: number of the event, mode, level, brake, limit and
@@ -20,8 +20,8 @@
     close                    hands the disk back: how many writes and syncs it had, and how many faults
     calls                    whether the disk had as many calls as the one that was asked before, reads too
     default                  the pair that no flush released
-    live unknown             the inputs and flushes behind it are a life
-    run                      lives it, and tells how it ended and all pairs
+    live unknown             the inputs and flushes after it are a life
+    run                      lives it, and says how it ended and all pairs
     run-in 7                 the same, into a list that has room for so many pairs and doesn't grow
     openings 1000 unknown    so many lives without an event
     settle old new ff zeros @7    power comes back: what each open sector holds, in rising order, old beyond the list;
@@ -189,7 +189,7 @@ def lived_in(told):
 
 
 def shown(text):
-    """What is told behind a 0; what stands there else is a refusal."""
+    """What is reported after a 0; what stands there else is a refusal."""
     def read(told):
         refusal = told.take()
         return SHOW[refusal] if refusal else text(told)
@@ -217,7 +217,7 @@ ANSWERED = {
 # ---- what is kept
 
 def kept_words(item, told):
-    """An item of those that are told, one behind the other."""
+    """An item of those that are reported, one after the other."""
     refusal = told.take()
     if refusal:
         return SHOW[refusal]

@@ -1,8 +1,8 @@
 #!/usr/bin/env python3
 """Runs test_decode.row over the program of rows (asking.py has the words).
 
-What is asked and told, in numbers, stands in program/src/test_decode.rt.txt. Each word of a row is a function that yields
-its questions, is sent what they were told, and returns the lines. The rows `decode` and `short` ask the program `etcs`;
+What is asked and reported, in numbers, stands in program/src/test_decode.rt.txt. Each word of a row is a function that yields
+its questions, is sent what they were reported, and returns the lines. The rows `decode` and `short` ask the program `etcs`;
 so does what is said of the agreement of all ways of reading. $ETCS names another one than the gate's."""
 import os
 import resource
@@ -205,7 +205,7 @@ class Chance:
 
 
 def mutated_of(chance, data):
-    """Up to three bits turned behind the header; at times the bytes behind it cut, or made too many."""
+    """Up to three bits turned after the header; at times the bytes after it cut, or made too many."""
     data = bytearray(data)
     for _ in range(chance.below(4)):
         bit = HEADER_BITS + chance.below(8 * len(data) - HEADER_BITS)

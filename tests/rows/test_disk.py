@@ -47,7 +47,7 @@ import sys
 from asking import main
 
 DISKS = {"memory": 0, "liar": 1, "file": 2, "raw": 3, "window": 4}
-# Of each word the number of its operation, and how many numbers come behind it.
+# Of each word the number of its operation, and how many numbers come after it.
 CALLS = {
     "write": (0, 2), "put": (2, 2), "read": (3, 1), "pair": (4, 2), "sync": (5, 0), "sectors": (6, 0), "whole": (7, 2),
 }

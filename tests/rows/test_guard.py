@@ -2,7 +2,7 @@
 """Runs test_guard.row over the program of rows (asking.py has the words).
 
     packets MODE DIRECTION BITS             what a telegram with these packets demands, of group 2 in country 1, with Q_LINK 1, and an end mark
-                                            behind them; the bits may stand apart. `overridden` behind the direction: while an override is active
+                                            after them; the bits may stand apart. `overridden` after the direction: while an override is active
     telegram MODE DIRECTION BITS            .. of a telegram of these bits, the header with them
     guard POLICY STEP..                     what a guard commands after each step, where the unit commands none, service and emergency:
                                             `stop`, `unlinked` and `go` are telegrams, `moving` and `stands` acknowledgements

@@ -20,9 +20,9 @@ A row is a call of the journal over a disk in memory, or what befalls the disk. 
     again                     a disk as that one, on which nothing was called
     make 1 5 9 2              writes a block by hand: its format, its number, how many events are kept, and its records
     patch 2 28:09             writes these bytes into a sector, from an offset on
-    list                      lists the journal, and tells the lines
+    list                      lists the journal, and reports the lines
     list 40 room              .. to a writer that has room for so many bytes
-    list 40 memory            .. to one that is refused memory behind so many bytes
+    list 40 memory            .. to one that is refused memory after so many bytes
 
 The answer of a call ends with how many calls of the disk were made, and, where the count of its faults went up, with
 that. The numbers of the words stand in program/src/test_journal.rt.txt."""
@@ -31,7 +31,7 @@ import sys
 from asking import main, packed
 
 BYTE, WORD, LONG = 2**8, 2**32, 2**64
-# The number of a word, and the bounds of those behind it.
+# The number of a word, and the bounds of those after it.
 BEFALLS = {"disk": (0, [LONG]), "keep": (1, []), "again": (2, []), "fail": (3, [LONG]), "cut": (4, [LONG]),
            "make": (6, [4, LONG, LONG, BYTE])}
 CALLS = {"format": (0, [WORD]), "open": (1, []), "commit": (2, [BYTE, WORD]), "commits": (3, [LONG, BYTE]),
@@ -107,7 +107,7 @@ def cost(told):
 
 
 def named(names, number):
-    """The word of an answer, behind its number where it is that of a refusal."""
+    """The word of an answer, after its number where it is that of a refusal."""
     return f"{number} {names[number]}" if number not in (0, 100) else names[number]
 
 

@@ -48,11 +48,11 @@ shows nothing of it:
                                      maximum safe front
     targets 0 10000 40000            those ahead of a front, with a last target or none: the place and speed of each
     permitted 0 160000 10000 40000   from a front, up to a limit, with a last target or none
-    fitting 0 160000 10000 40000     .. that fits the targets that are told one by one
+    fitting 0 160000 10000 40000     .. that fits the targets that are reported one by one
     either 0 160000 10000 40000 20000 0
 
 A first word that isn't here has no number. The program is asked 0 then, which is no row of its own either. What is
-asked and told in numbers stands in program/src/test_modes.rt.txt."""
+asked and reported in numbers stands in program/src/test_modes.rt.txt."""
 import sys
 
 from asking import main, signed
@@ -120,7 +120,7 @@ def place(word):
     return [int.from_bytes(int(word).to_bytes(8, "big", signed=True), "big")]
 
 
-# ---- the words behind a row's first
+# ---- the words after a row's first
 
 def each(*takes):
     """So many words, each taken by its own function."""
@@ -139,7 +139,7 @@ def mode_and_conditions(words):
 
 
 def with_last(*takes):
-    """.. and a last target behind them, or none."""
+    """.. and a last target after them, or none."""
     def numbers(words):
         front, last = words[:len(takes)], words[len(takes):]
         return each(*takes)(front) + ([1] + each(place, number)(last) if last else [0])
@@ -209,7 +209,7 @@ fate = one_of("K", "I", "D")
 status = one_of("unknown", "valid", "invalid")
 state = one_of("nothing", "asked", "acknowledged", "owed")
 
-# Of each row's first words the numbers, what takes the words behind them, and what makes words of the answer.
+# Of each row's first words the numbers, what takes the words after them, and what makes words of the answer.
 ROWS = {
     "new": ([1], each(), nothing),
     "mode": ([2, 0], mode_and_conditions, told_mode),
@@ -271,7 +271,7 @@ NO_ROW = ([0], lambda _words: [], nothing)
 
 
 def row_of(row):
-    """Of a row its line of the table, and the words behind."""
+    """Of a row its line of the table, and the words after."""
     words = row.split()
     count = 2 if words[0] in GROUPS else 1
     return ROWS.get(" ".join(words[:count]), NO_ROW), words[count:]

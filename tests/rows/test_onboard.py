@@ -1,9 +1,9 @@
 #!/usr/bin/env python3
 """Runs test_onboard.row over the program of rows (asking.py has the words).
 
-A row is one or several commands with `;` between them, which are done in turn. What each is to answer stands behind
+A row is one or several commands with `;` between them, which are done in turn. What each is to answer comes after
 `->`. Some lines stand for many, and of the lines in a group the digest of the answers alone is wanted
-(tests/plain/row_lines.py). What the commands mean stands in onboard_words.py, and what is asked and told, in numbers,
+(tests/plain/row_lines.py). What the commands mean stands in onboard_words.py, and what is asked and reported, in numbers,
 in program/src/test_onboard.rt.txt."""
 import sys
 
@@ -60,7 +60,7 @@ def questions_in(line):
 
 
 def blocks_of(rows):
-    """The questions. A line of a group that goes back to the disk that was kept can begin a case, behind what made that disk: the lines
+    """The questions. A line of a group that goes back to the disk that was kept can begin a case, after what made that disk: the lines
     from the last that formats it up to the one that keeps it."""
     blocks, made, kept = [Block([], [])], [], []
     for _, lines, wanted in rows:

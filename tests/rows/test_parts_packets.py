@@ -15,7 +15,7 @@ milliseconds, speeds km/h where nothing else is said.
     national roll                   how far the train may roll
     national countries              those that the values are for
     national values                 all in m/h, cm and ms, in the order of packet 3 from V_NVSHUNT on; `-` has no end
-    national told V_NVSTFF=2        those that this packet tells
+    national reported V_NVSTFF=2        those that this packet says
 
     authority new                   none is stored
     authority accept 0 0 V_LOA=8 T_LOA=20 end=30/200 point=30/4 overlap=100/10/50/4 300 200/60/100 500
@@ -27,7 +27,7 @@ milliseconds, speeds km/h where nothing else is said.
     authority run 59999 0 39999     a moment, and the minimum and the maximum safe front then
     authority clear
     authority keep, authority turn  as of national values
-    authority end                   the end, as `run` tells it too: the speed there, the supervised location and the
+    authority end                   the end, as `run` says it too: the speed there, the supervised location and the
                                     release speed only where there is one of its own
     authority stored                whether there is one
     authority main speed
@@ -44,7 +44,7 @@ SENT = {
 }
 # .. of packet 12: in metres, of 160 km/h, with no speed at the end.
 GRANTED = {"Q_SCALE": (2, 1), "V_MAIN": (7, 32), "V_LOA": (7, 0), "T_LOA": (10, 0)}
-# The bits of what may stand behind these words.
+# The bits of what may come after these words.
 PARTS = {"end": (10, 15), "point": (15, 7), "overlap": (15, 10, 15, 7)}
 SECTION = 15, 10, 15
 NATIONAL = {
@@ -63,7 +63,7 @@ def named(words):
 
 
 def variables(of_packet, told):
-    """The numbers of a packet's variables, some of which a row tells."""
+    """The numbers of a packet's variables, some of which a row reports."""
     return [bits(width, told.pop(name, number)) for name, (width, number) in of_packet.items()]
 
 
@@ -112,7 +112,7 @@ def national_told(words, told):
 
 
 def part(widths, word):
-    """The numbers of a part behind a 1; zeros where there is none."""
+    """The numbers of a part after a 1; zeros where there is none."""
     if word is None:
         return [0] * (1 + len(widths))
     numbers = word.split("/")

@@ -24,9 +24,9 @@ centimetres, speeds km/h, but m/h where they are permitted.
                                     the least of a speed and of those for a train with its minimum safe rear, minimum
                                     and maximum safe front at these places
 
-    profile new                     nothing is told
+    profile new                     nothing is reported
     profile replace 0 0=80 1000=end these steps, from a place on; `end` is an end mark
-    profile forget 1000             drops what lies behind a place
+    profile forget 1000             drops what lies beyond a place
     profile clear
     profile keep, profile turn      as of restrictions
     profile at 999                  the speed there
@@ -41,20 +41,20 @@ centimetres, speeds km/h, but m/h where they are permitted.
     speed permitted 0 160000 by 70 1000 on -10 0 60000 0 -5 before 100000=0 20000=100000
                                     with the maximum safe front at 0, up to a limit; by brakes of a deceleration (cm/s2)
                                     and a reaction (ms); on a gradient that begins at a place, changes at another and
-                                    ends at a third, of so many per mille before the change and behind it; before at
+                                    ends at a third, of so many per mille before the change and after it; before at
                                     most two targets, each a place and a speed
     speed fits 0 356 by .. on .. before 100=0
                                     whether a speed fits a target
     speed deceleration 0            whether there is such a one
     speed reaction 0                whether there is such a one
 
-Both stores of a profile, facts and segments, are asked each row: an answer that they don't share is told twice.
+Both stores of a profile, facts and segments, are asked each row: an answer that they don't share is reported twice.
 """
 from asking import signed
 
 REFUSED = "refused"
 YES = ["no", "yes"]
-# Of each word the number of its operation, and how many numbers come behind it.
+# Of each word the number of its operation, and how many numbers come after it.
 PLACE = {
     "new": (1, 0), "move": (2, 1), "read": (3, 0), "fix": (4, 2), "fronts": (5, 0), "front": (6, 0),
     "front read": (7, 0), "front first": (8, 0), "rear": (9, 1), "sums": (10, 0),
@@ -80,7 +80,7 @@ def bits(width, word):
 
 
 def called(calls, words):
-    """The number of an operation, and of each word behind it: as many as it has."""
+    """The number of an operation, and of each word after it: as many as it has."""
     name = " ".join(words[:2]) if " ".join(words[:2]) in calls else words[0]
     operation, count = calls[name]
     numbers = words[len(name.split()):]

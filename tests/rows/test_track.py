@@ -1,21 +1,21 @@
 #!/usr/bin/env python3
 """Runs test_track.row over the program of rows (asking.py has the words).
 
-    listing BITS         the packets behind a header of 50 bits that are 0, each with number, direction, place and length by L_PACKET,
+    listing BITS         the packets after a header of 50 bits that are 0, each with number, direction, place and length by L_PACKET,
                          and what ends them; the bits may stand apart
     repeated COUNT       the same of so many packets 135, each of 23 bits, and an end mark
-    packet BITS          the fields of the packet that these bits begin with; `-` behind them leaves their last byte out
+    packet BITS          the fields of the packet that these bits begin with; `-` after them leaves their last byte out
     units BITS           of each field of such a packet its name, its number and its unit
     missing AT LENGTH    a packet from that place on, of so many bits, in 8 bytes
-    adapt BITS           what becomes of a telegram of group 2 with these packets behind its header: as it is, why it isn't written, or
-                         how many bytes were, and what the plain decoder (../plain/decoded.py) tells of them
+    adapt BITS           what becomes of a telegram of group 2 with these packets after its header: as it is, why it isn't written, or
+                         how many bytes were, and what the plain decoder (../plain/decoded.py) says about them
     adapted COUNT SEED   so many telegrams as below, each with a packet 3: how many become what the plain program makes of them, and
                          how many of these stay as they are then
     kind NUMBER          what is known of a packet
     random COUNT SEED    so many telegrams with packets of each layout, altered at times: how many have the packets, and the fields
-                         of each with their units, that the plain program (../plain/track_packets.py) tells
+                         of each with their units, that the plain program (../plain/track_packets.py) reports
 
-What is asked and told, in numbers, stands in program/src/test_track.rt.txt."""
+What is asked and reported, in numbers, stands in program/src/test_track.rt.txt."""
 import random
 import re
 import sys
@@ -50,7 +50,7 @@ def listing_told(told):
 
 
 def fields_told(told):
-    """As the plain program says them, but for the number of fields, of which a part is told."""
+    """As the plain program says them, but for the number of fields, of which a part is reported."""
     outcome = told.take()
     if outcome == 0:
         count, rest = told.take(2)
@@ -221,7 +221,7 @@ def national_bits(chance):
 
 
 def telegram(chance, first=()):
-    """Packets of random numbers behind a header, and an end mark; at times bits are turned, or the end is cut off."""
+    """Packets of random numbers after a header, and an end mark; at times bits are turned, or the end is cut off."""
     numbers = [*plain.LAYOUTS, 5, 65, 66, 0, 2, 6, 88, 180, 200]
     bits = "".join(chance.choice("01") for _ in range(plain.HEADER_BITS))
     count = chance.randint(1, 2 if first else 4)

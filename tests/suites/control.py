@@ -4,7 +4,7 @@
     tests/suites/control.py ETCS ETCS_LAB
 
 Each result of `untrue` whose note, or case, begins with "untrue" has to fail, and each other one to come. Then a stand-in of
-etcs_lab alters what the program tells, once in each way: all results have to fail, and to say why.
+etcs_lab alters what the program reports, once in each way: all results have to fail, and to say why.
 """
 import os
 import subprocess

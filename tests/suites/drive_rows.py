@@ -3,7 +3,7 @@
 
     tests/suites/drive_rows.py ETCS ETCS_LAB
 
-What the unit was told is played again by `etcs run`: outputs and image have to be the same, byte for byte. `./lab drive` makes
+What the unit was given is played again by `etcs run`: outputs and image have to be the same, byte for byte. `./lab drive` makes
 its files, and says each of its refusals. With each planted fault, in the train, in the driver and between unit and train, some
 expected result of the cases doesn't come.
 """
@@ -127,7 +127,7 @@ class Driven(Compared):
             self.same(f"a second more: {beyond}", 18.0 < beyond[at + 1] - beyond[at] < 19.7, True)
 
     def lives(self):
-        """A second life on an image begins behind the first one, and is replayed with it."""
+        """A second life on an image begins after the first one, and is replayed with it."""
         image = self.room / "lives"
         program.etcs("format", "--", str(image), "1024")
         for _ in range(2):

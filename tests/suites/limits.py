@@ -21,7 +21,7 @@ NUMBERS = ("7700", "88000", "99", "66", "5")
 
 
 def train(at, *told):
-    """A limit of the train data: its place among them, and what is told at the limit and beyond."""
+    """A limit of the train data: its place among them, and what is reported at the limit and beyond."""
     texts = [TRAIN.format(*(one if place == at else usual for place, usual in enumerate(USUAL))) for one in told[::2]]
     return [part for text, number in zip(texts, told[1::2]) for part in (f"steps: [{{{text}}}]", ", ".join(
         number if place == at else usual for place, usual in enumerate(NUMBERS)))]

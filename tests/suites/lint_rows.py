@@ -203,7 +203,7 @@ ROWS = [
     ("a_fix_beyond_a_restriction", [(5, "/steps/6/telegram", ["restriction 1 of group 1/7"])],
      "{steps: [use: staff, {telegram: \"NID_BG 7; 65: NID_TSR 1, D_TSR 50, L_TSR 100, Q_FRONT 1, V_TSR 7\"}, {drive: 100 m at 30 km/h}, "
      "{telegram: \"NID_BG 8\"}]}", "L_TSR 100", "L_TSR 10"),
-    # Behind the only group that was announced a group of two balises counts as one that isn't.
+    # After the only group that was announced a group of two balises counts as one that isn't.
     ("a_group_behind_an_announced_one", [(2, "/groups/1/balises/0", ["group 1/7 of 2 balises"])],
      "{groups: [{at: 100 m, balises: [\"NID_BG 3\"]}, {at: 103 m, spacing: 3 m, balises: [\"NID_BG 7, N_TOTAL 1, Q_LINK 1; 65: NID_TSR 1, D_TSR 0, "
      "L_TSR 50, Q_FRONT 1, V_TSR 8\", \"NID_BG 7, N_PIG 1, N_TOTAL 1, Q_LINK 1\"]}], "
@@ -377,7 +377,7 @@ def check_words(env, wrong):
 
 
 def check_own(env, wrong):
-    """Nothing in the suites but what their cases say to show; of the examples what is told above. Those of drives/ take the unit's library: tests/drive.sh
+    """Nothing in the suites but what their cases say to show; of the examples what is reported above. Those of drives/ take the unit's library: tests/drive.sh
     looks at them."""
     done = lab(env, TOP / "suites")
     if done.returncode or done.stdout:

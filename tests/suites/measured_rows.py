@@ -1,11 +1,11 @@
 #!/usr/bin/env python3
-"""What the corpus reaches when it is played is measured: nothing of it is missing without a reason, and what is planted is told.
+"""What the corpus reaches when it is played is measured: nothing of it is missing without a reason, and what is planted is reported.
 
     tests/suites/measured_rows.py REACHED
 
 REACHED is what `./lab test suites --reached` wrote. Nothing is played here. `./lab coverage --measured` has to find nothing
 missing in `suites/`; without each case that alone reaches something just that is missing; and floors that are too high,
-reasons that aren't needed, and files of other cases have to be told, one of them by the command itself.
+reasons that aren't needed, and files of other cases have to be reported, one of them by the command itself.
 """
 import shutil
 import subprocess
@@ -48,7 +48,7 @@ def alone(by_case):
 
 
 def without_each(by_case, lost):
-    """What isn't told of the corpus without a case."""
+    """What isn't reported of the corpus without a case."""
     for case, members in lost.items():
         left = {one: sets for one, sets in by_case.items() if one != case}
         faults = measured_coverage.judged(list(left), left, SUITES).faults
@@ -62,7 +62,7 @@ FLOORS = (
     ("1 from *: &overrun", "99 from *: &overrun", "", '"99 from *" names nothing that is counted'),
     ("trip causes: all", "trip cause: all", "", 'did you mean \"trip causes\"?'),
     ("trip causes: all", "trip causes: 7", "", "expected a whole number from 0 to 6"))
-"""What is altered in the floors and reasons of the corpus, what stands behind them, and what has to be said."""
+"""What is altered in the floors and reasons of the corpus, what comes after them, and what has to be said."""
 
 
 def said_of(names, by_case, folder):

@@ -1,7 +1,7 @@
 #!/usr/bin/env python3
-"""How many planted changes the corpus and the kernel's rows tell: each is made in a copy of the plain kernel (tests/plain). The cases of
+"""How many planted changes the corpus and the kernel's rows report: each is made in a copy of the plain kernel (tests/plain). The cases of
 suites/ are judged by the records that the copy answers; of the wrong definitions of planted_definitions.py the rows by hand of
-tests/rows/test_kernel.row come first. A change of which nothing tells is named.
+tests/rows/test_kernel.row come first. A change of which nothing says is named.
 
     tests/suites/planted.py ETCS ETCS_LAB [WORD ..]     with words, the wrong definitions alone whose sentences have one of them
     tests/suites/planted.py --texts                     whether the text of each change stands once, and no more
@@ -135,7 +135,7 @@ PLANTED = [
 
 
 def records_of(lives, plain):
-    """The records of some lives, as `etcs_lab events` would tell them."""
+    """The records of some lives, as `etcs_lab events` would report them."""
     image, found = plain.Image(64), []
     for life, scenario in enumerate(lives, 1):
         first = len(image.blocks)
@@ -168,7 +168,7 @@ def missed(found, table, folder):
             played = case_runner.Played(records, case_runner.marked(case, records))
             for expected in case.expected:
                 case_runner.judge(expected, played, table)
-        except Exception as error:  # a change may break the kernel anywhere: then it is told too
+        except Exception as error:  # a change may break the kernel anywhere: then it is reported too
             told.append(f"{case.name}: {re.sub(chr(10), ' ', str(error))[:150]}")
     return told
 
@@ -208,7 +208,7 @@ def in_copy(looks, plant):
 
 
 def tells(plant, *looks):
-    """By what a change is told first, looked for in this order; what is wrong with the change, where it can't be made."""
+    """By what a change is reported first, looked for in this order; what is wrong with the change, where it can't be made."""
     for look in looks:
         told, was_made = in_copy(look, plant)
         if told or not was_made:
@@ -217,7 +217,7 @@ def tells(plant, *looks):
 
 
 def texts():
-    """Tells of each change whose text doesn't stand once in the plain kernel."""
+    """Reports of each change whose text doesn't stand once in the plain kernel."""
     plants = [*PLANTED, *(plant for _, *plant in DEFINITIONS)]
     lost = [(path, old, count) for path, old, _ in plants if (count := (TOP / "tests/plain" / path).read_text().count(old)) != 1]
     for path, old, count in lost:

@@ -1,6 +1,6 @@
-"""Wrong definitions, each as a change of the plain kernel: what it says, the file, and the text before and behind. Each is told by a row by
+"""Wrong definitions, each as a change of the plain kernel: what it says, the file, and the text before and after. Each is reported by a row by
 hand of tests/rows/test_kernel.row, else by a case of suites/ (`tests/suites/planted.py`). Changes that say the same in other words, as that
-Start alone revalidates, which is accepted behind valid train data alone, aren't here."""
+Start alone revalidates, which is accepted after valid train data alone, aren't here."""
 
 DEFINITIONS = [
     ('defaults by a foreign group stay in force for the older countries too', 'national.py',

@@ -1,12 +1,12 @@
 #!/usr/bin/env python3
-"""A search by hypothesis over random lives: of each, all that is told agrees, and no brake is released too early.
+"""A search by hypothesis over random lives: of each, all that is reported agrees, and no brake is released too early.
 
     tests/suites/search.py ETCS ETCS_LAB [EXAMPLES]
 
 One or two lives are played on an image. The property: the image is whole, the replay agrees, each output is that of its record;
 before the driver has revalidated, in Trip, and as long as a trip is outstanding the emergency brake is commanded; and a brake is
-commanded just where `etcs_lab why` tells a cause of it. The control: the same search, over the same lives, has to find each of
-some untruths that are planted in what the programs told.
+commanded just where `etcs_lab why` reports a cause of it. The control: the same search, over the same lives, has to find each of
+some untruths that are planted in what the programs reported.
 """
 import json
 import os
@@ -77,7 +77,7 @@ def play(scenarios):
 
 
 def check(journal, released, plant):
-    """Raises where what is told doesn't agree; `plant` alters records and causes before."""
+    """Raises where what is reported doesn't agree; `plant` alters records and causes before."""
     case_runner.check_image(journal)
     records, whys = plant(journal.records, journal.why)
     case_runner.check_released(released, records if plant is as_told else journal.records)

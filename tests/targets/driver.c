@@ -1,7 +1,7 @@
 /* Carries out a script of calls of the library, and prints what each answers: the same program on every machine (platform.h has what differs), so
  * that what two machines print can be compared byte by byte. It needs no C library.
  *
- * A line of the script is a word and numbers. `unit N` chooses one of two handles for the lines behind it, `medium N` one of two media.
+ * A line of the script is a word and numbers. `unit N` chooses one of two handles for the lines after it, `medium N` one of two media.
  *
  *     slots N                      the medium gets so many slots, and is formatted
  *     kind N                       how a unit is opened from now on: 0 over a copy, 1 by sectors
@@ -93,7 +93,7 @@ static etcs_unit *unit(void) {
     return &units[which];
 }
 
-static void carries_out(const etcs_unit_request_told *request, const uint8_t *bytes, size_t length) {
+static void carries_out(const etcs_unit_request_info *request, const uint8_t *bytes, size_t length) {
     if (request->kind == ETCS_REQUEST_WRITE)
         for (size_t i = 0; i < length && request->sector * ETCS_UNIT_SECTOR + i < sizeof media[0]; i++)
             media[on][request->sector * ETCS_UNIT_SECTOR + i] = bytes[i];
@@ -161,7 +161,7 @@ static uint32_t prepares(void) {
 /* Carries out all requests, or so many and then some bytes of the next one. */
 static uint32_t carry_out(uint64_t most, uint64_t rest) {
     static uint8_t bytes[ETCS_UNIT_REQUEST_BYTES];
-    etcs_unit_request_told request;
+    etcs_unit_request_info request;
     uint32_t count = 0, status;
     while ((status = etcs_unit_request(unit(), count, &request, bytes, sizeof bytes)) == ETCS_UNIT_OK) {
         const size_t length = (size_t)request.sectors * ETCS_UNIT_SECTOR;
@@ -188,7 +188,7 @@ static uint32_t release(uint64_t room) {
 
 static uint32_t format(uint32_t slots) {
     static uint8_t bytes[ETCS_UNIT_SECTOR];
-    etcs_unit_request_told request;
+    etcs_unit_request_info request;
     uint32_t index = 0, status;
     lengths[on] = (1 + 6 * (size_t)slots) * ETCS_UNIT_SECTOR;
     if (lengths[on] > sizeof media[0])
@@ -210,9 +210,9 @@ static size_t size(void) {
 
 static int about_units(uint32_t *status) {
     static uint8_t bytes[ETCS_UNIT_REQUEST_BYTES];
-    etcs_unit_request_told request;
-    etcs_unit_state_told state;
-    etcs_unit_why_told why;
+    etcs_unit_request_info request;
+    etcs_unit_state_info state;
+    etcs_unit_why_info why;
     uint32_t first, second;
     if (word("open")) {
         *status = opens((uint32_t)number());
@@ -318,7 +318,7 @@ static int about_inputs(uint32_t *status) {
 
 static int about_media(uint32_t *status) {
     static uint8_t bytes[ETCS_UNIT_SECTOR];
-    etcs_unit_request_told request;
+    etcs_unit_request_info request;
     uint32_t first, second, length = 0;
     *status = 0;
     if (word("slots")) {
@@ -458,8 +458,8 @@ static uint32_t nulls(void) {
     etcs_unit none = {0};
     etcs_opening no_opening = {0};
     uint64_t sector = 0;
-    etcs_unit_request_told request;
-    etcs_unit_state_told state;
+    etcs_unit_request_info request;
+    etcs_unit_state_info state;
     etcs_unit_output outputs[ETCS_UNIT_OUTPUTS];
     etcs_image facts;
     etcs_slot slot;

@@ -2,7 +2,7 @@
 #ifndef PLATFORM_H
 #define PLATFORM_H
 
-/* The next byte of the script, or something that isn't greater than 0 behind its end. */
+/* The next byte of the script, or something that isn't greater than 0 beyond its end. */
 int next_char(void);
 
 void put_char(char of);

@@ -3,7 +3,7 @@
 
     tests/targets/scripts.py script LIVES CALLS TELEGRAMS [SEED]    prints lives with cuts, calls in any order with wild numbers, and telegrams
     tests/targets/scripts.py members                                prints C that adds each member of each struct to a digest, whatever the order of its bytes
-    tests/targets/scripts.py compare SCRIPT WANTED FOUND..          whether the answers in FOUND are those in WANTED; tells how much was compared
+    tests/targets/scripts.py compare SCRIPT WANTED FOUND..          whether the answers in FOUND are those in WANTED; says how much was compared
 
 A comparison fails too where the answers show too few lives, cuts, outputs, statuses or telegrams for the lines of the script.
 """
@@ -61,7 +61,7 @@ def life(r):
 
 
 def reading(r):
-    """What is asked of the image behind a life."""
+    """What is asked of the image after a life."""
     asked = ["facts", "journal", *["next", "cause"] * r.randrange(12), "journal", *["replay"] * r.randrange(1, 5)]
     return [*asked, *(f"why {r.randrange(1, 40)} {r.randrange(120)}" for _ in range(2)), *(f"slot {r.randrange(40)} {r.randrange(10)}" for _ in range(2)),
             f"block {r.randrange(1, 40)}", f"record {r.randrange(1, 40)} {r.randrange(9)}"]

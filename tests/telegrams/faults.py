@@ -1,4 +1,4 @@
-"""Objects that tell no telegram, each with the one message that is to be told of it, and a good one beside them (SUBSET-026, 7.4 and 7.5)."""
+"""Objects that say no telegram, each with the one message that is to be reported of it, and a good one next to them (SUBSET-026, 7.4 and 7.5)."""
 import copy
 import json
 
@@ -15,7 +15,7 @@ SKIPPED = [["NID_PACKET", 44], ["Q_DIR", 2], ["L_PACKET", 28]]
 GOOD = {"header": HEADER, "packets": [{"packet": 12, "fields": AUTHORITY}, {"packet": 27, "fields": SPEEDS},
                                       {"packet": 44, "fields": SKIPPED, "skipped_bits": 5, "body": "A8"}], "bits": 217}
 
-# The plain writer knows no body: the packet is its head, and five bits behind it that read as 10101.
+# The plain writer knows no body: the packet is its head, and five bits after it that read as 10101.
 GOOD_BITS = "".join(f"{byte:08b}" for byte in bytes.fromhex(written(
     "NID_BG 2, N_TOTAL 2; 12: V_MAIN 24, V_LOA 0, T_LOA 1023, N_ITER 0, L_ENDSECTION 300, Q_SECTIONTIMER 0, Q_ENDTIMER 0, Q_DANGERPOINT 0, "
     "Q_OVERLAP 0; 27: D_STATIC 0, V_STATIC 24, Q_FRONT 1, N_ITER 0, N_ITER 0")))[:50 + 73 + 58]
@@ -108,7 +108,7 @@ def rows():
     yield "no UTF-8", b'{"header": "\xff"}', "telegram: no JSON value, at line 1, column 13", 1
     yield "a list", "[]", f"telegram: {KEYS}", 1
     for name, text, wanted in AGAIN:
-        yield name, text, f"telegram: a name is told again at {wanted}", 1
+        yield name, text, f"telegram: a name is repeated at {wanted}", 1
     for name, value, wanted in CHANGES:
         yield name, json.dumps(value), wanted, 1
 

@@ -1,4 +1,4 @@
-"""Scenarios with faults, each with what `etcs_lab lint` is to tell of it, by hand: place, fault, what is wanted there by the README of the crate
+"""Scenarios with faults, each with what `etcs_lab lint` is to say about it, by hand: place, fault, what is wanted there by the README of the crate
 simulator, and names that come again in an object."""
 from named import written
 
@@ -16,7 +16,7 @@ def group(at=100, spacing=10, balises=(GOOD,)):
 
 
 class Key(str):
-    """A pointer of a member that isn't wanted: it is told where its name begins."""
+    """A pointer of a member that isn't wanted: it is reported where its name begins."""
 
 
 # A scenario, and its faults: place, number, name, and what is wanted there (the README of the crate simulator).
@@ -78,7 +78,7 @@ FAULTS = [
     *[(scenario(steps=[{"driver": [code] + [{}] * 9}]), [("/steps/0/driver", shape(wanted))]) for code, wanted in ACTIONS],
 ]
 
-# The limits that are told, each tried at both ends and one beyond: a scenario for a number, and the text.
+# The limits that are reported, each tried at both ends and one beyond: a scenario for a number, and the text.
 TRIED = [
     (AT, 0, lambda n: scenario([group(at=n)])), (SPACING, 0, lambda n: scenario([group(spacing=n)])),
     (BALISES, 0, lambda n: scenario([group(balises=[GOOD] * n)])), (TELEGRAM, 0, lambda n: scenario(steps=[{"telegram": "90" * n}])),
@@ -88,7 +88,7 @@ TRIED = [
     *[(TRAIN, k, lambda n, k=k: scenario(steps=[{"driver": [3, *(n if i == k else 1 for i in range(5))]}])) for k in range(5)],
 ]
 
-# Texts in which a name comes again, with the faults and the names that are told: line and column of each, and of the first one, by hand.
+# Texts in which a name comes again, with the faults and the names that are reported: line and column of each, and of the first one, by hand.
 AGAIN = [
     ('{"groups": [], "steps": [], "steps": [{"flush": true}]}', [], [("/steps", (1, 29), (1, 16))]),
     ('{"groups": [], "steps": [\n {"drive": [1, 1], "dri\\u0076e": [2, 2]}]}', [], [("/steps/0/drive", (2, 20), (2, 3))]),

@@ -1,5 +1,5 @@
 #!/usr/bin/env python3
-"""What `etcs_lab lint` tells of scenarios: each message at its place, by hand; and of random scenarios what is worked out here.
+"""What `etcs_lab lint` says about scenarios: each message at its place, by hand; and of random scenarios what is worked out here.
 
     tests/telegrams/lint_rows.py ETCS PROGRAM [WORD..]    by the program etcs, and by this one with these words before its own
 """
@@ -34,7 +34,7 @@ POSITIONS = [
     ('{"groups": [{"at": 1, "steps": {"flush": [1, {"steps": 2}]}}], "steps": [[{"flush": true}]]}', "/groups/0/steps", 1, 23),
     ('{\r\n\t"groups": [],\r\n\t"steps":\t5}', "/steps", 3, 11),
     ('{"groups": [], "steps": [{"flush": true}, [2, "\u00e4"], {"driver": [12]}]}', "/steps/1", 1, 43),
-    # A name that is written with an escape is the same; one that isn't there is told where its object begins.
+    # A name that is written with an escape is the same; one that isn't there is reported where its object begins.
     ('{"groups": [], "step\\u0073": 7}', "/steps", 1, 30),
     ('\n {"groups": []}', "/steps", 2, 2),
 ]
@@ -69,7 +69,7 @@ ADVICE = [
     (scenario(steps=[*READY, START, {"drive": [100, 5_000]}, CLOSE, STANDS, CLOSE, CLOSE]), not_accepted((5, "SR"), (8, "SB"))),
     # An override is for FS, OS, SR and PT; with a telegram's advice between them, in the order of the steps.
     (scenario(steps=[*READY, OVERRIDE, {"telegram": SPARE}, START, OVERRIDE]), [*not_accepted((3, "SB")), ("/steps/4/telegram", REFUSED)]),
-    # A life ends where its clock goes back: behind that no action is judged.
+    # A life ends where its clock goes back: after that no action is judged.
     (scenario(steps=[LEAVE, {"clock": 5}, {"clock": 5}, LEAVE, {"clock": 4}, LEAVE]), not_accepted((0, "SB"), (3, "SB"))),
 ]
 
@@ -92,12 +92,12 @@ def position_in(text, pointer):
     return mark.line + 1, mark.column + 1
 
 
-# The names that each object may have, by what is told to be wanted of it.
+# The names that each object may have, by what is reported to be wanted of it.
 NAMES = {SCENARIO: (), GROUP: ("at", "spacing", "balises"), STEP: ()}
 
 
 def as_told(pointer, wanted):
-    """A pointer that the program told: of a member that isn't wanted a Key."""
+    """A pointer that the program reported: of a member that isn't wanted a Key."""
     depth, last = pointer.count("/"), pointer.split("/")[-1]
     is_key = wanted in NAMES and depth == {SCENARIO: 1, GROUP: 3, STEP: 3}[wanted] and last not in NAMES[wanted]
     return Key(pointer) if is_key else pointer
@@ -129,7 +129,7 @@ def objects(found, text):
 
 def again_people(faults, names):
     lines = [f"{in_people(place)}: refused {what[0]} {what[1]} at line {at[0]}, column {at[1]}; wanted: {what[2]}\n" for place, what, at in faults]
-    lines += [f"{in_people(place)}: told again at line {at[0]}, column {at[1]}, first at line {first[0]}, column {first[1]}; the last one counts\n"
+    lines += [f"{in_people(place)}: repeated at line {at[0]}, column {at[1]}, first at line {first[0]}, column {first[1]}; the last one counts\n"
               for place, at, first in names]
     return "".join(lines)
 
@@ -165,7 +165,7 @@ def refusals(told):
 
 
 def advice_on(told):
-    """What is to be told of a scenario that is accepted."""
+    """What is to be reported of a scenario that is accepted."""
     modes = iter(refusals(told))
     front = farthest = 0
     for step in told["steps"]:
@@ -237,7 +237,7 @@ class Lints(Compared):
         self.same(f"run {text}", run(self.etcs, ["run", file, self.room / "none"])[0], "refused %d %s\n" % faults[0][1][:2] if faults else "device\n")
 
     def limit(self, wanted, place, made):
-        """The limits that a text tells are those of the program: no fault at them, and one behind them."""
+        """The limits that a text reports are those of the program: no fault at them, and one after them."""
         least, most = re.findall(r"(-?\d+) to (\d+)", wanted)[place]
         file = self.room / "limit.json"
         for number, has_fault in ((int(least), False), (int(most), False), (int(least) - 1, True), (int(most) + 1, True)):

@@ -1,4 +1,4 @@
-"""Telegrams whose packets are written by hand, after SUBSET-026, 7.4.2 and 8.4.2: each way in which `etcs_lab packets` tells a packet, and
+"""Telegrams whose packets are written by hand, after SUBSET-026, 7.4.2 and 8.4.2: each way in which `etcs_lab packets` reports a packet, and
 each in which a list ends."""
 from track_packets import data_of
 

@@ -1,10 +1,10 @@
 #!/usr/bin/env python3
-"""The packets of telegrams by name: `etcs_lab packets`, in lines and as JSON, beside the plain programs.
+"""The packets of telegrams by name: `etcs_lab packets`, in lines and as JSON, compared with the plain programs.
 
     tests/telegrams/packet_rows.py PROGRAM [WORD..]    by this program, with these words before its own
 
 The telegrams are those of packet_lists.py, those that come with the product, and random ones of a track. Where packets stand and which fields they
-have is what tests/plain/track_packets.py finds, names are those of docs/reference/packets.md, and why no mode uses one is what tests/events/told.py says.
+have is what tests/plain/track_packets.py finds, names are those of docs/reference/packets.md, and why no mode uses one is what tests/events/reported.py says.
 Some answers are by hand.
 """
 import random
@@ -35,7 +35,7 @@ LEAST = {"telegrams": 500, "packets": 500, "faults": 50, "unused": 400}
 
 
 def packet_of(data, never, number, start, length):
-    """A packet as JSON tells it."""
+    """A packet as JSON says it."""
     fields, what = fields_of(data, number, start, length)
     one = {"packet": number, "name": names().get(number), "bit": start, "bits": length, "why": never.get(start)}
     if fields is not None:
@@ -48,7 +48,7 @@ def packet_of(data, never, number, start, length):
 
 
 def wanted_of(data):
-    """What JSON tells of a telegram."""
+    """What JSON says about a telegram."""
     packets, (end, at) = packets_in_order(data)
     never = {dict(one)["bit"]: dict(one)["why"] for one in told.unused_told(data)}
     return {"packets": [packet_of(data, never, number, start, length) for number, _, start, length in packets], "end": ENDS[end], "end_bit": at}

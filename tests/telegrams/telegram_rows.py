@@ -1,10 +1,10 @@
 #!/usr/bin/env python3
-"""Telegrams in JSON: `etcs_lab decode --json` and `etcs_lab telegram` beside the plain reader, and one as the inverse of the other.
+"""Telegrams in JSON: `etcs_lab decode --json` and `etcs_lab telegram` compared with the plain reader, and one as the inverse of the other.
 
     tests/telegrams/telegram_rows.py PROGRAM [WORD..]    by this program, with these words before its own
 
 The telegrams are those of the scenarios and rows that come with the product, and random ones. What bytes carry is what tests/plain/decoded.py
-finds. The bytes of an object are those that it was told of, up to and with the end mark.
+finds. The bytes of an object are those that it was reported of, up to and with the end mark.
 """
 import json
 import random
@@ -44,7 +44,7 @@ LEAST = {"telegrams": 2_500, "refused": 2_500}
 
 
 def told_of(data):
-    """What is to be told of bytes: the object of the events of an image."""
+    """What is to be reported of bytes: the object of the events of an image."""
     value = dict(told.telegram_told(data))
     if "refused" in value:
         return {"refused": dict(value["refused"])}
@@ -52,7 +52,7 @@ def told_of(data):
 
 
 def spelled(data, bits):
-    """The bytes up to and with the end mark, and zero bits behind it."""
+    """The bytes up to and with the end mark, and zero bits after it."""
     number = int.from_bytes(data, "big") >> (8 * len(data) - bits)
     return (number << -bits % 8).to_bytes(-(-bits // 8), "big").hex().upper()
 
@@ -63,7 +63,7 @@ def without_lengths(value):
 
 
 def one(program, room, number, data):
-    """What the program makes of bytes, and of the object that it tells, of each tenth also without the lengths; and what is wanted."""
+    """What the program makes of bytes, and of the object that it says, of each tenth also without the lengths; and what is wanted."""
     wanted = told_of(data)
     printed, said, status = run(program, ["decode", "--json", data.hex()])
     found = [(loaded(printed), printed.count("\n"), said, status)]
@@ -164,7 +164,7 @@ def compare_lists(answer, compared):
 
 
 def compare_installed(program, compared):
-    """What a unit is to be handed: rows by hand, and random telegrams beside the plain program."""
+    """What a unit is to be handed: rows by hand, and random telegrams compared with the plain program."""
     def answer(digits):
         return run(program, ["telegram", "--installed", digits])
 

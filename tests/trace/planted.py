@@ -32,7 +32,7 @@ WHOLE = (
 )
 LEAST = 40
 
-# Each plant: the file, what stands there, what is put in its place, and what has to be told.
+# Each plant: the file, what stands there, what is put in its place, and what has to be reported.
 PLANTS = (
     (
         "a removed row",

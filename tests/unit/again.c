@@ -1,4 +1,4 @@
-/* Prints what the calls of include/etcs_image.h tell of the lives of an image that are run again, as JSON objects on lines, with the words of
+/* Prints what the calls of include/etcs_image.h say about the lives of an image that are run again, as JSON objects on lines, with the words of
  * `etcs_lab replay` and `etcs_lab why`.
  *
  *     again IMAGE replay       a line of each life of the journal, and of each block that can't be read
@@ -90,7 +90,7 @@ static void tell_kept(const etcs_kept *kept) {
     printf("]}");
 }
 
-/* That what isn't told is zero. */
+/* That what isn't reported is zero. */
 static int is_zero(const void *bytes, size_t size) {
     for (size_t i = 0; i < size; i++)
         if (((const uint8_t *)bytes)[i] != 0)
@@ -216,7 +216,7 @@ int main(int count, char **words) {
     FILE *file = count > 2 ? fopen(words[1], "rb") : NULL;
     if (file == NULL || fseek(file, 0, SEEK_END) != 0 || (size = ftell(file)) < 0 || fseek(file, 0, SEEK_SET) != 0)
         return 3;
-    /* (just its bytes, so that a read behind them is seen) */
+    /* (just its bytes, so that a read after them is seen) */
     image = (uint8_t *)malloc(size > 0 ? (size_t)size : 1);
     if (image == NULL || fread(image, 1, (size_t)size, file) != (size_t)size)
         return 3;

@@ -1,5 +1,5 @@
 #!/usr/bin/env python3
-"""Lives of images that C programs run again by the calls of etcs_image.h, beside what the plain programs say of the same images, and beside what
+"""Lives of images that C programs run again by the calls of etcs_image.h, along with what the plain programs say of the same images, and along with what
 `etcs_lab replay --json`, `etcs_lab why --json` and `etcs_lab events` print: of the examples, of random lives, of all formats, of damaged journals, and of ones with
 an altered byte.
 
@@ -28,7 +28,7 @@ from why_rows import more_lives  # noqa: E402
 EVERY = 19  # so many altered bytes are passed over
 OF_LAB = 7  # etcs_lab is asked of so many images one
 LEAST, LEAST_WHYS, LEAST_REFUSED = 650, 11_000, 400  # so many images, and events whose causes are compared
-VERDICTS = ("agrees", "record_differs", "head_differs", "before_oldest_block", "gap", "within_block", "behind_difference", "unreadable")
+VERDICTS = ("agrees", "record_differs", "head_differs", "before_oldest_block", "gap", "within_block", "after_difference", "unreadable")
 LEFT_OUT = ("trip_cause_section", "limit_cause_section", "groups")
 
 
@@ -61,14 +61,14 @@ def mirrors_differ():
 
 
 def without_counts(line):
-    """A line of a replay but for the counts of a head, which C tells by etcs_image_block."""
+    """A line of a replay but for the counts of a head, which C reports by etcs_image_block."""
     if line.get("replay") != "head_differs":
         return line
     return line | {key: {name: value for name, value in line[key].items() if name not in ("events", "lives")} for key in ("journal", "kernel")}
 
 
 def lines_differ(told, lines):
-    """The first line that C tells otherwise than a replay, or None."""
+    """The first line that C reports otherwise than a replay, or None."""
     for one, other in zip_longest(told, map(without_counts, lines)):
         if one != other:
             return f"{one}\n--- wanted\n{other}"
@@ -134,7 +134,7 @@ class Tried(Compared):
             self.of_lab += 1
 
     def records(self, name):
-        """The life of each record, beside `etcs_lab events`."""
+        """The life of each record, along with `etcs_lab events`."""
         _, told = printed(self.programs[0], self.image, "records")
         if any("refused" in line for line in told):
             return
@@ -145,7 +145,7 @@ class Tried(Compared):
             self.tell(f"{name}, lives of records beside etcs_lab: {told}\n--- wanted\n{wanted}")
 
     def memory(self, name, data, words):
-        """Each request for memory is refused in turn: then one event, or the rest, is told as refused, and all else as ever."""
+        """Each request for memory is refused in turn: then one event, or the rest, is reported as refused, and all else as ever."""
         self.image.write_bytes(data)
         counts = self.image.with_name("counts")
         _, whole = printed(self.programs[0], self.image, *words, LD_PRELOAD=self.refuse, REFUSE_COUNTS=str(counts))

@@ -1,5 +1,5 @@
 /* Lives over the library without malloc, whose buffer has just the bytes that etcs_memory.h says that a unit needs at most: no request of its
- * is refused, and behind each close nothing is used.
+ * is refused, and after each close nothing is used.
  *
  *     bounded SLOTS PACKETS RESTRICTIONS GRADIENTS SPEEDS [sectors]    reads lives from standard input: `open COLD`, an input (inputs.h), `flush`,
  *                                                                      `close`; opens by sectors, or over a copy
@@ -23,7 +23,7 @@ int main(int count, char **words) {
     static char line[1024];
     etcs_unit unit = {0};
     etcs_unit_output outputs[ETCS_UNIT_OUTPUTS];
-    etcs_memory_told told_of;
+    etcs_memory_info told_of;
     uint32_t released;
     unsigned lives = 0, number = 0, outputs_told = 0, brakeless = 0;
     if (buffer == NULL)

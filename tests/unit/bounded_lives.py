@@ -5,7 +5,7 @@ climb over tracks of groups with restrictions, gradients, static speeds, and pac
     tests/unit/bounded_lives.py BOUNDED [LIVES [SEED]]    BOUNDED is bounded.c with the library without malloc; 100 lives, seed 67
     tests/unit/bounded_lives.py BOUNDED hours HOURS [sectors]  so many hours at 100 km/h in cycles of 100 ms, a group with an authority each km
 
-A life is lived three times, one behind another, on the same buffer, by a unit over a copy or by sectors. The latter has no room for slots. The exit status is 1 where a request is refused, or where no life used so much
+A life is lived three times, one after another, on the same buffer, by a unit over a copy or by sectors. The latter has no room for slots. The exit status is 1 where a request is refused, or where no life used so much
 of its bound that the bound would be seen to be too small by half.
 """
 import contextlib
@@ -40,7 +40,7 @@ def listed(first, rest):
 
 
 class Track:
-    """Groups, one behind another where the train stands, and how much each kind of list has of them."""
+    """Groups, one after another where the train stands, and how much each kind of list has of them."""
 
     def __init__(self, groups):
         self.groups, self.lines = groups, []
@@ -94,7 +94,7 @@ def changed(r, groups):
 
 
 def hours(count):
-    """A train at 100 km/h: each km a group announces the next one, gives an authority of 3 km, gradients, speeds, and a restriction behind."""
+    """A train at 100 km/h: each km a group announces the next one, gives an authority of 3 km, gradients, speeds, and a restriction after."""
     yield from ("open 0", "identity 41", "action 2", "train 20000 160000 70 0 15")
     at, group = 0, 1
     for cycle in range(1, 36_000 * count + 1):

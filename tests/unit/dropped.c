@@ -6,7 +6,7 @@
 void drops(etcs_unit *unit, etcs_opening *opening, etcs_file *file, etcs_unit_output *outputs, uint8_t *bytes, uint64_t *number, uint32_t *count);
 
 void drops(etcs_unit *unit, etcs_opening *opening, etcs_file *file, etcs_unit_output *outputs, uint8_t *bytes, uint64_t *number, uint32_t *count) {
-    static etcs_unit_request_told request;
+    static etcs_unit_request_info request;
     static etcs_adapted adapted;
     static etcs_value_dropped value;
     static etcs_packet_unused packet;

@@ -1,5 +1,5 @@
-/* Lives one life, and asks behind each release why the output is what it is; prints what is told as JSON objects on lines. Of each event that
- * is released etcs_image_why is asked of the medium's bytes too: what both tell is the same. While an event is pending, or its requests aren't
+/* Lives one life, and asks after each release why the output is what it is; prints what is reported as JSON objects on lines. Of each event that
+ * is released etcs_image_why is asked of the medium's bytes too: what both report is the same. While an event is pending, or its requests aren't
  * released, etcs_unit_why answers NOT_RELEASED and writes nothing.
  *
  *     explained COLD [TRIES]    reads inputs from standard input, one a line (inputs.h), or `flush`; TRIES is written to by the number of answers
@@ -10,9 +10,9 @@
 
 static unsigned long long wide(uint64_t number) { return (unsigned long long)number; }
 
-/* That nothing is told now. */
+/* That nothing is reported now. */
 static void untold(const char *what, etcs_unit *unit) {
-    etcs_unit_why_told why, other;
+    etcs_unit_why_info why, other;
     memset(&why, 0xAA, sizeof why);
     memset(&other, 0xAA, sizeof other);
     is(what, etcs_unit_why(unit, &why), ETCS_UNIT_NOT_RELEASED);
@@ -23,7 +23,7 @@ static void waiting(const char *kind, uint8_t state, uint64_t left) {
     printf(",\"%s\":[\"%s\",%llu]", kind, etcs_acknowledgement_name(state), wide(left));
 }
 
-static void tell(const etcs_unit_why_told *why) {
+static void tell(const etcs_unit_why_info *why) {
     printf("{\"event\":%llu,\"mode\":%u,\"level\":%u,\"brake\":%u,\"indications\":%u,\"limit\":%lu,\"speed\":%lu,\"backward\":%llu,\"allowed\":%llu,\"holds\":[",
            wide(why->output.event), (unsigned)why->output.mode, (unsigned)why->output.level, (unsigned)why->output.brake, (unsigned)why->output.indications,
            (unsigned long)why->output.limit_m_per_h, (unsigned long)why->speed_m_per_h, wide(why->backward_cm), wide(why->allowed_backward_cm));
@@ -39,8 +39,8 @@ static void tell(const etcs_unit_why_told *why) {
     printf(",\"override\":[%u,%u,%llu,%llu]}\n", (unsigned)why->has_override, (unsigned)why->override_ends, wide(why->override_ms), wide(why->override_cm));
 }
 
-/* The same of the medium's bytes: the causes that hold, what decides the limit, and the numbers that both tell. */
-static void same(const medium *on, const etcs_unit_why_told *why) {
+/* The same of the medium's bytes: the causes that hold, what decides the limit, and the numbers that both report. */
+static void same(const medium *on, const etcs_unit_why_info *why) {
     static const uint8_t zeros[sizeof why->reserved] = {0};
     etcs_image facts;
     etcs_why image;
@@ -62,23 +62,23 @@ static void same(const medium *on, const etcs_unit_why_told *why) {
     is("zeros", (uint64_t)memcmp(why->reserved, zeros, sizeof zeros), 0);
 }
 
-/* What is told behind a release. */
+/* What is reported after a release. */
 static void ask(const medium *on, etcs_unit *unit, const etcs_unit_output *last) {
-    etcs_unit_why_told why, again;
+    etcs_unit_why_info why, again;
     memset(&why, 0xAA, sizeof why);
     is("why", etcs_unit_why(unit, &why), ETCS_UNIT_OK);
     is("again", etcs_unit_why(unit, &again), ETCS_UNIT_OK);
-    is("it is told again", (uint64_t)memcmp(&why, &again, sizeof why), 0);
+    is("it is repeated", (uint64_t)memcmp(&why, &again, sizeof why), 0);
     if (last != NULL)
         is("it is the last output", (uint64_t)memcmp(&why.output, last, sizeof *last), 0);
     same(on, &why);
     tell(&why);
 }
 
-/* Carries out the requests one by one, and releases; before that nothing is told. */
+/* Carries out the requests one by one, and releases; before that nothing is reported. */
 static void flush(medium *on, etcs_unit *unit, int prepares) {
     etcs_unit_output outputs[ETCS_UNIT_OUTPUTS];
-    etcs_unit_request_told request;
+    etcs_unit_request_info request;
     uint8_t bytes[ETCS_UNIT_REQUEST_BYTES];
     uint32_t count = 0, index = 0;
     if (prepares)

@@ -1,6 +1,6 @@
 #!/usr/bin/env python3
-"""Why the newest released output is what it is, as etcs_unit_why tells it: pseudo-random lives beside the plain program, event by event, and
-beside what etcs_image_why tells of the medium's bytes (explained.c compares that). While an event isn't released nothing is told.
+"""Why the newest released output is what it is, as etcs_unit_why says it: pseudo-random lives compared with the plain program, event by event, and
+along with what etcs_image_why says about the medium's bytes (explained.c compares that). While an event isn't released nothing is reported.
 
     tests/unit/explained.py PROGRAM..     explained.c built in several ways
 """
@@ -22,7 +22,7 @@ from random_lists import SUPERVISION, TRACK, Numbers, event  # noqa: E402
 from replay_rows import parts  # noqa: E402
 from why import WORDS, Reasons  # noqa: E402
 
-LIVES, LEAST_TOLD, LEAST_ANSWERS = 160, 2_500, 150_000  # so many lives, outputs that are told of, and answers in C
+LIVES, LEAST_TOLD, LEAST_ANSWERS = 160, 2_500, 150_000  # so many lives, outputs that are reported of, and answers in C
 MODES = {"FS": 0, "OS": 1, "SR": 2, "SH": 3, "UN": 4, "SB": 6, "TR": 7, "PT": 8, "SF": 9}
 BRAKES = ("none", "service", "emergency")
 KINDS = {"on_sight": "on-sight", "shunting": "shunting", "level_0": "level-0"}
@@ -66,7 +66,7 @@ def overriding(life):
 
 
 def wanted_of(life, reasons, number):
-    """What is to be told behind the newest event of a life, which has this number."""
+    """What is to be reported after the newest event of a life, which has this number."""
     answer, told = life.now.output, reasons.members(number)
     kind, place, nid = told["limit_cause"], told["limit_cause_place_cm"], told["limit_cause_number"]
     is_ahead, releases = kind.endswith("_ahead") or kind in ("end_of_authority", "supervised_location"), kind in RELEASES
@@ -84,7 +84,7 @@ def wanted_of(life, reasons, number):
 
 
 def met_in(told):
-    """What of all that may be told is there."""
+    """What of all that may be reported is there."""
     for name in KINDS:
         state, left = told[name]
         yield "over" if state == "owed" and left == 0 else state
@@ -96,7 +96,7 @@ def met_in(told):
 
 
 def lives():
-    """Of each life its word, the lines of its inputs, and what is to be told behind each release: for each kind of what decides a limit one by
+    """Of each life its word, the lines of its inputs, and what is to be reported after each release: for each kind of what decides a limit one by
     hand, and pseudo-random ones."""
     for _, inputs, _ in BY_HAND:
         life = Life(Kept(), "unknown")

@@ -313,7 +313,7 @@ static void lives(void) {
 static void fails(int at_sync) {
     etcs_file file = {0};
     etcs_unit unit = {0};
-    etcs_unit_state_told state;
+    etcs_unit_state_info state;
     is("open", opens_by(&file, "image", &unit, 0), ETCS_FILE_OK);
     is("flush", etcs_file_flush(&file, &unit, outputs, &count), ETCS_FILE_OK);
     is("an input", etcs_unit_clock(&unit, 1), ETCS_UNIT_OK);
@@ -342,7 +342,7 @@ static uint8_t *bytes_in(const char *path, size_t *len) {
     return bytes;
 }
 
-/* Some flushes of a life; the first and the last event, and the file behind it, for the caller to free. */
+/* Some flushes of a life; the first and the last event, and the file after it, for the caller to free. */
 static uint8_t *flushes(uint32_t (*opens_it)(etcs_file *, const char *, etcs_unit *, uint32_t), const char *path, uint64_t events[2], size_t *len) {
     etcs_file file = {0};
     etcs_unit unit = {0};
@@ -361,7 +361,7 @@ static uint8_t *flushes(uint32_t (*opens_it)(etcs_file *, const char *, etcs_uni
 static void by_sectors(void) {
     etcs_file file = {0};
     etcs_unit unit = {0};
-    etcs_unit_state_told state;
+    etcs_unit_state_info state;
     uint64_t copied[2], read_by[2];
     size_t size, len;
     is("a file", etcs_file_format(&file, "copied", 64), ETCS_FILE_OK);

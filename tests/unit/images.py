@@ -1,6 +1,6 @@
 #!/usr/bin/env python3
-"""Images read from C (listing.c) beside `etcs journal`, line for line: those that are handed in, and those of all examples. And altered ones
-of all three formats, beside what the plain reader of docs/reference/format.md tells (tests/lab/examined.py): which records can be read, what each slot
+"""Images read from C (listing.c) along with `etcs journal`, line for line: those that are handed in, and those of all examples. And altered ones
+of all three formats, along with what the plain reader of docs/reference/format.md reports (tests/lab/examined.py): which records can be read, what each slot
 holds, and what each head keeps.
 
     tests/unit/images.py LISTING.. IMAGE..    LISTING are programs whose names begin with "listing"; $ETCS names the program
@@ -88,7 +88,7 @@ def slots_of(data):
 
 
 def heads_of(data):
-    """What the heads tell of the blocks that slots hold, as listing.c prints it: of the last numbers up to the newest."""
+    """What the heads say about the blocks that slots hold, as listing.c prints it: of the last numbers up to the newest."""
     slots = examined.slots_in(data)
     if slots is None:
         return ["refused IMAGE_NOT_FORMATTED"]

@@ -1,7 +1,7 @@
 #!/usr/bin/env python3
 """What docs/explain/integration.md says was tried, on the library that $GAKNIFUR_ETCS_UNIT names: telegrams that come late, and centimetres that are cut off.
 
-The numbers were worked out by hand. The group is announced 300 m behind the first one, with Q_LOCACC 5 m: its fix is exact to 5 m and 5 m. A 20th of
+The numbers were worked out by hand. The group is announced 300 m after the first one, with Q_LOCACC 5 m: its fix is exact to 5 m and 5 m. A 20th of
 the path since is added, rounded up. 5 km/h in 100 ms are 13.8 cm.
 """
 import sys
@@ -31,7 +31,7 @@ def drive(unit, way):
 
 
 def passed(before, behind):
-    """Front and uncertainty where the second group is handed in behind so many centimetres, and then so many more are driven."""
+    """Front and uncertainty where the second group is handed in after so many centimetres, and then so many more are driven."""
     with Unit(MemoryMedium.formatted(16)) as unit:
         unit.telegram(telegram(FIRST))
         unit.identity("A")
@@ -48,7 +48,7 @@ def passed(before, behind):
 
 
 def moved(carries):
-    """Front and uncertainty behind 7,200 readings at 5 km/h, the rest of each carried over, or cut off."""
+    """Front and uncertainty after 7,200 readings at 5 km/h, the rest of each carried over, or cut off."""
     with Unit(MemoryMedium.formatted(4)) as unit:
         rest = 0
         for cycle in range(7_200):

@@ -6,8 +6,8 @@
 Over pseudo-random rings, with closed gates, older images that are put back and archives that a loss of power cut, each archive is byte by
 byte the one that the package in Python keeps (`tests/lab_package/join_rows.py` tries that one).
 
-Of the image alone no replay is possible, and of image and archive together it agrees from the first event on; `etcs_lab why` tells why
-the train brakes behind the last one. The archive has each block once, in its order. The marks are read by the package, and tell the
+Of the image alone no replay is possible, and of image and archive together it agrees from the first event on; `etcs_lab why` says why
+the train brakes after the last one. The archive has each block once, in its order. The marks are read by the package, and report the
 time of day of the last moment.
 """
 import json

@@ -1,5 +1,5 @@
 #!/usr/bin/env python3
-"""Sizes and places of the structs as C lays them out beside those of python/gaknifur/units/_header.py.
+"""Sizes and places of the structs as C lays them out along with those of python/gaknifur/units/_header.py.
 
     tests/unit/layout.py --program    prints a C program that prints them, as the headers have them
     tests/unit/layout.py PROGRAM..    compares what this program prints, built in several ways

@@ -1,7 +1,7 @@
 /* Lives one life on an image, and prints what `etcs run` prints of it: a line for each output that is released.
  *
- *     life copy|sectors IMAGE COLD [CUT]    reads inputs from standard input, one a line; with CUT it stops behind so many requests; by sectors with
- *                                           -1 - CUT while it opens, behind so many sectors
+ *     life copy|sectors IMAGE COLD [CUT]    reads inputs from standard input, one a line; with CUT it stops after so many requests; by sectors with
+ *                                           -1 - CUT while it opens, after so many sectors
  *     life format IMAGE SLOTS
  *
  * The inputs stand in inputs.h; a line may also be `flush`. */
@@ -48,8 +48,8 @@ static void print(const etcs_unit_output *output) {
 static uint32_t carry_out(etcs_file *file, etcs_unit *unit) {
     if (left < 0)
         return etcs_file_carry_out(file, unit);
-    etcs_unit_state_told state;
-    etcs_unit_request_told request;
+    etcs_unit_state_info state;
+    etcs_unit_request_info request;
     uint8_t bytes[ETCS_UNIT_REQUEST_BYTES];
     if (etcs_unit_state(unit, &state) != ETCS_UNIT_OK)
         return ETCS_FILE_UNIT;
@@ -97,7 +97,7 @@ static uint32_t live(etcs_file *file, etcs_unit *unit) {
     return status == ETCS_UNIT_OK ? flush(file, unit, 1) : status;
 }
 
-/* An opening by sectors that ends behind so many of them: what going on answers then. */
+/* An opening by sectors that ends after so many of them: what going on answers then. */
 static uint32_t stopped(etcs_file *file, const char *path, uint32_t cold, long sectors) {
     etcs_unit unit = {0};
     etcs_opening opening = {0};

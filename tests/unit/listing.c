@@ -3,7 +3,7 @@
  *     listing IMAGE      the lines of all records, the oldest first
  *     listing IMAGE -b   the same, with each record asked for by its block and its place there
  *     listing IMAGE -s   what the image has, and what each slot holds
- *     listing IMAGE -k   what the head of each block tells, and what it keeps
+ *     listing IMAGE -k   what the head of each block says, and what it keeps
  */
 #include <stdio.h>
 #include <stdlib.h>
@@ -128,7 +128,7 @@ int main(int count, char **words) {
     FILE *file = count > 1 ? fopen(words[1], "rb") : NULL;
     if (file == NULL || fseek(file, 0, SEEK_END) != 0 || (size = ftell(file)) < 0 || fseek(file, 0, SEEK_SET) != 0)
         return 3;
-    /* (just its bytes, so that a read behind them is seen) */
+    /* (just its bytes, so that a read after them is seen) */
     image = (uint8_t *)malloc(size > 0 ? (size_t)size : 1);
     if (image == NULL || fread(image, 1, (size_t)size, file) != (size_t)size)
         return 3;

@@ -1,5 +1,5 @@
 #!/usr/bin/env python3
-"""Random lives from C beside `etcs run`, the same in every run: what is printed, what the file is handed, call by call, and what it holds.
+"""Random lives from C along with `etcs run`, the same in every run: what is printed, what the file is handed, call by call, and what it holds.
 
     tests/unit/lives.py LIFE [LIVES [SEED]]    LIFE is life.c with the library; 400 lives, seed 2026; $ETCS names another program than the gate's
 
@@ -29,7 +29,7 @@ KINDS = ("copy", "sectors")
 LEAST_CALLS, LEAST_LINES = 10, 5  # of a life, on the average
 
 ALONE = {6: 7, 7: 8, 8: 9, 9: 10, 11: 15}
-FROM = {4: 1, 5: 2, 10: 10}  # what is added to the value behind the code
+FROM = {4: 1, 5: 2, 10: 10}  # what is added to the value after the code
 
 
 def word_of(asked):
@@ -52,7 +52,7 @@ def word_of(asked):
 
 
 def scenario_of(numbers):
-    """A life of a train that mostly heeds what it is told; in some lives it hears telegrams that can't be read, or the clock goes back."""
+    """A life of a train that mostly heeds what it is reported; in some lives it hears telegrams that can't be read, or the clock goes back."""
     told = json.loads(random_lives.scenario(numbers))
     for _ in range(numbers.randrange(4)):
         data = (headed if numbers.randrange(2) else mutated)(numbers)
@@ -84,14 +84,14 @@ def requests_of(calls):
 
 
 def behind_settling(calls):
-    """The calls of a life from C behind the two that settle its file, which are no requests of the unit."""
+    """The calls of a life from C after the two that settle its file, which are no requests of the unit."""
     if [kind for kind, _, _ in calls[:2]] != ["s", "d"]:
         raise SystemExit(f"the file isn't synced, and its pages dropped, at first: {calls[:2]}")
     return calls[2:]
 
 
 def cut_off(before, calls, count):
-    """The bytes of the file behind so many requests, and what is printed by then."""
+    """The bytes of the file after so many requests, and what is printed by then."""
     held, printed = bytearray(before), b""
     for kind, place, body in calls:
         if kind == "o":

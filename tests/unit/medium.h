@@ -10,7 +10,7 @@
 
 static unsigned tried, wrong;
 
-/* Counts an answer, and tells of one that isn't as wanted. */
+/* Counts an answer, and says about one that isn't as wanted. */
 static inline void is(const char *what, uint64_t found, uint64_t wanted) {
     tried++;
     if (found != wanted) {
@@ -32,7 +32,7 @@ typedef struct {
     size_t len;
 } medium;
 
-static inline void do_on(medium *on, const etcs_unit_request_told *request, const uint8_t *bytes) {
+static inline void do_on(medium *on, const etcs_unit_request_info *request, const uint8_t *bytes) {
     if (request->kind == ETCS_REQUEST_WRITE)
         memcpy(on->bytes + request->sector * ETCS_UNIT_SECTOR, bytes, (size_t)request->sectors * ETCS_UNIT_SECTOR);
 }
@@ -40,7 +40,7 @@ static inline void do_on(medium *on, const etcs_unit_request_told *request, cons
 static inline medium formatted(uint32_t slots) {
     const size_t len = (1 + 6 * (size_t)slots) * ETCS_UNIT_SECTOR;
     medium on = {(uint8_t *)calloc(1, len), len};
-    etcs_unit_request_told request;
+    etcs_unit_request_info request;
     uint8_t bytes[ETCS_UNIT_SECTOR];
     for (uint32_t i = 0; etcs_unit_format_request(slots, i, &request, bytes, sizeof bytes) == ETCS_UNIT_OK; i++)
         do_on(&on, &request, bytes);
@@ -49,7 +49,7 @@ static inline medium formatted(uint32_t slots) {
 
 /* Carries out all requests of the list, and says so. */
 static inline uint32_t carry_out(medium *on, etcs_unit *unit) {
-    etcs_unit_request_told request;
+    etcs_unit_request_info request;
     uint8_t bytes[ETCS_UNIT_REQUEST_BYTES];
     uint32_t count = 0, status;
     while ((status = etcs_unit_request(unit, count, &request, bytes, sizeof bytes)) == ETCS_UNIT_OK) {

@@ -2,9 +2,9 @@
 #include "medium.h"
 
 static etcs_unit_output outputs[ETCS_UNIT_OUTPUTS];
-static etcs_unit_request_told request;
-static etcs_unit_state_told state;
-static etcs_unit_why_told why;
+static etcs_unit_request_info request;
+static etcs_unit_state_info state;
+static etcs_unit_why_info why;
 static uint8_t bytes[ETCS_UNIT_REQUEST_BYTES];
 static uint32_t count;
 static const uint8_t telegram[ETCS_TELEGRAM_BYTES + 1] = {0x90, 0x00, 0x7F, 0x80, 0x20, 0x01, 0x7F, 0xC0};

@@ -1,11 +1,11 @@
-/* The allocator of the library without malloc (surroundings/pieces.c) beside a plain model, which keeps a list of what is out: random requests
+/* The allocator of the library without malloc (surroundings/pieces.c) compared with a plain model, which keeps a list of what is out: random requests
  * over buffers at each place that an address has modulo 32, and of sizes from the least on; until they are refused, and until all is given back.
  *
  *     pieces [STEPS [SEED]]    so many requests on each buffer
  *
  * The model says of each answer: the piece lies in the buffer, 16 divides its address, it overlaps no other one, a piece that was resized has
  * its first bytes as they were, and no byte outside the pieces' buffer was written. A request may be refused only where no gap between two pieces
- * is greater than it by a 16th. What is told of the buffer is what the model sums. Behind the last give all bytes are one piece again. */
+ * is greater than it by a 16th. What is reported of the buffer is what the model sums. After the last give all bytes are one piece again. */
 #include "medium.h"
 #include "pieces.h"
 
@@ -23,7 +23,7 @@ static uint64_t refused_since, most;
 static _Alignas(32) uint8_t room[GUARD + ROOM + 2 * GUARD];
 static uint8_t *buffer;
 static uint64_t length;
-static etcs_memory_told state;
+static etcs_memory_info state;
 
 static uint64_t next(uint64_t *seed) {
     *seed ^= *seed << 13;

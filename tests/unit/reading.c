@@ -1,5 +1,5 @@
 /* Reading an image from C: each wrong call is answered as include/etcs_image.h says, and writes nothing; a slot of each
- * state is told; and what one life left is told record by record, with what was worked out by hand. */
+ * state is reported; and what one life left is reported record by record, with what was worked out by hand. */
 #include "etcs_image.h"
 #include "medium.h"
 
@@ -13,7 +13,7 @@ static etcs_journal journal;
 static etcs_replay replay;
 static etcs_why why;
 
-/* An image is copied into room of just its size, so that a read behind it is seen. */
+/* An image is copied into room of just its size, so that a read after it is seen. */
 static uint8_t *copy_of(const medium *on) {
     uint8_t *bytes = (uint8_t *)malloc(on->len);
     memcpy(bytes, on->bytes, on->len);
@@ -345,7 +345,7 @@ static void again(const medium *on) {
     is("the kernel answers", replay.kernel.mode, ETCS_STAND_BY);
     is("it alone", replay.last_event, 1);
     is("a line", etcs_image_replay(image, on->len, &journal, &replay), ETCS_UNIT_OK);
-    is("behind it", replay.verdict, ETCS_VERDICT_BEHIND_DIFFERENCE);
+    is("behind it", replay.verdict, ETCS_VERDICT_AFTER_DIFFERENCE);
     is("to the last event", replay.last_event, 5);
     is("no line more", etcs_image_replay(image, on->len, &journal, &replay), ETCS_UNIT_END);
     image[512 + 2 * SLOT + 1024 + 1] = ETCS_STAND_BY;
@@ -363,13 +363,13 @@ static void again(const medium *on) {
     is("of block 2", replay.block, 2);
     is("it tells", replay.journal_kept.train.length_cm, 20001);
     is("the kernel keeps", replay.kernel_kept.train.length_cm, 20000);
-    /* block 1 can't be read: what is behind isn't run */
+    /* block 1 can't be read: what is after isn't run */
     image[512 + SLOT + 1024 + 1] = 5;
     is("journal", etcs_journal_open(image, on->len, &journal), ETCS_UNIT_OK);
     is("a block that can't be read", etcs_image_replay(image, on->len, &journal, &replay), ETCS_UNIT_IMAGE_DAMAGED);
     is("behind it", journal.block, 2);
     is("a life", etcs_image_replay(image, on->len, &journal, &replay), ETCS_UNIT_OK);
-    is("behind a gap", replay.verdict, ETCS_VERDICT_BEHIND_GAP);
+    is("behind a gap", replay.verdict, ETCS_VERDICT_AFTER_GAP);
     is("from event 1", replay.first_event, 1);
     is("why", etcs_image_why(image, on->len, 2, 5, &why), ETCS_UNIT_NOT_REPLAYED);
     /* block 1 was overwritten */

@@ -4,8 +4,8 @@
  *     refused IMAGE [sectors]    reads the life from standard input: `open COLD`, an input (inputs.h), `flush` or `close` on each line; opens by
  *                                sectors, or over a copy
  *
- * A call that is refused memory says so and changes nothing that is told; it is made once more. All else is as in a run without a refusal:
- * each status, request, byte and output, and what the medium holds in the end. Only `open` and the inputs ask for memory, and behind the
+ * A call that is refused memory says so and changes nothing that is reported; it is made once more. All else is as in a run without a refusal:
+ * each status, request, byte and output, and what the medium holds in the end. Only `open` and the inputs ask for memory, and after the
  * life all of it is given back. Where the life meets no refusal the run fails. Built with --wrap for malloc, realloc and free; or, over memory of
  * the maker's own (etcs_memory.h), with OVER_PIECES and --wrap for rattle_alloc, rattle_realloc and rattle_dealloc, by which the proved
  * library asks. */
@@ -57,7 +57,7 @@ void __wrap_rattle_dealloc(void *old) {
 
 /* The bytes of the buffer that are out. */
 static uint64_t used(void) {
-    etcs_memory_told state = {0, 0, 0, 0, 0};
+    etcs_memory_info state = {0, 0, 0, 0, 0};
     is("state", etcs_memory_state(&state), ETCS_UNIT_OK);
     return state.used;
 }
@@ -132,7 +132,7 @@ static uint32_t tries(const char *line, int opens, uint32_t cold) {
 
 /* Opens, or hands in an input. Where it is refused memory it is made once more. */
 static uint32_t asks(const char *line, int opens, uint32_t cold) {
-    etcs_unit_state_told before, after;
+    etcs_unit_state_info before, after;
     memset(&before, 0, sizeof before);
     memset(&after, 0, sizeof after);
     const uint32_t was = etcs_unit_state(&unit, &before);
@@ -155,7 +155,7 @@ static uint32_t asks(const char *line, int opens, uint32_t cold) {
 
 /* Carries out the list and releases. */
 static uint32_t carries_out(uint64_t *to) {
-    etcs_unit_request_told request;
+    etcs_unit_request_info request;
     etcs_unit_output outputs[ETCS_UNIT_OUTPUTS];
     uint8_t written[ETCS_UNIT_REQUEST_BYTES];
     uint32_t index = 0, count = 0;

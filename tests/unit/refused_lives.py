@@ -32,7 +32,7 @@ NEW = {
     "an authority behind a second power-up": ["open unknown", f"hear {RESTRICTION}", *ENTRIES, *READINGS, "open not-moved", "confirm identity",
                                               f"hear {AUTHORITY}"],
 }
-# Behind what stands on a ring.
+# After what stands on a ring.
 ON_A_RING = ["open not-moved", f"hear {RESTRICTION}", "enter-identity B", "clock 7", "flush", "close", "open moved", "confirm identity", "flush"]
 LONGER = ["open not-moved", "clock 7", "enter-running-number 5", "flush", f"hear {AUTHORITY}", "flush", "clock 9", "flush", "close", "open unknown", "flush"]
 STORIES = ("an area ahead that is acknowledged", "an announced group in time", "several announced 1", "values ahead", "two restrictions 255 in a message",

@@ -1,4 +1,4 @@
-/* A unit over a medium that isn't copied, beside one over a copy of the same bytes: the same answers, requests and outputs, and
+/* A unit over a medium that isn't copied, along with one over a copy of the same bytes: the same answers, requests and outputs, and
  * after each flush and each loss of power the same medium. */
 #include "medium.h"
 
@@ -73,7 +73,7 @@ typedef struct {
 /* The last sector that was written: the gate of the newest block. */
 static uint64_t last_written;
 
-/* Reads the gate of the next slot ahead: six sectors behind the last one that was written, or else the first gate. */
+/* Reads the gate of the next slot ahead: six sectors after the last one that was written, or else the first gate. */
 static void read_ahead(side *few) {
     const uint64_t next = last_written + 6, sector = next < few->on.len / ETCS_UNIT_SECTOR ? next : 1;
     is("a sector is read ahead", etcs_unit_provide(&few->unit, sector, sector_of(&few->on, sector), ETCS_UNIT_SECTOR), ETCS_UNIT_OK);
@@ -82,7 +82,7 @@ static void read_ahead(side *few) {
 /* Carries out so many requests of the list, or all; those of both sides are the same. How many there are. */
 static uint32_t carried_out(side *copy, side *few, uint32_t most) {
     static uint8_t bytes[2][ETCS_UNIT_REQUEST_BYTES];
-    etcs_unit_request_told request[2];
+    etcs_unit_request_info request[2];
     uint32_t count = 0;
     for (;; count++) {
         memset(bytes, 0, sizeof bytes);

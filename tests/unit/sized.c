@@ -21,7 +21,7 @@ static int reads(uint64_t sector, uint8_t *bytes, size_t size) {
     return pread(file, bytes, size, (off_t)(sector * ETCS_UNIT_SECTOR)) == (ssize_t)size;
 }
 
-static int carries_out(const etcs_unit_request_told *request, const uint8_t *bytes) {
+static int carries_out(const etcs_unit_request_info *request, const uint8_t *bytes) {
     const size_t size = (size_t)request->sectors * ETCS_UNIT_SECTOR;
     return request->kind == ETCS_REQUEST_SYNC || pwrite(file, bytes, size, (off_t)(request->sector * ETCS_UNIT_SECTOR)) == (ssize_t)size;
 }
@@ -54,7 +54,7 @@ static uint32_t opened_sector_by_sector(etcs_unit *unit, size_t size) {
 static void released(etcs_unit *unit) {
     static uint8_t bytes[ETCS_UNIT_REQUEST_BYTES];
     etcs_unit_output outputs[ETCS_UNIT_OUTPUTS];
-    etcs_unit_request_told request;
+    etcs_unit_request_info request;
     uint32_t index = 0, count;
     for (; etcs_unit_request(unit, index, &request, bytes, sizeof bytes) == ETCS_UNIT_OK; index++)
         is("a request", (uint64_t)carries_out(&request, bytes), 1);
@@ -76,7 +76,7 @@ static void flush_a_moment(etcs_unit *unit, uint64_t moment) {
     released(unit);
 }
 
-/* ---- what is told */
+/* ---- what is reported */
 
 /* A figure of /proc/self/status, in kB. */
 static unsigned long told_of_process(const char *name) {
@@ -93,7 +93,7 @@ static unsigned long told_of_process(const char *name) {
 
 static unsigned long most_used(void) {
 #ifdef OWN_MEMORY
-    etcs_memory_told memory;
+    etcs_memory_info memory;
     is("state of the memory", etcs_memory_state(&memory), ETCS_UNIT_OK);
     return (unsigned long)memory.most_used;
 #else
@@ -105,7 +105,7 @@ static unsigned long most_used(void) {
 
 static void fill(uint32_t slots, size_t size) {
     uint8_t bytes[ETCS_UNIT_SECTOR];
-    etcs_unit_request_told request;
+    etcs_unit_request_info request;
     etcs_unit unit = {0};
     for (uint32_t i = 0; etcs_unit_format_request(slots, i, &request, bytes, sizeof bytes) == ETCS_UNIT_OK; i++)
         is("format", (uint64_t)carries_out(&request, bytes), 1);

@@ -1,5 +1,5 @@
 #!/usr/bin/env python3
-"""A unit by sectors over rings of any size (sized.c): which sectors it reads, and that it takes as much memory over 36,000 slots as over 4; beside one
+"""A unit by sectors over rings of any size (sized.c): which sectors it reads, and that it takes as much memory over 36,000 slots as over 4; along with one
 over a copy.
 
     tests/unit/sized.py MALLOC BUFFER    sized.c with the library, and with the one without malloc

@@ -1,5 +1,5 @@
 /* What compiled code calls where there is no C library: the calls of string.h (surroundings/bytes.c), each length to 104 (three turns of their loops
- * and some) at each place modulo 16, and each overlap, beside the plain loop over bytes; and the product of 128 bits (surroundings/product.c) beside
+ * and some) at each place modulo 16, and each overlap, compared with the plain loop over bytes; and the product of 128 bits (surroundings/product.c) along with
  * that of this machine. */
 #define memcpy own_memcpy
 #define memmove own_memmove

@@ -59,7 +59,7 @@ def row(known, name):
 
 
 def tried_laws():
-    """The laws that tests/plain/law_rows.py tries behind each event of the kernel's rows."""
+    """The laws that tests/plain/law_rows.py tries after each event of the kernel's rows."""
     text = Path("tests/plain/law_rows.py").read_text(encoding="utf-8")
     return set(re.findall(r"(\w+): [\d_]+", text[text.index("\nLEAST = {") :]))
 

@@ -21,7 +21,7 @@ FIELDS = ("ReqIF.ForeignID", "part", "kind", "section", "ReqIF.Text", *COLUMNS[5
 
 
 def moment():
-    """The moment of the commit that is told of, so that one commit gives one text; SOURCE_DATE_EPOCH is before it."""
+    """The moment of the commit that is reported of, so that one commit gives one text; SOURCE_DATE_EPOCH is before it."""
     seconds = os.environ.get("SOURCE_DATE_EPOCH", "")
     if not seconds.isdigit():
         told = subprocess.run(

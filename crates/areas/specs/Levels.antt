@@ -4,7 +4,7 @@ use Rattle.std.specs.Prelude.{ℕ, ℤ, pos, ◌+ℤ◌, ◌-ℤ◌, Bool, true,
 use Rattle.std.specs.Option.{option_or}
 use Rattle.vars.specs.declared.scale.Scale.{Scale}
 use Rattle.vars.specs.declared.level.Level.{Level}
-use Rattle.vars.specs.declared.level.Level.TheVariants as told
+use Rattle.vars.specs.declared.level.Level.TheVariants as reported
 use Rattle.vars.specs.declared.special_distance.StartPlace.{StartPlace}
 use Rattle.vars.specs.declared.special_distance.StartPlace.TheVariants.{At, Now}
 use Rattle.packets.specs.declared.level_transition.LevelOrder.{LevelOrder}
@@ -12,7 +12,7 @@ use Rattle.packets.specs.declared.level_transition.LevelTransition.{LevelTransit
 use Rattle.mode_table.specs.declared.level.TrainLevel.{TrainLevel}
 use Rattle.mode_table.specs.declared.level.TrainLevel.TheVariants.{Level0, Level1}
 use Rattle.areas.specs.declared.announcement.Announcement.{Announcement}
-use Rattle.areas.specs.Telling.{in_cm}
+use Rattle.areas.specs.Description.{in_cm}
 
 -- a packet 41, and the place of its group
 pub record Fact : Type 0 where
@@ -31,8 +31,8 @@ pub data LevelEntry : Type 0 where
 -- ---- what a packet announces: the first of its levels that the train can run in
 
 abbrev pub usable : Level → Option TrainLevel
-usable told.Level0 = Some Level0
-usable told.Level1 = Some Level1
+usable reported.Level0 = Some Level0
+usable reported.Level1 = Some Level1
 usable level = None
 
 abbrev pub announced_at : Scale → Option ℤ → LevelOrder → Option TrainLevel → Option Announcement

@@ -18,13 +18,13 @@ pub struct AnnouncedLevel {
 
 impl Model for AnnouncedLevel {
     ghost use Rattle.std.specs.Prelude.{Option};
-    ghost use Rattle.areas.specs.declared.announcement.Announcement.{Announcement as Told};
+    ghost use Rattle.areas.specs.declared.announcement.Announcement.{Announcement as Reported};
 
-    ghost Value = { Option Told };
+    ghost Value = { Option Reported };
 
     ghost view = { λ c. c.announced };
 
-    ghost inverse = { λ told. record { announced = told } };
+    ghost inverse = { λ reported. record { announced = reported } };
 }
 
 impl AnnouncedLevel {

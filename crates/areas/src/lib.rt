@@ -7,8 +7,8 @@ mod announced_level;
 mod announcement;
 mod area;
 mod areas;
+mod description;
 mod laws;
-mod telling;
 
 pub use acknowledgement::Acknowledgement;
 pub use announced_level::AnnouncedLevel;

@@ -10,7 +10,7 @@ use Rattle.authority.specs.Entries.{Fact}
 use Rattle.authority.specs.Track.{in_cm, timed_by, timed_one, timed_from, timed_sections, end_from, end_entry}
 use Rattle.authority.specs.Laws.{IsAmong}
 
--- entries from a place on, one behind the other, to a place behind them all
+-- entries from a place on, one after the other, to a place after them all
 abbrev pub AreAlong : ℤ → List TimedSection → ℤ → Type 0
 AreAlong from [] to = from ≤ℤ to
 AreAlong from (section ∷ rest) to = (from ≤ℤ section.entry) × AreAlong section.entry rest to

@@ -11,10 +11,10 @@ use Rattle.authority.specs.declared.timers.TimedSection.{TimedSection}
 use Rattle.authority.specs.declared.stored.Stored.{Stored}
 use Rattle.authority.specs.Timers.{has_run_out}
 use Rattle.authority.specs.Entries.{Fact, Sight}
-use Rattle.authority.specs.Track.{timed_sections, end_entry, told_end}
+use Rattle.authority.specs.Track.{timed_sections, end_entry, reported_end}
 use Rattle.authority.specs.Authority.{was_stopped, end_timer_has_run_out, taken_back, speed_at_end, danger_point_of, overlap_in_force, bare_end, supervised, end_with, end_by, end_now}
 use Rattle.authority.specs.Known.{end_timer_of, overlap_of, stored_of}
-use Rattle.authority.specs.Steps.{is_over_in, taken_back_in, overlap_in, told_in, end_by_stored, end_in}
+use Rattle.authority.specs.Steps.{is_over_in, taken_back_in, overlap_in, reported_in, end_by_stored, end_in}
 
 find_left : {X : Type 0} (p q : X → Bool) (xs : List X) → find p (filter (λ x. not (q x)) xs) ≡ find (λ x. p x && not (q x)) xs
 find_left p q [] = refl
@@ -34,7 +34,7 @@ timer_is end scale now seen (Some timer) = refl
 taken_is : (fact : Fact) (now : ℕ) (seen : List Sight) → taken_back_in now (stored_of fact seen) ≡ taken_back fact now seen
 taken_is fact now seen =
     let first = find_left (λ (section : TimedSection). has_run_out section.time fact.moment now) (was_stopped fact.moment seen) (timed_sections fact) in
-    let timer = timer_is (told_end fact) fact.packet.scale now seen fact.packet.end_timer in
+    let timer = timer_is (reported_end fact) fact.packet.scale now seen fact.packet.end_timer in
     (λ i. option_or (option_map (λ (section : TimedSection). section.entry) (first i)) (if timer i then Some (end_entry fact) else None))
 
 overlap_is : (end : ℤ) (scale : Scale) (now : ℕ) (seen : List Sight) (overlap : Option Overlap) →
@@ -42,15 +42,15 @@ overlap_is : (end : ℤ) (scale : Scale) (now : ℕ) (seen : List Sight) (overla
 overlap_is end scale now seen None = refl
 overlap_is end scale now seen (Some overlap) = refl
 
-told_is : (fact : Fact) (now : ℕ) (seen : List Sight) →
-    told_in now (stored_of fact seen) ≡ end_with (told_end fact) (speed_at_end fact now) (supervised fact now seen)
-told_is fact now seen =
-    let overlap = overlap_is (told_end fact) fact.packet.scale now seen fact.packet.overlap in
-    (λ i. end_with (told_end fact) (speed_at_end fact now)
-    (unwrap_or (option_or (overlap i) (option_map (danger_point_of (told_end fact) fact.packet.scale) fact.packet.danger_point)) (bare_end (told_end fact))))
+reported_is : (fact : Fact) (now : ℕ) (seen : List Sight) →
+    reported_in now (stored_of fact seen) ≡ end_with (reported_end fact) (speed_at_end fact now) (supervised fact now seen)
+reported_is fact now seen =
+    let overlap = overlap_is (reported_end fact) fact.packet.scale now seen fact.packet.overlap in
+    (λ i. end_with (reported_end fact) (speed_at_end fact now)
+    (unwrap_or (option_or (overlap i) (option_map (danger_point_of (reported_end fact) fact.packet.scale) fact.packet.danger_point)) (bare_end (reported_end fact))))
 
 by_is : (fact : Fact) (now : ℕ) (seen : List Sight) (place : Option ℤ) → end_by_stored now (stored_of fact seen) place ≡ end_by fact now seen place
-by_is fact now seen None = told_is fact now seen
+by_is fact now seen None = reported_is fact now seen
 by_is fact now seen (Some place) = refl
 
 end_is : (fact : Fact) (now : ℕ) (seen : List Sight) → end_in now (stored_of fact seen) ≡ end_now fact now seen

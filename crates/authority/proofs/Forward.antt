@@ -12,7 +12,7 @@ use Rattle.authority.specs.declared.timers.TimedSection.{TimedSection}
 use Rattle.authority.specs.Timers.{has_run_out, started_has_run_out}
 use Rattle.authority.specs.Entries.{AuthorityEntry, Fact, Sight, now_of, accepted, sights, IsInOrder}
 use Rattle.authority.specs.Entries.AuthorityEntry.{Ticked, Accepted, Passed, Cleared}
-use Rattle.authority.specs.Track.{told_end}
+use Rattle.authority.specs.Track.{reported_end}
 use Rattle.authority.specs.Authority.{reaches, was_stopped, section_has_run_out, started_before, end_timer_has_run_out, end_now, end_of}
 use Rattle.authority.specs.Laws.{KeepsAuthority}
 use Rattle.authority.proofs.Places.{now_sooner}
@@ -77,7 +77,7 @@ no_farther fact (Ticked moment ∷ later) entries k o =
     let rest = no_farther fact later entries k o.1 in
     let step = now_sooner fact (now_of before) moment (sights before) (sights before)
     (λ s h. section_later fact.moment (now_of before) moment (sights before) s o.0 h)
-    (λ h. timer_later (told_end fact) fact.packet.scale (now_of before) moment (sights before) fact.packet.end_timer o.0 h) in
+    (λ h. timer_later (reported_end fact) fact.packet.scale (now_of before) moment (sights before) fact.packet.end_timer o.0 h) in
     omega (arith, ints, rest, step)
 no_farther fact (Accepted f ∷ later) entries k o = absurd k
 no_farther fact (Passed train ∷ later) entries k o =
@@ -86,7 +86,7 @@ no_farther fact (Passed train ∷ later) entries k o =
     let rest = no_farther fact later entries k o.1 in
     let step = now_sooner fact (now_of before) (now_of before) (sights before) (sight ∷ sights before)
     (λ s h. section_seen fact.moment sight (sights before) s h)
-    (λ h. timer_seen (told_end fact) fact.packet.scale (now_of before) sight (sights before) fact.packet.end_timer h) in
+    (λ h. timer_seen (reported_end fact) fact.packet.scale (now_of before) sight (sights before) fact.packet.end_timer h) in
     omega (arith, ints, rest, step)
 no_farther fact (Cleared ∷ later) entries k o = absurd k
 

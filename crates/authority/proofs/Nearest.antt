@@ -5,7 +5,7 @@ use Rattle.std.proofs.lemmas.Int.{ints}
 use Rattle.authority.specs.declared.answers.End.{End}
 use Rattle.authority.specs.declared.timers.TimedSection.{TimedSection}
 use Rattle.authority.specs.Entries.{AuthorityEntry, Fact, Sight, now_of, accepted, sights}
-use Rattle.authority.specs.Track.{timed_sections, end_entry, told_end}
+use Rattle.authority.specs.Track.{timed_sections, end_entry, reported_end}
 use Rattle.authority.specs.Authority.{section_has_run_out, end_timer_has_run_out, taken_back, end_now, end_of}
 use Rattle.authority.specs.Laws.{MayBeEnd}
 use Rattle.authority.proofs.Along.{first_or, sections_along, first_most, first_least, first_is}
@@ -17,7 +17,7 @@ module _ (fact : Fact) (now : ℕ) (seen : List Sight) where
   test = section_has_run_out fact.moment now seen
 
   abbrev late : Bool
-  late = end_timer_has_run_out (told_end fact) fact.packet.scale now seen fact.packet.end_timer
+  late = end_timer_has_run_out (reported_end fact) fact.packet.scale now seen fact.packet.end_timer
 
   end_is : (end_now fact now seen).place ≡ first_or test (timed_sections fact) (last_place fact late)
   end_is = by_place fact now seen (taken_back fact now seen) ∙ place_is fact test late
@@ -35,7 +35,7 @@ module _ (fact : Fact) (now : ℕ) (seen : List Sight) where
   at_most_last : first_or test (timed_sections fact) (last_place fact late) ≤ℤ last_place fact late
   at_most_last = first_most test fact.place (last_place fact late) (timed_sections fact) (sections_along fact (last_place fact late) (last_behind fact late))
 
-  last_most : (b : Bool) → last_place fact b ≤ℤ told_end fact
+  last_most : (b : Bool) → last_place fact b ≤ℤ reported_end fact
   last_most true = omega (arith, ints)
   last_most false = omega (arith, ints)
 

@@ -4,7 +4,7 @@ use Rattle.std.specs.Prelude.{not, filter, ◌||◌, Option, Some, None, option_
 use Rattle.authority.specs.declared.timers.TimedSection.{TimedSection}
 use Rattle.authority.specs.declared.stored.Stored.{Stored}
 use Rattle.authority.specs.Entries.{Fact, Sight}
-use Rattle.authority.specs.Track.{timed_sections, told_end}
+use Rattle.authority.specs.Track.{timed_sections, reported_end}
 use Rattle.authority.specs.Authority.{was_stopped}
 use Rattle.authority.specs.Known.{end_timer_of, overlap_of, stored_of}
 use Rattle.authority.specs.Steps.{stops_at, passed_timer, passed_overlap, passed_stored}
@@ -41,9 +41,9 @@ stored_more : (fact : Fact) (sight : Sight) (seen : List Sight) →
     stored_of fact (sight ∷ seen) ≡ passed_stored sight.moment sight.train (stored_of fact seen)
 stored_more fact sight seen =
     let sections = unstopped_more fact.moment sight seen (timed_sections fact) in
-    let timer = map_more (end_timer_of (told_end fact) fact.packet.scale (sight ∷ seen)) (end_timer_of (told_end fact) fact.packet.scale seen)
+    let timer = map_more (end_timer_of (reported_end fact) fact.packet.scale (sight ∷ seen)) (end_timer_of (reported_end fact) fact.packet.scale seen)
     (passed_timer sight.moment sight.train.max_front) (λ x. refl) fact.packet.end_timer in
-    let overlap = map_more (overlap_of (told_end fact) fact.packet.scale (sight ∷ seen)) (overlap_of (told_end fact) fact.packet.scale seen)
+    let overlap = map_more (overlap_of (reported_end fact) fact.packet.scale (sight ∷ seen)) (overlap_of (reported_end fact) fact.packet.scale seen)
     (passed_overlap sight.moment sight.train.max_front) (λ x. refl) fact.packet.overlap in
     (λ i. record (stored_of fact seen) { timed = record { items = sections i }; end_timer = timer i; overlap = overlap i })
 

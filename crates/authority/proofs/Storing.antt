@@ -7,7 +7,7 @@ use Rattle.authority.specs.declared.stored.Stored.{Stored}
 use Rattle.authority.specs.declared.stored.Point.{Point}
 use Rattle.authority.specs.declared.stored.TimedOverlap.{TimedOverlap}
 use Rattle.authority.specs.Entries.{Fact}
-use Rattle.authority.specs.Track.{in_cm, timed_from, timed_one, timed_sections, end_entry, told_end}
+use Rattle.authority.specs.Track.{in_cm, timed_from, timed_one, timed_sections, end_entry, reported_end}
 use Rattle.authority.specs.Authority.{was_stopped, speed_of, danger_point_of}
 use Rattle.authority.specs.Known.{end_timer_of, overlap_of, stored_of}
 
@@ -36,17 +36,17 @@ pub made_is : (fact : Fact) (before after : List TimedSection) (entry end : ℤ)
       overlap = overlap;
     }) (stored_of fact [])
 made_is fact before after entry end main speed timer point overlap b e a n m v t d o =
-    let told : end ≡ told_end fact = n ∙ ap (λ (z : ℤ). z +ℤ in_cm fact.packet.scale fact.packet.end_section.length) e in
+    let reported : end ≡ reported_end fact = n ∙ ap (λ (z : ℤ). z +ℤ in_cm fact.packet.scale fact.packet.end_section.length) e in
     let all : after ≡ timed_sections fact = a ∙ (λ i. b i ++ timed_one fact.packet.scale (e i) fact.packet.end_section) in
     let items = all ∙ sym (none_stopped fact.moment (timed_sections fact)) in
-    let timers = t ∙ ap (λ (z : ℤ). option_map (end_timer_of z fact.packet.scale []) fact.packet.end_timer) told in
-    let points = d ∙ ap (λ (z : ℤ). option_map (danger_point_of z fact.packet.scale) fact.packet.danger_point) told in
-    let overlaps = o ∙ ap (λ (z : ℤ). option_map (overlap_of z fact.packet.scale []) fact.packet.overlap) told in
+    let timers = t ∙ ap (λ (z : ℤ). option_map (end_timer_of z fact.packet.scale []) fact.packet.end_timer) reported in
+    let points = d ∙ ap (λ (z : ℤ). option_map (danger_point_of z fact.packet.scale) fact.packet.danger_point) reported in
+    let overlaps = o ∙ ap (λ (z : ℤ). option_map (overlap_of z fact.packet.scale []) fact.packet.overlap) reported in
     (λ i. record {
       accepted = fact.moment;
       timed = record { items = items i };
       end_entry = e i;
-      end = told i;
+      end = reported i;
       main_speed = m i;
       end_speed = v i;
       end_time = fact.packet.end_time;

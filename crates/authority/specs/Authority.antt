@@ -6,7 +6,7 @@ use Rattle.std.specs.Option.{option_or}
 use Rattle.std.specs.List.{list_any}
 use Rattle.vars.specs.declared.scale.Scale.{Scale}
 use Rattle.vars.specs.declared.special_speed.ReleaseSpeed.{ReleaseSpeed}
-use Rattle.vars.specs.declared.special_speed.ReleaseSpeed.TheVariants as told
+use Rattle.vars.specs.declared.special_speed.ReleaseSpeed.TheVariants as reported
 use Rattle.packets.specs.declared.authority.EndTimer.{EndTimer}
 use Rattle.packets.specs.declared.authority.DangerPoint.{DangerPoint}
 use Rattle.packets.specs.declared.authority.Overlap.{Overlap}
@@ -17,7 +17,7 @@ use Rattle.authority.specs.declared.timers.TimedSection.{TimedSection}
 use Rattle.authority.specs.declared.stored.Point.{Point}
 use Rattle.authority.specs.Entries.{AuthorityEntry, Fact, Sight, now_of, accepted, sights}
 use Rattle.authority.specs.Timers.{has_run_out, started_has_run_out}
-use Rattle.authority.specs.Track.{in_cm, end_entry, told_end, timed_sections}
+use Rattle.authority.specs.Track.{in_cm, end_entry, reported_end, timed_sections}
 
 -- ---- sections
 
@@ -63,7 +63,7 @@ overlap_has_run_out end scale now seen overlap =
 abbrev pub taken_back : Fact → ℕ → List Sight → Option ℤ
 taken_back fact now seen =
     option_or (option_map (λ section. section.entry) (find (section_has_run_out fact.moment now seen) (timed_sections fact)))
-    (if end_timer_has_run_out (told_end fact) fact.packet.scale now seen fact.packet.end_timer then Some (end_entry fact) else None)
+    (if end_timer_has_run_out (reported_end fact) fact.packet.scale now seen fact.packet.end_timer then Some (end_entry fact) else None)
 
 -- speeds, which are in steps of 5 km/h
 abbrev pub speed_of : ℕ → ℕ
@@ -74,9 +74,9 @@ no_release = Speed 0
 
 -- a release speed that is reckoned on board is 0
 abbrev pub release_of : ReleaseSpeed → Release
-release_of (told.Speed steps) = Speed (speed_of steps)
-release_of told.Onboard = no_release
-release_of told.National = National
+release_of (reported.Speed steps) = Speed (speed_of steps)
+release_of reported.Onboard = no_release
+release_of reported.National = National
 
 -- the speed at the end, until its time is over
 abbrev pub speed_at_end : Fact → ℕ → ℕ
@@ -94,16 +94,16 @@ overlap_in_force end scale now seen None = None
 overlap_in_force end scale now seen (Some overlap) =
     if overlap_has_run_out end scale now seen overlap then None else Some (overlap_point_of end scale overlap)
 
--- the end itself, where nothing behind it is supervised
+-- the end itself, where nothing after it is supervised
 abbrev pub bare_end : ℤ → Point
 bare_end end = record { location = end; release = no_release }
 
--- what is supervised behind the end: the overlap, else the danger point, else the end
+-- what is supervised beyond the end: the overlap, else the danger point, else the end
 abbrev pub supervised : Fact → ℕ → List Sight → Point
 supervised fact now seen =
-    unwrap_or (option_or (overlap_in_force (told_end fact) fact.packet.scale now seen fact.packet.overlap)
-    (option_map (danger_point_of (told_end fact) fact.packet.scale) fact.packet.danger_point))
-    (bare_end (told_end fact))
+    unwrap_or (option_or (overlap_in_force (reported_end fact) fact.packet.scale now seen fact.packet.overlap)
+    (option_map (danger_point_of (reported_end fact) fact.packet.scale) fact.packet.danger_point))
+    (bare_end (reported_end fact))
 
 -- the end of the last section; while a speed is allowed there, there is no release speed
 abbrev pub end_with : ℤ → ℕ → Point → End
@@ -112,7 +112,7 @@ end_with end speed point =
 
 -- the end now: that of the last section, or taken back
 abbrev pub end_by : Fact → ℕ → List Sight → Option ℤ → End
-end_by fact now seen None = end_with (told_end fact) (speed_at_end fact now) (supervised fact now seen)
+end_by fact now seen None = end_with (reported_end fact) (speed_at_end fact now) (supervised fact now seen)
 end_by fact now seen (Some place) = end_with place 0 (bare_end place)
 
 abbrev pub end_now : Fact → ℕ → List Sight → End

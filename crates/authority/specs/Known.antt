@@ -8,7 +8,7 @@ use Rattle.authority.specs.declared.timers.PlaceTimer.{PlaceTimer}
 use Rattle.authority.specs.declared.stored.TimedOverlap.{TimedOverlap}
 use Rattle.authority.specs.declared.stored.Stored.{Stored}
 use Rattle.authority.specs.Entries.{AuthorityEntry, Fact, Sight, now_of, accepted, sights}
-use Rattle.authority.specs.Track.{in_cm, end_entry, told_end, timed_sections}
+use Rattle.authority.specs.Track.{in_cm, end_entry, reported_end, timed_sections}
 use Rattle.authority.specs.Authority.{was_stopped, started_before, speed_of, danger_point_of, overlap_point_of}
 
 -- a timer that starts so far before the end, and when it started
@@ -29,13 +29,13 @@ stored_of fact seen = record {
   accepted = fact.moment;
   timed = record { items = filter (λ section. not (was_stopped fact.moment seen section)) (timed_sections fact) };
   end_entry = end_entry fact;
-  end = told_end fact;
+  end = reported_end fact;
   main_speed = speed_of fact.packet.speed;
   end_speed = speed_of fact.packet.end_speed;
   end_time = fact.packet.end_time;
-  end_timer = option_map (end_timer_of (told_end fact) fact.packet.scale seen) fact.packet.end_timer;
-  danger_point = option_map (danger_point_of (told_end fact) fact.packet.scale) fact.packet.danger_point;
-  overlap = option_map (overlap_of (told_end fact) fact.packet.scale seen) fact.packet.overlap;
+  end_timer = option_map (end_timer_of (reported_end fact) fact.packet.scale seen) fact.packet.end_timer;
+  danger_point = option_map (danger_point_of (reported_end fact) fact.packet.scale) fact.packet.danger_point;
+  overlap = option_map (overlap_of (reported_end fact) fact.packet.scale seen) fact.packet.overlap;
 }
 
 -- the moment now, and what is stored of the authority

@@ -6,7 +6,7 @@ use Rattle.authority.specs.declared.timers.TimedSection.{TimedSection}
 use Rattle.authority.specs.Entries.{AuthorityEntry, Fact, Sight, now_of, accepted, sights, IsInOrder}
 use Rattle.authority.specs.Entries.AuthorityEntry.{Ticked, Accepted, Passed, Cleared}
 use Rattle.authority.specs.Timers.{never}
-use Rattle.authority.specs.Track.{timed_sections, end_entry, told_end}
+use Rattle.authority.specs.Track.{timed_sections, end_entry, reported_end}
 use Rattle.authority.specs.Authority.{section_has_run_out, first_reached, end_timer_has_run_out, end_of, main_speed_of}
 
 abbrev pub IsAmong : {A : Type 0} → A → List A → Type 0
@@ -47,8 +47,8 @@ TimersStart = (place : ℤ) (seen : List Sight) (moment : ℕ) → (first_reache
 -- at the entry of a section that has run out
 abbrev pub MayBeEnd : Fact → ℕ → List Sight → ℤ → Type 0
 MayBeEnd fact now seen place =
-    (place ≡ told_end fact)
-    ⊎ (IsTrue (end_timer_has_run_out (told_end fact) fact.packet.scale now seen fact.packet.end_timer) × (place ≡ end_entry fact))
+    (place ≡ reported_end fact)
+    ⊎ (IsTrue (end_timer_has_run_out (reported_end fact) fact.packet.scale now seen fact.packet.end_timer) × (place ≡ end_entry fact))
     ⊎ ((section : TimedSection) × IsAmong section (timed_sections fact) × HasRunOut fact.moment now seen section × (place ≡ section.entry))
 
 -- it is at the nearest of these places, whatever the order in which the times were over

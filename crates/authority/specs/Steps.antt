@@ -57,11 +57,11 @@ overlap_in now (Some overlap) =
 abbrev pub point_in : ℕ → Stored → Point
 point_in now stored = unwrap_or (option_or (overlap_in now stored.overlap) stored.danger_point) (bare_end stored.end)
 
-abbrev pub told_in : ℕ → Stored → End
-told_in now stored = end_with stored.end (speed_in now stored) (point_in now stored)
+abbrev pub reported_in : ℕ → Stored → End
+reported_in now stored = end_with stored.end (speed_in now stored) (point_in now stored)
 
 abbrev pub end_by_stored : ℕ → Stored → Option ℤ → End
-end_by_stored now stored None = told_in now stored
+end_by_stored now stored None = reported_in now stored
 end_by_stored now stored (Some place) = end_with place 0 (bare_end place)
 
 abbrev pub end_in : ℕ → Stored → End

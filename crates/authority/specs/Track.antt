@@ -34,8 +34,8 @@ end_from scale at (section ∷ rest) = end_from scale (at +ℤ in_cm scale secti
 abbrev pub end_entry : Fact → ℤ
 end_entry fact = end_from fact.packet.scale fact.place fact.packet.sections.items
 
-abbrev pub told_end : Fact → ℤ
-told_end fact = end_entry fact +ℤ in_cm fact.packet.scale fact.packet.end_section.length
+abbrev pub reported_end : Fact → ℤ
+reported_end fact = end_entry fact +ℤ in_cm fact.packet.scale fact.packet.end_section.length
 
 -- the sections with timers along the track, the end section being the last
 abbrev pub timed_sections : Fact → List TimedSection

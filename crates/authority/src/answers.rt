@@ -24,10 +24,10 @@ impl Release {
     }
 
     /// The release speed of V_RELEASEDP or V_RELEASEOL. One that is reckoned on board is 0.
-    pub(crate) fn of(told: ReleaseSpeed) -> Release
-        ensures { result ≡ release_of told }
+    pub(crate) fn of(reported: ReleaseSpeed) -> Release
+        ensures { result ≡ release_of reported }
     {
-        match told {
+        match reported {
             ReleaseSpeed::Speed(step) => Release::Speed(step.speed()),
             ReleaseSpeed::Onboard => Release::none(),
             ReleaseSpeed::National => Release::National,

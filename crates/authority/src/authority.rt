@@ -1,4 +1,4 @@
-//! The movement authority in a life: it is accepted, its timers run, and it tells its end.
+//! The movement authority in a life: it is accepted, its timers run, and it says its end.
 ghost use Rattle.std.specs.Prelude.{◌≡◌, List, [], ◌∷◌, is_some};
 ghost use Rattle.authority.specs.Entries.{AuthorityEntry, fact_of, accepted};
 ghost use Rattle.authority.specs.Entries.AuthorityEntry.{Ticked, Accepted, Passed, Cleared};

@@ -1,6 +1,6 @@
 //! The stored authority: what the front does to its timers, and its end at a moment.
 ghost use Rattle.std.specs.Prelude.{◌≡◌, filter, not, if◌then◌else◌, option_map};
-ghost use Rattle.authority.specs.Steps.{stops_at, passed_timer, passed_overlap, passed_stored, first_over, is_over_in, taken_back_in, point_in, told_in, end_in, speed_in};
+ghost use Rattle.authority.specs.Steps.{stops_at, passed_timer, passed_overlap, passed_stored, first_over, is_over_in, taken_back_in, point_in, reported_in, end_in, speed_in};
 
 use crate::answers::{End, Release};
 use crate::timers::{PlaceTimer, TimedSection, is_over};
@@ -11,7 +11,7 @@ use vars::Timer;
 /// How many sections an authority has at most: the 31 that a packet 12 lists, and the end section.
 pub const MOST_SECTIONS: usize = 32;
 
-/// A place behind the end that is supervised, the danger point or the end of the overlap, and its release speed
+/// A place beyond the end that is supervised, the danger point or the end of the overlap, and its release speed
 /// (SUBSET-026, 3.8.4).
 #[derive(Clone, Copy)]
 pub struct Point {
@@ -117,7 +117,7 @@ impl Stored {
         ensures { result ≡ end_in now self.now }
     {
         match self.taken_back(now) {
-            None => self.end_as_told(now),
+            None => self.end_as_reported(now),
             Some(place) => End {
                 place,
                 speed: Mph::new(0).unwrap(),
@@ -143,9 +143,9 @@ impl Stored {
         }
     }
 
-    // The end of the last section, with what is behind it.
-    fn end_as_told(&self, now: Ms) -> End
-        ensures { result ≡ told_in now self.now }
+    // The end of the last section, with what is after it.
+    fn end_as_reported(&self, now: Ms) -> End
+        ensures { result ≡ reported_in now self.now }
     {
         let speed = self.speed_at_end(now);
         let point = self.supervised(now);

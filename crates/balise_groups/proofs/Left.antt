@@ -1,4 +1,4 @@
--- The group being read is never left where all movements are told.
+-- The group being read is never left where all movements are reported.
 use Rattle.std.proofs.Common.{◌≡◌, ℕ, ◌+◌, List, [], ◌∷◌, Bool, true, false, cond, refl, arith}
 use Rattle.std.specs.Prelude.{nat_le, not}
 use Rattle.std.proofs.lemmas.Bool.Decides.{nat_tests}
@@ -6,7 +6,7 @@ use Rattle.balise_groups.specs.declared.reading.Reading.{Reading}
 use Rattle.balise_groups.specs.Closing.{is_whole}
 use Rattle.balise_groups.specs.Groups.{GroupEntry, counting, newest, is_behind, goes_on, groups_of, ended, joined_by}
 use Rattle.balise_groups.specs.Groups.GroupEntry.{Read, Went}
-use Rattle.balise_groups.specs.Laws.{path_of, TellPaths}
+use Rattle.balise_groups.specs.Laws.{path_of, DescribePaths}
 
 here : (path : ℕ) (r : Reading) → r.sums.path ≡ path → not (nat_le path (r.sums.path + 1300)) ≡ false
 here path r e = grind (arith, nat_tests)
@@ -16,7 +16,7 @@ if_whole : (path : ℕ) (r : Reading) (rs last : List Reading) (b : Bool) → r.
 if_whole path r rs last true e = refl
 if_whole path r rs last false e = here path r e
 
-pub never_left : (es : List GroupEntry) → TellPaths es → is_behind (path_of es) (newest (groups_of es).current) ≡ false
+pub never_left : (es : List GroupEntry) → DescribePaths es → is_behind (path_of es) (newest (groups_of es).current) ≡ false
 never_left [] t = refl
 never_left (Went path ∷ es) t =
     let gs = groups_of es in

@@ -6,4 +6,4 @@ pub mod Places
 pub mod Relation
 pub mod Standing
 pub mod Rooms
-pub mod Telling
+pub mod Description

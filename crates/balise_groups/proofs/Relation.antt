@@ -136,10 +136,10 @@ not_all first rs h all =
     let less = w.1 in
     let r = all.each w.0 (omega (arith, less)) in
     let unread = none_passes (is_at w.0) rs (or_left (is_read rs w.0) (list_any (covers w.0) rs) w.2) r.0 r.1 in
-    let untold = none_passes (covers w.0) rs (or_right (is_read rs w.0) (list_any (covers w.0) rs) w.2) r.0 r.1 in
+    let unreported = none_passes (covers w.0) rs (or_right (is_read rs w.0) (list_any (covers w.0) rs) w.2) r.0 r.1 in
     elim (covers_of w.0 r.0 r.2) [
-      | inl told ↦ (let clash : true ≡ false = sym told ∙ unread in cc)
-      | inr told ↦ (let clash : true ≡ false = sym told ∙ untold in cc)
+      | inl reported ↦ (let clash : true ≡ false = sym reported ∙ unread in cc)
+      | inr reported ↦ (let clash : true ≡ false = sym reported ∙ unreported in cc)
     ]
 
 pub closes_so : (first : Reading) (rs : List Reading) → Closes first rs (closed_as first rs (cause_of first rs))

@@ -8,7 +8,7 @@ use Rattle.telegram.specs.declared.message.Telegram.{Telegram}
 use Rattle.balise_groups.specs.declared.message.Cause.{Cause}
 use Rattle.balise_groups.specs.declared.message.Closed.{Closed}
 use Rattle.balise_groups.specs.declared.reading.Reading.{Reading}
-use Rattle.balise_groups.specs.Telling.{infill, before_infill, told_by}
+use Rattle.balise_groups.specs.Description.{infill, before_infill, reported_by}
 use Rattle.balise_groups.specs.Closing.{is_at, is_read, is_whole, telegrams_at, telegrams_below, cause_of, closed_as, close_of}
 use Rattle.balise_groups.specs.Groups.{with_reading, close_if_whole}
 use Rattle.balise_groups.specs.Rooms.{packets_at, packets_in, packets_of_closed}
@@ -25,12 +25,12 @@ abbrev all_of : List Telegram → ℕ
 all_of [] = 0
 all_of (t ∷ ts) = length t.packets.items + all_of ts
 
-told_shorter : (ts : List Telegram) → length (told_by ts) ≤ all_of ts
-told_shorter [] = omega arith
-told_shorter (t ∷ ts) =
+reported_shorter : (ts : List Telegram) → length (reported_by ts) ≤ all_of ts
+reported_shorter [] = omega arith
+reported_shorter (t ∷ ts) =
     let here = shorter t.packets.items in
-    let behind = told_shorter ts in
-    let both = length-append (before_infill t.packets.items) (told_by ts) in
+    let behind = reported_shorter ts in
+    let both = length-append (before_infill t.packets.items) (reported_by ts) in
     omega arith
 
 all_append : (ts us : List Telegram) → all_of (ts ++ us) ≡ all_of ts + all_of us
@@ -96,7 +96,7 @@ all_places place (r ∷ rs) =
 as_closed : (first : Reading) (rs : List Reading) (cause : Option Cause) → packets_of_closed (Some (closed_as first rs cause)) ≤ packets_in rs
 as_closed first rs (Some cause) = omega arith
 as_closed first rs None =
-    let told = told_shorter (telegrams_below (first.telegram.header.last_position + 1) rs) in
+    let reported = reported_shorter (telegrams_below (first.telegram.header.last_position + 1) rs) in
     let all = all_places (first.telegram.header.last_position + 1) rs in
     omega arith
 

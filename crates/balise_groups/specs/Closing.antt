@@ -8,7 +8,7 @@ use Rattle.vars.specs.declared.group.Duplicate.TheVariants.{NoDuplicate, OfNext,
 use Rattle.vars.specs.declared.linking.LinkOrientation.{LinkOrientation}
 use Rattle.vars.specs.declared.linking.LinkOrientation.TheVariants.{Reverse, Nominal}
 use Rattle.telegram.specs.declared.message.Telegram.{Telegram}
-use Rattle.balise_groups.specs.Telling.{told_by}
+use Rattle.balise_groups.specs.Description.{reported_by}
 use Rattle.balise_groups.specs.declared.reading.Reading.{Reading}
 use Rattle.balise_groups.specs.declared.message.Message.{Message}
 use Rattle.balise_groups.specs.declared.message.Broken.{Broken}
@@ -126,7 +126,7 @@ message_of first readings =
       direction = direction_of readings;
       sums = (reading_at 0 first readings).sums;
       missed = not (is_read readings 0);
-      packets = told_by (telegrams_below (first.telegram.header.last_position + 1) readings);
+      packets = reported_by (telegrams_below (first.telegram.header.last_position + 1) readings);
     }
 
 abbrev pub broken_by : Reading → Cause → Broken

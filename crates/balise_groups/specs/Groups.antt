@@ -35,14 +35,14 @@ abbrev pub newest : List Reading → Option Seen
 newest [] = None
 newest (reading ∷ group) = Some (seen_at reading)
 
--- how far behind its newest telegram a group is still the same one, in centimetres of path
+-- how far beyond its newest telegram a group is still the same one, in centimetres of path
 abbrev pub group_path : ℕ
 group_path = 1300
 
 abbrev pub is_close : ℕ → Seen → Bool
 is_close path seen = nat_le path (seen.path + group_path)
 
--- A group is left where the path is farther behind its newest telegram.
+-- A group is left where the path is farther after its newest telegram.
 abbrev pub is_behind : ℕ → Option Seen → Bool
 is_behind path None = false
 is_behind path (Some seen) = not (is_close path seen)

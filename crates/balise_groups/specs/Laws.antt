@@ -27,15 +27,15 @@ path_of (Read reading ∷ entries) = path_of entries
 path_of (Went path ∷ entries) = path
 
 -- each reading has the path of the life at it
-abbrev pub TellPaths : List GroupEntry → Type 0
-TellPaths [] = Unit {0}
-TellPaths (Read reading ∷ entries) = (reading.sums.path ≡ path_of entries) × TellPaths entries
-TellPaths (Went path ∷ entries) = TellPaths entries
+abbrev pub DescribePaths : List GroupEntry → Type 0
+DescribePaths [] = Unit {0}
+DescribePaths (Read reading ∷ entries) = (reading.sums.path ≡ path_of entries) × DescribePaths entries
+DescribePaths (Went path ∷ entries) = DescribePaths entries
 
 -- Where all movements are handed in, the group being read is never left: a telegram goes on with it where it has its
 -- name.
 abbrev pub IsNeverLeft : Type 0
-IsNeverLeft = (entries : List GroupEntry) → TellPaths entries →
+IsNeverLeft = (entries : List GroupEntry) → DescribePaths entries →
     is_behind (path_of entries) (newest (groups_of entries).current) ≡ false
 
 abbrev pub HaveName : GroupIdentity → List Reading → Type 0

@@ -4,5 +4,5 @@ pub mod Groups
 pub mod Laws
 pub mod Places
 pub mod Relation
-pub mod Telling
+pub mod Description
 pub mod Rooms

@@ -12,7 +12,7 @@ use std::marker::Model;
 use units::Length;
 use vars::GroupIdentity;
 
-/// How far behind its last telegram a group is still the same one, in centimetres of path.
+/// How far beyond its last telegram a group is still the same one, in centimetres of path.
 const GROUP_PATH: u64 = 1_300;
 
 /// A group, and the path of the life at a telegram of it (SUBSET-026, 3.4.1).
@@ -62,7 +62,7 @@ fn seen_at(reading: &Reading) -> Seen
     }
 }
 
-// Whether a path of the life is still close behind a telegram.
+// Whether a path of the life is still close after a telegram.
 fn is_close(path: Length, seen: &Seen) -> bool
     ensures { result ≡ is_close path seen.now }
 {
@@ -143,7 +143,7 @@ impl Assembler {
         self.join(reading, whole);
     }
 
-    /// Whether the group being read is left at a path of the life, in centimetres: beyond 1,300 cm behind its last
+    /// Whether the group being read is left at a path of the life, in centimetres: beyond 1,300 cm beyond its last
     /// telegram. While it isn't, `moved` answers None and changes nothing; its answer has room for a whole message, so
     /// who asks at each movement asks this first.
     pub fn is_leaving(&self, path: Length) -> bool

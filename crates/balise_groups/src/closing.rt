@@ -1,7 +1,7 @@
 //! The readings of a group become its message, or the cause why it has none.
 ghost use Rattle.std.specs.Prelude.{◌≡◌, ℕ, ◌+◌, ◌<◌, ◌≤◌, List, [], ◌∷◌, ◌++◌, length, map};
 ghost use Rattle.std.specs.List.{list_any};
-ghost use Rattle.balise_groups.specs.Telling.{told_by};
+ghost use Rattle.balise_groups.specs.Description.{reported_by};
 ghost use Rattle.balise_groups.specs.Closing.{all_below, is_at, is_read, is_whole, is_of_next, is_of_previous, covers, is_covered, same_flag, differs, disagrees, is_refused, cause_of, direction_of, reading_at, telegrams_at, telegrams_below, message_of, close_of};
 
 use crate::group_packets::GroupPackets;
@@ -206,10 +206,10 @@ fn add_telegram(telegrams: &mut Gathered, readings: &[Reading], place: u64)
 }
 
 // The packets of the telegrams, in order of place.
-#[tactic(auto, using(crate::proofs::Telling::told_used))]
+#[tactic(auto, using(crate::proofs::Description::reported_used))]
 fn packets(readings: &[Reading], places: u64) -> GroupPackets
     requires { places ≤ 8 }
-    ensures { result ≡ told_by (telegrams_below places readings.now) }
+    ensures { result ≡ reported_by (telegrams_below places readings.now) }
 {
     let mut telegrams = Gathered::new();
     for place in 0..places {

@@ -3,7 +3,7 @@ ghost use Rattle.std.specs.Prelude.{◌≡◌, ◌++◌, ◌∷◌, List, [], le
 ghost use Rattle.std.specs.Bool.{OnTrue, OnFalse};
 ghost use Rattle.std.specs.Iterator.{YieldsFirstBy, item_count};
 ghost use Rattle.telegram.specs.Walks.{Walk, packets_of};
-ghost use Rattle.balise_groups.specs.Telling.{before_infill, used_of};
+ghost use Rattle.balise_groups.specs.Description.{before_infill, used_of};
 
 use packets::Packet;
 use std::marker::Model;
@@ -22,7 +22,7 @@ pub struct GroupPackets {
 impl Model for GroupPackets {
     ghost use Rattle.std.specs.Prelude.{List};
     ghost use Rattle.packets.specs.declared.packet.Packet.{Packet};
-    ghost use Rattle.balise_groups.specs.Telling.{used_of};
+    ghost use Rattle.balise_groups.specs.Description.{used_of};
 
     ghost Value = { List Packet };
 
@@ -54,7 +54,7 @@ impl<'a> Model for PacketsInTurn<'a> {
     ghost use Rattle.std.specs.Prelude.{List, ◌++◌};
     ghost use Rattle.packets.specs.declared.packet.Packet.{Packet};
     ghost use Rattle.telegram.specs.Walks.{packets_of};
-    ghost use Rattle.balise_groups.specs.Telling.{before_infill, used_of};
+    ghost use Rattle.balise_groups.specs.Description.{before_infill, used_of};
 
     ghost Value = { List Packet };
 

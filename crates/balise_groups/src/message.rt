@@ -37,7 +37,7 @@ pub enum Cause {
 }
 
 impl Cause {
-    /// The number by which a refusal is told.
+    /// The number by which a refusal is reported.
     pub fn number(self) -> u32
         ensures { result ≡ cause_number self }
     {

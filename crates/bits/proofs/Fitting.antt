@@ -6,7 +6,7 @@ use Rattle.std.proofs.lemmas.List.{append-nil, take-append-drop, drop_all}
 use Rattle.bits.specs.Bits.{number, number_bits}
 use Rattle.std.specs.List.{AllByRecursion as Each}
 use Rattle.bits.specs.Fitting.{HasNumber, Fits, Spellable}
-use Rattle.bits.specs.Layout.{Codes, Layout, done, unless, field, run, choice, kind, part, inner, measured, more, told_as, then_, Spells, InTurn}
+use Rattle.bits.specs.Layout.{Codes, Layout, done, unless, field, run, choice, kind, part, inner, measured, more, reported_as, then_, Spells, InTurn}
 use Rattle.bits.specs.Writing.{value, each_taken, size, appended}
 use Rattle.bits.proofs.Numbers.{length-number_bits, number-of_bits}
 use Rattle.bits.proofs.WritingLaws.{glue, length-appended}
@@ -77,11 +77,11 @@ spelling (inner m get) c x front h e =
 spelling (measured f before m) c x front h e =
     let y = mapped (λ p. p.1) (value m c) x e in
     let a = spelling m c y.0 front h.0 y.1 in
-    let told : y.0.0 ≡ before + size m c = subst (λ (o : Option _). IfSome o (λ p. p.0 ≡ before + size m c)) y.1 h.1 in
+    let reported : y.0.0 ≡ before + size m c = subst (λ (o : Option _). IfSome o (λ p. p.0 ≡ before + size m c)) y.1 h.1 in
     record {
       bits = a.bits;
       put = a.put;
-      spells = (y.0.0, subst (λ (z : _). Spells m (y.0.0, z) a.bits) (sym y.2) a.spells, omega (arith, told, ap length a.put, length-append front a.bits, length-appended m c front));
+      spells = (y.0.0, subst (λ (z : _). Spells m (y.0.0, z) a.bits) (sym y.2) a.spells, omega (arith, reported, ap length a.put, length-append front a.bits, length-appended m c front));
     }
 spelling (more n m before get) c x front h e =
     let a = each_spelling m n (drop (length before) (get c)) front (λ d left s. spelling m d d left s.0 s.1) h.1 h.2 in
@@ -94,7 +94,7 @@ spelling (more n m before get) c x front h e =
         a.2,
       );
     }
-spelling (told_as g m) c x front h e = let a = spelling m c x front h e in record { bits = a.bits; put = a.put; spells = a.spells }
+spelling (reported_as g m) c x front h e = let a = spelling m c x front h e in record { bits = a.bits; put = a.put; spells = a.spells }
 spelling (then_ m f) c x front h e =
     let y = chained (λ z. value (f z) c) (value m c) x e in
     let a = spelling m c y.0 front h.0 y.1 in

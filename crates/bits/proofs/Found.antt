@@ -7,7 +7,7 @@ use Rattle.std.specs.Option.{option_map_or}
 use Rattle.std.proofs.lemmas.List.{drop_at, take_at}
 use Rattle.bits.specs.Bits.{number, number_bits}
 use Rattle.bits.specs.Fitting.{HasNumber, Fits, Spellable}
-use Rattle.bits.specs.Layout.{Codes, Layout, done, unless, field, run, choice, kind, part, inner, measured, more, told_as, then_, Spells, InTurn}
+use Rattle.bits.specs.Layout.{Codes, Layout, done, unless, field, run, choice, kind, part, inner, measured, more, reported_as, then_, Spells, InTurn}
 use Rattle.bits.specs.Writing.{value, each_taken, size, appended}
 use Rattle.bits.proofs.WritingLaws.{glue, glue_end, field_bits, number_below, length-appended}
 
@@ -20,7 +20,7 @@ pub record Appends {F D : Type 0} (m : Layout F D D) : Type 0 where
   pub is : (x : D) (front bits : List Bool) → Spells m x bits → front ++ bits ≡ appended m x front
   pub fits : (x : D) (bits : List Bool) → Spells m x bits → Spellable m x
 
--- Each value that is read is found in the whole again, and what is nested is appended. k tells what the whole is.
+-- Each value that is read is found in the whole again, and what is nested is appended. k says what the whole is.
 abbrev pub Found : {F C A : Type 0} → Layout F C A → (A → (C → Type 0) → Type 0) → Type 0
 Found (done y) k = k y (λ c. Unit {0})
 Found (unless bad f) k = bad ≡ false → k tt (λ c. Unit {0})
@@ -33,7 +33,7 @@ Found (part {D = D} given m get) k = Appends m × ((x : Option D) → is_some x 
 Found (inner {D = D} m get) k = Appends m × ((x : D) → k x (λ c. get c ≡ x))
 Found (measured f before m) k = Found m (λ p Q. k p.1 Q)
 Found (more {D = D} n m before get) k = Appends m × ((new : List D) → length new ≡ n → Each (λ d. Fits m d × (value m d ≡ Some d)) new → k (before ++ new) (λ c. get c ≡ before ++ new))
-Found (told_as g m) k = Found m k
+Found (reported_as g m) k = Found m k
 Found (then_ m f) k = Found m (λ x P. Found (f x) (λ y Q. k y (λ c. P c × Q c)))
 
 -- what a layout gives for one value
@@ -144,8 +144,8 @@ spelled (measured f before m) k x bits h s =
       holds = a.holds;
       again = λ c w. ap (λ (o : Option _). option_map (λ p. p.1) o) (a.again c w);
       fits = λ c w.
-          let told : s.0 ≡ before + size m c = omega (arith, s.2, ap length (a.put c [] w), length-appended m c []) in
-          (a.fits c w, subst (λ (o : Option _). IfSome o (λ p. p.0 ≡ before + size m c)) (sym (a.again c w)) told);
+          let reported : s.0 ≡ before + size m c = omega (arith, s.2, ap length (a.put c [] w), length-appended m c []) in
+          (a.fits c w, subst (λ (o : Option _). IfSome o (λ p. p.0 ≡ before + size m c)) (sym (a.again c w)) reported);
       put = a.put;
     }
 spelled (more {D = D} n m before get) k x bits h s =
@@ -162,7 +162,7 @@ spelled (more {D = D} n m before get) k x bits h s =
       );
       put = λ c front w. (each_bits m n s.0 front bits h.0 s.2).put ∙ ap (λ (t : List _). each_taken (λ x left. appended m x left) t front) (sym (cut c w));
     }
-spelled (told_as g m) k x bits h s =
+spelled (reported_as g m) k x bits h s =
     let a = spelled m k x bits h s in record { Where = a.Where; holds = a.holds; again = a.again; fits = a.fits; put = a.put }
 spelled (then_ m f) k y bits h s =
     let one = spelled m (λ x P. Found (f x) (λ z Q. k z (λ c. P c × Q c))) s.0 s.1 h s.4 in

@@ -4,7 +4,7 @@ use Rattle.std.proofs.Common.{ℕ, zero, suc, ◌∷◌, ◌+◌, ◌-◌, nat_e
 use Rattle.std.proofs.lemmas.Bool.{ltb-false, ltb-true, le-ltb, lt-ltb, eqb-true, eqb-false, eq-eqb, ne_eqb}
 use Rattle.std.proofs.lemmas.List.{take_at, drop_at, take-append-drop, append_cancel_right, append-nil}
 use Rattle.bits.specs.Bits.{number}
-use Rattle.bits.specs.Layout.{Layout, done, unless, field, run, choice, kind, part, inner, measured, more, told_as, map_fault, then_, Spells, Begins, Refuses, read, read_field, read_run, read_more, InTurn, InTurnTo, checked, after, beside}
+use Rattle.bits.specs.Layout.{Layout, done, unless, field, run, choice, kind, part, inner, measured, more, reported_as, map_fault, then_, Spells, Begins, Refuses, read, read_field, read_run, read_more, InTurn, InTurnTo, checked, after, alongside}
 
 abbrev made : (F : Type 0) {X : Type 0} → X → Result X F
 made F x = Ok x
@@ -52,19 +52,19 @@ fault_err : {G F X : Type 0} (g : G → F) (r : Result X G) (e : F) → map_faul
 fault_err g (Ok x) e same = absurd cc
 fault_err {X = X} g (Err d) e same = (d, refl, sym (err_same X (g d) e same))
 
-beside_ok : {F A : Type 0} (r : Result A F) (left : List Bool) (y : A × List Bool) → beside r left ≡ Ok y → (r ≡ Ok y.0) × (left ≡ y.1)
-beside_ok {F = F} (Ok x) left y e =
+alongside_ok : {F A : Type 0} (r : Result A F) (left : List Bool) (y : A × List Bool) → alongside r left ≡ Ok y → (r ≡ Ok y.0) × (left ≡ y.1)
+alongside_ok {F = F} (Ok x) left y e =
     let p = same_reading F (x, left) y e in
     (ap (made F) p.0, p.1)
-beside_ok (Err d) left y e = absurd cc
+alongside_ok (Err d) left y e = absurd cc
 
-beside_err : {F A : Type 0} (r : Result A F) (left : List Bool) (e : F) → beside r left ≡ Err e → r ≡ Err e
-beside_err (Ok x) left e same = absurd cc
-beside_err {A = A} (Err d) left e same = ap (failed A) (err_same (A × List Bool) d e same)
+alongside_err : {F A : Type 0} (r : Result A F) (left : List Bool) (e : F) → alongside r left ≡ Err e → r ≡ Err e
+alongside_err (Ok x) left e same = absurd cc
+alongside_err {A = A} (Err d) left e same = ap (failed A) (err_same (A × List Bool) d e same)
 
--- ---- a length that is told
+-- ---- a length that is reported
 
--- the bits of a front, as those before it less those behind it
+-- the bits of a front, as those before it less those after it
 front_length : (bits front rest : List Bool) → bits ≡ front ++ rest → length bits - length rest ≡ length front
 front_length bits front rest e = omega (arith, ap length e, length-append front rest)
 
@@ -149,8 +149,8 @@ found {F = F} (unless b f) bits x rest e =
     let p = same_reading F (tt, bits) (x, rest) g.1 in
     record { front = []; parts = p.1; spelled = (g.0, refl) }
 found (field name f g codes get) bits x rest e =
-    let long = guard_ok (ltb (length bits) codes.width) f (map_fault g (beside (codes.value (number (take codes.width bits))) (drop codes.width bits))) (x, rest) e in
-    let b = beside_ok (codes.value (number (take codes.width bits))) (drop codes.width bits) (x, rest) (fault_ok g _ (x, rest) long.1) in
+    let long = guard_ok (ltb (length bits) codes.width) f (map_fault g (alongside (codes.value (number (take codes.width bits))) (drop codes.width bits))) (x, rest) e in
+    let b = alongside_ok (codes.value (number (take codes.width bits))) (drop codes.width bits) (x, rest) (fault_ok g _ (x, rest) long.1) in
     let le : codes.width ≤ length bits = ltb-false _ _ long.0 in
     record { front = take codes.width bits; parts = rw (← b.1) (sym (take-append-drop codes.width bits)); spelled = (omega (arith, length-take codes.width bits), b.0) }
 found {F = F} (run n f get) bits x rest e =
@@ -182,16 +182,16 @@ found (measured f before m) bits x rest e =
     let t = test_ok (nat_eq a.0.0 (before + (length bits - length a.1))) (a.0.1, a.1) (x, rest) f a.3 in
     let one = found m bits a.0 a.1 a.2 in
     let long = front_length bits one.front a.1 one.parts in
-    let told : a.0.0 ≡ before + length one.front = eqb-true _ _ t.0 ∙ ap (λ (n : ℕ). before + n) long in
+    let reported : a.0.0 ≡ before + length one.front = eqb-true _ _ t.0 ∙ ap (λ (n : ℕ). before + n) long in
     record {
       front = one.front;
       parts = one.parts ∙ ap (λ (r : List Bool). one.front ++ r) t.2;
-      spelled = (a.0.0, subst (λ (y : _). Spells m (a.0.0, y) one.front) t.1 one.spelled, told);
+      spelled = (a.0.0, subst (λ (y : _). Spells m (a.0.0, y) one.front) t.1 one.spelled, reported);
     }
 found (more n m before get) bits xs rest e =
     let a = found_more m n before bits xs rest (λ left x last h. found m left x last h) e in
     record { front = a.2; parts = a.3; spelled = (a.0, a.1, a.4) }
-found (told_as g m) bits x rest e =
+found (reported_as g m) bits x rest e =
     let a = found m bits x rest (fault_ok g (read m bits) (x, rest) e) in record { front = a.front; parts = a.parts; spelled = a.spelled }
 found (then_ m f) bits y rest e =
     let a = after_ok (read m bits) (λ x left. read (f x) left) (y, rest) e in
@@ -224,11 +224,11 @@ again (inner m get) x front rest s = again m x front rest s
 again (measured f before m) x front rest s =
     let one = again m (s.0, x) front rest s.1 in
     let long = front_length (front ++ rest) front rest refl in
-    let told : nat_eq s.0 (before + (length (front ++ rest) - length rest)) ≡ true = eq-eqb _ _ (s.2 ∙ ap (λ (n : ℕ). before + n) (sym long)) in
-    rw (one, told) refl
+    let reported : nat_eq s.0 (before + (length (front ++ rest) - length rest)) ≡ true = eq-eqb _ _ (s.2 ∙ ap (λ (n : ℕ). before + n) (sym long)) in
+    rw (one, reported) refl
 again (more n m before get) xs front rest s =
     again_more m n before s.0 front rest (λ x part left h. again m x part left h) s.2 ∙ ap (λ (t : List _). Ok (t, rest)) (sym s.1)
-again (told_as g m) x front rest s = rw (again m x front rest s) refl
+again (reported_as g m) x front rest s = rw (again m x front rest s) refl
 again (then_ m f) y front rest s =
     let one = again m s.0 s.1 (s.2 ++ rest) s.4 in
     let two = again (f s.0) y s.2 rest s.5 in
@@ -245,11 +245,11 @@ refused (done y) bits e same = absurd cc
 refused (unless b f) bits e same =
     elim (guard_err b f e (Ok (tt, bits)) same) [ inl h ↦ h | inr h ↦ absurd (let no = h.1 in cc) ]
 refused {F = F} (field name f g codes get) bits e same =
-    elim (guard_err (ltb (length bits) codes.width) f e (map_fault g (beside (codes.value (number (take codes.width bits))) (drop codes.width bits))) same) [
+    elim (guard_err (ltb (length bits) codes.width) f e (map_fault g (alongside (codes.value (number (take codes.width bits))) (drop codes.width bits))) same) [
       | inl h ↦ inl (ltb-true _ _ h.0, h.1)
       | inr h ↦
-          let a = fault_err g (beside (codes.value (number (take codes.width bits))) (drop codes.width bits)) e h.1 in
-          inr (a.0, ltb-false _ _ h.0, beside_err (codes.value (number (take codes.width bits))) (drop codes.width bits) a.0 a.1, a.2)
+          let a = fault_err g (alongside (codes.value (number (take codes.width bits))) (drop codes.width bits)) e h.1 in
+          inr (a.0, ltb-false _ _ h.0, alongside_err (codes.value (number (take codes.width bits))) (drop codes.width bits) a.0 a.1, a.2)
     ]
 refused (run n f get) bits e same =
     elim (guard_err (ltb (length bits) n) f e (Ok (take n bits, drop n bits)) same) [ inl h ↦ (ltb-true _ _ h.0, h.1) | inr h ↦ absurd (let no = h.1 in cc) ]
@@ -268,11 +268,11 @@ refused (measured f before m) bits e same =
           let t = test_err (nat_eq h.0.0 (before + (length bits - length h.1))) (h.0.1, h.1) f e h.3 in
           let one = found m bits h.0 h.1 h.2 in
           let long = front_length bits one.front h.1 one.parts in
-          inr (h.0.0, h.0.1, one.front, h.1, one.parts, one.spelled, (λ told. eqb-false _ _ t.0 (told ∙ ap (λ (n : ℕ). before + n) (sym long))), t.1)
+          inr (h.0.0, h.0.1, one.front, h.1, one.parts, one.spelled, (λ reported. eqb-false _ _ t.0 (reported ∙ ap (λ (n : ℕ). before + n) (sym long))), t.1)
     ]
 refused (more n m before get) bits e same =
     refused_more m n before bits e (λ left x last h. found m left x last h) (λ left h. refused m left e h) same
-refused (told_as g m) bits e same =
+refused (reported_as g m) bits e same =
     let a = fault_err g (read m bits) e same in (a.0, refused m bits a.0 a.1, a.2)
 refused (then_ m f) bits e same =
     elim (after_err (read m bits) (λ x left. read (f x) left) e same) [
@@ -305,12 +305,12 @@ refused_again (measured f before m) bits e r =
       | inr h ↦
           let one = again m (h.0, h.1) h.2 h.3 h.5 in
           let long = front_length (h.2 ++ h.3) h.2 h.3 refl in
-          let told : nat_eq h.0 (before + (length (h.2 ++ h.3) - length h.3)) ≡ false = ne_eqb _ _ (λ same. h.6 (same ∙ ap (λ (n : ℕ). before + n) long)) in
-          rw (h.4, one, told, h.7) refl
+          let reported : nat_eq h.0 (before + (length (h.2 ++ h.3) - length h.3)) ≡ false = ne_eqb _ _ (λ same. h.6 (same ∙ ap (λ (n : ℕ). before + n) long)) in
+          rw (h.4, one, reported, h.7) refl
     ]
 refused_again (more n m before get) bits e r =
     refused_more_again m n before bits e (λ x part left h. again m x part left h) (λ left h. refused_again m left e h) r
-refused_again (told_as g m) bits e r = rw (refused_again m bits r.0 r.1, r.2) refl
+refused_again (reported_as g m) bits e r = rw (refused_again m bits r.0 r.1, r.2) refl
 refused_again (then_ m f) bits e r =
     elim r [
       | inl h ↦ rw (refused_again m bits e h) refl

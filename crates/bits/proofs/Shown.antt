@@ -1,7 +1,7 @@
 -- Whatever takes the fields of a value takes the list of its fields, one after another.
 use Rattle.std.proofs.Common.{◌∷◌, ◌≡◌, true, false, List, [], ◌++◌, length, drop, Option, Some, None, refl, sym, ap, ◌∙◌}
 use Rattle.std.specs.Option.{option_map_or}
-use Rattle.bits.specs.Layout.{Layout, done, unless, field, run, choice, kind, part, inner, measured, more, told_as, then_}
+use Rattle.bits.specs.Layout.{Layout, done, unless, field, run, choice, kind, part, inner, measured, more, reported_as, then_}
 use Rattle.bits.specs.Writing.{Shown, named, raw, value, each_taken, each_field, taken, shown}
 
 abbrev behind : List Shown → Shown → List Shown
@@ -34,7 +34,7 @@ walked t (part given m get) c before s = option-shown t (λ d. taken behind m d 
 walked t (inner m get) c before s = walked t m (get c) before s
 walked t (measured f b m) c before s = walked t m c before s
 walked t (more n m b get) c before s = each-shown t (λ x left. taken behind m x left) (λ x left. taken t m x left) (drop (length b) (get c)) before s (λ x left. walked t m x left s)
-walked t (told_as g m) c before s = walked t m c before s
+walked t (reported_as g m) c before s = walked t m c before s
 walked t (then_ m f) c before s =
     let one = walked t m c before s in
     option-shown t (λ x. taken behind (f x) c (taken behind m c before)) (λ x. taken t (f x) c (taken t m c (each_field t before s))) (value m c) (taken behind m c before) (taken t m c (each_field t before s)) s one

@@ -32,7 +32,7 @@ taken_of n held word bs le =
     let e : held ≡ n + (held - n) = omega arith in
     ap (λ (h : ℕ). number (take n (number_bits h word ++ bs))) e ∙ ap number (taken n (held - n) word bs) ∙ number-number_bits n (word / 2 ^ (held - n))
 
--- what is left behind them
+-- what is left after them
 pub left_of : (n held word : ℕ) (bs : List Bool) → n ≤ held → drop n (number_bits held word ++ bs) ≡ number_bits (held - n) word ++ bs
 left_of n held word bs le =
     let e : held ≡ n + (held - n) = omega arith in

@@ -1,4 +1,4 @@
--- Bits that are written behind those of whole bytes, in a word that is moved to the bytes once it holds four.
+-- Bits that are written after those of whole bytes, in a word that is moved to the bytes once it holds four.
 use Rattle.std.proofs.Common.{◌≡◌, ℕ, zero, suc, ◌+◌, ◌-◌, ◌*◌, ◌/◌, ◌%◌, ◌^◌, ◌<◌, ◌≤◌, Bool, true, false, nat_eq, List, [], ◌∷◌, ◌++◌, length, take, drop, replicate, refl, sym, ap, ◌∙◌, arith, append_assoc, length-append, length-take}
 use Rattle.std.proofs.Math.Nat.{add-mul-mod_self_right, mod-lt, mul-le-mul_right, one-le-pow, pow-suc}
 use Rattle.std.proofs.Math.Seq.{take-add, take-append-add}
@@ -43,7 +43,7 @@ kept n m word e =
     ap (λ (x : ℕ). x * 2 ^ n) (sym (div-add-mod' word (2 ^ m))) ∙ spread high (2 ^ m) low (2 ^ n) ∙ ap (λ (x : ℕ). low * 2 ^ n + high * x) all in
     ap (λ (x : ℕ). x % 2 ^ 64) parts ∙ add-mul-mod_self_right (low * 2 ^ n) high (2 ^ 64) ∙ shl_whole low m n 64 (mod-lt word (pow_pos m)) (omega (arith, e))
 
--- n more bits behind those that a word holds
+-- n more bits after those that a word holds
 pub joined : (front old : List Bool) (held n word v : ℕ) → held ≤ 32 → n ≤ 32 → v < 2 ^ n → front ++ number_bits held word ≡ old
     → front ++ number_bits (held + n) (word * 2 ^ n % 2 ^ 64 + v) ≡ old ++ number_bits n v
 joined front old held n word v few le lt was =
@@ -162,7 +162,7 @@ copied n v bits old new le e wrote =
     let long : n ≡ length (take n bits) = omega (arith, length-take n bits) in
     wrote ∙ ap (λ (x : ℕ). old ++ number_bits n x) e ∙ ap (λ (k : ℕ). old ++ number_bits k (number (take n bits))) long ∙ ap (λ (t : List Bool). old ++ t) (bits-number (take n bits))
 
--- n bits behind k that were copied
+-- n bits after k that were copied
 pub copied_more : (old all bits now new : List Bool) (k n m : ℕ) → k + n ≡ m → now ≡ old ++ take k all → bits ≡ drop k all → new ≡ now ++ take n bits → new ≡ old ++ take m all
 copied_more old all bits now new k n m e so_far left more =
     more ∙ ap (λ (t : List Bool). t ++ take n bits) so_far ∙ append_assoc old (take k all) (take n bits) ∙ ap (λ (t : List Bool). old ++ (take k all ++ take n t)) left

@@ -4,7 +4,7 @@ use Rattle.std.proofs.Common.{◌≡◌, ℕ, suc, ◌+◌, ◌<◌, ◌≤◌, 
 use Rattle.std.specs.Option.{option_map_or}
 use Rattle.std.proofs.lemmas.List.{append-nil, drop_all}
 use Rattle.bits.specs.Bits.{number, number_bits}
-use Rattle.bits.specs.Layout.{Layout, done, unless, field, run, choice, kind, part, inner, measured, more, told_as, then_}
+use Rattle.bits.specs.Layout.{Layout, done, unless, field, run, choice, kind, part, inner, measured, more, reported_as, then_}
 use Rattle.bits.specs.Sums.{total}
 use Rattle.bits.specs.Writing.{value, each_taken, size, appended}
 use Rattle.bits.proofs.Numbers.{length-number_bits}
@@ -81,7 +81,7 @@ length-appended (part given m get) c front = length-option (λ d. appended m d f
 length-appended (inner m get) c front = length-appended m (get c) front
 length-appended (measured f before m) c front = length-appended m c front
 length-appended (more n m before get) c front = length-each (λ x left. appended m x left) (λ x. size m x) (drop (length before) (get c)) front (λ x left. length-appended m x left)
-length-appended (told_as g m) c front = length-appended m c front
+length-appended (reported_as g m) c front = length-appended m c front
 length-appended (then_ m f) c front =
     let one = length-appended m c front in
     let two = length-option (λ x. appended (f x) c (appended m c front)) (λ x. size (f x) c) (value m c) (appended m c front) (length (appended m c front)) _ refl (λ x. length-appended (f x) c (appended m c front)) refl in

@@ -2,7 +2,7 @@
 -- project's profile).
 use Rattle.std.specs.Prelude.{◌≡◌, ◌+◌, ◌<◌, ◌^◌, ℕ, Bool, true, false, List, [], ◌∷◌, length, take, drop, Option, Some, Ok, IfSome, is_some}
 use Rattle.std.specs.List.{AllByRecursion as Each}
-use Rattle.bits.specs.Layout.{Codes, Layout, done, unless, field, run, choice, kind, part, inner, measured, more, told_as, then_}
+use Rattle.bits.specs.Layout.{Codes, Layout, done, unless, field, run, choice, kind, part, inner, measured, more, reported_as, then_}
 use Rattle.bits.specs.Writing.{value, size}
 
 -- The number of the value has no more bits than the variable, and is that of this value.
@@ -24,7 +24,7 @@ Fits (inner m get) c = Fits m (get c) × (value m (get c) ≡ Some (get c))
 Fits (measured f before m) c = Fits m c × IfSome (value m c) (λ p. p.0 ≡ before + size m c)
 Fits (more n m before get) c =
     (take (length before) (get c) ≡ before) × (length (drop (length before) (get c)) ≡ n) × Each (λ d. Fits m d × (value m d ≡ Some d)) (drop (length before) (get c))
-Fits (told_as g m) c = Fits m c
+Fits (reported_as g m) c = Fits m c
 Fits (then_ m f) c = Fits m c × IfSome (value m c) (λ x. Fits (f x) c)
 
 -- The value fits the layout, and is what the layout reads of it.

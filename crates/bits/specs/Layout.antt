@@ -26,7 +26,7 @@ pub data Layout : Type 0 → Type 0 → Type 0 → Type 1 where
   inner : {F C D : Type 0} → Layout F D D → (C → D) → Layout F C D
   measured : {F C A : Type 0} → F → ℕ → Layout F C (ℕ × A) → Layout F C A
   more : {F C D : Type 0} → ℕ → Layout F D D → List D → (C → List D) → Layout F C (List D)
-  told_as : {F G C A : Type 0} → (G → F) → Layout G C A → Layout F C A
+  reported_as : {F G C A : Type 0} → (G → F) → Layout G C A → Layout F C A
   then_ : {F C A B : Type 0} → Layout F C A → (A → Layout F C B) → Layout F C B
 
 infixl 10 ◌>>=◌
@@ -57,9 +57,9 @@ Spells (kind make get m) x bits = (y : _) × (x ≡ make y) × Spells m y bits
 Spells (part true m get) x bits = (y : _) × (x ≡ Some y) × Spells m y bits
 Spells (part false m get) x bits = (x ≡ None) × (bits ≡ [])
 Spells (inner m get) x bits = Spells m x bits
-Spells (measured f before m) x bits = (told : ℕ) × Spells m (told, x) bits × (told ≡ before + length bits)
+Spells (measured f before m) x bits = (reported : ℕ) × Spells m (reported, x) bits × (reported ≡ before + length bits)
 Spells (more n m before get) xs bits = (new : List _) × (xs ≡ before ++ new) × InTurn (λ x part. Spells m x part) n new bits
-Spells (told_as g m) x bits = Spells m x bits
+Spells (reported_as g m) x bits = Spells m x bits
 Spells (then_ m f) y bits = (x : _) × (front rest : List Bool) × (bits ≡ front ++ rest) × Spells m x front × Spells (f x) y rest
 
 -- A front of the bits spells the value, and the rest follows it.
@@ -82,9 +82,9 @@ Refuses (part true m get) e bits = Refuses m e bits
 Refuses (part false m get) e bits = ⊥
 Refuses (inner m get) e bits = Refuses m e bits
 Refuses (measured f before m) e bits =
-    Refuses m e bits ⊎ ((told : ℕ) × (x : _) × (front rest : List Bool) × (bits ≡ front ++ rest) × Spells m (told, x) front × (told ≢ before + length front) × (e ≡ f))
+    Refuses m e bits ⊎ ((reported : ℕ) × (x : _) × (front rest : List Bool) × (bits ≡ front ++ rest) × Spells m (reported, x) front × (reported ≢ before + length front) × (e ≡ f))
 Refuses (more n m before get) e bits = InTurnTo (λ x part. Spells m x part) (λ left. Refuses m e left) n bits
-Refuses (told_as g m) e bits = (d : _) × Refuses m d bits × (e ≡ g d)
+Refuses (reported_as g m) e bits = (d : _) × Refuses m d bits × (e ≡ g d)
 Refuses (then_ m f) e bits = Refuses m e bits ⊎ ((x : _) × (front rest : List Bool) × (bits ≡ front ++ rest) × Spells m x front × Refuses (f x) e rest)
 
 -- ---- reading, which the functions that read are stated by
@@ -98,23 +98,23 @@ map_fault g (Ok x) = Ok x
 map_fault g (Err e) = Err (g e)
 
 -- a value with the bits after it
-abbrev pub beside : {F A : Type 0} → Result A F → List Bool → Result (A × List Bool) F
-beside (Ok x) rest = Ok (x, rest)
-beside (Err e) rest = Err e
+abbrev pub alongside : {F A : Type 0} → Result A F → List Bool → Result (A × List Bool) F
+alongside (Ok x) rest = Ok (x, rest)
+alongside (Err e) rest = Err e
 
 -- a variable at the front of the bits
 unfoldable pub read_field : {F E A : Type 0} → F → (E → F) → Codes E A → List Bool → Result (A × List Bool) F
-read_field f g codes bits = if nat_lt (length bits) codes.width then Err f else map_fault g (beside (codes.value (number (take codes.width bits))) (drop codes.width bits))
+read_field f g codes bits = if nat_lt (length bits) codes.width then Err f else map_fault g (alongside (codes.value (number (take codes.width bits))) (drop codes.width bits))
 
 -- so many bits at the front
 unfoldable pub read_run : {F : Type 0} → ℕ → F → List Bool → Result (List Bool × List Bool) F
 read_run n f bits = if nat_lt (length bits) n then Err f else Ok (take n bits, drop n bits)
 
--- the value, where the number beside it is that of the bits that were taken and those before them
+-- the value, where the number next to it is that of the bits that were taken and those before them
 abbrev pub checked : {F A : Type 0} → F → ℕ → List Bool → (ℕ × A) → List Bool → Result (A × List Bool) F
 checked f before bits p rest = if p.0 == before + (length bits - length rest) then Ok (p.1, rest) else Err f
 
--- so many more elements at the front, behind those before
+-- so many more elements at the front, after those before
 unfoldable pub read_more : {F D : Type 0} → (List Bool → Result (D × List Bool) F) → ℕ → List D → List Bool → Result (List D × List Bool) F
 read_more r zero before bits = Ok (before, bits)
 read_more r (suc n) before bits = after (r bits) (λ x rest. read_more r n (before ++ x ∷ []) rest)
@@ -131,7 +131,7 @@ read (part given m get) bits = if given then after (read m bits) (λ y rest. Ok 
 read (inner m get) bits = read m bits
 read (measured f before m) bits = after (read m bits) (λ p rest. checked f before bits p rest)
 read (more n m before get) bits = read_more (read m) n before bits
-read (told_as g m) bits = map_fault g (read m bits)
+read (reported_as g m) bits = map_fault g (read m bits)
 read (then_ m f) bits = after (read m bits) (λ x rest. read (f x) rest)
 
 -- What a function that reads returned, seen by view, and the bits left are what reading gives.

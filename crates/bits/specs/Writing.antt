@@ -4,7 +4,7 @@ use Rattle.std.specs.Prelude.{ℕ, ◌+◌, List, [], ◌∷◌, ◌++◌, Bool,
 use Rattle.std.specs.Option.{option_map_or}
 use Rattle.bits.specs.Bits.{number_bits}
 use Rattle.bits.specs.Sums.{total}
-use Rattle.bits.specs.Layout.{Layout, done, unless, field, run, choice, kind, part, inner, measured, more, told_as, then_}
+use Rattle.bits.specs.Layout.{Layout, done, unless, field, run, choice, kind, part, inner, measured, more, reported_as, then_}
 use Rattle.bits.specs.declared.name.VariableName.{VariableName}
 
 -- A field as it is taken: the name of its variable, the number of its bits, and the number that they spell; or a run of
@@ -25,7 +25,7 @@ value (part given m get) c = Some (get c)
 value (inner m get) c = Some (get c)
 value (measured f before m) c = option_map (λ p. p.1) (value m c)
 value (more n m before get) c = Some (get c)
-value (told_as g m) c = value m c
+value (reported_as g m) c = value m c
 value (then_ m f) c = option_and_then (λ x. value (f x) c) (value m c)
 
 -- what becomes of s when it takes elements one after another
@@ -45,7 +45,7 @@ taken t (part given m get) c s = option_map_or (λ d. taken t m d s) (get c) s
 taken t (inner m get) c s = taken t m (get c) s
 taken t (measured f before m) c s = taken t m c s
 taken t (more n m before get) c s = each_taken (λ x left. taken t m x left) (drop (length before) (get c)) s
-taken t (told_as g m) c s = taken t m c s
+taken t (reported_as g m) c s = taken t m c s
 taken t (then_ m f) c s = option_map_or (λ x. taken t (f x) c (taken t m c s)) (value m c) (taken t m c s)
 
 -- The number of bits of a value.
@@ -60,7 +60,7 @@ size (part given m get) c = option_map_or (λ d. size m d) (get c) 0
 size (inner m get) c = size m (get c)
 size (measured f before m) c = size m c
 size (more n m before get) c = total (λ x. size m x) (drop (length before) (get c))
-size (told_as g m) c = size m c
+size (reported_as g m) c = size m c
 size (then_ m f) c = size m c + option_map_or (λ x. size (f x) c) (value m c) 0
 
 -- the bits of a field
@@ -68,7 +68,7 @@ abbrev pub shown_bits : Shown → List Bool
 shown_bits (named name width v) = number_bits width v
 shown_bits (raw bits) = bits
 
--- bits with those of a field behind them
+-- bits with those of a field after them
 abbrev pub with_bits : List Bool → Shown → List Bool
 with_bits front x = front ++ shown_bits x
 

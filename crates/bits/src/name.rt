@@ -93,7 +93,7 @@ pub enum VariableName {
     DEndtimerstartloc,
     /// Q_DANGERPOINT, whether a danger point follows.
     QDangerpoint,
-    /// D_DP, its distance behind the end.
+    /// D_DP, its distance beyond the end.
     DDp,
     /// V_RELEASEDP, its release speed.
     VReleasedp,

@@ -16,7 +16,7 @@ pub struct Full;
 #[derive(Drop)]
 pub struct BitWriter<const N: usize> {
     bytes: ArrayVec<u8, N>,
-    /// The bits behind those of the bytes: its lowest `held`. What is above them doesn't matter.
+    /// The bits after those of the bytes: its lowest `held`. What is above them doesn't matter.
     word: u64,
     held: u32,
 }

@@ -1,4 +1,4 @@
--- A train that is told one target after another.
+-- A train that is reported one target after another.
 use Rattle.std.proofs.Common.{◌≡◌, ℤ, List, [], ◌∷◌, refl, inr, ap, ◌∙◌, sym, subst, true, arith}
 use Rattle.std.specs.Prelude.{Option}
 use Rattle.braking.specs.declared.target.Target.{Target}

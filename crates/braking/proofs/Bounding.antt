@@ -100,7 +100,7 @@ module _ (front : ℤ) (gradient : ℤ → Option ℤ) (brakes : Brakes) (t : Ta
           fits_from low sum.from there within (omega (arith, ints, there, early)) (omega (arith, known.root.below, off_is)))
     ]
 
-    -- no greater one fits whose brakes act where the sum begins, or behind that
+    -- no greater one fits whose brakes act where the sum begins, or after that
     pub later_fails : (v : ℕ) → low < v → v ≤ limit → sum.from ≤ℤ start v → fits front gradient brakes t v ≡ false
     later_fails v above below late =
         let greater : t.speed * t.speed + sum.taken_off < v * v =

@@ -74,7 +74,7 @@ module _ (front : ℤ) (gradient : ℤ → Option ℤ) (brakes : Brakes) where
       let acts : nat_lt way (distance_to front t) ≡ true = grind (arith, nat_tests) in
       λ i. sym fast i || (sym acts i && nat_le (v * v) (t.speed * t.speed + braked gradient brakes.deceleration (at i) (count i)))
 
-  -- what is lacking is told apart by what is summed, if that is all or enough
+  -- what is lacking is distinguished by what is summed, if that is all or enough
   lacking_less : (v u lacking taken all : ℕ) → u ≤ v → lacking ≡ v - u → taken ≤ all → (taken ≡ all) ⊎ (lacking ≤ taken) →
       nat_le lacking taken ≡ nat_le v (u + all)
   lacking_less v u lacking taken all a b c either = elim either [ inl e ↦ grind (arith, nat_tests) | inr h ↦ grind (arith, nat_tests) ]

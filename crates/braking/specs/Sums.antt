@@ -31,7 +31,7 @@ pub record IsRoot (speed taken_off limit root : ℕ) : Type 0 where
   pub below : root * root ≤ speed * speed + taken_off
   pub next : root < limit → speed * speed + taken_off < (root + 1) * (root + 1)
 
--- what a stretch takes off from where the brakes act at a speed, or behind that, is enough for a stop
+-- what a stretch takes off from where the brakes act at a speed, or after that, is enough for a stop
 pub record IsStopping (front : ℤ) (reaction speed : ℕ) (sum : Summed) : Type 0 where
   pub acts : (front +ℤ pos (reaction_way reaction speed)) ≤ℤ sum.from
   pub enough : speed * speed ≤ sum.taken_off
@@ -57,7 +57,7 @@ pub record IsStretch (gradient : ℤ → Option ℤ) (deceleration : ℕ) (stret
   pub begun : IsBegunEvenly stretch.slowing stretch.sum stretch.begun
   pub summed : IsSummed gradient deceleration stretch.begun
 
--- the brakes act at a speed before what is summed behind a stretch, and from there, or from where the stretch begins,
+-- the brakes act at a speed before what is summed after a stretch, and from there, or from where the stretch begins,
 -- enough is taken off for a target
 pub record IsEnough (front : ℤ) (brakes : Brakes) (target : Target) (stretch : Stretch) (speed : ℕ) : Type 0 where
   pub acts : (front +ℤ pos (reaction_way brakes.reaction speed)) <ℤ stretch.sum.from

@@ -96,7 +96,7 @@ impl<'a, P: Profile<Permille>> Approach<'a, P> {
     }
 
     /// Takes one more target: then the greatest speed up to the one so far that fits the target. A target whose speed
-    /// is no less than the one so far costs nothing, nor does one behind a place where the train is known to come to a
+    /// is no less than the one so far costs nothing, nor does one after a place where the train is known to come to a
     /// stop.
     pub fn lower(&mut self, target: &Target)
         ensures { self.new ≡ lowered (P.value self.old.gradient) target.now self.old }

@@ -88,7 +88,7 @@ fn is_too_fast(front: Cm, limit: Mph, target: &Target, brakes: &Brakes, sum: &Su
     }
 }
 
-// The greatest speed from one on, below another one, at which the brakes act before what is summed behind a stretch and
+// The greatest speed from one on, below another one, at which the brakes act before what is summed after a stretch and
 // take off enough; and what is summed from where they act at that, or from where the stretch begins. Each speed that is
 // tried costs a product.
 fn halved(
@@ -124,7 +124,7 @@ fn halved(
     }
 }
 
-// Whether the brakes act at a speed before what is summed behind a stretch, and from there, or from where the stretch
+// Whether the brakes act at a speed before what is summed after a stretch, and from there, or from where the stretch
 // begins, take off enough for a target. The caller owes a speed no less than the target's.
 fn is_enough(front: Cm, speed: Mph, target: &Target, brakes: &Brakes, stretch: &Stretch) -> bool
     requires faster { target.now.speed ≤ speed }
@@ -137,7 +137,7 @@ fn is_enough(front: Cm, speed: Mph, target: &Target, brakes: &Brakes, stretch: &
     }
 }
 
-// What is summed behind a stretch, begun where the brakes act at a speed, or where the stretch begins if they act before
+// What is summed after a stretch, begun where the brakes act at a speed, or where the stretch begins if they act before
 // that; None where they don't act before what is summed.
 fn begun_at(front: Cm, speed: Mph, brakes: &Brakes, stretch: &Stretch) -> Option<Summed>
     requires { IsEvenBefore stretch.now.slowing stretch.now.begun.from stretch.now.sum }

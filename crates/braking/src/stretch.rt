@@ -9,12 +9,12 @@ use brakes::{Deceleration, slowing};
 use track_store::Profile;
 use units::{Cm, Permille};
 
-/// A stretch with one gradient, and what is summed behind it.
+/// A stretch with one gradient, and what is summed after it.
 #[derive(Clone, Copy)]
 pub struct Stretch {
     /// The deceleration on it, in cm/s^2.
     pub slowing: u16,
-    /// What is summed behind it.
+    /// What is summed after it.
     pub sum: Summed,
     /// The same, begun where the stretch begins.
     pub begun: Summed,

@@ -4,7 +4,7 @@ use Rattle.std.proofs.lemmas.List.{take_all, take_more, length-take-le}
 use Rattle.std.proofs.Math.ListN.{set}
 use Rattle.std.proofs.Math.Seq.{set-append_seam}
 
--- the place at i is written behind those before it, and the places behind it stay
+-- the place at i is written after those before it, and the places after it stay
 pub one_written : {X : Type 0} (before places : List X) (i : ℕ) (x d : X) → length before ≡ i → i < length places
     → set (before ++ drop i places) i x ≡ (before ++ x ∷ []) ++ drop (i + 1) places
 one_written {X} before places i x d size less =

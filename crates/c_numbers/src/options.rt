@@ -23,10 +23,10 @@ pub fn place_or_zero(place: Option<i64>) -> i64
 }
 
 /// 1 where there is something, else 0.
-pub fn flag<T: Copy>(told: Option<T>) -> u8
-    ensures { result ≡ flag_of (is_some told) }
+pub fn flag<T: Copy>(reported: Option<T>) -> u8
+    ensures { result ≡ flag_of (is_some reported) }
 {
-    match told {
+    match reported {
         Some(_) => 1,
         None => 0,
     }

@@ -9,7 +9,7 @@ use Rattle.telegram.specs.Telegrams.{header}
 use Rattle.telegram.specs.declared.header.Header.{Header}
 use Rattle.decoding.specs.declared.fields.FieldValue.{FieldValue}
 
--- Fields with one more behind them. Bits that are skipped are no field, nor is what has no bits.
+-- Fields with one more after them. Bits that are skipped are no field, nor is what has no bits.
 abbrev pub with_field : List FieldValue → Shown → List FieldValue
 with_field fields (named name width number) = if width == 0 then fields else fields ++ record { name = name; width = width; number = number } ∷ []
 with_field fields (raw bits) = fields

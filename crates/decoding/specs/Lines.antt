@@ -27,7 +27,7 @@ abbrev pub body_text : Packet → List ℕ
 body_text (packets.Other p) = codes " skipped"
 body_text _ = []
 
--- the line of a packet: its number, each field behind it, and its body where it is skipped
+-- the line of a packet: its number, each field after it, and its body where it is skipped
 abbrev pub packet_line : Packet → List ℕ
 packet_line p = codes "packet " ++ decimal (number_of p) ++ flat_map field_text (drop 1 (packet_fields p)) ++ body_text p ++ codes "\n"
 

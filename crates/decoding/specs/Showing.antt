@@ -11,18 +11,18 @@ use Rattle.telegram.specs.declared.message.Telegram.{Telegram}
 use Rattle.decoding.specs.Lines.{telegram_lines, refusal_line}
 
 -- the bytes carry a telegram, and its lines were written
-abbrev pub TellsTelegram : List ℕ → Option (List ℕ) → Option (List ℕ) → Type 0
-TellsTelegram bytes before after = (telegram : Telegram) × Carries bytes telegram × Appends before after (telegram_lines telegram)
+abbrev pub DescribesTelegram : List ℕ → Option (List ℕ) → Option (List ℕ) → Type 0
+DescribesTelegram bytes before after = (telegram : Telegram) × Carries bytes telegram × Appends before after (telegram_lines telegram)
 
 -- the bytes have a fault, and its line was written
-abbrev pub TellsFault : List ℕ → Option (List ℕ) → Option (List ℕ) → Type 0
-TellsFault bytes before after = (fault : TelegramFault) × RefusesBytes fault bytes × Appends before after (refusal_line fault)
+abbrev pub DescribesFault : List ℕ → Option (List ℕ) → Option (List ℕ) → Type 0
+DescribesFault bytes before after = (fault : TelegramFault) × RefusesBytes fault bytes × Appends before after (refusal_line fault)
 
 -- Done: the bytes carry a telegram. Refused: they carry none.
 abbrev pub IsAnswered : List ℕ → Option (List ℕ) → Option (List ℕ) → Status → Type 0
 IsAnswered bytes before after status =
-    ((status ≡ Done) × TellsTelegram bytes before after)
-    ⊎ ((status ≡ Refused) × TellsFault bytes before after)
+    ((status ≡ Done) × DescribesTelegram bytes before after)
+    ⊎ ((status ≡ Refused) × DescribesFault bytes before after)
 
 -- the digits spell no bytes, and the line of that was written
 abbrev pub IsNoHex : List ℕ → Option (List ℕ) → Option (List ℕ) → Type 0

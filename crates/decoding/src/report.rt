@@ -37,7 +37,7 @@ fn write_header<W: Write>(header: &Header, out: &mut W) -> io::Result<()>
     out.write_all(b"\n")
 }
 
-// The fields behind the first one, which is NID_PACKET.
+// The fields after the first one, which is NID_PACKET.
 fn write_others<W: Write>(fields: &[FieldValue], out: &mut W) -> io::Result<()>
     ensures { OnOk result (Appends (W.contents out.old) (W.contents out.new) (flat_map field_text (drop 1 fields.now))) }
 {

@@ -10,7 +10,7 @@ use std::alloc::Global;
 use std::io;
 use std::io::Write;
 use telegram::{Telegram, TelegramFault, decode_into};
-use text_output::{Status, tell};
+use text_output::{Status, describe};
 
 fn refuse<W: Write>(fault: TelegramFault, out: &mut W) -> io::Result<()>
     ensures { OnOk result (Appends (W.contents out.old) (W.contents out.new) (refusal_line fault)) }
@@ -46,7 +46,7 @@ pub fn decode_text<W: Write>(alloc: Global, text: &str, out: &mut W) -> io::Resu
 {
     match hex::decode(alloc, text) {
         Ok(bytes) => show(bytes.as_slice(), out),
-        Err(FromHexError::OutOfMemory) => tell(out, "refused memory", Status::Refused),
-        Err(_) => tell(out, "refused hex", Status::Refused),
+        Err(FromHexError::OutOfMemory) => describe(out, "refused memory", Status::Refused),
+        Err(_) => describe(out, "refused hex", Status::Refused),
     }
 }

@@ -72,9 +72,9 @@ module _ (sectors : ℕ) (start written more : List ℕ) (calls : List Call) (ca
         is_open = λ s. (trace_of s (take k calls)).is_open;
       })
 
-  -- what is told after the call
-  pub told : (s k : ℕ) → length calls < k → trace_of s (take k (calls ++ call ∷ [])) ≡ trace_next s (trace_of s (take (length calls) calls)) call
-  told s k past =
+  -- what is reported after the call
+  pub reported : (s k : ℕ) → length calls < k → trace_of s (take k (calls ++ call ∷ [])) ≡ trace_next s (trace_of s (take (length calls) calls)) call
+  reported s k past =
       ap (λ (l : List Call). trace_of s l) (take_all k (calls ++ call ∷ []) (omega (arith, length-append calls (call ∷ []))))
       ∙ fold_push (trace_next s) trace_start calls call
       ∙ ap (λ (l : List Call). trace_next s (trace_of s l) call) (sym (take_all (length calls) calls (omega arith)))
@@ -87,10 +87,10 @@ module _ (sectors : ℕ) (start written more : List ℕ) (calls : List Call) (ca
     since = λ k from to. ⊎_elim
         (λ (past : length calls < k). record {
           contents = λ s out.
-              ap (λ (t : Trace). bytes_at start (written ++ more) s t.last) (told s k past)
+              ap (λ (t : Trace). bytes_at start (written ++ more) s t.last) (reported s k past)
               ∙ ap (λ (p : Place). bytes_at start (written ++ more) s p) ((leaves s out).last (trace_of s (take (length calls) calls)))
               ∙ bytes_more start written more s (trace_of s (take (length calls) calls)).last (placed sectors (length written) s (take (length calls) calls) (All-take (IsWithin sectors (length written)) (length calls) calls within)).last;
-          closed = λ s out shut. ap (λ (t : Trace). t.is_open) (told s k past) ∙ (leaves s out).closed (trace_of s (take (length calls) calls)) shut;
+          closed = λ s out shut. ap (λ (t : Trace). t.is_open) (reported s k past) ∙ (leaves s out).closed (trace_of s (take (length calls) calls)) shut;
           whole = λ s.
               ap (λ (l : List Call). length (bytes_at start (written ++ more) s (trace_of s l).last)) (take_all k (calls ++ call ∷ []) (omega (arith, length-append calls (call ∷ []))))
               ∙ sym (same_width sectors start written (written ++ more) calls (calls ++ call ∷ []) size within

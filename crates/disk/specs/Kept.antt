@@ -5,7 +5,7 @@ use Rattle.disk.specs.declared.record.Place.TheVariants.{Start}
 use Rattle.disk.specs.declared.memory.Memory.TheInside.{Inside}
 
 -- It began with whole sectors, its calls are of sectors that it has, it stays within its room, the room was taken, and
--- where a read finds each sector is what the calls tell.
+-- where a read finds each sector is what the calls report.
 pub record IsKept (m : Inside) : Type 0 where
   pub whole : vec_len m.start ≡ 512 * m.sectors
   pub recorded : All (IsWithin m.sectors (vec_len m.written)) m.calls.items

@@ -18,28 +18,28 @@ bytes_at start written s (Record at) = take 512 (drop at written)
 abbrev pub place_in : Span → ℕ → Option Place
 place_in span s = if nat_le span.first s && nat_lt (s - span.first) span.sectors then Some (Record (span.from + 512 * (s - span.first))) else None
 
--- what is told of a sector after a write that succeeded, where it is one of those written
+-- what is reported of a sector after a write that succeeded, where it is one of those written
 abbrev pub trace_written : Trace → Option Place → Trace
 trace_written t None = t
 trace_written t (Some place) = record { last = place; handed = place; synced = t.synced; is_open = true }
 
--- what is told of a sector after a write that failed, where it is one of those written
+-- what is reported of a sector after a write that failed, where it is one of those written
 abbrev pub trace_torn : Trace → Option Place → Trace
 trace_torn t None = t
 trace_torn t (Some place) = record { last = t.last; handed = place; synced = t.synced; is_open = true }
 
--- what is told of sector s after one more call
+-- what is reported of sector s after one more call
 abbrev pub trace_next : ℕ → Trace → Call → Trace
 trace_next s t Quiet = t
 trace_next s t Synced = record { last = t.last; handed = t.handed; synced = t.last; is_open = false }
 trace_next s t (Written span) = trace_written t (place_in span s)
 trace_next s t (Torn span) = trace_torn t (place_in span s)
 
--- what is told of a sector before the first call
+-- what is reported of a sector before the first call
 abbrev pub trace_start : Trace
 trace_start = record { last = Start; handed = Start; synced = Start; is_open = false }
 
--- what these calls tell of sector s
+-- what these calls say about sector s
 abbrev pub trace_of : ℕ → List Call → Trace
 trace_of s calls = fold (trace_next s) trace_start calls
 
@@ -60,7 +60,7 @@ abbrev pub IsPlaced : ℕ → Place → Type 0
 IsPlaced written Start = Unit {0}
 IsPlaced written (Record at) = at + 512 ≤ written
 
--- whole sectors stand at each place that is told
+-- whole sectors stand at each place that is reported
 pub record AllPlaced (written : ℕ) (t : Trace) : Type 0 where
   pub last : IsPlaced written t.last
   pub handed : IsPlaced written t.handed

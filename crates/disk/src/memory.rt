@@ -24,7 +24,7 @@ pub struct Room {
 
 /// A disk in memory that can lose power. It keeps a record of its calls, from which its earlier images
 /// are read, in room that it takes when it is made. Once made, its calls take no memory, `settle` aside. A read does
-/// not go through the record: beside it a list says where the bytes of each sector are.
+/// not go through the record: next to it a list says where the bytes of each sector are.
 #[derive(Drop)]
 pub struct Memory {
     sectors: u64,

@@ -8,14 +8,14 @@ use Rattle.driver.specs.declared.datum.Datum.TheVariants.{Unknown, Valid, Invali
 use Rattle.driver.specs.Data.{value_of}
 use Rattle.driver.specs.Entries.{DriverEntry}
 use Rattle.driver.specs.LastGiven.{none_gives, HasValue, ValueSo}
-use Rattle.driver.specs.Telling.{ItemTold, after_told, datum_after, gives, deletes}
-use Rattle.driver.specs.Telling.ItemTold.{Gives, Confirms, Leaves, Nothing}
+use Rattle.driver.specs.Description.{ItemReport, after_reported, datum_after, gives, deletes}
+use Rattle.driver.specs.Description.ItemReport.{Gives, Confirms, Leaves, Nothing}
 use Rattle.mode_table.specs.declared.statuses.Fate.TheVariants.{Kept as K, Invalid as I, Deleted as D}
 
 -- ---- one entry
 
-by_value : {A : Type 0} (told : ItemTold A) (before : Datum A) (value : A) → deletes told ≡ false → value_of (after_told told before) ≡ Some value →
-    (told ≡ Gives value) ⊎ ((gives told ≡ false) × (value_of before ≡ Some value))
+by_value : {A : Type 0} (reported : ItemReport A) (before : Datum A) (value : A) → deletes reported ≡ false → value_of (after_reported reported before) ≡ Some value →
+    (reported ≡ Gives value) ⊎ ((gives reported ≡ false) × (value_of before ≡ Some value))
 by_value (Gives other) before value d h = inl (let same : other ≡ value = cc in ap Gives same)
 by_value Confirms Unknown value d h = inr (refl, h)
 by_value Confirms (Valid other) value d h = inr (refl, h)
@@ -27,8 +27,8 @@ by_value (Leaves I) (Invalid other) value d h = inr (refl, h)
 by_value (Leaves D) before value d h = absurd (let no : true ≡ false = d in cc)
 by_value Nothing before value d h = inr (refl, h)
 
-past_value : {A : Type 0} (told : ItemTold A) (before : Datum A) (value : A) → deletes told ≡ false → gives told ≡ false →
-    value_of before ≡ Some value → value_of (after_told told before) ≡ Some value
+past_value : {A : Type 0} (reported : ItemReport A) (before : Datum A) (value : A) → deletes reported ≡ false → gives reported ≡ false →
+    value_of before ≡ Some value → value_of (after_reported reported before) ≡ Some value
 past_value (Gives other) before value d g h = absurd (let no : true ≡ false = g in cc)
 past_value Confirms Unknown value d g h = h
 past_value Confirms (Valid other) value d g h = h
@@ -42,9 +42,9 @@ past_value Nothing before value d g h = h
 
 -- ---- all entries
 
-behind : {A : Type 0} (told : DriverEntry → ItemTold A) (kept : Datum A) (entry : DriverEntry) (entries : List DriverEntry) (value : A) → gives (told entry) ≡ false →
-    HasValue told kept entries value → HasValue told kept (entry ∷ entries) value
-behind told kept entry entries value h (inl given) = inl (record {
+behind : {A : Type 0} (reported : DriverEntry → ItemReport A) (kept : Datum A) (entry : DriverEntry) (entries : List DriverEntry) (value : A) → gives (reported entry) ≡ false →
+    HasValue reported kept entries value → HasValue reported kept (entry ∷ entries) value
+behind reported kept entry entries value h (inl given) = inl (record {
   entry = given.entry;
   later = entry ∷ given.later;
   earlier = given.earlier;
@@ -52,34 +52,34 @@ behind told kept entry entries value h (inl given) = inl (record {
   gives_it = given.gives_it;
   none_later = rw h given.none_later;
 })
-behind told kept entry entries value h (inr was) = inr (rw h was.0, was.1)
+behind reported kept entry entries value h (inr was) = inr (rw h was.0, was.1)
 
-pub has_value : {A : Type 0} (told : DriverEntry → ItemTold A) → ((entry : DriverEntry) → deletes (told entry) ≡ false) → (kept : Datum A) (entries : List DriverEntry) (value : A) →
-    value_of (datum_after told kept entries) ≡ Some value → HasValue told kept entries value
-has_value told never kept [] value h = inr (refl, h)
-has_value told never kept (entry ∷ entries) value h =
-    elim (by_value (told entry) (datum_after told kept entries) value (never entry) h) [
+pub has_value : {A : Type 0} (reported : DriverEntry → ItemReport A) → ((entry : DriverEntry) → deletes (reported entry) ≡ false) → (kept : Datum A) (entries : List DriverEntry) (value : A) →
+    value_of (datum_after reported kept entries) ≡ Some value → HasValue reported kept entries value
+has_value reported never kept [] value h = inr (refl, h)
+has_value reported never kept (entry ∷ entries) value h =
+    elim (by_value (reported entry) (datum_after reported kept entries) value (never entry) h) [
       | inl now ↦ inl (record { entry = entry; later = []; earlier = entries; in_turn = refl; gives_it = now; none_later = refl })
-      | inr before ↦ behind told kept entry entries value before.0 (has_value told never kept entries value before.1)
+      | inr before ↦ behind reported kept entry entries value before.0 (has_value reported never kept entries value before.1)
     ]
 
-still : {A : Type 0} (told : DriverEntry → ItemTold A) → ((entry : DriverEntry) → deletes (told entry) ≡ false) → (kept : Datum A) (later rest : List DriverEntry) (value : A) →
-    value_of (datum_after told kept rest) ≡ Some value → none_gives told later → value_of (datum_after told kept (later ++ rest)) ≡ Some value
-still told never kept [] rest value h n = h
-still told never kept (entry ∷ later) rest value h n =
-    let parts = or_parts (gives (told entry)) (list_any (λ (e : DriverEntry). gives (told e)) later) n in
-    past_value (told entry) (datum_after told kept (later ++ rest)) value (never entry) parts.0 (still told never kept later rest value h parts.1)
+still : {A : Type 0} (reported : DriverEntry → ItemReport A) → ((entry : DriverEntry) → deletes (reported entry) ≡ false) → (kept : Datum A) (later rest : List DriverEntry) (value : A) →
+    value_of (datum_after reported kept rest) ≡ Some value → none_gives reported later → value_of (datum_after reported kept (later ++ rest)) ≡ Some value
+still reported never kept [] rest value h n = h
+still reported never kept (entry ∷ later) rest value h n =
+    let parts = or_parts (gives (reported entry)) (list_any (λ (e : DriverEntry). gives (reported e)) later) n in
+    past_value (reported entry) (datum_after reported kept (later ++ rest)) value (never entry) parts.0 (still reported never kept later rest value h parts.1)
 
-now_given : {A : Type 0} (told : ItemTold A) (before : Datum A) (value : A) → told ≡ Gives value → value_of (after_told told before) ≡ Some value
-now_given told before value h = rw h refl
+now_given : {A : Type 0} (reported : ItemReport A) (before : Datum A) (value : A) → reported ≡ Gives value → value_of (after_reported reported before) ≡ Some value
+now_given reported before value h = rw h refl
 
-pub had_value : {A : Type 0} (told : DriverEntry → ItemTold A) → ((entry : DriverEntry) → deletes (told entry) ≡ false) → (kept : Datum A) (entries : List DriverEntry) (value : A) →
-    HasValue told kept entries value → value_of (datum_after told kept entries) ≡ Some value
-had_value told never kept entries value (inl given) =
-    rw given.in_turn (still told never kept given.later (given.entry ∷ given.earlier) value
-    (now_given (told given.entry) (datum_after told kept given.earlier) value given.gives_it) given.none_later)
-had_value told never kept entries value (inr was) =
-    subst (λ (es : List DriverEntry). value_of (datum_after told kept es) ≡ Some value) (append-nil entries) (still told never kept entries [] value was.1 was.0)
+pub had_value : {A : Type 0} (reported : DriverEntry → ItemReport A) → ((entry : DriverEntry) → deletes (reported entry) ≡ false) → (kept : Datum A) (entries : List DriverEntry) (value : A) →
+    HasValue reported kept entries value → value_of (datum_after reported kept entries) ≡ Some value
+had_value reported never kept entries value (inl given) =
+    rw given.in_turn (still reported never kept given.later (given.entry ∷ given.earlier) value
+    (now_given (reported given.entry) (datum_after reported kept given.earlier) value given.gives_it) given.none_later)
+had_value reported never kept entries value (inr was) =
+    subst (λ (es : List DriverEntry). value_of (datum_after reported kept es) ≡ Some value) (append-nil entries) (still reported never kept entries [] value was.1 was.0)
 
-pub value_so : {A : Type 0} (told : DriverEntry → ItemTold A) → ((entry : DriverEntry) → deletes (told entry) ≡ false) → ValueSo told
-value_so told never kept entries value = (has_value told never kept entries value, had_value told never kept entries value)
+pub value_so : {A : Type 0} (reported : DriverEntry → ItemReport A) → ((entry : DriverEntry) → deletes (reported entry) ≡ false) → ValueSo reported
+value_so reported never kept entries value = (has_value reported never kept entries value, had_value reported never kept entries value)

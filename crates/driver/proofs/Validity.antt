@@ -8,8 +8,8 @@ use Rattle.driver.specs.declared.datum.Datum.TheVariants.{Unknown, Valid, Invali
 use Rattle.driver.specs.Data.{is_valid, is_known, value_of}
 use Rattle.driver.specs.Entries.{DriverEntry}
 use Rattle.driver.specs.LastGiven.{none_ends, HasValue, WasMadeValid, ValidSo, StaysKnown, StaysValid}
-use Rattle.driver.specs.Telling.{ItemTold, after_told, datum_after, gives, confirms, ends, deletes}
-use Rattle.driver.specs.Telling.ItemTold.{Gives, Confirms, Leaves, Nothing}
+use Rattle.driver.specs.Description.{ItemReport, after_reported, datum_after, gives, confirms, ends, deletes}
+use Rattle.driver.specs.Description.ItemReport.{Gives, Confirms, Leaves, Nothing}
 use Rattle.driver.proofs.Giving.{has_value, had_value}
 use Rattle.mode_table.specs.declared.statuses.Fate.TheVariants.{Kept as K, Invalid as I, Deleted as D}
 
@@ -27,8 +27,8 @@ known_by (Invalid other) value h = refl
 
 -- ---- one entry
 
-by_valid : {A : Type 0} (told : ItemTold A) (before : Datum A) → is_valid (after_told told before) ≡ true →
-    ((gives told ≡ true) ⊎ ((confirms told ≡ true) × (is_known before ≡ true))) ⊎ ((ends told ≡ false) × (is_valid before ≡ true))
+by_valid : {A : Type 0} (reported : ItemReport A) (before : Datum A) → is_valid (after_reported reported before) ≡ true →
+    ((gives reported ≡ true) ⊎ ((confirms reported ≡ true) × (is_known before ≡ true))) ⊎ ((ends reported ≡ false) × (is_valid before ≡ true))
 by_valid (Gives value) before h = inl (inl refl)
 by_valid Confirms Unknown h = absurd (let no : false ≡ true = h in cc)
 by_valid Confirms (Valid value) h = inl (inr (refl, refl))
@@ -40,7 +40,7 @@ by_valid (Leaves I) (Invalid value) h = absurd (let no : false ≡ true = h in c
 by_valid (Leaves D) before h = absurd (let no : false ≡ true = h in cc)
 by_valid Nothing before h = inr (refl, h)
 
-past_valid : {A : Type 0} (told : ItemTold A) (before : Datum A) → ends told ≡ false → is_valid before ≡ true → is_valid (after_told told before) ≡ true
+past_valid : {A : Type 0} (reported : ItemReport A) (before : Datum A) → ends reported ≡ false → is_valid before ≡ true → is_valid (after_reported reported before) ≡ true
 past_valid (Gives value) before e h = refl
 past_valid Confirms Unknown e h = h
 past_valid Confirms (Valid value) e h = refl
@@ -50,7 +50,7 @@ past_valid (Leaves I) before e h = absurd (let no : true ≡ false = e in cc)
 past_valid (Leaves D) before e h = absurd (let no : true ≡ false = e in cc)
 past_valid Nothing before e h = h
 
-past_known : {A : Type 0} (told : ItemTold A) (before : Datum A) → deletes told ≡ false → is_known before ≡ true → is_known (after_told told before) ≡ true
+past_known : {A : Type 0} (reported : ItemReport A) (before : Datum A) → deletes reported ≡ false → is_known before ≡ true → is_known (after_reported reported before) ≡ true
 past_known (Gives value) before d h = refl
 past_known Confirms Unknown d h = h
 past_known Confirms (Valid value) d h = refl
@@ -62,8 +62,8 @@ past_known (Leaves I) (Invalid value) d h = refl
 past_known (Leaves D) before d h = absurd (let no : true ≡ false = d in cc)
 past_known Nothing before d h = h
 
-made_valid : {A : Type 0} (told : ItemTold A) (before : Datum A) → (gives told ≡ true) ⊎ ((confirms told ≡ true) × (is_known before ≡ true)) →
-    is_valid (after_told told before) ≡ true
+made_valid : {A : Type 0} (reported : ItemReport A) (before : Datum A) → (gives reported ≡ true) ⊎ ((confirms reported ≡ true) × (is_known before ≡ true)) →
+    is_valid (after_reported reported before) ≡ true
 made_valid (Gives value) before h = refl
 made_valid Confirms Unknown (inl h) = absurd (let no : false ≡ true = h in cc)
 made_valid Confirms Unknown (inr h) = absurd (let no : false ≡ true = h.1 in cc)
@@ -76,10 +76,10 @@ made_valid Nothing before (inr h) = absurd (let no : false ≡ true = h.0 in cc)
 
 -- ---- all entries
 
-behind : {A : Type 0} (told : DriverEntry → ItemTold A) (kept : Datum A) (entry : DriverEntry) (entries : List DriverEntry) → ends (told entry) ≡ false →
-    WasMadeValid told kept entries ⊎ (none_ends told entries × (is_valid kept ≡ true)) →
-    WasMadeValid told kept (entry ∷ entries) ⊎ (none_ends told (entry ∷ entries) × (is_valid kept ≡ true))
-behind told kept entry entries h (inl made) = inl (record {
+behind : {A : Type 0} (reported : DriverEntry → ItemReport A) (kept : Datum A) (entry : DriverEntry) (entries : List DriverEntry) → ends (reported entry) ≡ false →
+    WasMadeValid reported kept entries ⊎ (none_ends reported entries × (is_valid kept ≡ true)) →
+    WasMadeValid reported kept (entry ∷ entries) ⊎ (none_ends reported (entry ∷ entries) × (is_valid kept ≡ true))
+behind reported kept entry entries h (inl made) = inl (record {
   entry = made.entry;
   later = entry ∷ made.later;
   earlier = made.earlier;
@@ -87,66 +87,66 @@ behind told kept entry entries h (inl made) = inl (record {
   made_so = made.made_so;
   none_since = rw h made.none_since;
 })
-behind told kept entry entries h (inr was) = inr (rw h was.0, was.1)
+behind reported kept entry entries h (inr was) = inr (rw h was.0, was.1)
 
-made_now : {A : Type 0} (told : DriverEntry → ItemTold A) → ((entry : DriverEntry) → deletes (told entry) ≡ false) → (kept : Datum A) (entry : DriverEntry) (entries : List DriverEntry) →
-    (gives (told entry) ≡ true) ⊎ ((confirms (told entry) ≡ true) × (is_known (datum_after told kept entries) ≡ true)) →
-    WasMadeValid told kept (entry ∷ entries)
-made_now told never kept entry entries (inl given) =
+made_now : {A : Type 0} (reported : DriverEntry → ItemReport A) → ((entry : DriverEntry) → deletes (reported entry) ≡ false) → (kept : Datum A) (entry : DriverEntry) (entries : List DriverEntry) →
+    (gives (reported entry) ≡ true) ⊎ ((confirms (reported entry) ≡ true) × (is_known (datum_after reported kept entries) ≡ true)) →
+    WasMadeValid reported kept (entry ∷ entries)
+made_now reported never kept entry entries (inl given) =
     record { entry = entry; later = []; earlier = entries; in_turn = refl; made_so = inl given; none_since = refl }
-made_now told never kept entry entries (inr again) =
-    let known = value_in (datum_after told kept entries) again.1 in
+made_now reported never kept entry entries (inr again) =
+    let known = value_in (datum_after reported kept entries) again.1 in
     record {
       entry = entry;
       later = [];
       earlier = entries;
       in_turn = refl;
-      made_so = inr (again.0, (known.0, has_value told never kept entries known.0 known.1));
+      made_so = inr (again.0, (known.0, has_value reported never kept entries known.0 known.1));
       none_since = refl;
     }
 
-valid : {A : Type 0} (told : DriverEntry → ItemTold A) → ((entry : DriverEntry) → deletes (told entry) ≡ false) → (kept : Datum A) (entries : List DriverEntry) →
-    is_valid (datum_after told kept entries) ≡ true → WasMadeValid told kept entries ⊎ (none_ends told entries × (is_valid kept ≡ true))
-valid told never kept [] h = inr (refl, h)
-valid told never kept (entry ∷ entries) h =
-    elim (by_valid (told entry) (datum_after told kept entries) h) [
-      | inl now ↦ inl (made_now told never kept entry entries now)
-      | inr before ↦ behind told kept entry entries before.0 (valid told never kept entries before.1)
+valid : {A : Type 0} (reported : DriverEntry → ItemReport A) → ((entry : DriverEntry) → deletes (reported entry) ≡ false) → (kept : Datum A) (entries : List DriverEntry) →
+    is_valid (datum_after reported kept entries) ≡ true → WasMadeValid reported kept entries ⊎ (none_ends reported entries × (is_valid kept ≡ true))
+valid reported never kept [] h = inr (refl, h)
+valid reported never kept (entry ∷ entries) h =
+    elim (by_valid (reported entry) (datum_after reported kept entries) h) [
+      | inl now ↦ inl (made_now reported never kept entry entries now)
+      | inr before ↦ behind reported kept entry entries before.0 (valid reported never kept entries before.1)
     ]
 
-still : {A : Type 0} (told : DriverEntry → ItemTold A) (kept : Datum A) (later rest : List DriverEntry) →
-    is_valid (datum_after told kept rest) ≡ true → none_ends told later → is_valid (datum_after told kept (later ++ rest)) ≡ true
-still told kept [] rest h n = h
-still told kept (entry ∷ later) rest h n =
-    let parts = or_parts (ends (told entry)) (list_any (λ (e : DriverEntry). ends (told e)) later) n in
-    past_valid (told entry) (datum_after told kept (later ++ rest)) parts.0 (still told kept later rest h parts.1)
+still : {A : Type 0} (reported : DriverEntry → ItemReport A) (kept : Datum A) (later rest : List DriverEntry) →
+    is_valid (datum_after reported kept rest) ≡ true → none_ends reported later → is_valid (datum_after reported kept (later ++ rest)) ≡ true
+still reported kept [] rest h n = h
+still reported kept (entry ∷ later) rest h n =
+    let parts = or_parts (ends (reported entry)) (list_any (λ (e : DriverEntry). ends (reported e)) later) n in
+    past_valid (reported entry) (datum_after reported kept (later ++ rest)) parts.0 (still reported kept later rest h parts.1)
 
-known_then : {A : Type 0} (told : DriverEntry → ItemTold A) → ((entry : DriverEntry) → deletes (told entry) ≡ false) → (kept : Datum A) (entry : DriverEntry) (entries : List DriverEntry) →
-    (gives (told entry) ≡ true) ⊎ ((confirms (told entry) ≡ true) × ((value : A) × HasValue told kept entries value)) →
-    (gives (told entry) ≡ true) ⊎ ((confirms (told entry) ≡ true) × (is_known (datum_after told kept entries) ≡ true))
-known_then told never kept entry entries (inl given) = inl given
-known_then told never kept entry entries (inr again) =
-    inr (again.0, known_by (datum_after told kept entries) again.1.0 (had_value told never kept entries again.1.0 again.1.1))
+known_then : {A : Type 0} (reported : DriverEntry → ItemReport A) → ((entry : DriverEntry) → deletes (reported entry) ≡ false) → (kept : Datum A) (entry : DriverEntry) (entries : List DriverEntry) →
+    (gives (reported entry) ≡ true) ⊎ ((confirms (reported entry) ≡ true) × ((value : A) × HasValue reported kept entries value)) →
+    (gives (reported entry) ≡ true) ⊎ ((confirms (reported entry) ≡ true) × (is_known (datum_after reported kept entries) ≡ true))
+known_then reported never kept entry entries (inl given) = inl given
+known_then reported never kept entry entries (inr again) =
+    inr (again.0, known_by (datum_after reported kept entries) again.1.0 (had_value reported never kept entries again.1.0 again.1.1))
 
-was_valid : {A : Type 0} (told : DriverEntry → ItemTold A) → ((entry : DriverEntry) → deletes (told entry) ≡ false) → (kept : Datum A) (entries : List DriverEntry) →
-    WasMadeValid told kept entries ⊎ (none_ends told entries × (is_valid kept ≡ true)) → is_valid (datum_after told kept entries) ≡ true
-was_valid told never kept entries (inl made) =
-    rw made.in_turn (still told kept made.later (made.entry ∷ made.earlier)
-    (made_valid (told made.entry) (datum_after told kept made.earlier) (known_then told never kept made.entry made.earlier made.made_so)) made.none_since)
-was_valid told never kept entries (inr was) =
-    subst (λ (es : List DriverEntry). is_valid (datum_after told kept es) ≡ true) (append-nil entries) (still told kept entries [] was.1 was.0)
+was_valid : {A : Type 0} (reported : DriverEntry → ItemReport A) → ((entry : DriverEntry) → deletes (reported entry) ≡ false) → (kept : Datum A) (entries : List DriverEntry) →
+    WasMadeValid reported kept entries ⊎ (none_ends reported entries × (is_valid kept ≡ true)) → is_valid (datum_after reported kept entries) ≡ true
+was_valid reported never kept entries (inl made) =
+    rw made.in_turn (still reported kept made.later (made.entry ∷ made.earlier)
+    (made_valid (reported made.entry) (datum_after reported kept made.earlier) (known_then reported never kept made.entry made.earlier made.made_so)) made.none_since)
+was_valid reported never kept entries (inr was) =
+    subst (λ (es : List DriverEntry). is_valid (datum_after reported kept es) ≡ true) (append-nil entries) (still reported kept entries [] was.1 was.0)
 
-pub valid_so : {A : Type 0} (told : DriverEntry → ItemTold A) → ((entry : DriverEntry) → deletes (told entry) ≡ false) → ValidSo told
-valid_so told never kept entries = (valid told never kept entries, was_valid told never kept entries)
+pub valid_so : {A : Type 0} (reported : DriverEntry → ItemReport A) → ((entry : DriverEntry) → deletes (reported entry) ≡ false) → ValidSo reported
+valid_so reported never kept entries = (valid reported never kept entries, was_valid reported never kept entries)
 
 -- ---- nothing is lost
 
-pub stays_known : {A : Type 0} (told : DriverEntry → ItemTold A) → ((entry : DriverEntry) → deletes (told entry) ≡ false) → StaysKnown told
-stays_known told never kept [] earlier h = h
-stays_known told never kept (entry ∷ later) earlier h =
-    past_known (told entry) (datum_after told kept (later ++ earlier)) (never entry) (stays_known told never kept later earlier h)
+pub stays_known : {A : Type 0} (reported : DriverEntry → ItemReport A) → ((entry : DriverEntry) → deletes (reported entry) ≡ false) → StaysKnown reported
+stays_known reported never kept [] earlier h = h
+stays_known reported never kept (entry ∷ later) earlier h =
+    past_known (reported entry) (datum_after reported kept (later ++ earlier)) (never entry) (stays_known reported never kept later earlier h)
 
-pub stays_valid : {A : Type 0} (told : DriverEntry → ItemTold A) → ((entry : DriverEntry) → ends (told entry) ≡ false) → StaysValid told
-stays_valid told never kept [] earlier h = h
-stays_valid told never kept (entry ∷ later) earlier h =
-    past_valid (told entry) (datum_after told kept (later ++ earlier)) (never entry) (stays_valid told never kept later earlier h)
+pub stays_valid : {A : Type 0} (reported : DriverEntry → ItemReport A) → ((entry : DriverEntry) → ends (reported entry) ≡ false) → StaysValid reported
+stays_valid reported never kept [] earlier h = h
+stays_valid reported never kept (entry ∷ later) earlier h =
+    past_valid (reported entry) (datum_after reported kept (later ++ earlier)) (never entry) (stays_valid reported never kept later earlier h)

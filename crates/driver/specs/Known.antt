@@ -13,7 +13,7 @@ use Rattle.driver.specs.Limits.{Train}
 use Rattle.driver.specs.Entries.{DriverEntry, after_all}
 use Rattle.driver.specs.Entries.DriverEntry.{Did, ModeEntered}
 use Rattle.driver.specs.Revalidating.{revalidation_of}
-use Rattle.driver.specs.Telling.{datum_after, identity_told, running_number_told, train_data_told, level_told}
+use Rattle.driver.specs.Description.{datum_after, identity_reported, running_number_reported, train_data_reported, level_reported}
 use Rattle.mode_table.specs.declared.level.TrainLevel.{TrainLevel}
 use Rattle.mode_table.specs.declared.mode.Mode.TheVariants.{Trip}
 use Rattle.mode_table.specs.declared.statuses.Cold.{Cold}
@@ -53,10 +53,10 @@ pub record KnownItems : Type 0 where
 
 abbrev pub known : Kept → List DriverEntry → KnownItems
 known kept entries = record {
-  identity = datum_after identity_told kept.identity entries;
-  running_number = datum_after running_number_told kept.running_number entries;
-  train_data = datum_after train_data_told kept.train_data entries;
-  level = datum_after level_told kept.level entries;
+  identity = datum_after identity_reported kept.identity entries;
+  running_number = datum_after running_number_reported kept.running_number entries;
+  train_data = datum_after train_data_reported kept.train_data entries;
+  level = datum_after level_reported kept.level entries;
   trip_outstanding = after_all trip_after kept.trip_outstanding entries;
   overridden = after_all override_after None entries;
   revalidation = revalidation_of (is_valid kept.level) entries;

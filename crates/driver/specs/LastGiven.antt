@@ -9,8 +9,8 @@ use Rattle.driver.specs.Data.{is_valid, is_known, value_of}
 use Rattle.driver.specs.Entries.{DriverEntry, after_all}
 use Rattle.driver.specs.Entries.DriverEntry.{Did, ModeEntered}
 use Rattle.driver.specs.Known.{override_after}
-use Rattle.driver.specs.Telling.{ItemTold, datum_after, gives, confirms, ends}
-use Rattle.driver.specs.Telling.ItemTold.{Gives}
+use Rattle.driver.specs.Description.{ItemReport, datum_after, gives, confirms, ends}
+use Rattle.driver.specs.Description.ItemReport.{Gives}
 use Rattle.mode_table.specs.declared.statuses.Fate.{Fate}
 use Rattle.mode_table.specs.declared.statuses.Fate.TheVariants as fate
 use Rattle.mode_table.specs.declared.statuses.Item.TheVariants as item
@@ -18,57 +18,57 @@ use Rattle.mode_table.specs.Statuses.{status_on}
 
 -- ---- the value
 
-abbrev pub none_gives : {A : Type 0} → (DriverEntry → ItemTold A) → List DriverEntry → Type 0
-none_gives told entries = list_any (λ entry. gives (told entry)) entries ≡ false
+abbrev pub none_gives : {A : Type 0} → (DriverEntry → ItemReport A) → List DriverEntry → Type 0
+none_gives reported entries = list_any (λ entry. gives (reported entry)) entries ≡ false
 
 -- an entry gave this value, and none later gave one
-pub record WasGiven {A : Type 0} (told : DriverEntry → ItemTold A) (entries : List DriverEntry) (value : A) : Type 0 where
+pub record WasGiven {A : Type 0} (reported : DriverEntry → ItemReport A) (entries : List DriverEntry) (value : A) : Type 0 where
   pub entry : DriverEntry
   pub later : List DriverEntry
   pub earlier : List DriverEntry
   pub in_turn : entries ≡ later ++ entry ∷ earlier
-  pub gives_it : told entry ≡ Gives value
-  pub none_later : none_gives told later
+  pub gives_it : reported entry ≡ Gives value
+  pub none_later : none_gives reported later
 
 -- or it was kept as the life began, and none was given in it
-abbrev pub HasValue : {A : Type 0} → (DriverEntry → ItemTold A) → Datum A → List DriverEntry → A → Type 0
-HasValue told kept entries value = WasGiven told entries value ⊎ (none_gives told entries × (value_of kept ≡ Some value))
+abbrev pub HasValue : {A : Type 0} → (DriverEntry → ItemReport A) → Datum A → List DriverEntry → A → Type 0
+HasValue reported kept entries value = WasGiven reported entries value ⊎ (none_gives reported entries × (value_of kept ≡ Some value))
 
 -- the value of a datum is the last one that was given
-abbrev pub ValueSo : {A : Type 0} → (DriverEntry → ItemTold A) → Type 0
-ValueSo {A} told = (kept : Datum A) (entries : List DriverEntry) (value : A) →
-    (value_of (datum_after told kept entries) ≡ Some value) ↔ HasValue told kept entries value
+abbrev pub ValueSo : {A : Type 0} → (DriverEntry → ItemReport A) → Type 0
+ValueSo {A} reported = (kept : Datum A) (entries : List DriverEntry) (value : A) →
+    (value_of (datum_after reported kept entries) ≡ Some value) ↔ HasValue reported kept entries value
 
 -- ---- whether it is valid
 
-abbrev pub none_ends : {A : Type 0} → (DriverEntry → ItemTold A) → List DriverEntry → Type 0
-none_ends told entries = list_any (λ entry. ends (told entry)) entries ≡ false
+abbrev pub none_ends : {A : Type 0} → (DriverEntry → ItemReport A) → List DriverEntry → Type 0
+none_ends reported entries = list_any (λ entry. ends (reported entry)) entries ≡ false
 
 -- an entry gave it, or confirmed it while it had a value, and no mode has made it invalid since
-pub record WasMadeValid {A : Type 0} (told : DriverEntry → ItemTold A) (kept : Datum A) (entries : List DriverEntry) : Type 0 where
+pub record WasMadeValid {A : Type 0} (reported : DriverEntry → ItemReport A) (kept : Datum A) (entries : List DriverEntry) : Type 0 where
   pub entry : DriverEntry
   pub later : List DriverEntry
   pub earlier : List DriverEntry
   pub in_turn : entries ≡ later ++ entry ∷ earlier
-  pub made_so : IsTrue (gives (told entry)) ⊎ (IsTrue (confirms (told entry)) × ((value : A) × HasValue told kept earlier value))
-  pub none_since : none_ends told later
+  pub made_so : IsTrue (gives (reported entry)) ⊎ (IsTrue (confirms (reported entry)) × ((value : A) × HasValue reported kept earlier value))
+  pub none_since : none_ends reported later
 
 -- a datum is valid where it was made so, or was as the life began and no mode has made it invalid
-abbrev pub ValidSo : {A : Type 0} → (DriverEntry → ItemTold A) → Type 0
-ValidSo {A} told = (kept : Datum A) (entries : List DriverEntry) →
-    IsTrue (is_valid (datum_after told kept entries)) ↔ (WasMadeValid told kept entries ⊎ (none_ends told entries × IsTrue (is_valid kept)))
+abbrev pub ValidSo : {A : Type 0} → (DriverEntry → ItemReport A) → Type 0
+ValidSo {A} reported = (kept : Datum A) (entries : List DriverEntry) →
+    IsTrue (is_valid (datum_after reported kept entries)) ↔ (WasMadeValid reported kept entries ⊎ (none_ends reported entries × IsTrue (is_valid kept)))
 
 -- ---- nothing is lost in a life
 
 -- what is known stays known, whatever comes later
-abbrev pub StaysKnown : {A : Type 0} → (DriverEntry → ItemTold A) → Type 0
-StaysKnown {A} told = (kept : Datum A) (later earlier : List DriverEntry) →
-    IsTrue (is_known (datum_after told kept earlier)) → IsTrue (is_known (datum_after told kept (later ++ earlier)))
+abbrev pub StaysKnown : {A : Type 0} → (DriverEntry → ItemReport A) → Type 0
+StaysKnown {A} reported = (kept : Datum A) (later earlier : List DriverEntry) →
+    IsTrue (is_known (datum_after reported kept earlier)) → IsTrue (is_known (datum_after reported kept (later ++ earlier)))
 
 -- what is valid stays so
-abbrev pub StaysValid : {A : Type 0} → (DriverEntry → ItemTold A) → Type 0
-StaysValid {A} told = (kept : Datum A) (later earlier : List DriverEntry) →
-    IsTrue (is_valid (datum_after told kept earlier)) → IsTrue (is_valid (datum_after told kept (later ++ earlier)))
+abbrev pub StaysValid : {A : Type 0} → (DriverEntry → ItemReport A) → Type 0
+StaysValid {A} reported = (kept : Datum A) (later earlier : List DriverEntry) →
+    IsTrue (is_valid (datum_after reported kept earlier)) → IsTrue (is_valid (datum_after reported kept (later ++ earlier)))
 
 -- ---- the override
 

@@ -2,7 +2,7 @@ pub mod Limits
 pub mod Data
 pub mod Overriding
 pub mod Entries
-pub mod Telling
+pub mod Description
 pub mod Revalidating
 pub mod Known
 pub mod Accepting

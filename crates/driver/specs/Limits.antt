@@ -7,7 +7,7 @@ use Rattle.brakes.specs.declared.brakes.Brakes.{Brakes}
 abbrev pub IsIdentity : List ℕ → Type 0
 IsIdentity bytes = (1 ≤ length bytes) × (length bytes ≤ 16) × All (λ byte. (0x20 ≤ byte) × (byte ≤ 0x7E)) bytes
 
--- how it is stored: in 16 bytes, those behind it being 0
+-- how it is stored: in 16 bytes, those after it being 0
 abbrev pub padded : List ℕ → List ℕ
 padded text = text ++ replicate (16 - length text) 0
 

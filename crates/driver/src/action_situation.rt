@@ -5,7 +5,7 @@ ghost use Rattle.driver.specs.Accepting.{stands};
 use mode_table::Mode;
 use units::Mph;
 
-/// What bears on which actions are accepted beside the driver's data, as it is before the event (this project's
+/// What bears on which actions are accepted along with the driver's data, as it is before the event (this project's
 /// profile).
 #[derive(Clone, Copy)]
 pub struct ActionSituation {

@@ -7,7 +7,7 @@ use std::fs::File;
 use std::io;
 use std::io::Write;
 use std::rt::Files;
-use text_output::{Status, tell};
+use text_output::{Status, describe};
 
 fn execute<R: Files<File = File> + AllocGlobal, W: Write>(
     rt: &R,
@@ -19,14 +19,14 @@ fn execute<R: Files<File = File> + AllocGlobal, W: Write>(
         Ok(EtcsCommand::Format { image, blocks }) => format_image(rt, image, blocks, out),
         Ok(EtcsCommand::Run { scenario, image }) => run_scenario(rt, scenario, image, out),
         Ok(EtcsCommand::Journal { image }) => list_image(rt, image, out),
-        Err(EtcsArgsError::OutOfMemory) => tell(out, "refused memory", Status::Refused),
-        Err(EtcsArgsError::Refused) => tell(out, "usage", Status::Usage),
+        Err(EtcsArgsError::OutOfMemory) => describe(out, "refused memory", Status::Refused),
+        Err(EtcsArgsError::Refused) => describe(out, "usage", Status::Usage),
     }
 }
 
 /// The number of a status, or that of a write that failed.
-pub(crate) fn status_of(told: io::Result<Status>) -> u8 {
-    match told {
+pub(crate) fn status_of(reported: io::Result<Status>) -> u8 {
+    match reported {
         Ok(status) => status as u8,
         Err(_) => Status::Refused as u8,
     }

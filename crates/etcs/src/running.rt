@@ -5,16 +5,16 @@ use std::fs::File;
 use std::io;
 use std::io::{BufWriter, Write};
 use std::rt::{Env, Files};
-use text_output::{Status, tell};
+use text_output::{Status, describe};
 
 fn run_into<R: Env + Files<File = File> + AllocGlobal, W: Write>(rt: &R, out: &mut W) -> u8 {
     match args_of(rt) {
         Ok(args) => etcs_main(rt, args.as_slice(), out),
         Err(error) if error.kind() == io::ErrorKind::OutOfMemory => {
-            status_of(tell(out, "refused memory", Status::Refused))
+            status_of(describe(out, "refused memory", Status::Refused))
         }
         // An argument that is not text is none of the program's.
-        Err(_) => status_of(tell(out, "usage", Status::Usage)),
+        Err(_) => status_of(describe(out, "usage", Status::Usage)),
     }
 }
 
@@ -27,7 +27,7 @@ pub(crate) fn run<R: Env + Files<File = File> + Print + AllocGlobal>(rt: &R) -> 
         return Status::Device as u8;
     }
     let Ok(mut out) = BufWriter::new(rt.alloc(), io::writer(rt)) else {
-        return status_of(tell(&mut io::writer(rt), "refused memory", Status::Refused));
+        return status_of(describe(&mut io::writer(rt), "refused memory", Status::Refused));
     };
     let status = run_into(rt, &mut out);
     match out.flush() {

@@ -31,13 +31,13 @@ touches_given g one other f b old new call = record {
       };
 }
 
--- behind the first sector nothing else is read
+-- after the first sector nothing else is read
 pub given_beyond : (g : Option (List ℕ)) (contents : ℕ → List ℕ) (s : ℕ) → 0 < s → given_at g contents s ≡ contents s
 given_beyond None contents s some = refl
 given_beyond (Some first) contents zero some = absurd (omega arith)
 given_beyond (Some first) contents (suc s) some = refl
 
--- the sectors behind the first one stay where that is laid over
+-- the sectors after the first one stay where that is laid over
 behind : (first bytes : List ℕ) (i : ℕ) → length first ≡ 512 → sector_of (first ++ drop 512 bytes) (suc i) ≡ sector_of bytes (suc i)
 behind first bytes i size =
     let place : 512 * suc i ≡ length first + 512 * i = omega (arith, size) in

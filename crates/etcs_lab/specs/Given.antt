@@ -2,7 +2,7 @@
 -- numbered from 0 and have 512 bytes.
 use Rattle.std.specs.Prelude.{◌≡◌, ◌≢◌, ℕ, zero, suc, ◌++◌, List, drop, Option, Some, None}
 use Rattle.disk.specs.State.{State, Platter}
-use Rattle.blocks.specs.FirstSector.{slots_told}
+use Rattle.blocks.specs.FirstSector.{slots_reported}
 
 -- what a sector reads as, where the first one reads as given
 abbrev pub given_at : Option (List ℕ) → (ℕ → List ℕ) → ℕ → List ℕ
@@ -25,14 +25,14 @@ laid_over None at bytes = bytes
 laid_over (Some first) zero bytes = first ++ drop 512 bytes
 laid_over (Some first) (suc s) bytes = bytes
 
--- this is a first sector that tells so many slots; none where no number is given
+-- this is a first sector that says so many slots; none where no number is given
 abbrev pub IsGiven : Option ℕ → Option (List ℕ) → Type 0
 IsGiven None None = Unit {0}
 IsGiven None (Some first) = ⊥
 IsGiven (Some slots) None = ⊥
-IsGiven (Some slots) (Some first) = slots_told first ≡ Some slots
+IsGiven (Some slots) (Some first) = slots_reported first ≡ Some slots
 
--- The first sector tells so many slots, where a number is given, and all others are the same.
+-- The first sector says so many slots, where a number is given, and all others are the same.
 abbrev pub ReadsAs : Option ℕ → (ℕ → List ℕ) → (ℕ → List ℕ) → Type 0
 ReadsAs None contents read = (s : ℕ) → read s ≡ contents s
-ReadsAs (Some slots) contents read = (slots_told (read 0) ≡ Some slots) × ((s : ℕ) → s ≢ 0 → read s ≡ contents s)
+ReadsAs (Some slots) contents read = (slots_reported (read 0) ≡ Some slots) × ((s : ℕ) → s ≢ 0 → read s ≡ contents s)

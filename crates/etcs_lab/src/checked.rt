@@ -3,7 +3,7 @@
 use crate::examined::verdict_of;
 use crate::images::{Image, opened_whole};
 use crate::replayed::{print_replay, stopped};
-use crate::status::{Status, told};
+use crate::status::{Status, reported};
 use command_line::LabImage;
 use lab_examine::Verdict;
 use lab_replay::{Outcome, WalkError};
@@ -69,14 +69,14 @@ fn check<R: AllocGlobal + Eprint, W: Write>(
     let verdict = verdict_of(rt, image, form, out)?;
     let outcome = match print_replay(rt.alloc(), &mut image.disk, form, out) {
         Ok(outcome) => Some(outcome),
-        // The examination tells which.
+        // The examination says which.
         Err(WalkError::NotFormatted | WalkError::Damaged) => None,
         Err(error) => return Err(stopped(rt, image.path, error)),
     };
     Ok(Findings { verdict, outcome })
 }
 
-/// Examines an image and replays its journal, tells both in one line, and answers the status.
+/// Examines an image and replays its journal, reports both in one line, and answers the status.
 pub(crate) fn checked<R: Files<File = File> + AllocGlobal + Eprint, W: Write>(
     rt: &R,
     image: LabImage,
@@ -87,7 +87,7 @@ pub(crate) fn checked<R: Files<File = File> + AllocGlobal + Eprint, W: Write>(
     let mut image = opened_whole(rt, image, is_watched)?;
     let found = check(rt, &mut image, form, out)?;
     image.compare_digest(rt, is_watched)?;
-    told(
+    reported(
         rt,
         image.path,
         out.write_all(found.last_line(form).as_bytes()),

@@ -9,7 +9,7 @@ use file_disk::{RawFile, read_all};
 use lab_examine::FileFacts;
 use sha2::{Digest, Sha256};
 
-// The bytes of an image of the most slots, and of a part of a sector behind them.
+// The bytes of an image of the most slots, and of a part of a sector after them.
 const MOST_BYTES: u64 = 512 * (1 + 6 * 1_048_576) + 511;
 
 // The first 512 bytes of a file; None where it has fewer.
@@ -46,7 +46,7 @@ fn taken<R: Eprint, F: RawFile>(
         }
         hasher.update(&buffer[..count]);
         bytes = bytes.saturating_add(count as u64);
-        progress.tell(rt, bytes);
+        progress.describe(rt, bytes);
     }
     progress.end(rt);
     Ok((bytes, digits_of(&hasher.finalize())))
@@ -61,7 +61,7 @@ pub(crate) fn digits_of(digest: &[u8; 32]) -> [u8; 64] {
     }
 }
 
-/// What is told of a file as a whole. That it isn't formatted, where no number of slots is given, is said before all of
+/// What is reported of a file as a whole. That it isn't formatted, where no number of slots is given, is said before all of
 /// it is read; and of such a file that has more bytes than any image no digest is taken. The error is that of a read, or of
 /// a file that gives more or fewer bytes than it has: a digest of those would be of another file.
 pub(crate) fn facts_of<R: Eprint, F: RawFile>(

@@ -46,7 +46,7 @@ fn lay_over(given: &Option<[u8; SECTOR_BYTES]>, first: u64, bytes: &mut [u8])
     }
 }
 
-// The count of faults behind an answer.
+// The count of faults after an answer.
 fn counted(faults: u64, answer: &Result<(), DiskFault>) -> u64
     ensures { result ≡ (if is_err answer.now then (faults + 1) % 2 ^ 64 else faults) }
 {

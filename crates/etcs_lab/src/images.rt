@@ -62,12 +62,12 @@ pub(crate) fn opened<R: Files<File = File> + Eprint>(
     disk_over(rt, file_of(rt, image.path)?, image)
 }
 
-/// An open image, with what is told of its file as a whole.
+/// An open image, with what is reported of its file as a whole.
 #[derive(Drop)]
 pub(crate) struct Image<'a> {
     /// The file.
     pub(crate) path: &'a str,
-    /// What is told of it.
+    /// What is reported of it.
     pub(crate) file: FileFacts,
     /// The disk over it.
     pub(crate) disk: ImageDisk,

@@ -9,7 +9,7 @@ use std::io::Write;
 use std::rt::Files;
 use text_output::Form;
 
-/// Tells what is wrong in a scenario, or probably not meant, and answers the status.
+/// Reports what is wrong in a scenario, or probably not meant, and answers the status.
 pub(crate) fn linted<R: Files<File = File> + AllocGlobal + Eprint, W: Write>(
     rt: &R,
     path: &str,

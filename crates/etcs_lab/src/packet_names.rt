@@ -1,9 +1,9 @@
 //! The command `packets`.
 
-use crate::status::{Status, no_memory, told};
+use crate::status::{Status, no_memory, reported};
 use crate::telegrams::bytes_of;
 use packet_uses::{
-    Fate, ToldPacket, name_pieces, never_used_packets, number_pieces, place_pieces, why_piece,
+    Fate, ReportedPacket, name_pieces, never_used_packets, number_pieces, place_pieces, why_piece,
 };
 use packets::PacketFault;
 use std::alloc::Global;
@@ -15,37 +15,37 @@ use track_packets::{
     packets_in_order,
 };
 
-// Why the fields of a packet aren't told.
+// Why the fields of a packet aren't reported.
 #[derive(Clone, Copy)]
-struct FaultTold {
+struct FaultReport {
     says: &'static str,
     word: &'static str,
     variable: Option<Variable>,
     bit: Option<u64>,
 }
 
-// The fields of a packet, or why they aren't told.
+// The fields of a packet, or why they aren't reported.
 #[derive(Drop)]
 enum Body {
     Fields(Fields),
-    Fault(FaultTold),
+    Fault(FaultReport),
 }
 
-// What is told of a packet.
+// What is reported of a packet.
 #[derive(Drop)]
-struct PacketTold {
+struct PacketReport {
     place: PacketPlace,
     why: Fate,
     body: Body,
 }
 
 // Why no mode uses the packet that begins here, in any direction.
-fn why_never(never: &[ToldPacket], start: u32) -> Fate {
+fn why_never(never: &[ReportedPacket], start: u32) -> Fate {
     let found = never.iter().find(|one| one.start == u64::from(start));
     found.map_or(Fate::Used, |one| one.fate)
 }
 
-fn why_told(form: Form, why: Fate) -> Piece {
+fn why_reported(form: Form, why: Fate) -> Piece {
     match (form, why) {
         (Form::Json, _) => why_piece(why),
         (_, Fate::NotKnown) => Piece::Same(", not used: the kernel doesn't know it"),
@@ -81,21 +81,21 @@ fn rest_pieces(rest: u32) -> [Piece; 3] {
     }
 }
 
-fn field_fault(fault: FieldFault) -> FaultTold {
+fn field_fault(fault: FieldFault) -> FaultReport {
     match fault {
-        FieldFault::CutOff(place) => FaultTold {
+        FieldFault::CutOff(place) => FaultReport {
             says: "a field goes beyond its last bit",
             word: "cut_off",
             variable: Some(place.variable),
             bit: Some(u64::from(place.start)),
         },
-        FieldFault::TooMany(place) => FaultTold {
+        FieldFault::TooMany(place) => FaultReport {
             says: "a counter announces too many elements",
             word: "too_many",
             variable: Some(place.variable),
             bit: Some(u64::from(place.start)),
         },
-        FieldFault::TooLong(start) => FaultTold {
+        FieldFault::TooLong(start) => FaultReport {
             says: "bits are left after its last field",
             word: "too_long",
             variable: None,
@@ -104,8 +104,8 @@ fn field_fault(fault: FieldFault) -> FaultTold {
     }
 }
 
-fn without_place(says: &'static str, word: &'static str) -> FaultTold {
-    FaultTold {
+fn without_place(says: &'static str, word: &'static str) -> FaultReport {
+    FaultReport {
         says,
         word,
         variable: None,
@@ -114,7 +114,7 @@ fn without_place(says: &'static str, word: &'static str) -> FaultTold {
 }
 
 // Of a packet that the kernel knows.
-fn refusal(fault: PacketFault) -> FaultTold {
+fn refusal(fault: PacketFault) -> FaultReport {
     match fault {
         PacketFault::Truncated => without_place("the kernel refuses it, Truncated", "Truncated"),
         PacketFault::WrongLength => {
@@ -127,7 +127,7 @@ fn refusal(fault: PacketFault) -> FaultTold {
     }
 }
 
-fn fault_pieces(fault: FaultTold) -> [Piece; 8] {
+fn fault_pieces(fault: FaultReport) -> [Piece; 8] {
     let (quote, name, end) = match fault.variable {
         Some(variable) => (
             Piece::Text(", ", "\",\"variable\":\""),
@@ -169,7 +169,7 @@ fn write_fields<W: Write>(form: Form, fields: &Fields, out: &mut W) -> io::Resul
     write_pieces(form, &rest_pieces(fields.rest), out)
 }
 
-// The fields of a packet, or why they can't be told; None where memory is refused.
+// The fields of a packet, or why they can't be reported; None where memory is refused.
 fn body_of(alloc: Global, bytes: &[u8], place: PacketPlace) -> Option<Body> {
     match fields_of(alloc, bytes, place) {
         Ok(fields) => Some(Body::Fields(fields)),
@@ -182,26 +182,30 @@ fn body_of(alloc: Global, bytes: &[u8], place: PacketPlace) -> Option<Body> {
     }
 }
 
-// All that is told of the packets of a telegram, so that no memory is asked for once it is written; None where it is refused.
-fn told_of(alloc: Global, bytes: &[u8], places: &[PacketPlace]) -> Option<Vec<PacketTold>> {
+// All that is reported of the packets of a telegram, so that no memory is asked for once it is written; None where it is refused.
+fn description_of(
+    alloc: Global,
+    bytes: &[u8],
+    places: &[PacketPlace],
+) -> Option<Vec<PacketReport>> {
     let never = never_used_packets(bytes);
-    let mut told = Vec::new(alloc);
+    let mut reported = Vec::new(alloc);
     for place in places {
         let why = why_never(never.as_slice(), place.start);
         let body = body_of(alloc, bytes, *place)?;
-        let one = PacketTold {
+        let one = PacketReport {
             place: *place,
             why,
             body,
         };
-        told.push(one).ok()?;
+        reported.push(one).ok()?;
     }
-    Some(told)
+    Some(reported)
 }
 
 fn write_packet<W: Write>(
     form: Form,
-    packet: &PacketTold,
+    packet: &PacketReport,
     later: bool,
     out: &mut W,
 ) -> io::Result<()> {
@@ -211,7 +215,7 @@ fn write_packet<W: Write>(
         u64::from(packet.place.start),
         u64::from(packet.place.length),
     );
-    let why = [why_told(form, packet.why), Piece::Text("\n", "")];
+    let why = [why_reported(form, packet.why), Piece::Text("\n", "")];
     write_parts(form, &[&number, &name, &place, &why], out)?;
     match &packet.body {
         Body::Fields(fields) => write_fields(form, fields, out),
@@ -236,18 +240,18 @@ fn end_pieces(end: ListingEnd) -> [Piece; 5] {
     ]
 }
 
-// Whether an end mark ends a list whose fields are all told.
-fn is_whole(packets: &[PacketTold], end: ListingEnd) -> bool {
-    let are_told = packets
+// Whether an end mark ends a list whose fields are all reported.
+fn is_whole(packets: &[PacketReport], end: ListingEnd) -> bool {
+    let are_reported = packets
         .iter()
         .all(|one| matches!(one.body, Body::Fields(_)));
-    are_told && matches!(end, ListingEnd::EndMark(_))
+    are_reported && matches!(end, ListingEnd::EndMark(_))
 }
 
 // Writes the packets of a telegram, and what ends them.
 fn write_all<W: Write>(
     form: Form,
-    packets: &[PacketTold],
+    packets: &[PacketReport],
     end: ListingEnd,
     out: &mut W,
 ) -> io::Result<()> {
@@ -260,9 +264,9 @@ fn write_all<W: Write>(
     write_pieces(form, &end_pieces(end), out)
 }
 
-/// Tells the packets of a telegram by name, each with its fields and why no mode uses it, in lines or as JSON, and answers
+/// Reports the packets of a telegram by name, each with its fields and why no mode uses it, in lines or as JSON, and answers
 /// the status.
-pub(crate) fn packets_told<R: AllocGlobal + Eprint, W: Write>(
+pub(crate) fn packets_reported<R: AllocGlobal + Eprint, W: Write>(
     rt: &R,
     digits: &str,
     form: Form,
@@ -270,11 +274,12 @@ pub(crate) fn packets_told<R: AllocGlobal + Eprint, W: Write>(
 ) -> Result<Status, Status> {
     let bytes = bytes_of(rt, digits)?;
     let listing = packets_in_order(bytes.as_slice());
-    let Some(packets) = told_of(rt.alloc(), bytes.as_slice(), listing.packets.as_slice()) else {
+    let Some(packets) = description_of(rt.alloc(), bytes.as_slice(), listing.packets.as_slice())
+    else {
         return Err(no_memory(rt, "HEX"));
     };
     let packets = packets.as_slice();
-    told(rt, "HEX", write_all(form, packets, listing.end, out))?;
+    reported(rt, "HEX", write_all(form, packets, listing.end, out))?;
     if is_whole(packets, listing.end) {
         return Ok(Status::Whole);
     }

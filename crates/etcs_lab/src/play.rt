@@ -5,7 +5,7 @@ use crate::request::{LineFault, Request, id_of, members_of, request_of, scenario
 use crate::result_line::{
     LineOptions, Named, Outputs, write_fault, write_played, write_refused, write_unplayed,
 };
-use crate::status::{Status, fail, no_memory, refused_args, told, unread, unread_for};
+use crate::status::{Status, fail, no_memory, refused_args, reported, unread, unread_for};
 use json_values::Outline;
 use scenario_advice::faults_of;
 use scenario_player::{LiveError, PlayError, Played, play};
@@ -172,7 +172,7 @@ impl<'a> Player<'a> {
             digest,
             image,
         };
-        told(
+        reported(
             rt,
             self.path,
             write_played(source.named, played, options, out),
@@ -187,7 +187,7 @@ impl<'a> Player<'a> {
         out: &mut W,
     ) -> Result<(), Status> {
         self.all_done = false;
-        told(
+        reported(
             rt,
             self.path,
             write_unplayed(named, "no_memory", "NoMemory", out),
@@ -215,12 +215,12 @@ impl<'a> Player<'a> {
         self.all_done = false;
         let (number, fault, wanted) = (first.fault.number(), first.fault, first.wanted);
         let (before, pointer) = (source.pointer, outline.pointer(first.place));
-        told(rt, self.path, write_refused(source.named, out))?;
+        reported(rt, self.path, write_refused(source.named, out))?;
         let written = writeln!(
             out,
             ",\"pointer\":\"{before}{pointer}\",\"fault\":{number},\"name\":\"{fault}\",\"wanted\":\"{wanted}\"}}"
         );
-        told(rt, self.path, written)
+        reported(rt, self.path, written)
     }
 
     // Plays a scenario, and prints its line.
@@ -255,7 +255,7 @@ impl<'a> Player<'a> {
             return self.print_no_memory(rt, named, out);
         }
         self.all_done = false;
-        told(rt, self.path, write_fault(named, found, out))
+        reported(rt, self.path, write_fault(named, found, out))
     }
 
     // Plays the scenario of a line whose members are these.
@@ -339,7 +339,7 @@ impl<'a> Player<'a> {
         let _ = eprintln!(rt;
             "etcs_lab: {name}: line {number} has more than {MOST_LINE} bytes; it and what follows it isn't read"
         );
-        told(
+        reported(
             rt,
             self.path,
             write_unplayed(named, "unread", "TooLong", out),

@@ -1,16 +1,16 @@
 //! The command that the arguments name is executed.
 
 use crate::checked::checked;
-use crate::event_lines::events_told;
+use crate::event_lines::events_reported;
 use crate::examined::examined;
 use crate::linted::linted;
-use crate::packet_names::packets_told;
+use crate::packet_names::packets_reported;
 use crate::play::{PlayArgs, play_scenarios};
 use crate::replayed::replayed;
 use crate::run::played;
-use crate::status::{Status, no_memory, refused_args, text_told};
-use crate::telegrams::{adapted_told, decode_told, telegram_told};
-use crate::why::why_told;
+use crate::status::{Status, no_memory, refused_args, text_reported};
+use crate::telegrams::{adapted_reported, decode_reported, telegram_reported};
+use crate::why::why_reported;
 use command_line::{LabArgsError, LabCommand, parse_lab};
 use std::fs::File;
 use std::io::Write;
@@ -33,7 +33,7 @@ fn execute<R: Files<File = File> + Input + AllocGlobal + Eprint, W: Write>(
         LabCommand::Examine { image, is_json } => {
             examined(rt, image, is_watched, form_of(is_json), out)
         }
-        LabCommand::Events { image, all } => events_told(rt, image, all, out),
+        LabCommand::Events { image, all } => events_reported(rt, image, all, out),
         LabCommand::Replay { image, is_json } => replayed(rt, image, form_of(is_json), out),
         LabCommand::Check { image, is_json } => {
             checked(rt, image, is_watched, form_of(is_json), out)
@@ -42,12 +42,12 @@ fn execute<R: Files<File = File> + Input + AllocGlobal + Eprint, W: Write>(
             image,
             event,
             is_json,
-        } => { why_told(rt, image, event, form_of(is_json), out) }
-        LabCommand::Decode { hex, is_json } => decode_told(rt, hex, is_json, out),
-        LabCommand::Packets { hex, is_json } => packets_told(rt, hex, form_of(is_json), out),
-        LabCommand::Telegram { file } => telegram_told(rt, file, out),
-        LabCommand::Installed { hex } => adapted_told(rt, hex, out),
-        LabCommand::Schema => text_told(rt, SCHEMA, "--schema", out),
+        } => { why_reported(rt, image, event, form_of(is_json), out) }
+        LabCommand::Decode { hex, is_json } => decode_reported(rt, hex, is_json, out),
+        LabCommand::Packets { hex, is_json } => packets_reported(rt, hex, form_of(is_json), out),
+        LabCommand::Telegram { file } => telegram_reported(rt, file, out),
+        LabCommand::Installed { hex } => adapted_reported(rt, hex, out),
+        LabCommand::Schema => text_reported(rt, SCHEMA, "--schema", out),
         LabCommand::Lint { scenario, is_json } => linted(rt, scenario, form_of(is_json), out),
         LabCommand::Run { scenario } => played(rt, scenario, out),
         LabCommand::Play {
@@ -77,7 +77,7 @@ pub(crate) fn answer<R: Files<File = File> + Input + AllocGlobal + Eprint, W: Wr
 ) -> Status {
     let done = match parse_lab(rt.alloc(), args) {
         Ok(command) => execute(rt, command, is_watched, out),
-        Err(LabArgsError::Help(text)) => text_told(rt, text.as_str(), "help", out),
+        Err(LabArgsError::Help(text)) => text_reported(rt, text.as_str(), "help", out),
         Err(LabArgsError::Refused(text)) => Err(refused_args(rt, text.as_str())),
         Err(LabArgsError::OutOfMemory) => Err(no_memory(rt, "arguments")),
     };

@@ -26,7 +26,7 @@ impl Progress {
     }
 
     /// So many bytes are read.
-    pub(crate) fn tell<R: Eprint>(&mut self, rt: &R, bytes: u64) {
+    pub(crate) fn describe<R: Eprint>(&mut self, rt: &R, bytes: u64) {
         if self.is_shown && bytes >= self.next {
             self.next = bytes.saturating_add(STEP);
             let (read, all) = (megabytes(bytes), megabytes(self.length));

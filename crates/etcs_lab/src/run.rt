@@ -48,7 +48,7 @@ fn status_of(stopped: Option<LiveError>) -> Status {
     }
 }
 
-/// Plays a scenario on an image in memory, tells each output that is released, and answers the status.
+/// Plays a scenario on an image in memory, reports each output that is released, and answers the status.
 pub(crate) fn played<R: Files<File = File> + AllocGlobal + Eprint, W: Write>(
     rt: &R,
     path: &str,

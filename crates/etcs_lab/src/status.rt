@@ -14,7 +14,7 @@ pub(crate) enum Status {
     Usage = 2,
     /// A file could not be opened or read, or the device failed.
     Device = 3,
-    /// Something is lost, damaged or contradicts, or there is something to tell.
+    /// Something is lost, damaged or contradicts, or there is something to report.
     Damaged = 4,
     /// Nothing could be written, which was said; the process ends as where something is refused.
     Unwritten = 5,
@@ -39,16 +39,15 @@ pub(crate) fn fail<R: Eprint>(rt: &R, what: &str, path: &str, status: Status) ->
 
 /// Says that nothing can be written.
 pub(crate) fn unwritten<R: Eprint>(rt: &R, path: &str) -> Status {
-    fail(
-        rt,
-        "the output can't be written",
-        path,
-        Status::Unwritten,
-    )
+    fail(rt, "the output can't be written", path, Status::Unwritten)
 }
 
 /// Whether a text was written; else says that nothing can be.
-pub(crate) fn told<R: Eprint>(rt: &R, path: &str, written: io::Result<()>) -> Result<(), Status> {
+pub(crate) fn reported<R: Eprint>(
+    rt: &R,
+    path: &str,
+    written: io::Result<()>,
+) -> Result<(), Status> {
     written.map_err(|_| unwritten(rt, path))
 }
 
@@ -64,12 +63,7 @@ pub(crate) fn unformatted<R: Eprint>(rt: &R, path: &str) -> Status {
 
 /// Says that memory is refused.
 pub(crate) fn no_memory<R: Eprint>(rt: &R, path: &str) -> Status {
-    fail(
-        rt,
-        "out of memory",
-        path,
-        Status::Refused,
-    )
+    fail(rt, "out of memory", path, Status::Refused)
 }
 
 /// Says that a file can't be read, or that memory for it is refused.
@@ -81,13 +75,13 @@ pub(crate) fn unread_for<R: Eprint>(rt: &R, path: &str, error: &io::Error) -> St
 }
 
 /// Writes a text that an argument asks for.
-pub(crate) fn text_told<R: Eprint, W: Write>(
+pub(crate) fn text_reported<R: Eprint, W: Write>(
     rt: &R,
     text: &str,
     word: &str,
     out: &mut W,
 ) -> Result<Status, Status> {
-    told(rt, word, out.write_all(text.as_bytes()))?;
+    reported(rt, word, out.write_all(text.as_bytes()))?;
     Ok(Status::Whole)
 }
 

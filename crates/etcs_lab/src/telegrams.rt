@@ -1,6 +1,6 @@
 //! The commands `telegram` and `decode`.
 
-use crate::status::{Status, fail, no_memory, told, unread_for, unwritten};
+use crate::status::{Status, fail, no_memory, reported, unread_for, unwritten};
 use decoding::decode_text;
 use hex::FromHexError;
 use installed_values::{AdaptError, Adaptation, adapt};
@@ -43,8 +43,8 @@ fn refused<R: Eprint>(rt: &R, path: &str, fault: &ObjectFault) -> Status {
     Status::Refused
 }
 
-/// Writes the digits of the telegram that a file tells, and answers the status.
-pub(crate) fn telegram_told<R: Files<File = File> + Input + AllocGlobal + Eprint, W: Write>(
+/// Writes the digits of the telegram that a file reports, and answers the status.
+pub(crate) fn telegram_reported<R: Files<File = File> + Input + AllocGlobal + Eprint, W: Write>(
     rt: &R,
     path: &str,
     out: &mut W,
@@ -53,7 +53,7 @@ pub(crate) fn telegram_told<R: Files<File = File> + Input + AllocGlobal + Eprint
     let bytes = bytes_of_text(rt.alloc(), text.as_slice()).map_err(|fault| refused(
         rt, path, &fault,
     ))?;
-    told(rt, path, write_hex(bytes.as_slice(), out))?;
+    reported(rt, path, write_hex(bytes.as_slice(), out))?;
     Ok(Status::Whole)
 }
 
@@ -131,7 +131,7 @@ pub(crate) fn bytes_of<R: AllocGlobal + Eprint>(rt: &R, digits: &str) -> Result<
 }
 
 /// Writes the digits of what a unit is to be handed in place of the telegram of an installed track, and answers the status.
-pub(crate) fn adapted_told<R: AllocGlobal + Eprint, W: Write>(
+pub(crate) fn adapted_reported<R: AllocGlobal + Eprint, W: Write>(
     rt: &R,
     digits: &str,
     out: &mut W,
@@ -143,7 +143,7 @@ pub(crate) fn adapted_told<R: AllocGlobal + Eprint, W: Write>(
         Ok(Adaptation::AsItIs) => write_hex(telegram.as_slice(), out),
         Err(error) => return Err(refusal(rt, telegram.as_slice(), error)),
     };
-    told(rt, "HEX", done)?;
+    reported(rt, "HEX", done)?;
     Ok(Status::Whole)
 }
 
@@ -158,18 +158,18 @@ fn write_object<W: Write>(alloc: Global, digits: &str, out: &mut W) -> io::Resul
 }
 
 /// Writes what digits carry, in lines as `etcs decode` or as JSON, and answers the status.
-pub(crate) fn decode_told<R: AllocGlobal + Eprint, W: Write>(
+pub(crate) fn decode_reported<R: AllocGlobal + Eprint, W: Write>(
     rt: &R,
     digits: &str,
     json: bool,
     out: &mut W,
 ) -> Result<Status, Status> {
-    let told = if json {
+    let reported = if json {
         write_object(rt.alloc(), digits, out)
     } else {
         decode_text(rt.alloc(), digits, out).map(|status| status as u8 == 0)
     };
-    match told {
+    match reported {
         Ok(true) => Ok(Status::Whole),
         Ok(false) => Ok(Status::Refused),
         Err(_) => Err(unwritten(rt, "HEX")),

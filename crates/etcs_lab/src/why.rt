@@ -4,14 +4,14 @@ use crate::images::opened;
 use crate::replayed::stopped;
 use crate::status::{Status, fail};
 use command_line::LabImage;
-use lab_why::tell_why;
+use lab_why::describe_why;
 use std::fs::File;
 use std::io::Write;
 use std::rt::Files;
 use text_output::Form;
 
-/// Tells why the brakes were commanded in an image, which is opened for reading alone, and answers the status.
-pub(crate) fn why_told<R: Files<File = File> + AllocGlobal + Eprint, W: Write>(
+/// Reports why the brakes were commanded in an image, which is opened for reading alone, and answers the status.
+pub(crate) fn why_reported<R: Files<File = File> + AllocGlobal + Eprint, W: Write>(
     rt: &R,
     image: LabImage,
     only: Option<u64>,
@@ -19,7 +19,7 @@ pub(crate) fn why_told<R: Files<File = File> + AllocGlobal + Eprint, W: Write>(
     out: &mut W,
 ) -> Result<Status, Status> {
     let mut disk = opened(rt, image)?;
-    match tell_why(rt.alloc(), &mut disk, only, form, out) {
+    match describe_why(rt.alloc(), &mut disk, only, form, out) {
         Ok(walked) if only.is_some() && walked.lines == 0 => Err(fail(
             rt,
             "has no such event in a life that can be replayed",

@@ -18,12 +18,12 @@ pub extern "C" fn etcs_image_slot_(
     abi: u32,
     newest: u64,
     slot: u64,
-    told: &mut EtcsSlot,
+    reported: &mut EtcsSlot,
 ) -> u32 {
-    slot_call(image, abi, newest, slot, told).number()
+    slot_call(image, abi, newest, slot, reported).number()
 }
 
-/// What the head of the block of this number tells.
+/// What the head of the block of this number says.
 #[unsafe(no_mangle)]
 pub extern "C" fn etcs_image_block_(
     image: &[u8],
@@ -62,7 +62,7 @@ pub extern "C" fn etcs_journal_next_(
     next_call(image, journal, record).number()
 }
 
-/// Runs the life that a journal is at through the kernel again, and goes on behind it.
+/// Runs the life that a journal is at through the kernel again, and goes on after it.
 #[unsafe(no_mangle)]
 pub extern "C" fn etcs_image_replay_(
     alloc: Global,

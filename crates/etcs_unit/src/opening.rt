@@ -27,7 +27,7 @@ pub extern "C" fn etcs_opening_go_on_(
     go_on_call(alloc, opening, unit).number()
 }
 
-/// Tells the sector that a power-up wants.
+/// Reports the sector that a power-up wants.
 #[unsafe(no_mangle)]
 pub extern "C" fn etcs_opening_wanted_(
     alloc: Global,
@@ -54,7 +54,7 @@ pub extern "C" fn etcs_opening_close_(alloc: Global, opening: &mut EtcsOpening) 
     opening_close_call(alloc, opening).number()
 }
 
-/// Tells the sector that a unit wants.
+/// Reports the sector that a unit wants.
 #[unsafe(no_mangle)]
 pub extern "C" fn etcs_unit_wanted_(unit: &mut EtcsUnit, sector: &mut u64) -> u32 {
     wanted_call(unit, sector).number()

@@ -7,25 +7,29 @@ use packet_uses::{EtcsPacket, unused_call};
 pub extern "C" fn etcs_telegram_adapt_(
     bytes: &[u8],
     out: &mut [u8],
-    told: &mut EtcsAdapted,
+    reported: &mut EtcsAdapted,
 ) -> u32 {
-    adapt_call(bytes, out, told)
+    adapt_call(bytes, out, reported)
 }
 
-/// Tells a value that is left out of a telegram of an installed track, from 0 on.
+/// Reports a value that is left out of a telegram of an installed track, from 0 on.
 #[unsafe(no_mangle)]
-pub extern "C" fn etcs_telegram_dropped_(bytes: &[u8], index: u32, told: &mut EtcsDropped) -> u32 {
-    dropped_call(bytes, index, told)
+pub extern "C" fn etcs_telegram_dropped_(
+    bytes: &[u8],
+    index: u32,
+    reported: &mut EtcsDropped,
+) -> u32 {
+    dropped_call(bytes, index, reported)
 }
 
-/// Tells a packet of a telegram that a unit doesn't use, from 0 on.
+/// Reports a packet of a telegram that a unit doesn't use, from 0 on.
 #[unsafe(no_mangle)]
 pub extern "C" fn etcs_telegram_unused_(
     bytes: &[u8],
     mode: u32,
     direction: u32,
     index: u32,
-    told: &mut EtcsPacket,
+    reported: &mut EtcsPacket,
 ) -> u32 {
-    unused_call(bytes, mode, direction, index, told)
+    unused_call(bytes, mode, direction, index, reported)
 }

@@ -69,7 +69,7 @@ pub extern "C" fn etcs_unit_prepare_(unit: &mut EtcsUnit) -> u32 {
     prepare_call(unit).number()
 }
 
-/// Tells a request of the list, from 0 on, and the bytes that it writes.
+/// Reports a request of the list, from 0 on, and the bytes that it writes.
 #[unsafe(no_mangle)]
 pub extern "C" fn etcs_unit_request_(
     unit: &mut EtcsUnit,
@@ -102,13 +102,13 @@ pub extern "C" fn etcs_unit_release_(
     release_call(unit, outputs, count).number()
 }
 
-/// Tells how far the unit is.
+/// Reports how far the unit is.
 #[unsafe(no_mangle)]
 pub extern "C" fn etcs_unit_state_(unit: &mut EtcsUnit, state: &mut EtcsState) -> u32 {
     state_call(unit, state).number()
 }
 
-/// Tells why the newest released output is what it is.
+/// Reports why the newest released output is what it is.
 #[unsafe(no_mangle)]
 pub extern "C" fn etcs_unit_why_(unit: &mut EtcsUnit, why: &mut EtcsUnitWhy) -> u32 {
     unit_why_call(unit, why).number()
@@ -144,7 +144,7 @@ pub extern "C" fn etcs_unit_close_(alloc: Global, unit: &mut EtcsUnit) -> u32 {
     close_call(alloc, unit).number()
 }
 
-/// Tells what is to be done, from 0 on, to make a medium of 1 + 6 * slots sectors an empty journal: each gate is closed
+/// Reports what is to be done, from 0 on, to make a medium of 1 + 6 * slots sectors an empty journal: each gate is closed
 /// by zeros, and then the first sector is written.
 #[unsafe(no_mangle)]
 pub extern "C" fn etcs_unit_format_request_(

@@ -8,7 +8,7 @@ use mode_table::TrainLevel;
 use national::{CountryValues, National};
 
 /// What outlives a power-up (SUBSET-026, 4.10; what is kept: this project's profile). Identity, running number and
-/// train data are never valid behind one, so only their values are kept; level and position are kept with the status
+/// train data are never valid after one, so only their values are kept; level and position are kept with the status
 /// that they have.
 #[derive(Drop)]
 pub struct Kept {
@@ -20,7 +20,7 @@ pub struct Kept {
     pub train_data: Option<TrainData>,
     /// The level, with its status.
     pub level: Datum<TrainLevel>,
-    /// Where the train is, behind the last balise group that made a fix.
+    /// Where the train is, after the last balise group that made a fix.
     pub position: Datum<Position>,
     /// The national values in force, with the countries that they are for.
     pub national: CountryValues,

@@ -17,7 +17,7 @@ pub enum Brake {
     Emergency,
 }
 
-/// What the driver is shown beside mode, level and limit.
+/// What the driver is shown along with mode, level and limit.
 #[derive(Clone, Copy)]
 pub struct Indications {
     /// An acknowledgement of On Sight is asked for or owed.

@@ -1,4 +1,4 @@
-//! The place of the front behind a balise group, within 2^41 cm either way.
+//! The place of the front beyond a balise group, within 2^41 cm either way.
 ghost use Rattle.std.specs.Prelude.{◌≡◌, ◌↔◌, IsSome, IfSome};
 ghost use Rattle.events.specs.Limits.{IsOffset};
 
@@ -6,7 +6,7 @@ use std::marker::Model;
 use units::{Cm, FARTHEST};
 use vars::GroupIdentity;
 
-/// Where the train is, by a balise group: how far behind it the estimated front lies, from -2^41 to 2^41 cm (this
+/// Where the train is, by a balise group: how far beyond it the estimated front lies, from -2^41 to 2^41 cm (this
 /// project's profile).
 #[derive(Clone, Copy)]
 pub struct Position {
@@ -27,11 +27,11 @@ impl Model for Position {
     ghost inverse = { λ p. record { group = p.group; distance = p.distance } };
 }
 
-/// The farthest distance behind a group, in centimetres.
+/// The farthest distance beyond a group, in centimetres.
 pub const FARTHEST_OFFSET: u64 = 2 * FARTHEST;
 
 impl Position {
-    /// So many centimetres behind a group; None exactly outside the limits.
+    /// So many centimetres beyond a group; None exactly outside the limits.
     pub fn new(group: GroupIdentity, distance: Cm) -> Option<Position>
         ensures found { IsSome result ↔ IsOffset distance }
         ensures value { IfSome result (λ p. p ≡ record { group = group; distance = distance }) }
@@ -50,7 +50,7 @@ impl Position {
         self.group
     }
 
-    /// How far behind the group the estimated front lies, in centimetres; negative where it lies before it.
+    /// How far beyond the group the estimated front lies, in centimetres; negative where it lies before it.
     pub fn distance(&self) -> Cm
         ensures value { result ≡ self.now.distance }
         ensures limits { IsOffset result }

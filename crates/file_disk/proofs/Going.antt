@@ -42,7 +42,7 @@ sector_far bytes with offset s within (inr behind) =
 same_sector_size : (bytes more : List ℕ) (s : ℕ) → length bytes ≡ length more → length (sector_of bytes s) ≡ length (sector_of more s)
 same_sector_size bytes more s same = omega (arith, length-take 512 (drop (512 * s) bytes), length-take 512 (drop (512 * s) more), length-drop (512 * s) bytes, length-drop (512 * s) more)
 
--- a sector that has none of some bytes lies before or behind them
+-- a sector that has none of some bytes lies before or after them
 far_of : (s : ℕ) (part : Part) → is_in s part ≡ false → (512 * s + 512 ≤ part.offset) ⊎ (part.offset + part.count ≤ 512 * s)
 far_of s part none = ⊎_elim
     (λ (lt : part.offset < 512 * s + 512). inr (grind (arith, nat_tests)))

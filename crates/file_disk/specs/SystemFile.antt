@@ -4,7 +4,7 @@ use Rattle.std.specs.declared.fs.File.{File}
 use Rattle.file_disk.specs.declared.readonly.ReadOnlyFile.{ReadOnlyFile}
 use Rattle.file_disk.specs.Files.{FileState}
 
--- Whether it keeps to the model. No call of the system shows that, so nothing is promised by it: it is told false.
+-- Whether it keeps to the model. No call of the system shows that, so nothing is promised by it: it is reported false.
 pub keeps_to_model : File → Bool
 keeps_to_model file = false
 

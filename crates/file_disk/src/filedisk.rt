@@ -16,7 +16,7 @@ use std::rt::Files;
 // A file has fewer than 2^63 bytes.
 const MOST_SECTORS: u64 = (1 << 54) - 1;
 
-/// A disk over the whole sectors of a file, 512 bytes each (this project's profile). Bytes behind the last of them are
+/// A disk over the whole sectors of a file, 512 bytes each (this project's profile). Bytes after the last of them are
 /// left alone.
 ///
 /// Of a file of the operating system only safety, the number of sectors and the count of faults are promised, since no
@@ -66,7 +66,7 @@ impl FileDisk {
     /// opens too, and answers DiskFault to each write.
     ///
     /// The file is locked for this handle alone until the disk is dropped. DiskFault where it can't be opened or
-    /// locked, and where another handle holds a lock on it. Behind a sync that failed in an earlier process the system
+    /// locked, and where another handle holds a lock on it. After a sync that failed in an earlier process the system
     /// may read what isn't on the medium: then its copies of the file's pages have to be dropped first, for which there
     /// is no call here.
     pub fn open<R: Files<File = File>>(rt: &R, path: &str) -> Result<FileDisk, DiskFault>

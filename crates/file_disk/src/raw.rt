@@ -24,7 +24,7 @@ pub trait RawFile {
         ensures honest { (state self.new).honest ≡ (state self.old).honest }
         ensures resized { IsTrue (state self.old).honest → OnOk result (bytes_of (state self.new) ≡ resized (bytes_of (state self.old)) size) };
 
-    /// Reads from an offset on, and answers how many bytes. Those behind them may be any, and at DiskFault all.
+    /// Reads from an offset on, and answers how many bytes. Those after them may be any, and at DiskFault all.
     fn read_at(&self, offset: u64, bytes: &mut [u8]) -> Result<usize, DiskFault>
         ensures count { IfOk result (λ count. count ≤ length bytes.old) }
         ensures bytes { IsTrue (state self.now).honest →

@@ -58,7 +58,7 @@ fn has_bytes(kind: FileType) -> Result<(), ReadError> {
 }
 
 /// Opens a file to be read, and not yet locked. Its type is looked at before: to open a FIFO would wait for who writes
-/// it. It is looked at again behind the opening, since another file may have come under the name.
+/// it. It is looked at again after the opening, since another file may have come under the name.
 pub(crate) fn opened_to_read<R: Files<File = File>>(rt: &R, path: &str) -> Result<File, ReadError> {
     has_bytes(fs::metadata(rt, path)?.file_type())?;
     let file = File::open(rt, path)?;

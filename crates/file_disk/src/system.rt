@@ -11,7 +11,7 @@ impl RawFile for File {
     ghost state = { system_state };
 
     fn length(&self) -> Result<u64, DiskFault> {
-        // The end that a seek finds, since the system tells no length of a device. Reads and writes are at offsets of
+        // The end that a seek finds, since the system says no length of a device. Reads and writes are at offsets of
         // their own.
         let mut handle = self;
         match handle.seek(SeekFrom::End(0)) {

@@ -5,9 +5,9 @@ use Rattle.kernel.specs.Lives.{Story, onward}
 use Rattle.kernel.specs.Output.{output_at}
 use Rattle.lives.specs.Steps.{Step}
 use Rattle.lives.specs.Walks.{WalksOn, Walked}
-use Rattle.reasons.specs.Told.{Reasons}
+use Rattle.reasons.specs.Reported.{Reasons}
 use Rattle.image_calls.specs.Asking.{Asks}
-use Rattle.image_calls.specs.Lived.{Lived, one_more, is_asked, up_to, life_after, life_behind, story_behind, Stands}
+use Rattle.image_calls.specs.Lived.{Lived, one_more, is_asked, up_to, life_after, later_life, story_after, Stands}
 use Rattle.image_calls.specs.declared.asking.Asked.{Asked}
 use Rattle.image_calls.specs.declared.running.Known.{Known}
 
@@ -21,7 +21,7 @@ pub some_follows : (event : Event) (old new : Known) (at : Option Lived)
     → ((story : Story) → Reasons story old.life → Reasons (onward story event) new.life × (new.output ≡ output_at (onward story event)))
     → Stands at (Some old) → Stands (one_more event at) (Some new)
 some_follows event old new None follows stands = absurd stands
-some_follows event old new (Some life) follows stands = λ story left. follows (story_behind life.events story) (stands story left).0
+some_follows event old new (Some life) follows stands = λ story left. follows (story_after life.events story) (stands story left).0
 
 -- ---- whether a life is known
 
@@ -38,34 +38,34 @@ known_stands (Some life) known stands = (life, refl, stands)
 abbrev pub met : Asked → Bool
 met = λ asked. asked.is_met
 
-abbrev pub Told : {O : Type 0} → Step → Asked → O → Asked → O → Type 0
-Told = λ step old out new after. Asks step old new
+abbrev pub Reported : {O : Type 0} → Step → Asked → O → Asked → O → Type 0
+Reported = λ step old out new after. Asks step old new
 
 module _ {O : Type 0} where
-  -- who has met the event is told nothing
-  met_ends : (steps : List Step) (old new : Asked) (out after : O) → old.is_met ≡ true → Walked Told met steps old out new after → new ≡ old
+  -- who has met the event is reported nothing
+  met_ends : (steps : List Step) (old new : Asked) (out after : O) → old.is_met ≡ true → Walked Reported met steps old out new after → new ≡ old
   met_ends [] old new out after so on = on.0
   met_ends (step ∷ steps) old new out after so on =
-      (subst (λ (b : Bool). WalksOn b ((new ≡ old) × (after ≡ out)) ((one : Asked) × (mid : O) × Asks step old one × Walked Told met steps one mid new after)) so on).0
+      (subst (λ (b : Bool). WalksOn b ((new ≡ old) × (after ≡ out)) ((one : Asked) × (mid : O) × Asks step old one × Walked Reported met steps one mid new after)) so on).0
 
-  told_if : (step : Step) (steps : List Step) (old one new : Asked) (mid after : O) (at : Option Lived) (b : Bool) → is_asked old.block old.event step ≡ b → one.is_met ≡ b
-      → Stands (life_after step at) one.known → Walked Told met steps one mid new after
-      → (one.is_met ≡ false → Stands (life_behind (up_to (is_asked old.block old.event) steps) (life_after step at)) new.known)
-      → Stands (life_behind (if b then step ∷ [] else step ∷ up_to (is_asked old.block old.event) steps) at) new.known
-  told_if step steps old one new mid after at true asked is stands on rest =
+  reported_if : (step : Step) (steps : List Step) (old one new : Asked) (mid after : O) (at : Option Lived) (b : Bool) → is_asked old.block old.event step ≡ b → one.is_met ≡ b
+      → Stands (life_after step at) one.known → Walked Reported met steps one mid new after
+      → (one.is_met ≡ false → Stands (later_life (up_to (is_asked old.block old.event) steps) (life_after step at)) new.known)
+      → Stands (later_life (if b then step ∷ [] else step ∷ up_to (is_asked old.block old.event) steps) at) new.known
+  reported_if step steps old one new mid after at true asked is stands on rest =
       subst (λ (a : Asked). Stands (life_after step at) a.known) (sym (met_ends steps one new mid after is on)) stands
-  told_if step steps old one new mid after at false asked is stands on rest = rest is
+  reported_if step steps old one new mid after at false asked is stands on rest = rest is
 
-  -- the life that was run again stands behind the steps up to the one that was asked for
-  pub asked_told : (steps : List Step) (old new : Asked) (out after : O) (at : Option Lived) → Walked Told met steps old out new after → old.is_met ≡ false → Stands at old.known
-      → Stands (life_behind (up_to (is_asked old.block old.event) steps) at) new.known
-  asked_told [] old new out after at on so stands = subst (λ (a : Asked). Stands at a.known) (sym on.0) stands
-  asked_told (step ∷ steps) old new out after at on so stands =
-      let it = subst (λ (b : Bool). WalksOn b ((new ≡ old) × (after ≡ out)) ((one : Asked) × (mid : O) × Asks step old one × Walked Told met steps one mid new after)) so on in
+  -- the life that was run again comes after the steps up to the one that was asked for
+  pub asked_reported : (steps : List Step) (old new : Asked) (out after : O) (at : Option Lived) → Walked Reported met steps old out new after → old.is_met ≡ false → Stands at old.known
+      → Stands (later_life (up_to (is_asked old.block old.event) steps) at) new.known
+  asked_reported [] old new out after at on so stands = subst (λ (a : Asked). Stands at a.known) (sym on.0) stands
+  asked_reported (step ∷ steps) old new out after at on so stands =
+      let it = subst (λ (b : Bool). WalksOn b ((new ≡ old) × (after ≡ out)) ((one : Asked) × (mid : O) × Asks step old one × Walked Reported met steps one mid new after)) so on in
       let asks = it.2 in
       let next : Stands (life_after step at) it.0.known = asks.stands at stands in
       let is : it.0.is_met ≡ is_asked old.block old.event step = asks.met_is so in
-      told_if step steps old it.0 new it.1 after at (is_asked old.block old.event step) refl is next it.3
-      (λ off. subst (λ (n : ℕ). Stands (life_behind (up_to (is_asked n old.event) steps) (life_after step at)) new.known) asks.block_is
-      (subst (λ (e : ℕ). Stands (life_behind (up_to (is_asked it.0.block e) steps) (life_after step at)) new.known) asks.event_is
-      (asked_told steps it.0 new it.1 after (life_after step at) it.3 off next)))
+      reported_if step steps old it.0 new it.1 after at (is_asked old.block old.event step) refl is next it.3
+      (λ off. subst (λ (n : ℕ). Stands (later_life (up_to (is_asked n old.event) steps) (life_after step at)) new.known) asks.block_is
+      (subst (λ (e : ℕ). Stands (later_life (up_to (is_asked it.0.block e) steps) (life_after step at)) new.known) asks.event_is
+      (asked_reported steps it.0 new it.1 after (life_after step at) it.3 off next)))

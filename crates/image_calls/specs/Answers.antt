@@ -29,7 +29,7 @@ Refuses wanted old new answer = (answer ≡ wanted) × (new ≡ old)
 
 -- it is done, and this is written
 abbrev pub Gives : {T : Type 0} → T → T → Answer → Type 0
-Gives told new answer = (answer ≡ an_answer.Done) × (new ≡ told)
+Gives reported new answer = (answer ≡ an_answer.Done) × (new ≡ reported)
 
 -- with a header of this interface the call is so; else it is refused
 abbrev pub ByAbi : {T : Type 0} → ℕ → T → T → Answer → Type 0 → Type 0

@@ -9,14 +9,14 @@ use Rattle.image_calls.specs.Lived.{Lived, is_asked, life_after, Stands}
 use Rattle.image_calls.specs.declared.asking.Asked.{Asked}
 use Rattle.image_calls.specs.declared.images.Ring.{Ring}
 
--- The life goes on as the step tells, and whether the event is met is told.
+-- The life goes on as the step reports, and whether the event is met is reported.
 pub record Asks (step : Step) (old new : Asked) : Type 0 where
   pub block_is : new.block ≡ old.block
   pub event_is : new.event ≡ old.event
   pub met_is : old.is_met ≡ false → new.is_met ≡ is_asked old.block old.event step
   pub stands : (at : Option Lived) → Stands at old.known → Stands (life_after step at) new.known
 
--- what the block of a number tells doesn't hang on those before it: it isn't held, or it begins with a power-up
+-- what the block of a number says doesn't hang on those before it: it isn't held, or it begins with a power-up
 abbrev pub IsFresh : List ℕ → Ring → ℕ → Type 0
 IsFresh bytes ring number =
     HoldsNone bytes ring number ⊎ ((block : Block) × (word : Cold) × Holds bytes ring number block × (first_word block.records.items ≡ Some word))

@@ -1,4 +1,4 @@
--- What is told of an image at first sight (this project's profile).
+-- What is reported of an image at first sight (this project's profile).
 use Rattle.std.specs.Prelude.{◌≡◌, ℕ, List, Option, Some, None}
 use Rattle.examination.specs.Lost.{Surveys}
 use Rattle.examination.specs.declared.survey.Survey.{Survey}
@@ -16,11 +16,11 @@ abbrev pub facts_with : Survey → Option ℕ → EtcsImage → EtcsImage → An
 facts_with survey None old new answer = Refuses an_answer.NotFormatted old new answer
 facts_with survey (Some slots) old new answer = Gives (facts_of survey slots) new answer
 
--- what was seen is told; NotFormatted where no number of slots was
-abbrev pub TellsFacts : Survey → EtcsImage → EtcsImage → Answer → Type 0
-TellsFacts survey old new answer = facts_with survey survey.slots old new answer
+-- what was seen is reported; NotFormatted where no number of slots was
+abbrev pub DescribesFacts : Survey → EtcsImage → EtcsImage → Answer → Type 0
+DescribesFacts survey old new answer = facts_with survey survey.slots old new answer
 
--- what a survey of the image sees is told
+-- what a survey of the image sees is reported
 abbrev pub AsksFacts : List ℕ → EtcsImage → EtcsImage → Answer → Type 0
 AsksFacts bytes old new answer = (survey : Survey) × (survey.sectors ≡ sectors_in bytes) × Surveys (sectors_in bytes) (image_of bytes) survey
-    × TellsFacts survey old new answer
+    × DescribesFacts survey old new answer

@@ -26,7 +26,7 @@ abbrev pub is_opened : Option ℕ → ℕ → Bool
 is_opened None s = false
 is_opened (Some first) s = s == first
 
--- moment 0 is before the first write that was refused, moment 1 behind it
+-- moment 0 is before the first write that was refused, moment 1 after it
 abbrev pub open_at : Option ℕ → ℕ → ℕ → Bool
 open_at refused zero s = false
 open_at refused (suc k) s = is_opened refused s

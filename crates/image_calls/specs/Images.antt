@@ -10,11 +10,11 @@ use Rattle.image_calls.specs.declared.answer.Answer.{Answer}
 use Rattle.image_calls.specs.declared.answer.Answer.TheVariants as an_answer
 use Rattle.image_calls.specs.declared.images.Ring.{Ring}
 
--- the slots that the first sector tells, and those that are there with all their sectors
+-- the slots that the first sector says, and those that are there with all their sectors
 abbrev pub ring_in : List ℕ → Option Ring
 ring_in bytes = option_map (λ slots. record { slots = slots; whole = whole_of (sectors_in bytes) slots }) (slots_in (sectors_in bytes) (image_of bytes))
 
--- where the image tells its slots the call is so; else it is refused
+-- where the image says its slots the call is so; else it is refused
 abbrev pub OfRing : {T : Type 0} → Option Ring → T → T → Answer → (Ring → Type 0) → Type 0
 OfRing None old new answer So = Refuses an_answer.NotFormatted old new answer
 OfRing (Some ring) old new answer So = So ring

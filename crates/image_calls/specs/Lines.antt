@@ -7,13 +7,13 @@ use Rattle.kernel.specs.Lives.{Story, number_at}
 use Rattle.lives.specs.Steps.{Step}
 use Rattle.lives.specs.declared.visit.Unknown.TheVariants as an_unknown
 use Rattle.replaying.specs.Judgements.{GoesOn, Begins, IsHeadFound}
-use Rattle.replaying.specs.ReplayState.{StandsBehind}
+use Rattle.replaying.specs.ReplayState.{StandsAfter}
 use Rattle.replaying.specs.declared.following.Found.{Found}
 use Rattle.replaying.specs.declared.heads.HeadFound.{HeadFound}
 use Rattle.replaying.specs.declared.judging.Judged.{Judged}
-use Rattle.replaying.specs.declared.judging.Judged.TheVariants.{Agrees, Unknown, BehindDifference}
+use Rattle.replaying.specs.declared.judging.Judged.TheVariants.{Agrees, Unknown, AfterDifference}
 use Rattle.image_calls.specs.Answers.{Where}
-use Rattle.image_calls.specs.Verdicts.{record_differs, TellsHead}
+use Rattle.image_calls.specs.Verdicts.{record_differs, DescribesHead}
 use Rattle.image_calls.specs.declared.lines.End.{End}
 use Rattle.image_calls.specs.declared.lines.End.TheVariants as an_end
 use Rattle.image_calls.specs.declared.lines.Line.{Line}
@@ -27,7 +27,7 @@ use Rattle.image_calls.specs.declared.verdicts.Span.{Span}
 abbrev pub begun : ℕ → Place → Line
 begun number from = record { from = from; next = record { block = number; index = 0 }; judged = Unknown an_unknown.BeforeOldest; events = None; end = an_end.Going }
 
--- the place is that where the line begins, or one behind it
+-- the place is that where the line begins, or one after it
 abbrev pub is_on : Line → Bool
 is_on l = if l.from.block == l.next.block then nat_le l.from.index l.next.index else nat_lt l.from.block l.next.block
 
@@ -35,12 +35,12 @@ is_on l = if l.from.block == l.next.block then nat_le l.from.index l.next.index 
 abbrev pub one_more : ℕ → ℕ
 one_more n = min (n + 1) (2 ^ 64 - 1)
 
--- behind a record, and behind a block
-abbrev pub behind_record : Line → Line
-behind_record l = record l { next = record { block = l.next.block; index = one_more l.next.index } }
+-- after a record, and after a block
+abbrev pub after_record : Line → Line
+after_record l = record l { next = record { block = l.next.block; index = one_more l.next.index } }
 
-abbrev pub behind_block : Line → Line
-behind_block l = record l { next = record { block = one_more l.next.block; index = 0 } }
+abbrev pub after_block : Line → Line
+after_block l = record l { next = record { block = one_more l.next.block; index = 0 } }
 
 -- whether the line is found
 abbrev pub is_ended_by : End → Bool
@@ -77,11 +77,11 @@ IsOver l next old new = (next ≡ ended an_end.Over l) × (new ≡ old)
 
 -- a record that was judged: it is one event more, or it differs
 abbrev pub TakesFound : Block → ℕ → BlockRecord → Option Found → Line → Line → EtcsReplay → EtcsReplay → Type 0
-TakesFound b life r None l next old new = (next ≡ behind_record (with_event life r.number l)) × (new ≡ old)
+TakesFound b life r None l next old new = (next ≡ after_record (with_event life r.number l)) × (new ≡ old)
 TakesFound b life r (Some found) l next old new = Where (has_events l) (IsOver l next old new)
     (Where (is_on l)
-    ((next ≡ behind_record (judged_so BehindDifference (ended an_end.Differs l))) × (new ≡ record_differs b life found.field r found.answer))
-    ((next ≡ behind_record (judged_so BehindDifference l)) × (new ≡ old)))
+    ((next ≡ after_record (judged_so AfterDifference (ended an_end.Differs l))) × (new ≡ record_differs b life found.field r found.answer))
+    ((next ≡ after_record (judged_so AfterDifference l)) × (new ≡ old)))
 
 -- A record, judged so.
 pub record TakesRecord (IsSo : Judged → Option Found → Type 0) (b : Block) (life : ℕ) (r : BlockRecord) (l next : Line) (old new : EtcsReplay) : Type 0 where
@@ -92,26 +92,26 @@ pub record TakesRecord (IsSo : Judged → Option Found → Type 0) (b : Block) (
 
 -- the head of a block: it differs, or it is passed
 abbrev pub TakesHead : Block → Option HeadFound → Line → Line → EtcsReplay → EtcsReplay → Type 0
-TakesHead b None l next old new = (next ≡ behind_block l) × (new ≡ old)
+TakesHead b None l next old new = (next ≡ after_block l) × (new ≡ old)
 TakesHead b (Some found) l next old new = Where (has_events l) (IsOver l next old new)
-    (Where (is_on l) ((next ≡ behind_block (ended an_end.Differs l)) × TellsHead b found new) ((next ≡ behind_block l) × (new ≡ old)))
+    (Where (is_on l) ((next ≡ after_block (ended an_end.Differs l)) × DescribesHead b found new) ((next ≡ after_block l) × (new ≡ old)))
 
--- a block that can't be read is told as lost, where the walk has come to the line
+-- a block that can't be read is reported as lost, where the walk has come to the line
 abbrev pub TakesLost : Line → Line → EtcsReplay → EtcsReplay → Type 0
-TakesLost l next old new = (new ≡ old) × Where (is_on l) (next ≡ behind_block (ended an_end.Lost l)) (next ≡ behind_block (judged_so (Unknown an_unknown.Gap) l))
+TakesLost l next old new = (new ≡ old) × Where (is_on l) (next ≡ after_block (ended an_end.Lost l)) (next ≡ after_block (judged_so (Unknown an_unknown.Gap) l))
 
-abbrev pub TellsStep : Step → Line → Line → EtcsReplay → EtcsReplay → Type 0
-TellsStep (Step.Unreadable number) l next old new = Where (has_events l) (IsOver l next old new) (TakesLost l next old new)
-TellsStep Step.Missing l next old new = Where (has_events l) (IsOver l next old new) ((next ≡ judged_so (Unknown an_unknown.Gap) l) × (new ≡ old))
-TellsStep (Step.Begins block life before r) l next old new =
+abbrev pub DescribesStep : Step → Line → Line → EtcsReplay → EtcsReplay → Type 0
+DescribesStep (Step.Unreadable number) l next old new = Where (has_events l) (IsOver l next old new) (TakesLost l next old new)
+DescribesStep Step.Missing l next old new = Where (has_events l) (IsOver l next old new) ((next ≡ judged_so (Unknown an_unknown.Gap) l) × (new ≡ old))
+DescribesStep (Step.Begins block life before r) l next old new =
     Where (has_events l) (IsOver l next old new) (TakesRecord (Begins before block.format r l.judged) block life r l next old new)
-TellsStep (Step.GoesOn block life r) l next old new = TakesRecord (GoesOn block.format r l.judged) block life r l next old new
-TellsStep (Step.Head block) l next old new = (found : Option HeadFound) × IsHeadFound l.judged block found × TakesHead block found l next old new
+DescribesStep (Step.GoesOn block life r) l next old new = TakesRecord (GoesOn block.format r l.judged) block life r l next old new
+DescribesStep (Step.Head block) l next old new = (found : Option HeadFound) × IsHeadFound l.judged block found × TakesHead block found l next old new
 
--- ---- no verdict of a step is one behind 2^64 events or more
+-- ---- no verdict of a step is one after 2^64 events or more
 
 abbrev pub HasFew : Judged → Type 0
-HasFew (Agrees replay) = (at : Story) → StandsBehind at replay → number_at at + 1 < 2 ^ 64
+HasFew (Agrees replay) = (at : Story) → StandsAfter at replay → number_at at + 1 < 2 ^ 64
 HasFew _ = Unit {0}
 
 abbrev pub HasFewAt : Step → Line → Type 0

@@ -1,4 +1,4 @@
--- What is known of the life of an event, behind the steps that an image tells up to it (`lives`; this project's
+-- What is known of the life of an event, after the steps that an image says up to it (`lives`; this project's
 -- profile). Blocks are numbered from 1, events from 0; events of a life have the newest first.
 use Rattle.std.specs.Prelude.{◌≡◌, ℕ, ◌==◌, Bool, false, if◌then◌else◌, List, [], ◌∷◌, Option, Some, None, Result, Ok, Err}
 use Rattle.blocks.specs.declared.block.Block.{Block}
@@ -12,7 +12,7 @@ use Rattle.lives.specs.Steps.{Step, whole_valid_at, steps_of}
 use Rattle.lives.specs.declared.visit.Unknown.{Unknown}
 use Rattle.lives.specs.declared.visit.Unknown.TheVariants as an_unknown
 use Rattle.mode_table.specs.declared.statuses.Cold.{Cold}
-use Rattle.reasons.specs.Told.{Reasons}
+use Rattle.reasons.specs.Reported.{Reasons}
 use Rattle.image_calls.specs.ImageDisk.{image_of}
 use Rattle.image_calls.specs.declared.images.Ring.{Ring}
 use Rattle.image_calls.specs.declared.running.Known.{Known}
@@ -30,7 +30,7 @@ abbrev pub one_more : Event → Option Lived → Option Lived
 one_more event None = None
 one_more event (Some life) = Some (record life { events = event ∷ life.events })
 
--- behind what was kept a life is known from its power-up on
+-- after what was kept a life is known from its power-up on
 abbrev pub powered_up : Event → Kept → Option Lived → Option Lived
 powered_up (PowerUp word) kept at = Some (record { kept = kept; word = word; events = PowerUp word ∷ [] })
 powered_up (Input input) kept at = one_more (Input input) at
@@ -44,16 +44,16 @@ abbrev pub begun : Result Kept Unknown → Event → Option Lived → Option Liv
 begun (Ok kept) event at = powered_up event kept at
 begun (Err unknown) event at = begun_unknown unknown event at
 
--- behind a step
+-- after a step
 abbrev pub life_after : Step → Option Lived → Option Lived
 life_after (Step.Begins block life before r) at = begun before r.event at
 life_after (Step.GoesOn block life r) at = one_more r.event at
 life_after (Step.Head block) at = at
 life_after _ at = None
 
-abbrev pub life_behind : List Step → Option Lived → Option Lived
-life_behind [] at = at
-life_behind (step ∷ steps) at = life_behind steps (life_after step at)
+abbrev pub later_life : List Step → Option Lived → Option Lived
+later_life [] at = at
+later_life (step ∷ steps) at = later_life steps (life_after step at)
 
 -- ---- up to an event
 
@@ -71,29 +71,29 @@ abbrev pub up_to : (Step → Bool) → List Step → List Step
 up_to is [] = []
 up_to is (step ∷ steps) = if is step then step ∷ [] else step ∷ up_to is steps
 
--- all that an image tells of the blocks up to this number
+-- all that an image says about the blocks up to this number
 abbrev pub steps_up_to : List ℕ → Ring → ℕ → List Step
 steps_up_to bytes ring number = steps_of ring.slots (whole_valid_at ring.slots ring.whole (image_of bytes)) 1 number
 
 -- the life of an event of the block of this number, up to it
 abbrev pub life_up_to : List ℕ → Ring → ℕ → ℕ → Option Lived
-life_up_to bytes ring number event = life_behind (up_to (is_asked number event) (steps_up_to bytes ring number)) None
+life_up_to bytes ring number event = later_life (up_to (is_asked number event) (steps_up_to bytes ring number)) None
 
 -- ---- stories
 
 -- the story with these events
-abbrev pub story_behind : List Event → Story → Story
-story_behind [] story = story
-story_behind (event ∷ events) story = onward (story_behind events story) event
+abbrev pub story_after : List Event → Story → Story
+story_after [] story = story
+story_after (event ∷ events) story = onward (story_after events story) event
 
--- behind this story the same is kept, as far as a power-up by this word leaves it
+-- after this story the same is kept, as far as a power-up by this word leaves it
 abbrev pub IsLeft : Cold → Kept → Story → Type 0
 IsLeft word kept story = left_by word kept ≡ left_by word (past_at story).kept
 
--- a life that was run again stands behind its last event, and this is the answer to that: behind any story behind which
+-- a life that was run again comes after its last event, and this is the answer to that: after any story after which
 -- the same is kept as before its power-up, this unit's own events or not
 abbrev pub Stands : Option Lived → Option Known → Type 0
 Stands None None = Unit {0}
 Stands (Some life) (Some known) = (story : Story) → IsLeft life.word life.kept story
-    → Reasons (story_behind life.events story) known.life × (known.output ≡ output_at (story_behind life.events story))
+    → Reasons (story_after life.events story) known.life × (known.output ≡ output_at (story_after life.events story))
 Stands _ _ = ⊥

@@ -1,4 +1,4 @@
--- The numbers by which C is told what is one of several values (this project's profile).
+-- The numbers by which C gets what is one of several values (this project's profile).
 use Rattle.std.specs.Prelude.{ℕ}
 use Rattle.blocks.specs.declared.format.Format.{Format}
 use Rattle.blocks.specs.declared.format.Format.TheVariants.{One, Two, Three}

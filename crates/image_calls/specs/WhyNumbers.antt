@@ -1,4 +1,4 @@
--- The numbers by which C is told why (this project's profile; docs/explain/brakes.md tells each cause at length).
+-- The numbers by which C gets why (this project's profile; docs/explain/brakes.md reports each cause at length).
 use Rattle.std.specs.Prelude.{ℕ, List, map, Option, Some, None, is_some}
 use Rattle.c_numbers.specs.Numbers.{or_zero, flag_of}
 use Rattle.kernel.specs.Causes.{all_causes}
@@ -6,7 +6,7 @@ use Rattle.mode_control.specs.declared.tripping.TripCause.{TripCause}
 use Rattle.mode_control.specs.declared.tripping.TripCause.TheVariants.{EndPassed, Linking, Stop, StaffDistance, Level}
 use Rattle.reasons.specs.declared.runs.Runs.{Runs}
 use Rattle.reasons.specs.Runs.{first_in}
-use Rattle.reasons.specs.declared.trips.TripTold.{TripTold}
+use Rattle.reasons.specs.declared.trips.TripReport.{TripReport}
 
 -- of each cause of a brake, in the order of the table, from which event on it has held; 0 where it doesn't hold
 abbrev pub since_of : Runs → List ℕ
@@ -24,11 +24,11 @@ trip_number StaffDistance = 4
 trip_number Level = 5
 
 -- why Trip was entered, 0 where it isn't known that one is owed
-abbrev pub trip_cause_told : Option TripTold → ℕ
-trip_cause_told None = 0
-trip_cause_told (Some told) = trip_number told.cause
+abbrev pub trip_cause_reported : Option TripReport → ℕ
+trip_cause_reported None = 0
+trip_cause_reported (Some reported) = trip_number reported.cause
 
 -- .. and by which event
-abbrev pub trip_event_told : Option TripTold → ℕ
-trip_event_told None = 0
-trip_event_told (Some told) = told.event
+abbrev pub trip_event_reported : Option TripReport → ℕ
+trip_event_reported None = 0
+trip_event_reported (Some reported) = reported.event

@@ -32,7 +32,7 @@ pub enum Answer {
 }
 
 impl Answer {
-    /// The number by which it is told.
+    /// The number by which it is reported.
     pub fn number(self) -> u32
         ensures { result ≡ answer_number self }
     {

@@ -18,7 +18,7 @@ pub(crate) struct Asked {
     pub(crate) block: u64,
     /// The number of the event.
     pub(crate) event: u64,
-    /// The life behind the last record that was seen, if it is known.
+    /// The life after the last record that was seen, if it is known.
     pub(crate) known: Option<Known>,
     /// Whether that is the record of the event.
     pub(crate) is_met: bool,
@@ -50,7 +50,7 @@ impl Asked {
 }
 
 impl Visit<()> for Asked {
-    ghost IsTold = { λ step old _ new _. Asks step old new };
+    ghost IsReported = { λ step old _ new _. Asks step old new };
 
     ghost enough = { λ asked. asked.is_met };
 
@@ -60,7 +60,7 @@ impl Visit<()> for Asked {
 
     // No step writes, and only one that runs an event takes memory.
     fn unreadable(&mut self, number: u64, _out: &mut ()) -> Result<(), LateError>
-        ensures told { OnOk result (Asks (Unreadable number) self.old self.new) }
+        ensures reported { OnOk result (Asks (Unreadable number) self.old self.new) }
         ensures ends { IsOk result }
     {
         self.known = None;
@@ -68,7 +68,7 @@ impl Visit<()> for Asked {
     }
 
     fn missing(&mut self, _out: &mut ()) -> Result<(), LateError>
-        ensures told { OnOk result (Asks Missing self.old self.new) }
+        ensures reported { OnOk result (Asks Missing self.old self.new) }
         ensures ends { IsOk result }
     {
         self.known = None;
@@ -82,7 +82,7 @@ impl Visit<()> for Asked {
         seen: &Seen<'_>,
         _out: &mut (),
     ) -> Result<(), LateError>
-        ensures told { OnOk result (Asks (Begins seen.now.block.now seen.now.life before.now seen.now.entry.now)
+        ensures reported { OnOk result (Asks (Begins seen.now.block.now seen.now.life before.now seen.now.entry.now)
             self.old self.new) }
         ensures refused { IfErr result (λ error. error ≡ NoMemory) }
     {
@@ -95,7 +95,7 @@ impl Visit<()> for Asked {
     }
 
     fn goes_on(&mut self, alloc: Global, seen: &Seen<'_>, _out: &mut ()) -> Result<(), LateError>
-        ensures told { OnOk result (Asks (GoesOn seen.now.block.now seen.now.life seen.now.entry.now)
+        ensures reported { OnOk result (Asks (GoesOn seen.now.block.now seen.now.life seen.now.entry.now)
             self.old self.new) }
         ensures refused { IfErr result (λ error. error ≡ NoMemory) }
     {
@@ -108,7 +108,7 @@ impl Visit<()> for Asked {
     }
 
     fn head(&mut self, block: &Block, _out: &mut ()) -> Result<(), LateError>
-        ensures told { OnOk result (Asks (Head block.now) self.old self.new) }
+        ensures reported { OnOk result (Asks (Head block.now) self.old self.new) }
         ensures ends { IsOk result }
     {
         Ok(())

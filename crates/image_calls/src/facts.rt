@@ -1,6 +1,6 @@
 //! What an image has at first sight.
 ghost use Rattle.image_calls.specs.Answers.{ByAbi};
-ghost use Rattle.image_calls.specs.Facts.{AsksFacts, TellsFacts};
+ghost use Rattle.image_calls.specs.Facts.{AsksFacts, DescribesFacts};
 
 use crate::answer::Answer;
 use crate::images::survey_in;
@@ -13,7 +13,7 @@ use examination::Survey;
 pub struct EtcsImage {
     /// How many whole sectors.
     pub sectors: u64,
-    /// How many slots its first sector tells.
+    /// How many slots its first sector says.
     pub slots: u64,
     /// How many of them are there with all their sectors.
     pub whole: u64,
@@ -21,9 +21,9 @@ pub struct EtcsImage {
     pub newest: u64,
 }
 
-// Tells what was seen.
-fn tell(survey: Survey, out: &mut EtcsImage) -> Answer
-    ensures { TellsFacts survey out.old out.new result }
+// Reports what was seen.
+fn describe(survey: Survey, out: &mut EtcsImage) -> Answer
+    ensures { DescribesFacts survey out.old out.new result }
 {
     let Some(slots) = survey.slots else {
         return Answer::NotFormatted;
@@ -44,5 +44,5 @@ pub fn facts_call(image: &[u8], abi: u32, out: &mut EtcsImage) -> Answer
     if abi != ABI {
         return Answer::OtherAbi;
     }
-    tell(survey_in(image), out)
+    describe(survey_in(image), out)
 }

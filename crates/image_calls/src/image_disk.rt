@@ -6,7 +6,7 @@ use disk::{Disk, DiskFault, SECTOR_BYTES, WriteDisk};
 use std::marker::Model;
 
 /// A disk over bytes that are lent, which can't be written (this project's profile): a write answers DiskFault, and
-/// changes no byte. Bytes behind the last whole sector are left out.
+/// changes no byte. Bytes after the last whole sector are left out.
 #[derive(Drop)]
 pub(crate) struct ImageDisk<'a> {
     bytes: &'a [u8],

@@ -1,9 +1,9 @@
 //! What a block keeps, as C gets it.
 ghost use Rattle.std.specs.Prelude.{◌≡◌};
 ghost use Rattle.c_numbers.specs.Numbers.{or_zero, flag_of};
-ghost use Rattle.image_calls.specs.KeptItems.{status_number, level_told, train_told, group_told, identity_told, identity_bytes, TellsKept};
+ghost use Rattle.image_calls.specs.KeptItems.{status_number, level_reported, train_reported, group_reported, identity_reported, identity_bytes, DescribesKept};
 
-use crate::national_items::{EtcsNational, national_told};
+use crate::national_items::{EtcsNational, national_reported};
 use driver::{Datum, DriverIdentity, RunningNumber, TrainData};
 use events::{Kept, Position};
 use mode_table::TrainLevel;
@@ -25,21 +25,21 @@ pub struct EtcsTrain {
     pub category: u32,
 }
 
-/// What is kept behind the events of a block. What isn't known is zero.
+/// What is kept after the events of a block. What isn't known is zero.
 #[repr(C)]
 #[derive(Clone, Copy)]
 pub struct EtcsKept {
-    /// How far behind the group the estimated front lies, in centimetres.
+    /// How far beyond the group the estimated front lies, in centimetres.
     pub distance: i64,
     /// The train data.
     pub train: EtcsTrain,
     /// The running number.
     pub running_number: u32,
-    /// The country of the group that the position is told by (NID_C).
+    /// The country of the group that the position is reported by (NID_C).
     pub country: u32,
     /// The number of that group (NID_BG).
     pub group: u32,
-    /// The driver's identity, and zeros behind it.
+    /// The driver's identity, and zeros after it.
     pub identity: [u8; 16],
     /// How many bytes the identity has, 0 where none is known.
     pub identity_len: u8,
@@ -72,8 +72,8 @@ fn status_number<T: Copy>(datum: &Datum<T>) -> u8
     }
 }
 
-fn level_told(level: Datum<TrainLevel>) -> u8
-    ensures { result ≡ level_told level }
+fn level_reported(level: Datum<TrainLevel>) -> u8
+    ensures { result ≡ level_reported level }
 {
     match level {
         Datum::Unknown => 0,
@@ -82,8 +82,8 @@ fn level_told(level: Datum<TrainLevel>) -> u8
 }
 
 /// Train data, zeros where none are known.
-pub(crate) fn train_told(train: Option<TrainData>) -> EtcsTrain
-    ensures { result ≡ train_told train }
+pub(crate) fn train_reported(train: Option<TrainData>) -> EtcsTrain
+    ensures { result ≡ train_reported train }
 {
     match train {
         None => EtcsTrain {
@@ -111,8 +111,8 @@ pub(crate) struct Group {
     pub(crate) distance: i64,
 }
 
-fn group_told(position: Datum<Position>) -> Group
-    ensures { result ≡ group_told position }
+fn group_reported(position: Datum<Position>) -> Group
+    ensures { result ≡ group_reported position }
 {
     match position {
         Datum::Unknown => Group {
@@ -128,8 +128,8 @@ fn group_told(position: Datum<Position>) -> Group
     }
 }
 
-fn identity_told(identity: &Option<DriverIdentity>) -> [u8; 16]
-    ensures { result ≡ identity_told identity.now }
+fn identity_reported(identity: &Option<DriverIdentity>) -> [u8; 16]
+    ensures { result ≡ identity_reported identity.now }
 {
     let mut all = [0; 16];
     if let Some(identity) = identity {
@@ -148,7 +148,7 @@ fn identity_bytes(identity: &Option<DriverIdentity>) -> u8
     }
 }
 
-fn number_told(number: Option<RunningNumber>) -> u32
+fn number_reported(number: Option<RunningNumber>) -> u32
     ensures { result ≡ or_zero number }
 {
     match number {
@@ -158,25 +158,25 @@ fn number_told(number: Option<RunningNumber>) -> u32
 }
 
 /// As C sees it.
-pub fn kept_told(kept: &Kept) -> EtcsKept
-    ensures { TellsKept kept.now result }
+pub fn kept_reported(kept: &Kept) -> EtcsKept
+    ensures { DescribesKept kept.now result }
 {
-    let group = group_told(kept.position);
+    let group = group_reported(kept.position);
     EtcsKept {
         distance: group.distance,
-        train: train_told(kept.train_data),
-        running_number: number_told(kept.running_number),
+        train: train_reported(kept.train_data),
+        running_number: number_reported(kept.running_number),
         country: group.country,
         group: group.number,
-        identity: identity_told(&kept.identity),
+        identity: identity_reported(&kept.identity),
         identity_len: identity_bytes(&kept.identity),
         has_running_number: u8::from(kept.running_number.is_some()),
         has_train: u8::from(kept.train_data.is_some()),
         level_status: status_number(&kept.level),
-        level: level_told(kept.level),
+        level: level_reported(kept.level),
         position_status: status_number(&kept.position),
         trip_outstanding: u8::from(kept.trip_outstanding),
         reserved: 0,
-        national: national_told(&kept.national),
+        national: national_reported(&kept.national),
     }
 }

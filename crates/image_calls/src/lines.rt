@@ -1,9 +1,9 @@
-//! A walk that tells one line of a replay.
+//! A walk that says one line of a replay.
 ghost use Rattle.std.specs.Prelude.{◌≡◌, Some, IsOk, OnOk, IfErr, if◌then◌else◌};
 ghost use Rattle.lives.specs.Steps.Step.{Unreadable, Missing, Begins, GoesOn, Head};
 ghost use Rattle.lives.specs.declared.errors.LateError.TheVariants.{NoMemory};
-ghost use Rattle.image_calls.specs.Lines.{begun, is_on, is_ended, has_events, extended, ended, behind_record, behind_block};
-ghost use Rattle.image_calls.specs.Lines.{TakesFound, TakesHead, TellsStep};
+ghost use Rattle.image_calls.specs.Lines.{begun, is_on, is_ended, has_events, extended, ended, after_record, after_block};
+ghost use Rattle.image_calls.specs.Lines.{TakesFound, TakesHead, DescribesStep};
 ghost use Rattle.image_calls.specs.declared.lines.End.TheVariants.{Over};
 
 use crate::verdicts::{EtcsReplay, Span, head_differs, record_differs};
@@ -29,9 +29,9 @@ pub(crate) enum End {
     Going,
     /// The line ends before the place.
     Over,
-    /// The line tells what differs.
+    /// The line says what differs.
     Differs,
-    /// The line tells that a block can't be read.
+    /// The line says that a block can't be read.
     Lost,
 }
 
@@ -85,16 +85,16 @@ impl Line {
         self.events.is_some()
     }
 
-    // Goes on behind a record.
+    // Goes on after a record.
     fn pass_record(&mut self)
-        ensures { self.new ≡ behind_record self.old }
+        ensures { self.new ≡ after_record self.old }
     {
         self.next.index = self.next.index.saturating_add(1);
     }
 
-    // Goes on behind a block.
+    // Goes on after a block.
     fn pass_block(&mut self)
-        ensures { self.new ≡ behind_block self.old }
+        ensures { self.new ≡ after_block self.old }
     {
         self.next = Place {
             block: self.next.block.saturating_add(1),
@@ -142,7 +142,7 @@ impl Line {
                     );
                     self.end = End::Differs;
                 }
-                self.judged = Judged::BehindDifference;
+                self.judged = Judged::AfterDifference;
                 self.pass_record();
             }
         }
@@ -180,7 +180,7 @@ impl Line {
 }
 
 impl Visit<EtcsReplay> for Line {
-    ghost IsTold = { λ step old out new after. TellsStep step old new out after };
+    ghost IsReported = { λ step old out new after. DescribesStep step old new out after };
 
     ghost enough = { λ line. is_ended line };
 
@@ -193,7 +193,7 @@ impl Visit<EtcsReplay> for Line {
 
     // No step writes, and only one that runs an event takes memory.
     fn unreadable(&mut self, number: u64, out: &mut EtcsReplay) -> Result<(), LateError>
-        ensures told { OnOk result (TellsStep (Unreadable number) self.old self.new out.old out.new) }
+        ensures reported { OnOk result (DescribesStep (Unreadable number) self.old self.new out.old out.new) }
         ensures ends { IsOk result }
     {
         let _number = number;
@@ -210,7 +210,7 @@ impl Visit<EtcsReplay> for Line {
     }
 
     fn missing(&mut self, out: &mut EtcsReplay) -> Result<(), LateError>
-        ensures told { OnOk result (TellsStep Missing self.old self.new out.old out.new) }
+        ensures reported { OnOk result (DescribesStep Missing self.old self.new out.old out.new) }
         ensures ends { IsOk result }
     {
         if !self.ends_before() {
@@ -226,7 +226,7 @@ impl Visit<EtcsReplay> for Line {
         seen: &Seen<'_>,
         out: &mut EtcsReplay,
     ) -> Result<(), LateError>
-        ensures told { OnOk result (TellsStep (Begins seen.now.block.now seen.now.life before.now seen.now.entry.now)
+        ensures reported { OnOk result (DescribesStep (Begins seen.now.block.now seen.now.life before.now seen.now.entry.now)
             self.old self.new out.old out.new) }
         ensures refused { IfErr result (λ error. error ≡ NoMemory) }
     {
@@ -249,7 +249,7 @@ impl Visit<EtcsReplay> for Line {
         seen: &Seen<'_>,
         out: &mut EtcsReplay,
     ) -> Result<(), LateError>
-        ensures told { OnOk result (TellsStep (GoesOn seen.now.block.now seen.now.life seen.now.entry.now)
+        ensures reported { OnOk result (DescribesStep (GoesOn seen.now.block.now seen.now.life seen.now.entry.now)
             self.old self.new out.old out.new) }
         ensures refused { IfErr result (λ error. error ≡ NoMemory) }
     {
@@ -261,7 +261,7 @@ impl Visit<EtcsReplay> for Line {
     }
 
     fn head(&mut self, block: &Block, out: &mut EtcsReplay) -> Result<(), LateError>
-        ensures told { OnOk result (TellsStep (Head block.now) self.old self.new out.old out.new) }
+        ensures reported { OnOk result (DescribesStep (Head block.now) self.old self.new out.old out.new) }
         ensures ends { IsOk result }
     {
         let found = self.judged.head(block);

@@ -1,6 +1,6 @@
 //! National values, as C gets them.
 ghost use Rattle.std.specs.Prelude.{◌≡◌, ◌≤◌, length};
-ghost use Rattle.image_calls.specs.NationalItems.{open_told, AreCountries, TellsNational};
+ghost use Rattle.image_calls.specs.NationalItems.{open_reported, AreCountries, DescribesNational};
 
 use national::{CountryValues, OverrideDuration, StaffResponsibleDistance};
 use vars::{Country, Variable};
@@ -36,13 +36,13 @@ pub struct EtcsNational {
     pub staff_responsible_distance: u32,
     /// How many countries the values are for, at most 32.
     pub count: u32,
-    /// The countries (NID_C), and zeros behind them.
+    /// The countries (NID_C), and zeros after them.
     pub countries: [u16; 32],
 }
 
 // A time, or the number of one that has no end.
-fn time_told(time: Option<OverrideDuration>) -> u32
-    ensures { result ≡ open_told time }
+fn time_reported(time: Option<OverrideDuration>) -> u32
+    ensures { result ≡ open_reported time }
 {
     match time {
         Some(time) => time.get(),
@@ -51,8 +51,8 @@ fn time_told(time: Option<OverrideDuration>) -> u32
 }
 
 // A distance, or the number of one that has no end.
-fn distance_told(distance: Option<StaffResponsibleDistance>) -> u32
-    ensures { result ≡ open_told distance }
+fn distance_reported(distance: Option<StaffResponsibleDistance>) -> u32
+    ensures { result ≡ open_reported distance }
 {
     match distance {
         Some(distance) => distance.get(),
@@ -60,8 +60,8 @@ fn distance_told(distance: Option<StaffResponsibleDistance>) -> u32
     }
 }
 
-// The countries, in the first places, and zeros behind them.
-fn countries_told(countries: &[Country]) -> [u16; 32]
+// The countries, in the first places, and zeros after them.
+fn countries_reported(countries: &[Country]) -> [u16; 32]
     requires { length countries.now ≤ 32 }
     ensures { AreCountries countries.now result }
 {
@@ -73,8 +73,8 @@ fn countries_told(countries: &[Country]) -> [u16; 32]
 }
 
 /// As C sees them.
-pub(crate) fn national_told(national: &CountryValues) -> EtcsNational
-    ensures { TellsNational national.now result }
+pub(crate) fn national_reported(national: &CountryValues) -> EtcsNational
+    ensures { DescribesNational national.now result }
 {
     let values = national.values();
     let countries = national.countries();
@@ -88,9 +88,9 @@ pub(crate) fn national_told(national: &CountryValues) -> EtcsNational
         override_allowed: values.override_allowed.get(),
         override_speed: values.override_speed.get(),
         override_distance: values.override_distance.get(),
-        override_time: time_told(values.override_time),
-        staff_responsible_distance: distance_told(values.staff_responsible_distance),
+        override_time: time_reported(values.override_time),
+        staff_responsible_distance: distance_reported(values.staff_responsible_distance),
         count: countries.len() as u32,
-        countries: countries_told(countries),
+        countries: countries_reported(countries),
     }
 }

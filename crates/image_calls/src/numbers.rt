@@ -1,4 +1,4 @@
-//! The numbers by which C is told what is one of several values.
+//! The numbers by which C gets what is one of several values.
 ghost use Rattle.std.specs.Prelude.{◌≡◌};
 ghost use Rattle.blocks.specs.Codes.{kind_number};
 ghost use Rattle.blocks.specs.Records.{kind_name};

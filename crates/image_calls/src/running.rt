@@ -8,7 +8,7 @@ use reasons::Reasoning;
 use std::alloc::Global;
 use units::NoMemory;
 
-/// A life that is known, behind its last event.
+/// A life that is known, after its last event.
 #[derive(Drop)]
 pub struct Known {
     /// The life.
@@ -33,7 +33,7 @@ pub(crate) fn follow(
     Ok(())
 }
 
-// Runs the power-up of a life, behind what was kept before it.
+// Runs the power-up of a life, after what was kept before it.
 fn power_up(
     alloc: Global,
     known: &mut Option<Known>,

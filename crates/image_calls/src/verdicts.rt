@@ -1,11 +1,11 @@
 //! A line of a replay, as C gets it.
 ghost use Rattle.std.specs.Prelude.{◌≡◌};
 ghost use Rattle.image_calls.specs.Verdicts.{record_field_number, kept_field_number, unknown_number, verdict_of, no_record, no_kept, no_line};
-ghost use Rattle.image_calls.specs.Verdicts.{verdict_told, record_differs, TellsHead};
+ghost use Rattle.image_calls.specs.Verdicts.{verdict_reported, record_differs, DescribesHead};
 
-use crate::kept_items::{EtcsKept, kept_told, train_told};
+use crate::kept_items::{EtcsKept, kept_reported, train_reported};
 use crate::national_items::EtcsNational;
-use crate::records::{EtcsRecord, record_told};
+use crate::records::{EtcsRecord, record_reported};
 use blocks::{Block, BlockRecord};
 use lives::Unknown;
 use replaying::{HeadFound, Judged, KeptField, RecordField};
@@ -14,7 +14,7 @@ use replaying::{HeadFound, Judged, KeptField, RecordField};
 #[repr(C)]
 #[derive(Clone, Copy)]
 pub struct EtcsReplay {
-    /// The number of the first event that the line tells of; 0 of a head.
+    /// The number of the first event that the line says about; 0 of a head.
     pub first_event: u64,
     /// The number of the last one; 0 of a head.
     pub last_event: u64,
@@ -31,11 +31,11 @@ pub struct EtcsReplay {
     pub field: u32,
     /// 0.
     pub reserved: u32,
-    /// The record that differs, as the journal tells it; zeros where none does.
+    /// The record that differs, as the journal says it; zeros where none does.
     pub journal: EtcsRecord,
     /// The same as the kernel answers it.
     pub kernel: EtcsRecord,
-    /// What the head that differs tells; zeros where none does.
+    /// What the head that differs reports; zeros where none does.
     pub journal_kept: EtcsKept,
     /// What the kernel keeps there.
     pub kernel_kept: EtcsKept,
@@ -102,7 +102,7 @@ pub(crate) fn verdict_of(judged: &Judged) -> u32
     match judged {
         Judged::Agrees(_) => 1,
         Judged::Unknown(unknown) => unknown_number(*unknown),
-        Judged::BehindDifference => 7,
+        Judged::AfterDifference => 7,
     }
 }
 
@@ -136,7 +136,7 @@ fn no_kept() -> EtcsKept
 {
     EtcsKept {
         distance: 0,
-        train: train_told(None),
+        train: train_reported(None),
         running_number: 0,
         country: 0,
         group: 0,
@@ -168,8 +168,8 @@ fn no_kept() -> EtcsKept
 }
 
 /// A verdict without a difference.
-pub(crate) fn verdict_told(span: Span, verdict: u32) -> EtcsReplay
-    ensures { result ≡ verdict_told span verdict }
+pub(crate) fn verdict_reported(span: Span, verdict: u32) -> EtcsReplay
+    ensures { result ≡ verdict_reported span verdict }
 {
     EtcsReplay {
         first_event: span.first_event,
@@ -196,7 +196,7 @@ pub(crate) fn no_line() -> EtcsReplay
         last_event: 0,
         life: 0,
     };
-    verdict_told(none, 0)
+    verdict_reported(none, 0)
 }
 
 /// A record of this life differs.
@@ -204,38 +204,38 @@ pub(crate) fn record_differs(
     block: &Block,
     life: u32,
     field: RecordField,
-    told: &BlockRecord,
+    reported: &BlockRecord,
     answer: &BlockRecord,
 ) -> EtcsReplay
-    ensures { result ≡ record_differs block.now life field told.now answer.now }
+    ensures { result ≡ record_differs block.now life field reported.now answer.now }
 {
     let span = Span {
-        first_event: told.number,
-        last_event: told.number,
+        first_event: reported.number,
+        last_event: reported.number,
         life,
     };
-    let mut all = verdict_told(span, 2);
+    let mut all = verdict_reported(span, 2);
     all.block = block.number;
-    all.event = told.number;
+    all.event = reported.number;
     all.field = record_field_number(field);
-    all.journal = record_told(block, life, told);
-    all.kernel = record_told(block, life, answer);
+    all.journal = record_reported(block, life, reported);
+    all.kernel = record_reported(block, life, answer);
     all
 }
 
 /// The head of a block differs.
 pub(crate) fn head_differs(block: &Block, found: &HeadFound) -> EtcsReplay
-    ensures { TellsHead block.now found.now result }
+    ensures { DescribesHead block.now found.now result }
 {
     let span = Span {
         first_event: 0,
         last_event: 0,
         life: block.kept.lives,
     };
-    let mut all = verdict_told(span, 3);
+    let mut all = verdict_reported(span, 3);
     all.block = block.number;
     all.field = kept_field_number(found.field);
-    all.journal_kept = kept_told(&block.kept);
-    all.kernel_kept = kept_told(&found.kept);
+    all.journal_kept = kept_reported(&block.kept);
+    all.kernel_kept = kept_reported(&found.kept);
     all
 }

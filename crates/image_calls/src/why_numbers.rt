@@ -1,10 +1,10 @@
-//! The numbers by which C is told why.
+//! The numbers by which C gets why.
 ghost use Rattle.std.specs.Prelude.{◌≡◌};
-ghost use Rattle.image_calls.specs.WhyNumbers.{since_of, holds_of, trip_number, trip_cause_told, trip_event_told};
+ghost use Rattle.image_calls.specs.WhyNumbers.{since_of, holds_of, trip_number, trip_cause_reported, trip_event_reported};
 
 use c_numbers::{flag, or_zero};
 use kernel::{BrakeCause, TripCause};
-use reasons::{Runs, TripTold};
+use reasons::{Runs, TripReport};
 
 /// From which event on each cause of the brake has held.
 pub(crate) fn since_of(runs: &Runs) -> [u64; 10]
@@ -18,7 +18,7 @@ pub(crate) fn since_of(runs: &Runs) -> [u64; 10]
         since(BrakeCause::OwesTrip),
         since(BrakeCause::FarTooFast),
         since(BrakeCause::RolledTooFar),
-        since(BrakeCause::AskedForService),
+        since(BrakeCause::ServiceBrakeRequested),
         since(BrakeCause::TooFast),
         since(BrakeCause::MustStand),
         since(BrakeCause::OwesTooLong),
@@ -37,7 +37,7 @@ pub(crate) fn holds_of(runs: &Runs) -> [u8; 10]
         holds(BrakeCause::OwesTrip),
         holds(BrakeCause::FarTooFast),
         holds(BrakeCause::RolledTooFar),
-        holds(BrakeCause::AskedForService),
+        holds(BrakeCause::ServiceBrakeRequested),
         holds(BrakeCause::TooFast),
         holds(BrakeCause::MustStand),
         holds(BrakeCause::OwesTooLong),
@@ -57,21 +57,21 @@ fn trip_number(cause: TripCause) -> u8
 }
 
 /// Why Trip was entered, 0 where it isn't known that one is owed.
-pub(crate) fn trip_cause_told(trip: Option<TripTold>) -> u8
-    ensures { result ≡ trip_cause_told trip }
+pub(crate) fn trip_cause_reported(trip: Option<TripReport>) -> u8
+    ensures { result ≡ trip_cause_reported trip }
 {
     match trip {
         None => 0,
-        Some(told) => trip_number(told.cause),
+        Some(reported) => trip_number(reported.cause),
     }
 }
 
 /// By which event, likewise.
-pub(crate) fn trip_event_told(trip: Option<TripTold>) -> u64
-    ensures { result ≡ trip_event_told trip }
+pub(crate) fn trip_event_reported(trip: Option<TripReport>) -> u64
+    ensures { result ≡ trip_event_reported trip }
 {
     match trip {
         None => 0,
-        Some(told) => told.event,
+        Some(reported) => reported.event,
     }
 }

@@ -1,4 +1,4 @@
--- A fault in the bits in front of a packet 3 stays, whatever is behind them. Lengths and widths are bits.
+-- A fault in the bits in front of a packet 3 stays, whatever is after them. Lengths and widths are bits.
 use Rattle.std.proofs.Common.{◌≡◌, inl, inr, ℕ, ◌+◌, ◌≤◌, Bool, List, [], ◌∷◌, ◌++◌, length, length-append, take, drop, refl, sym, ap, subst, ◌∙◌, arith, append_assoc}
 use Rattle.std.proofs.lemmas.List.{take-append-drop, take_at, drop_at, take-append-le, drop-append-le, length-drop, length-take-le}
 use Rattle.bits.specs.Bits.{bits_of, number}

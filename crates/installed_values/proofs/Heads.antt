@@ -4,12 +4,12 @@ use Rattle.std.specs.Option.{option_map_or}
 use Rattle.std.proofs.lemmas.Bool.{eqb-false}
 use Rattle.std.proofs.lemmas.List.{append-nil, take_at, drop_at, take_all}
 use Rattle.bits.specs.Bits.{number, number_bits}
-use Rattle.bits.specs.Layout.{Layout, done, unless, field, run, choice, kind, part, inner, measured, more, told_as, then_, Begins, Spells}
+use Rattle.bits.specs.Layout.{Layout, done, unless, field, run, choice, kind, part, inner, measured, more, reported_as, then_, Begins, Spells}
 use Rattle.bits.specs.Writing.{value, each_taken, with_bits, appended}
 use Rattle.bits.proofs.Numbers.{length-number_bits, number-of_bits, number-append}
 use Rattle.bits.proofs.WritingLaws.{number_below}
 use Rattle.vars.proofs.Numbers.{plain_back}
-use Rattle.packets.specs.Layouts.{national_values_telling, linking_telling, movement_authority_telling, gradients_telling, static_speeds_telling, level_transition_telling, speed_restriction_telling, restriction_revocation_telling, mode_profile_telling, skipped_telling}
+use Rattle.packets.specs.Layouts.{national_values_description, linking_description, movement_authority_description, gradients_description, static_speeds_description, level_transition_description, speed_restriction_description, restriction_revocation_description, mode_profile_description, skipped_description}
 use Rattle.packets.specs.Packets.{packet, packet_of, packet_taken, length_of, number_of}
 use Rattle.packets.specs.declared.packet.Packet.{Packet}
 use Rattle.packets.specs.declared.packet.Packet.TheVariants as packets
@@ -17,7 +17,7 @@ use Rattle.packets.proofs.AnyPacket.{spelled-packet, length_of-least}
 use Rattle.track_packets.specs.Listing.{number_at, head_at, length_at}
 use Rattle.track_packets.proofs.Steps.{Stands, head_front}
 
--- ---- what is appended stands behind what was there
+-- ---- what is appended comes after what was there
 
 abbrev Longer : List Bool → List Bool → Type 0
 Longer front all = (more : List Bool) × (all ≡ front ++ more)
@@ -49,12 +49,12 @@ longer (part given m get) c front = option_longer (λ d. appended m d front) (ge
 longer (inner m get) c front = longer m (get c) front
 longer (measured f before m) c front = longer m c front
 longer (more n m before get) c front = each_longer (λ x left. appended m x left) (drop (length before) (get c)) front (λ x left. longer m x left)
-longer (told_as g m) c front = longer m c front
+longer (reported_as g m) c front = longer m c front
 longer (then_ m f) c front =
     option_longer (λ x. appended (f x) c (appended m c front)) (value m c) (appended m c front) front (longer m c front)
     (λ x. further front (appended m c front) (appended (f x) c (appended m c front)) (longer m c front) (longer (f x) c (appended m c front)))
 
--- ---- the first field behind a number, and the one behind it
+-- ---- the first field after a number, and the one after it
 
 -- what a layout begins with stands in front
 abbrev First : {F C A : Type 0} → Layout F C A → C → List Bool → Type 0
@@ -67,7 +67,7 @@ first (then_ m f) c front =
     (λ x. longer (f x) c (appended m c front))
 first other c front = tt
 
--- what the layout behind its first part begins with
+-- what the layout after its first part begins with
 abbrev Second : {F C A : Type 0} → Layout F C A → C → List Bool → Type 0
 Second (then_ m f) c front = (x : _) → value m c ≡ Some x → First (f x) c (appended m c front)
 Second other c front = Unit {0}
@@ -78,26 +78,26 @@ second other c front = tt
 
 -- ---- the head of a packet
 
--- Q_DIR and L_PACKET stand behind the number
+-- Q_DIR and L_PACKET come after the number
 abbrev HasHead : ℕ → List Bool → List Bool → Type 0
-HasHead told front all = (d : ℕ) × Longer ((front ++ number_bits 2 d) ++ number_bits 13 told) all
+HasHead reported front all = (d : ℕ) × Longer ((front ++ number_bits 2 d) ++ number_bits 13 reported) all
 
-shorten : (told d s : ℕ) (front all : List Bool) → Longer (((front ++ number_bits 2 d) ++ number_bits 13 told) ++ number_bits 2 s) all → HasHead told front all
-shorten told d s front all l =
-    (d, further ((front ++ number_bits 2 d) ++ number_bits 13 told) (((front ++ number_bits 2 d) ++ number_bits 13 told) ++ number_bits 2 s) all (number_bits 2 s, refl) l)
+shorten : (reported d s : ℕ) (front all : List Bool) → Longer (((front ++ number_bits 2 d) ++ number_bits 13 reported) ++ number_bits 2 s) all → HasHead reported front all
+shorten reported d s front all l =
+    (d, further ((front ++ number_bits 2 d) ++ number_bits 13 reported) (((front ++ number_bits 2 d) ++ number_bits 13 reported) ++ number_bits 2 s) all (number_bits 2 s, refl) l)
 
-packet_head : (told : ℕ) (p : Packet) (front : List Bool) → HasHead told front (packet_taken with_bits told p front)
-unfolding national_values_telling linking_telling movement_authority_telling gradients_telling static_speeds_telling level_transition_telling speed_restriction_telling restriction_revocation_telling mode_profile_telling skipped_telling
-packet_head told (packets.NationalValues c) front = shorten told _ _ front _ (first (national_values_telling (λ _. told)) c front)
-packet_head told (packets.Linking c) front = shorten told _ _ front _ (first (linking_telling (λ _. told)) c front)
-packet_head told (packets.MovementAuthority c) front = shorten told _ _ front _ (first (movement_authority_telling (λ _. told)) c front)
-packet_head told (packets.Gradients c) front = shorten told _ _ front _ (first (gradients_telling (λ _. told)) c front)
-packet_head told (packets.StaticSpeeds c) front = shorten told _ _ front _ (first (static_speeds_telling (λ _. told)) c front)
-packet_head told (packets.LevelTransition c) front = shorten told _ _ front _ (first (level_transition_telling (λ _. told)) c front)
-packet_head told (packets.SpeedRestriction c) front = shorten told _ _ front _ (first (speed_restriction_telling (λ _. told)) c front)
-packet_head told (packets.RestrictionRevocation c) front = (_, second (restriction_revocation_telling (λ _. told)) c front c.direction refl)
-packet_head told (packets.ModeProfile c) front = shorten told _ _ front _ (first (mode_profile_telling (λ _. told)) c front)
-packet_head told (packets.Other c) front = (_, second (skipped_telling c.number (λ _. told)) c front c.direction refl)
+packet_head : (reported : ℕ) (p : Packet) (front : List Bool) → HasHead reported front (packet_taken with_bits reported p front)
+unfolding national_values_description linking_description movement_authority_description gradients_description static_speeds_description level_transition_description speed_restriction_description restriction_revocation_description mode_profile_description skipped_description
+packet_head reported (packets.NationalValues c) front = shorten reported _ _ front _ (first (national_values_description (λ _. reported)) c front)
+packet_head reported (packets.Linking c) front = shorten reported _ _ front _ (first (linking_description (λ _. reported)) c front)
+packet_head reported (packets.MovementAuthority c) front = shorten reported _ _ front _ (first (movement_authority_description (λ _. reported)) c front)
+packet_head reported (packets.Gradients c) front = shorten reported _ _ front _ (first (gradients_description (λ _. reported)) c front)
+packet_head reported (packets.StaticSpeeds c) front = shorten reported _ _ front _ (first (static_speeds_description (λ _. reported)) c front)
+packet_head reported (packets.LevelTransition c) front = shorten reported _ _ front _ (first (level_transition_description (λ _. reported)) c front)
+packet_head reported (packets.SpeedRestriction c) front = shorten reported _ _ front _ (first (speed_restriction_description (λ _. reported)) c front)
+packet_head reported (packets.RestrictionRevocation c) front = (_, second (restriction_revocation_description (λ _. reported)) c front c.direction refl)
+packet_head reported (packets.ModeProfile c) front = shorten reported _ _ front _ (first (mode_profile_description (λ _. reported)) c front)
+packet_head reported (packets.Other c) front = (_, second (skipped_description c.number (λ _. reported)) c front c.direction refl)
 
 -- ---- a spelled packet stands where it is spelled
 
@@ -106,29 +106,29 @@ pub record Headed (p : Packet) (bits : List Bool) : Type 0 where
   pub length_is : length_at bits ≡ length_of p
 
 -- L_PACKET of bits that begin with so many of a head
-length_told : (n told d : ℕ) (bits : List Bool) → told < 8192 → Longer ((number_bits 8 n ++ number_bits 2 d) ++ number_bits 13 told) bits → length_at bits ≡ told
-length_told n told d bits small l =
-    let behind = number_bits 2 d ++ number_bits 13 told in
-    let u = (number_bits 8 n ++ number_bits 2 d) ++ number_bits 13 told in
-    let long : length u ≡ 23 = omega (arith, length-append (number_bits 8 n ++ number_bits 2 d) (number_bits 13 told), length-append (number_bits 8 n) (number_bits 2 d), length-number_bits 8 n, length-number_bits 2 d, length-number_bits 13 told) in
-    let fifteen : length behind ≤ 15 = omega (arith, length-append (number_bits 2 d) (number_bits 13 told), length-number_bits 2 d, length-number_bits 13 told) in
-    let head : head_at bits ≡ number (number_bits 2 d) * 8192 + told =
+length_reported : (n reported d : ℕ) (bits : List Bool) → reported < 8192 → Longer ((number_bits 8 n ++ number_bits 2 d) ++ number_bits 13 reported) bits → length_at bits ≡ reported
+length_reported n reported d bits small l =
+    let behind = number_bits 2 d ++ number_bits 13 reported in
+    let u = (number_bits 8 n ++ number_bits 2 d) ++ number_bits 13 reported in
+    let long : length u ≡ 23 = omega (arith, length-append (number_bits 8 n ++ number_bits 2 d) (number_bits 13 reported), length-append (number_bits 8 n) (number_bits 2 d), length-number_bits 8 n, length-number_bits 2 d, length-number_bits 13 reported) in
+    let fifteen : length behind ≤ 15 = omega (arith, length-append (number_bits 2 d) (number_bits 13 reported), length-number_bits 2 d, length-number_bits 13 reported) in
+    let head : head_at bits ≡ number (number_bits 2 d) * 8192 + reported =
     ap head_at l.1 ∙ head_front u l.0 (omega arith)
-    ∙ ap (λ (b : List Bool). number (take 15 (drop 8 b))) (append_assoc (number_bits 8 n) (number_bits 2 d) (number_bits 13 told))
+    ∙ ap (λ (b : List Bool). number (take 15 (drop 8 b))) (append_assoc (number_bits 8 n) (number_bits 2 d) (number_bits 13 reported))
     ∙ ap (λ (b : List Bool). number (take 15 b)) (drop_at (number_bits 8 n) behind 8 (length-number_bits 8 n))
     ∙ ap number (take_all 15 behind fifteen)
-    ∙ number-append (number_bits 2 d) (number_bits 13 told)
-    ∙ ap (λ k. number (number_bits 2 d) * 2 ^ k + number (number_bits 13 told)) (length-number_bits 13 told)
-    ∙ ap (λ k. number (number_bits 2 d) * 8192 + k) (number-of_bits 13 told small) in
+    ∙ number-append (number_bits 2 d) (number_bits 13 reported)
+    ∙ ap (λ k. number (number_bits 2 d) * 2 ^ k + number (number_bits 13 reported)) (length-number_bits 13 reported)
+    ∙ ap (λ k. number (number_bits 2 d) * 8192 + k) (number-of_bits 13 reported small) in
     omega (arith, head)
 
 no_255 : (n : ℕ) (p : Packet) (bits : List Bool) → Spells (packet_of n) p bits → nat_eq n 255 ≡ false
 unfolding packet_of
 no_255 n p bits s = s.4.0
 
-number_told : (p : Packet) (front rest : List Bool) → Spells packet p front → (number_at (front ++ rest) ≡ 255 → ⊥)
+number_reported : (p : Packet) (front rest : List Bool) → Spells packet p front → (number_at (front ++ rest) ≡ 255 → ⊥)
 unfolding packet
-number_told p front rest s =
+number_reported p front rest s =
     let low : number s.1 < 2 ^ 8 = number_below 8 s.1 s.4.0 in
     let read : s.0 ≡ number s.1 = (plain_back 8).back (number s.1) s.0 low s.4.1 in
     let whole : front ++ rest ≡ s.1 ++ (s.2 ++ rest) = ap (λ f. f ++ rest) s.3 ∙ append_assoc s.1 s.2 rest in
@@ -142,11 +142,11 @@ headed p bits rest b =
     let h = packet_head (length_of p) p (number_bits 8 (number_of p)) in
     let all : Longer ((number_bits 8 (number_of p) ++ number_bits 2 h.0) ++ number_bits 13 (length_of p)) bits =
     (h.1.0 ++ rest, b.parts ∙ ap (λ f. f ++ rest) (front_is ∙ h.1.1) ∙ append_assoc ((number_bits 8 (number_of p) ++ number_bits 2 h.0) ++ number_bits 13 (length_of p)) h.1.0 rest) in
-    let is = length_told (number_of p) (length_of p) h.0 bits w.small all in
+    let is = length_reported (number_of p) (length_of p) h.0 bits w.small all in
     let least = length_of-least p in
     record {
       stands = record {
-        no_mark = λ e. number_told p b.front rest b.spelled (ap number_at (sym b.parts) ∙ e);
+        no_mark = λ e. number_reported p b.front rest b.spelled (ap number_at (sym b.parts) ∙ e);
         head = omega (arith, is, least);
         whole = omega (arith, is, ap length b.parts, length-append b.front rest, w.length_is);
       };

@@ -19,6 +19,6 @@ taken_is n bits le = length-take-le n bits le
 pub all_taken : (bits : List Bool) → take (length bits) bits ≡ bits
 all_taken bits = take_all (length bits) bits (omega arith)
 
--- the rows behind L_PACKET have all bits but those of the head
+-- the rows after L_PACKET have all bits but those of the head
 pub total_is : (countries : ℕ) → total_bits countries (rows_of 3) ≡ 153 + 10 * countries
 total_is countries = omega arith

@@ -8,7 +8,7 @@ use Rattle.bits.specs.Writing.{each_taken, with_bits, appended}
 use Rattle.bits.proofs.Numbers.{length-number_bits}
 use Rattle.vars.specs.Values.{direction_number, scale_number, start_place_number}
 use Rattle.packets.specs.Elements.{country}
-use Rattle.packets.specs.Layouts.{national_values_telling, mode_speeds, override_values}
+use Rattle.packets.specs.Layouts.{national_values_description, mode_speeds, override_values}
 use Rattle.packets.specs.Packets.{packet, packet_taken, length_of}
 use Rattle.packets.specs.declared.national.NationalValues.{NationalValues}
 use Rattle.packets.specs.declared.packet.Packet.TheVariants as packets
@@ -78,7 +78,7 @@ length-countries : (cs : List ℕ) → length (flat_map (number_bits 10) cs) ≡
 length-countries [] = refl
 length-countries (c ∷ cs) = omega (arith, length-append (number_bits 10 c) (flat_map (number_bits 10) cs), length-number_bits 10 c, length-countries cs)
 
--- the variable of a row, its bits, and the rows behind it
+-- the variable of a row, its bits, and the rows after it
 row : {A B C : Type 0} → A → B → C → A × B × C
 row variable bits behind = (variable, bits, behind)
 
@@ -96,24 +96,24 @@ unfolding each_taken country
 each_is [] s = sym (append-nil s)
 each_is (c ∷ cs) s = each_is cs (s ++ number_bits 10 c) ∙ append_assoc s (number_bits 10 c) (flat_map (number_bits 10) cs)
 
--- what stands before the countries, and behind them
+-- what stands before the countries, and after them
 abbrev before : ℕ → NationalValues → List (List Bool)
-before told v =
-    number_bits 2 (direction_number v.direction) ∷ number_bits 13 told ∷ number_bits 2 (scale_number v.scale) ∷ number_bits 15 (start_place_number v.start) ∷ number_bits 5 (length v.countries.items) ∷ []
+before reported v =
+    number_bits 2 (direction_number v.direction) ∷ number_bits 13 reported ∷ number_bits 2 (scale_number v.scale) ∷ number_bits 15 (start_place_number v.start) ∷ number_bits 5 (length v.countries.items) ∷ []
 
-taken_is : (told : ℕ) (v : NationalValues) (s : List Bool)
-    → packet_taken with_bits told (packets.NationalValues v) s ≡ onto (each_taken (λ x left. appended country x left) v.countries.items (onto s (before told v))) (drop 4 (pieces (values_of v)))
-unfolding national_values_telling mode_speeds override_values
-taken_is told v s = refl
+taken_is : (reported : ℕ) (v : NationalValues) (s : List Bool)
+    → packet_taken with_bits reported (packets.NationalValues v) s ≡ onto (each_taken (λ x left. appended country x left) v.countries.items (onto s (before reported v))) (drop 4 (pieces (values_of v)))
+unfolding national_values_description mode_speeds override_values
+taken_is reported v s = refl
 
 spelled_is : (v : NationalValues) (front : List Bool) → Spells packet (packets.NationalValues v) front
     → front ≡ ((number_bits 8 3 ++ number_bits 2 (direction_number v.direction)) ++ number_bits 13 (length_of (packets.NationalValues v))) ++ flat (pieces (values_of v))
 spelled_is v front s =
-    let told = length_of (packets.NationalValues v) in
+    let reported = length_of (packets.NationalValues v) in
     (spelled-packet (packets.NationalValues v) front s).written []
-    ∙ taken_is told v (number_bits 8 3)
-    ∙ ap (λ t. onto t (drop 4 (pieces (values_of v)))) (each_is v.countries.items (onto (number_bits 8 3) (before told v)))
-    ∙ onto_is ((number_bits 8 3 ++ number_bits 2 (direction_number v.direction)) ++ number_bits 13 told) (pieces (values_of v))
+    ∙ taken_is reported v (number_bits 8 3)
+    ∙ ap (λ t. onto t (drop 4 (pieces (values_of v)))) (each_is v.countries.items (onto (number_bits 8 3) (before reported v)))
+    ∙ onto_is ((number_bits 8 3 ++ number_bits 2 (direction_number v.direction)) ++ number_bits 13 reported) (pieces (values_of v))
 
 -- ---- what was written
 
@@ -125,17 +125,17 @@ reads_values p bytes written y pad is v rest b =
     let here = drop p.start is.sent in
     let countries = countries_at here in
     let stay = values_stay p bytes written y pad is in
-    let told = length_of (packets.NationalValues v) in
+    let reported = length_of (packets.NationalValues v) in
     let d = number_bits 2 (direction_number v.direction) in
-    let u = (number_bits 8 3 ++ d) ++ number_bits 13 told in
+    let u = (number_bits 8 3 ++ d) ++ number_bits 13 reported in
     let ps = flat (pieces (values_of v)) in
     let front_is = spelled_is v b.front b.spelled in
     let whole : drop p.start new ≡ u ++ (ps ++ rest) = b.parts ∙ ap (λ f. f ++ rest) front_is ∙ append_assoc u ps rest in
-    let u_long : length u ≡ 23 = omega (arith, length-append (number_bits 8 3 ++ d) (number_bits 13 told), length-append (number_bits 8 3) d, length-number_bits 8 3, length-number_bits 2 (direction_number v.direction), length-number_bits 13 told) in
+    let u_long : length u ≡ 23 = omega (arith, length-append (number_bits 8 3 ++ d) (number_bits 13 reported), length-append (number_bits 8 3) d, length-number_bits 8 3, length-number_bits 2 (direction_number v.direction), length-number_bits 13 reported) in
     let n = length v.countries.items in
     let ps_long : length ps ≡ 124 + 10 * n = length-flat n (own (rows_of 3)) (values_of v) (fits v) ∙ own_total n in
-    let front_long : length b.front ≡ told = (spelled-packet (packets.NationalValues v) b.front b.spelled).length_is in
-    let told_is : told ≡ 147 + 10 * n = omega (arith, ap length front_is, length-append u ps) in
+    let front_long : length b.front ≡ reported = (spelled-packet (packets.NationalValues v) b.front b.spelled).length_is in
+    let reported_is : reported ≡ 147 + 10 * n = omega (arith, ap length front_is, length-append u ps) in
     let len = is.len in
     let y_long = is.shorter.long in
     let enough = is.shorter.enough in
@@ -146,14 +146,14 @@ reads_values p bytes written y pad is v rest b =
     let place : place_at p.start (drop p.start new) ≡ place_at p.start y = ap (place_at p.start) there ∙ place_front p.start y behind (omega arith) in
     let length_is : length_at (drop p.start new) ≡ p.length - 29 = ap (λ (q : PacketPlace). q.length) (place ∙ is.shorter.heads) in
     let head = headed (packets.NationalValues v) (drop p.start new) rest b in
-    let told_is_len : told ≡ p.length - 29 = sym head.length_is ∙ length_is in
-    let same : n ≡ countries = omega (arith, told_is, told_is_len, len) in
+    let reported_is_len : reported ≡ p.length - 29 = sym head.length_is ∙ length_is in
+    let same : n ≡ countries = omega (arith, reported_is, reported_is_len, len) in
     let ten : take 2 (drop 8 (drop p.start new)) ≡ take 2 (drop 8 here) =
     sym (drop-take 8 2 (drop p.start new)) ∙ ap (drop 8) stay.head ∙ drop-take 8 2 here in
     let d_there : take 2 (drop 8 (drop p.start new)) ≡ d =
-    ap (λ x. take 2 (drop 8 x)) (whole ∙ append_assoc (number_bits 8 3 ++ d) (number_bits 13 told) (ps ++ rest) ∙ append_assoc (number_bits 8 3) d (number_bits 13 told ++ (ps ++ rest)))
-    ∙ ap (take 2) (drop_at (number_bits 8 3) (d ++ (number_bits 13 told ++ (ps ++ rest))) 8 (length-number_bits 8 3))
-    ∙ take_at d (number_bits 13 told ++ (ps ++ rest)) 2 (length-number_bits 2 (direction_number v.direction)) in
+    ap (λ x. take 2 (drop 8 x)) (whole ∙ append_assoc (number_bits 8 3 ++ d) (number_bits 13 reported) (ps ++ rest) ∙ append_assoc (number_bits 8 3) d (number_bits 13 reported ++ (ps ++ rest)))
+    ∙ ap (take 2) (drop_at (number_bits 8 3) (d ++ (number_bits 13 reported ++ (ps ++ rest))) 8 (length-number_bits 8 3))
+    ∙ take_at d (number_bits 13 reported ++ (ps ++ rest)) 2 (length-number_bits 2 (direction_number v.direction)) in
     record {
       direction = sym d_there ∙ ten;
       values = sym (cut n (own (rows_of 3)) (values_of v) rest (fits v))

@@ -12,7 +12,7 @@ use Rattle.installed_values.specs.Keeping.{bits_of_row, has_place, total_bits, k
 use Rattle.installed_values.specs.Rebuilding.{first_bits, rebuilt, IsRebuilt}
 use Rattle.installed_values.specs.declared.dropping.Dropped.{Dropped}
 use Rattle.installed_values.proofs.Pieces.{total_is}
-use Rattle.installed_values.proofs.Values.{behind_head, values_stay}
+use Rattle.installed_values.proofs.Values.{after_head, values_stay}
 use Rattle.installed_values.proofs.Written.{IsFor}
 
 abbrev kept_where : Bool → ℕ → List Bool → List Bool
@@ -25,7 +25,7 @@ abbrev again_where : Bool → ℕ → ℕ → List Row → List Bool → List Dr
 again_where b countries n rows written values =
     if b then take n written ++ rebuilt countries rows (drop n written) values else first_bits n values ++ rebuilt countries rows written (drop 1 values)
 
--- one row and those behind it
+-- one row and those after it
 one_row : (countries : ℕ) (b : Bool) (row : Row) (rows : List Row) (bits k rest again : List Bool) (values : List Dropped)
     → bits_of_row countries row ≤ length bits → rebuilt countries rows (k ++ rest) values ≡ again
     → again_where b countries (bits_of_row countries row) rows ((kept_where b (bits_of_row countries row) bits ++ k) ++ rest) (dropped_where b (value_of row.variable (bits_of_row countries row) bits) values)
@@ -68,7 +68,7 @@ is_rebuilt p bytes written y pad is =
     let rest = drop (p.start + p.length) (bits_of bytes) ++ pad in
     let within = is.within in
     let len = is.len in
-    let rows = behind_head p bytes written y pad is in
+    let rows = after_head p bytes written y pad is in
     let whole : 153 + 10 * countries ≡ p.length - 23 = omega (arith, len) in
     ap (λ n. rebuilt n (rows_of 3) (drop 23 (drop p.start (bits_of written))) values) (values_stay p bytes written y pad is).countries
     ∙ ap (λ w. rebuilt countries (rows_of 3) w values) rows

@@ -47,7 +47,7 @@ kept_is countries = omega arith
 
 -- ---- its head
 
--- Q_DIR at the front of the bits behind NID_PACKET
+-- Q_DIR at the front of the bits after NID_PACKET
 abbrev q_dir_at : List Bool → ℕ
 q_dir_at bits = number (take 2 (drop 8 bits))
 

@@ -94,7 +94,7 @@ countries_stay countries len bits rest le =
     ∙ ap number (take_at c (f.0 ++ rest) 5 c_long)
     ∙ ap (λ b. number (take 5 b)) there
 
--- the packet 3 that was written: its head, the rows that are kept, and what is behind it
+-- the packet 3 that was written: its head, the rows that are kept, and what is after it
 there : (p : PacketPlace) (bytes written : List ℕ) (y pad : List Bool) → (is : IsFor p bytes written y pad)
     → drop p.start (bits_of written)
     ≡ own_head (drop p.start is.sent) (p.length - 29)
@@ -116,10 +116,10 @@ head_long p bytes written y pad is =
     let within = is.within in
     length-own_head (drop p.start is.sent) (p.length - 29) (omega (arith, length-drop p.start is.sent))
 
-pub behind_head : (p : PacketPlace) (bytes written : List ℕ) (y pad : List Bool) → (is : IsFor p bytes written y pad)
+pub after_head : (p : PacketPlace) (bytes written : List ℕ) (y pad : List Bool) → (is : IsFor p bytes written y pad)
     → drop 23 (drop p.start (bits_of written))
     ≡ kept (countries_at (drop p.start is.sent)) (rows_of 3) (drop 23 (drop p.start is.sent)) ++ (drop (p.start + p.length) (bits_of bytes) ++ pad)
-behind_head p bytes written y pad is =
+after_head p bytes written y pad is =
     ap (drop 23) (there p bytes written y pad is)
     ∙ drop_at (own_head (drop p.start is.sent) (p.length - 29)) _ 23 (head_long p bytes written y pad is)
 
@@ -147,7 +147,7 @@ values_stay p bytes written y pad is =
           ∙ ap number (take_at nb (k ++ rest) 13 (length-number_bits 13 (p.length - 29)))
           ∙ number-of_bits 13 (p.length - 29) (omega arith);
       countries = ap countries_at (at ∙ sym (append_assoc u k rest)) ∙ countries_stay countries (p.length - 29) here rest (omega arith);
-      values = ap (values_by countries (own (rows_of 3))) (behind_head p bytes written y pad is)
+      values = ap (values_by countries (own (rows_of 3))) (after_head p bytes written y pad is)
           ∙ values_kept countries (rows_of 3) (drop 23 here) rest (omega (arith, total_is countries, length-drop 23 here));
       all = ap (λ n. n + 23) (own_total countries) ∙ whole;
     }

@@ -1,4 +1,4 @@
--- The packets of bits in front of a packet 3 and behind it, where other bits are written for it. Places and lengths are
+-- The packets of bits in front of a packet 3 and after it, where other bits are written for it. Places and lengths are
 -- bits.
 use Rattle.std.proofs.Common.{◌≡◌, ◌⊎◌, inl, inr, ℕ, zero, suc, ◌+◌, ◌-◌, ◌%◌, ◌<◌, ◌≤◌, ◌==◌, ◌&&◌, not, nat_lt, Bool, true, false, List, [], ◌∷◌, ◌++◌, length, length-append, map, take, drop, refl, sym, ap, subst, ◌∙◌, arith, append_assoc, if◌then◌else◌}
 use Rattle.std.specs.List.{All}
@@ -54,8 +54,8 @@ moved_before p q lt =
     ap (λ b. moved_by b (nat_lt p.start q.start) q) (ne_eqb q.start p.start (λ e. omega arith))
     ∙ ap (λ b. moved_by false b q) (le-ltb p.start q.start (omega arith))
 
-pub moved_behind : (p q : PacketPlace) → p.start < q.start → moved p q ≡ back q
-moved_behind p q lt =
+pub moved_after : (p q : PacketPlace) → p.start < q.start → moved p q ≡ back q
+moved_after p q lt =
     ap (λ b. moved_by b (nat_lt p.start q.start) q) (ne_eqb q.start p.start (λ e. omega arith))
     ∙ ap (λ b. moved_by false b q) (lt-ltb p.start q.start lt)
 
@@ -63,12 +63,12 @@ moved_behind p q lt =
 abbrev pub Within : ℕ → ℕ → PacketPlace → Type 0
 Within from to q = (from ≤ q.start) × (q.start + q.length ≤ to)
 
-all_moved_behind : (p : PacketPlace) (from to : ℕ) (qs : List PacketPlace) → p.start < from → All (Within from to) qs → map (moved p) qs ≡ map back qs
-all_moved_behind p from to [] lt all = refl
-all_moved_behind p from to (q ∷ qs) lt all =
+all_moved_after : (p : PacketPlace) (from to : ℕ) (qs : List PacketPlace) → p.start < from → All (Within from to) qs → map (moved p) qs ≡ map back qs
+all_moved_after p from to [] lt all = refl
+all_moved_after p from to (q ∷ qs) lt all =
     let w = All-head (Within from to) q qs all in
     let le : p.start < q.start = omega (arith, w.0) in
-    ap (λ x. x ∷ map (moved p) qs) (moved_behind p q le) ∙ ap (λ xs. back q ∷ xs) (all_moved_behind p from to qs lt (All-tail (Within from to) q qs all))
+    ap (λ x. x ∷ map (moved p) qs) (moved_after p q le) ∙ ap (λ xs. back q ∷ xs) (all_moved_after p from to qs lt (All-tail (Within from to) q qs all))
 
 -- ---- which are as a track sends them
 
@@ -90,22 +90,22 @@ installed_one : (b : Bool) (q p : PacketPlace) (qs : List PacketPlace) → befor
 installed_one true q p qs h = inl (refl, cc, cc)
 installed_one false q p qs h = inr (refl, h)
 
--- ---- behind the packet 3
+-- ---- after the packet 3
 
 record MovedBack (n at : ℕ) (z pad : List Bool) : Type 0 where
   pub items : (listed n (at - 29) (z ++ pad)).packets.items ≡ map back (listed n at z).packets.items
   pub end : (listed n (at - 29) (z ++ pad)).end ≡ end_back (listed n at z).end
   pub within : All (Within at (at + length z)) (listed n at z).packets.items
 
-abbrev BehindAll : ℕ → List Bool → Type 0
-BehindAll n pad = (at : ℕ) (z : List Bool) → 29 ≤ at → ends_so (listed n at z) ≡ true → MovedBack n at z pad
+abbrev AfterAll : ℕ → List Bool → Type 0
+AfterAll n pad = (at : ℕ) (z : List Bool) → 29 ≤ at → ends_so (listed n at z) ≡ true → MovedBack n at z pad
 
 within_more : (from to from' : ℕ) (qs : List PacketPlace) → from' ≤ from → All (Within from to) qs → All (Within from' to) qs
 within_more from to from' qs le all = All-weaker (Within from to) (Within from' to) (λ q w. (omega (arith, w.0), w.1)) qs all
 
-behind_packet : (n at : ℕ) (z pad : List Bool) (q : PacketPlace) → BehindAll n pad → 29 ≤ at → PacketAt at z q → ends_so (listed (suc n) at z) ≡ true
+after_packet : (n at : ℕ) (z pad : List Bool) (q : PacketPlace) → AfterAll n pad → 29 ≤ at → PacketAt at z q → ends_so (listed (suc n) at z) ≡ true
     → MovedBack (suc n) at z pad
-behind_packet n at z pad q ih le e h =
+after_packet n at z pad q ih le e h =
     let head = e.stands.head in
     let whole = e.stands.whole in
     let long : 23 ≤ length z = omega arith in
@@ -131,8 +131,8 @@ behind_packet n at z pad q ih le e h =
       within = All-same (Within at (at + length z)) _ _ (ap (λ (l : Listing). l.packets.items) old) (All-cons (Within at (at + length z)) q _ here others);
     }
 
-behind_mark : (n at : ℕ) (z pad : List Bool) → Marks z → MovedBack (suc n) at z pad
-behind_mark n at z pad m =
+after_mark : (n at : ℕ) (z pad : List Bool) → Marks z → MovedBack (suc n) at z pad
+after_mark n at z pad m =
     let long = m.long in
     let there : Marks (z ++ pad) = record { long = omega (arith, length-append z pad); mark = number_front z pad long ∙ m.mark } in
     let old : listed (suc n) at z ≡ ended (EndMark at) = mark_listed n at z m in
@@ -151,19 +151,19 @@ mark_of other h = absurd cc
 no_other : (n at : ℕ) (bits : List Bool) → EndsElse at bits → ends_so (listed (suc n) at bits) ≡ true → ⊥
 no_other n at bits o h = let m = mark_of o.end (sym (ap ends_so (o.listed_is n)) ∙ h) in o.no_mark m.0 m.1
 
-behind_step : (n at : ℕ) (z pad : List Bool) → BehindAll n pad → 29 ≤ at → ends_so (listed (suc n) at z) ≡ true → MovedBack (suc n) at z pad
-behind_step n at z pad ih le h =
+later_step : (n at : ℕ) (z pad : List Bool) → AfterAll n pad → 29 ≤ at → ends_so (listed (suc n) at z) ≡ true → MovedBack (suc n) at z pad
+later_step n at z pad ih le h =
     elim (here at z) [
-      | inl s ↦ behind_packet n at z pad (place_at at z) ih le (record { stands = s; is = refl }) h
+      | inl s ↦ after_packet n at z pad (place_at at z) ih le (record { stands = s; is = refl }) h
       | inr o ↦ elim o [
-        | inl m ↦ behind_mark n at z pad m
+        | inl m ↦ after_mark n at z pad m
         | inr e ↦ absurd (no_other n at z e h)
       ]
     ]
 
-behind : (n : ℕ) (pad : List Bool) → BehindAll n pad
+behind : (n : ℕ) (pad : List Bool) → AfterAll n pad
 behind zero pad = λ at z le h. absurd (let no : false ≡ true = sym (ap ends_so (none_listed at z)) ∙ h in cc)
-behind (suc n) pad = λ at z le h. behind_step n at z pad (behind n pad) le h
+behind (suc n) pad = λ at z le h. later_step n at z pad (behind n pad) le h
 
 -- ---- around the packet 3
 
@@ -179,7 +179,7 @@ pub record IsShorter (p : PacketPlace) (y : List Bool) : Type 0 where
   pub number_is : p.number ≡ 3
   pub own_length : (p.length - 29) % 10 ≡ 7
 
--- a packet is the packet 3, or stands before it or behind it
+-- a packet is the packet 3, or stands before it or after it
 abbrev pub Apart : PacketPlace → ℕ → PacketPlace → Type 0
 Apart p to q = (q ≡ p) ⊎ (((q.start < p.start) × (q.start + q.length ≤ p.start)) ⊎ Within (p.start + p.length) to q)
 
@@ -199,7 +199,7 @@ not_installed : (p : PacketPlace) → p.number ≡ 3 → (p.length - 29) % 10 �
 not_installed p three seven =
     ap (λ n. (n == 3) && not ((p.length - 29) % 10 == 7)) three ∙ ap (λ n. not (n == 7)) seven
 
--- y stands where the packet 3 stood, whatever is behind it
+-- y stands where the packet 3 stood, whatever is after it
 y_here : (at : ℕ) (p : PacketPlace) (y w : List Bool) → IsShorter p y → at ≡ p.start → PacketAt at (y ++ w) (shorter p)
 y_here at p y w is e =
     let enough = is.enough in
@@ -236,7 +236,7 @@ around_here n at bits y pad p is le e h none =
     let within : All (Within (p.start + p.length) (at + length bits)) others =
     subst (λ (k : ℕ). All (Within (k + p.length) (at + length bits)) others) start_is
     (subst (λ (k : ℕ). All (Within (at + p.length) k) others) to rest.within) in
-    let same : map (moved p) others ≡ map back others = all_moved_behind p (p.start + p.length) (at + length bits) others (omega arith) within in
+    let same : map (moved p) others ≡ map back others = all_moved_after p (p.start + p.length) (at + length bits) others (omega arith) within in
     let all_same : map (moved p) (listed (suc n) at bits).packets.items ≡ shorter p ∷ map back others =
     ap (λ (l : Listing). map (moved p) l.packets.items) old ∙ ap (λ x. x ∷ map (moved p) others) (moved_here p) ∙ ap (λ xs. shorter p ∷ xs) same in
     record {
@@ -257,9 +257,9 @@ taken_on m j bits =
     ∙ ap (λ f. f ++ drop m (take (m + j) bits)) (take-take m (m + j) bits (omega arith))
     ∙ ap (λ r. take m bits ++ r) (drop-take m j bits)
 
--- what is swapped behind a packet
-pub swapped_behind : (m k j len : ℕ) (y pad bits : List Bool) → k ≡ m + j → swapped k len y pad bits ≡ take m bits ++ swapped j len y pad (drop m bits)
-swapped_behind m k j len y pad bits e =
+-- what is swapped after a packet
+pub swapped_after : (m k j len : ℕ) (y pad bits : List Bool) → k ≡ m + j → swapped k len y pad bits ≡ take m bits ++ swapped j len y pad (drop m bits)
+swapped_after m k j len y pad bits e =
     let front : take k bits ≡ take m bits ++ take j (drop m bits) = ap (λ i. take i bits) e ∙ taken_on m j bits in
     let i : k + len ≡ m + (j + len) = omega arith in
     let rest : drop (k + len) bits ≡ drop (j + len) (drop m bits) = ap (λ d. drop d bits) i ∙ sym (drop-drop (j + len) m bits) in
@@ -284,7 +284,7 @@ around_before n at bits y pad p q ih le e h other one =
     let u_long : length u ≡ q.length = length-take-le q.length bits (omega arith) in
     let parts : u ++ drop q.length bits ≡ bits = take-append-drop q.length bits in
     let all : swapped (p.start - at) p.length y pad bits ≡ u ++ w =
-    swapped_behind q.length (p.start - at) (p.start - (at + q.length)) p.length y pad bits (omega arith) in
+    swapped_after q.length (p.start - at) (p.start - (at + q.length)) p.length y pad bits (omega arith) in
     let long : 23 ≤ length u = omega arith in
     let fits : length_at (u ++ drop q.length bits) ≤ length u = subst (λ (b : List Bool). length_at b ≤ length u) (sym parts) (omega arith) in
     let u_stands : Stands u = stands_less u (drop q.length bits) (subst Stands (sym parts) e.stands) fits in

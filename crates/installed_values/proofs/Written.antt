@@ -13,7 +13,7 @@ use Rattle.track_packets.specs.declared.listing.Listing.{Listing}
 use Rattle.track_packets.specs.declared.listing.ListingEnd.{ListingEnd}
 use Rattle.track_packets.specs.declared.listing.ListingEnd.TheVariants.{EndMark, CutOff}
 use Rattle.track_packets.specs.declared.listing.PacketPlace.{PacketPlace}
-use Rattle.installed_values.specs.Adapting.{Tells, adapted_bits, countries_at, found_in, has_end}
+use Rattle.installed_values.specs.Adapting.{Describes, adapted_bits, countries_at, found_in, has_end}
 use Rattle.installed_values.specs.Finding.{installed_in, of_installed}
 use Rattle.installed_values.specs.Keeping.{kept}
 use Rattle.installed_values.specs.Ordering.{IsOrdered}
@@ -27,7 +27,7 @@ use Rattle.installed_values.specs.declared.finding.Found.TheVariants.{Nothing, O
 use Rattle.installed_values.proofs.Ordered.{as_sent}
 use Rattle.installed_values.proofs.Shorter.{own_packet, is_shorter}
 use Rattle.track_packets.proofs.Steps.{place_front}
-use Rattle.installed_values.proofs.Walks.{Apart, Around, IsShorter, around, stood, is_so, swapped, swapped_behind, back, end_back, moved_before, moved_behind}
+use Rattle.installed_values.proofs.Walks.{Apart, Around, IsShorter, around, stood, is_so, swapped, swapped_after, back, end_back, moved_before, moved_after}
 
 -- ---- which packet it was
 
@@ -109,16 +109,16 @@ place_same at one other le le' e =
     ∙ sym (place_front at (take 23 other) (drop 23 other) (omega (arith, length-take-le 23 other le')))
     ∙ ap (place_at at) (take-append-drop 23 other)
 
-pub was_written : (bytes old new : List ℕ) (n : ℕ) (p : PacketPlace) → Tells (found_in bytes) (bits_of bytes) (Ok (Written n p)) old new
+pub was_written : (bytes old new : List ℕ) (n : ℕ) (p : PacketPlace) → Describes (found_in bytes) (bits_of bytes) (Ok (Written n p)) old new
     → (y pad : List Bool) × IsFor p bytes (take n new) y pad
-was_written bytes old new n p tells =
+was_written bytes old new n p describes =
     let bits = bits_of bytes in
-    let sent = tells.1.0 in
-    let rewrites = tells.1.2 in
-    let ordered = as_sent p bits sent tells.1.1 in
+    let sent = describes.1.0 in
+    let rewrites = describes.1.2 in
+    let ordered = as_sent p bits sent describes.1.1 in
     let was = drop p.start bits in
     let here = drop p.start sent in
-    let h = has p bytes tells.0 in
+    let h = has p bytes describes.0 in
     let within = ordered.layout.0 in
     let len = ordered.layout.1 in
     let whole = ordered.whole in
@@ -140,7 +140,7 @@ was_written bytes old new n p tells =
         layout = omega (arith, within, whole);
         from = from;
         sent = sent;
-        ordered = tells.1.1;
+        ordered = describes.1.1;
         within = within;
         len = len;
         own = refl;
@@ -163,7 +163,7 @@ parts p bytes written y pad is =
     let from = is.from in
     let w = swapped (p.start - 50) p.length y pad (drop 50 bits) in
     let fifty : length (take 50 bits) ≡ 50 = length-take-le 50 bits is.has.header in
-    let all : bits_of written ≡ take 50 bits ++ w = is.bits ∙ swapped_behind 50 p.start (p.start - 50) p.length y pad bits (omega arith) in
+    let all : bits_of written ≡ take 50 bits ++ w = is.bits ∙ swapped_after 50 p.start (p.start - 50) p.length y pad bits (omega arith) in
     record {
       header = ap (take 50) all ∙ take_at (take 50 bits) w 50 fifty;
       long = omega (arith, ap length all, length-append (take 50 bits) w, fifty);
@@ -192,9 +192,9 @@ before_stays s k len bits rest le long =
     ∙ ap (take len) (drop-take k (s - k) bits)
     ∙ take-take len (s - k) (drop k bits) (omega arith)
 
-behind_stays : (s l k len : ℕ) (bits y pad : List Bool) → length y ≡ l - 29 → 29 ≤ l → s + l ≤ k → k + len ≤ length bits
+after_stays : (s l k len : ℕ) (bits y pad : List Bool) → length y ≡ l - 29 → 29 ≤ l → s + l ≤ k → k + len ≤ length bits
     → take len (drop (k - 29) (swapped s l y pad bits)) ≡ take len (drop k bits)
-behind_stays s l k len bits y pad long small le fits =
+after_stays s l k len bits y pad long small le fits =
     let z = drop (s + l) bits in
     let f = take s bits ++ y in
     let f_long : length f ≡ s + l - 29 = omega (arith, length-append (take s bits) y, length-take-le s bits (omega arith)) in
@@ -231,12 +231,12 @@ keeps p bytes written y pad is q (inr (inr behind)) =
     let enough = is.shorter.enough in
     let header = is.has.header in
     let end : q.start + q.length ≤ length bits = omega (arith, behind.1, length-drop 50 bits) in
-    let goes : moved p q ≡ back q = moved_behind p q (omega (arith, behind.0)) in
+    let goes : moved p q ≡ back q = moved_after p q (omega (arith, behind.0)) in
     inr (
       ap (λ (r : PacketPlace). r.length) goes,
       ap (λ r. bits_there r (bits_of written)) goes
           ∙ ap (λ b. take q.length (drop (q.start - 29) b)) is.bits
-          ∙ behind_stays p.start p.length q.start q.length bits y pad is.shorter.long (omega arith) behind.0 end,
+          ∙ after_stays p.start p.length q.start q.length bits y pad is.shorter.long (omega arith) behind.0 end,
     )
 
 pub all_kept : (p : PacketPlace) (bytes written : List ℕ) (y pad : List Bool) → IsFor p bytes written y pad → All (Kept p (bits_of bytes) (bits_of written)) (listing_of bytes).packets.items
@@ -275,13 +275,13 @@ found_nothing p bytes written y pad is =
     (ap has_end a.end ∙ end_stays (listed 34 50 (drop 50 (bits_of bytes))).end is.has.ends)
     ∙ ap of_installed (ap installed_in a.items ∙ a.none)
 
-none_told : (found : Found) (bits : List Bool) (answer : Result Adaptation AdaptError) (old new : List ℕ) → found ≡ Nothing → Tells found bits answer old new → (answer ≡ Ok AsItIs) × (new ≡ old)
-none_told found bits (Ok AsItIs) old new none tells = (refl, tells.1)
-none_told found bits (Ok (Written n p)) old new none tells = absurd (let no : Nothing ≡ One p = sym none ∙ tells.0 in cc)
-none_told found bits (Err (errors.Several p)) old new none tells = absurd (let no : Nothing ≡ Several p = sym none ∙ tells.0 in cc)
-none_told found bits (Err (errors.NoLayout p)) old new none tells = absurd (let no : Nothing ≡ One p = sym none ∙ tells.0 in cc)
-none_told found bits (Err (errors.Ambiguous p)) old new none tells = absurd (let no : Nothing ≡ One p = sym none ∙ tells.0 in cc)
+none_reported : (found : Found) (bits : List Bool) (answer : Result Adaptation AdaptError) (old new : List ℕ) → found ≡ Nothing → Describes found bits answer old new → (answer ≡ Ok AsItIs) × (new ≡ old)
+none_reported found bits (Ok AsItIs) old new none describes = (refl, describes.1)
+none_reported found bits (Ok (Written n p)) old new none describes = absurd (let no : Nothing ≡ One p = sym none ∙ describes.0 in cc)
+none_reported found bits (Err (errors.Several p)) old new none describes = absurd (let no : Nothing ≡ Several p = sym none ∙ describes.0 in cc)
+none_reported found bits (Err (errors.NoLayout p)) old new none describes = absurd (let no : Nothing ≡ One p = sym none ∙ describes.0 in cc)
+none_reported found bits (Err (errors.Ambiguous p)) old new none describes = absurd (let no : Nothing ≡ One p = sym none ∙ describes.0 in cc)
 
 pub as_it_should : (p : PacketPlace) (bytes written : List ℕ) (y pad : List Bool) → IsFor p bytes written y pad → IsLeftAsItIs written
 as_it_should p bytes written y pad is =
-    λ answer old new tells. none_told (found_in written) (bits_of written) answer old new (found_nothing p bytes written y pad is) tells
+    λ answer old new describes. none_reported (found_in written) (bits_of written) answer old new (found_nothing p bytes written y pad is) describes

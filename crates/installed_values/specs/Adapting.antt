@@ -39,12 +39,12 @@ countries_at bits = counter_at 40 bits
 abbrev pub front : PacketPlace → List Bool → List Bool
 front place bits = take place.start bits ++ (take 10 (drop place.start bits) ++ number_bits 13 (place.length - 29))
 
--- The telegram with the packet 3 there in this project's order, and all bits behind it.
+-- The telegram with the packet 3 there in this project's order, and all bits after it.
 abbrev pub adapted_bits : ℕ → PacketPlace → List Bool → List Bool
 adapted_bits countries place bits =
     front place bits ++ (kept countries (rows_of 3) (drop 23 (drop place.start bits)) ++ drop place.length (drop place.start bits))
 
--- The first n bytes have these bits and pad them with zero bits; the bytes behind them stayed.
+-- The first n bytes have these bits and pad them with zero bits; the bytes after them stayed.
 pub record Rewrites (bits : List Bool) (old new : List ℕ) (n : ℕ) : Type 0 where
   pub count : n ≡ (length bits + 7) / 8
   pub written : bits_of (take n new) ≡ bits ++ replicate (8 * n - length bits) false
@@ -56,13 +56,13 @@ IsWritten place bits n old new =
     (sent : List Bool) × IsOrdered place bits sent × Rewrites (adapted_bits (countries_at (drop place.start sent)) place sent) old new n
 
 -- What came of a telegram with these packets 3.
-abbrev pub Tells : Found → List Bool → Result Adaptation AdaptError → List ℕ → List ℕ → Type 0
-Tells found bits (Ok AsItIs) old new = (found ≡ Nothing) × (new ≡ old)
-Tells found bits (Ok (Written n place)) old new = (found ≡ One place) × IsWritten place bits n old new
-Tells found bits (Err (errors.Several place)) old new = (found ≡ Several place) × (new ≡ old)
-Tells found bits (Err (errors.NoLayout place)) old new = (found ≡ One place) × FitsNeither place bits × (new ≡ old)
-Tells found bits (Err (errors.Ambiguous place)) old new = (found ≡ One place) × FitsBoth place bits × (new ≡ old)
+abbrev pub Describes : Found → List Bool → Result Adaptation AdaptError → List ℕ → List ℕ → Type 0
+Describes found bits (Ok AsItIs) old new = (found ≡ Nothing) × (new ≡ old)
+Describes found bits (Ok (Written n place)) old new = (found ≡ One place) × IsWritten place bits n old new
+Describes found bits (Err (errors.Several place)) old new = (found ≡ Several place) × (new ≡ old)
+Describes found bits (Err (errors.NoLayout place)) old new = (found ≡ One place) × FitsNeither place bits × (new ≡ old)
+Describes found bits (Err (errors.Ambiguous place)) old new = (found ≡ One place) × FitsBoth place bits × (new ≡ old)
 
 -- the same of a telegram with one packet 3 as a track sends it
-abbrev pub TellsOne : PacketPlace → List Bool → Result Adaptation AdaptError → List ℕ → List ℕ → Type 0
-TellsOne place bits answer old new = Tells (One place) bits answer old new
+abbrev pub DescribesOne : PacketPlace → List Bool → Result Adaptation AdaptError → List ℕ → List ℕ → Type 0
+DescribesOne place bits answer old new = Describes (One place) bits answer old new

@@ -36,10 +36,10 @@ abbrev pub are_single : List Row → Bool
 are_single [] = true
 are_single (row ∷ rows) = (has_place row.variable || (row.depth == 0)) && are_single rows
 
--- What is told of the value of an index: nothing where nothing is written.
-abbrev pub TellsDropped : Found → List Bool → ℕ → Option Dropped → Type 0
-TellsDropped Nothing bits index told = told ≡ None
-TellsDropped (Several place) bits index told = told ≡ None
-TellsDropped (One place) bits index told =
-    ((sent : List Bool) × IsOrdered place bits sent × (told ≡ slice_get (values_dropped (countries_at (drop place.start sent)) place sent) index))
-    ⊎ ((FitsBoth place bits ⊎ FitsNeither place bits) × (told ≡ None))
+-- What is reported of the value of an index: nothing where nothing is written.
+abbrev pub DescribesDropped : Found → List Bool → ℕ → Option Dropped → Type 0
+DescribesDropped Nothing bits index reported = reported ≡ None
+DescribesDropped (Several place) bits index reported = reported ≡ None
+DescribesDropped (One place) bits index reported =
+    ((sent : List Bool) × IsOrdered place bits sent × (reported ≡ slice_get (values_dropped (countries_at (drop place.start sent)) place sent) index))
+    ⊎ ((FitsBoth place bits ⊎ FitsNeither place bits) × (reported ≡ None))

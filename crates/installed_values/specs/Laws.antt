@@ -7,7 +7,7 @@ use Rattle.packets.specs.Packets.{packet}
 use Rattle.packets.specs.declared.national.NationalValues.{NationalValues}
 use Rattle.packets.specs.declared.packet.Packet.TheVariants as packets
 use Rattle.track_packets.specs.declared.listing.PacketPlace.{PacketPlace}
-use Rattle.installed_values.specs.Adapting.{Tells, found_in}
+use Rattle.installed_values.specs.Adapting.{Describes, found_in}
 use Rattle.installed_values.specs.Ordering.{FitsBoth, IsOrdered}
 use Rattle.installed_values.specs.Reading.{ReadsValues}
 use Rattle.installed_values.specs.Rebuilding.{IsRebuilt}
@@ -18,7 +18,7 @@ use Rattle.installed_values.specs.declared.adapting.Adaptation.TheVariants.{Writ
 abbrev pub OfEachWritten : (PacketPlace → List ℕ → List Bool → List ℕ → Type 0) → Type 0
 OfEachWritten P =
     (bytes old new : List ℕ) (n : ℕ) (installed : PacketPlace) (sent : List Bool)
-    → Tells (found_in bytes) (bits_of bytes) (Ok (Written n installed)) old new → IsOrdered installed (bits_of bytes) sent → P installed bytes sent (take n new)
+    → Describes (found_in bytes) (bits_of bytes) (Ok (Written n installed)) old new → IsOrdered installed (bits_of bytes) sent → P installed bytes sent (take n new)
 
 -- All but the packet 3 is as it was.
 abbrev pub OthersStayAsTheyWere : Type 0

@@ -17,7 +17,7 @@ use Rattle.installed_values.specs.Staying.{values_by}
 abbrev pub a_value : VariableName → ℕ → ℕ → Variable × List Bool
 a_value name width n = (Shared name, number_bits width n)
 
--- the bits of each variable of the kernel's packet 3 behind L_PACKET; those of its countries in one
+-- the bits of each variable of the kernel's packet 3 after L_PACKET; those of its countries in one
 abbrev pub values_of : NationalValues → List (Variable × List Bool)
 values_of v =
     a_value names.QScale 2 (scale_number v.scale)

@@ -24,7 +24,7 @@ rebuilt countries (row ∷ rows) written values =
     else first_bits (bits_of_row countries row) values ++ rebuilt countries rows written (drop 1 values)
 
 -- The rows of the packet 3 that was sent are those that are built again of the rows that were written and of the values that
--- are told.
+-- are reported.
 abbrev pub IsRebuilt : PacketPlace → List Bool → List Bool → Type 0
 IsRebuilt installed sent written =
     rebuilt (countries_at (drop installed.start written)) (rows_of 3) (drop 23 (drop installed.start written)) (values_dropped (countries_at (drop installed.start sent)) installed sent)

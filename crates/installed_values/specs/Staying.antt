@@ -16,13 +16,13 @@ use Rattle.track_packets.specs.declared.listing.ListingEnd.TheVariants.{EndMark}
 use Rattle.track_packets.specs.declared.listing.PacketPlace.{PacketPlace}
 use Rattle.track_packets.specs.declared.row.Row.{Row}
 use Rattle.track_packets.specs.declared.variable.Variable.{Variable}
-use Rattle.installed_values.specs.Adapting.{Tells, countries_at, found_in}
+use Rattle.installed_values.specs.Adapting.{Describes, countries_at, found_in}
 use Rattle.installed_values.specs.Keeping.{bits_of_row, has_place, total_bits}
 use Rattle.installed_values.specs.declared.adapting.AdaptError.{AdaptError}
 use Rattle.installed_values.specs.declared.adapting.Adaptation.{Adaptation}
 use Rattle.installed_values.specs.declared.adapting.Adaptation.TheVariants.{AsItIs}
 
--- where a packet stands in what was written: the packet 3 has 29 bits less, and what is behind it stands 29 bits earlier
+-- where a packet stands in what was written: the packet 3 has 29 bits less, and what is after it stands 29 bits earlier
 abbrev pub moved : PacketPlace → PacketPlace → PacketPlace
 moved installed p =
     if p.start == installed.start then record p { length = p.length - 29 }
@@ -45,7 +45,7 @@ pub record OthersStay (installed : PacketPlace) (old new : List ℕ) : Type 0 wh
 -- There is nothing to adapt: the telegram is to be handed on as it is.
 abbrev pub IsLeftAsItIs : List ℕ → Type 0
 IsLeftAsItIs bytes =
-    (answer : Result Adaptation AdaptError) (old new : List ℕ) → Tells (found_in bytes) (bits_of bytes) answer old new → (answer ≡ Ok AsItIs) × (new ≡ old)
+    (answer : Result Adaptation AdaptError) (old new : List ℕ) → Describes (found_in bytes) (bits_of bytes) answer old new → (answer ≡ Ok AsItIs) × (new ≡ old)
 
 -- A packet is spelled at its place in what was sent; where that is the place of the packet 3, in what was written.
 abbrev pub IsThere : PacketPlace → List Bool → List Bool → Packet → PacketPlace → Type 0
@@ -68,7 +68,7 @@ abbrev pub RefusesFront : TelegramFault → List Bool → Type 0
 RefusesFront e bits = (h : Header) × (rest : List Bool) × (ps : List Packet) × Begins header h bits rest × RefusesWithin e ps rest
 
 -- What is refused for another fault than the packet 3 is refused still: for a fault of the header, and for one in front of
--- the packet 3 that goes by no bit of it or behind it, by that fault; else since what is decoded was there before.
+-- the packet 3 that goes by no bit of it or after it, by that fault; else since what is decoded was there before.
 pub record FaultsStay (installed : PacketPlace) (bytes written : List ℕ) : Type 0 where
   pub header : (e : TelegramFault) → Refuses header e (bits_of bytes) → Refuses header e (bits_of written)
   pub front : (e : TelegramFault) → RefusesFront e (take installed.start (bits_of bytes)) → RefusesTelegram e (bits_of bytes) × RefusesTelegram e (bits_of written)

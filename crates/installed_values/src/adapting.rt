@@ -1,10 +1,10 @@
 //! A telegram whose packet 3 is as a track sends it is written with this project's packet 3.
 ghost use Rattle.std.specs.Prelude.{◌≡◌, ◌+◌, ◌*◌, ◌<◌, ◌≤◌, ◌++◌, ℕ, Ok, drop, length};
 ghost use Rattle.bits.specs.Bits.{bits_of};
-ghost use Rattle.installed_values.specs.Adapting.{Rewrites, Tells, TellsOne, adapted_bits, found_in, front, has_end};
+ghost use Rattle.installed_values.specs.Adapting.{Rewrites, Describes, DescribesOne, adapted_bits, found_in, front, has_end};
 ghost use Rattle.installed_values.specs.Keeping.{kept};
 ghost use Rattle.installed_values.specs.declared.adapting.Adaptation.{Adaptation};
-ghost use Rattle.track_packets.specs.Layouts.{rows_of as rows_told};
+ghost use Rattle.track_packets.specs.Layouts.{rows_of as rows_reported};
 ghost use Rattle.track_packets.specs.declared.listing.PacketPlace.{PacketPlace as a_place};
 
 use crate::finding::{Found, find_installed};
@@ -35,7 +35,7 @@ pub enum AdaptError {
     Ambiguous(PacketPlace),
 }
 
-/// Whether an end mark stands behind the packets.
+/// Whether an end mark comes after the packets.
 fn is_ended(end: ListingEnd) -> bool
     ensures { result ≡ has_end end }
 {
@@ -84,7 +84,7 @@ fn keep_all(countries: u32, reader: &mut BitReader<'_>, writer: &mut BitWriter<T
     requires few { countries ≤ 31 }
     requires there { 153 + 10 * countries ≤ length reader.old }
     requires room { length writer.old + length reader.old ≤ 8 * TELEGRAM_BYTES }
-    ensures written { writer.new ≡ writer.old ++ kept countries (rows_told 3) reader.old }
+    ensures written { writer.new ≡ writer.old ++ kept countries (rows_reported 3) reader.old }
     ensures rest { reader.new ≡ drop (153 + 10 * countries) reader.old }
     ensures room { length writer.new + length reader.new ≤ 8 * TELEGRAM_BYTES }
 {
@@ -120,7 +120,7 @@ fn rewrite(
     out: &mut [u8; TELEGRAM_BYTES],
 ) -> Result<Adaptation, AdaptError>
     requires { length bytes.now ≤ 104 }
-    ensures told { TellsOne place (bits_of bytes.now) result out.old out.new }
+    ensures reported { DescribesOne place (bits_of bytes.now) result out.old out.new }
     ensures fits { (n : ℕ) (place : a_place) → result ≡ Ok (Adaptation.Written n place) → n ≤ 104 }
 {
     let mut sent = [0; TELEGRAM_BYTES];
@@ -141,7 +141,7 @@ fn rewrite(
 /// for a unit is to be handed on as it is. Where nothing is written, `out` stays.
 pub fn adapt(bytes: &[u8], out: &mut [u8; TELEGRAM_BYTES]) -> Result<Adaptation, AdaptError>
     ensures long { 104 < length bytes.now → (result ≡ Ok Adaptation.AsItIs) × (out.new ≡ out.old) }
-    ensures told { length bytes.now ≤ 104 → Tells (found_in bytes.now) (bits_of bytes.now) result out.old out.new }
+    ensures reported { length bytes.now ≤ 104 → Describes (found_in bytes.now) (bits_of bytes.now) result out.old out.new }
     ensures fits { (n : ℕ) (place : a_place) → result ≡ Ok (Adaptation.Written n place) → n ≤ 104 }
 {
     if bytes.len() > TELEGRAM_BYTES {

@@ -1,8 +1,8 @@
 //! The telegram that a unit is to be handed, as C asks for it (`include/etcs_unit.h`).
 ghost use Rattle.std.specs.Prelude.{◌≡◌, ◌<◌, ◌≤◌, ℕ, Ok, drop, length, take};
 ghost use Rattle.bits.specs.Bits.{bits_of};
-ghost use Rattle.installed_values.specs.Adapting.{Tells, found_in};
-ghost use Rattle.installed_values.specs.Calls.{Answers, TellsC, TellsValue, number_of, told_of, value_told};
+ghost use Rattle.installed_values.specs.Adapting.{Describes, found_in};
+ghost use Rattle.installed_values.specs.Calls.{Answers, DescribesC, DescribesValue, number_of, description_of, value_reported};
 ghost use Rattle.installed_values.specs.declared.adapting.Adaptation.{Adaptation};
 ghost use Rattle.track_packets.specs.declared.listing.PacketPlace.{PacketPlace as a_place};
 
@@ -20,7 +20,7 @@ const END: u32 = 38;
 /// The buffer is too small.
 const NO_ROOM: u32 = 252;
 
-/// What came of a telegram, as C is told it.
+/// What came of a telegram, as C gets it.
 #[repr(C)]
 #[derive(Clone, Copy)]
 pub struct EtcsAdapted {
@@ -36,7 +36,7 @@ pub struct EtcsAdapted {
     pub bits: u32,
 }
 
-/// A value that is left out, as C is told it.
+/// A value that is left out, as C gets it.
 #[repr(C)]
 #[derive(Clone, Copy)]
 pub struct EtcsDropped {
@@ -61,10 +61,10 @@ fn of_packet(outcome: u32, len: u32, place: PacketPlace) -> EtcsAdapted
     }
 }
 
-/// What C is told of an answer.
-fn told_to_c(answer: Result<Adaptation, AdaptError>) -> EtcsAdapted
+/// What C gets of an answer.
+fn reported_to_c(answer: Result<Adaptation, AdaptError>) -> EtcsAdapted
     requires { (n : ℕ) (place : a_place) → answer ≡ Ok (Adaptation.Written n place) → n ≤ 104 }
-    ensures { result ≡ told_of answer }
+    ensures { result ≡ description_of answer }
 {
     match answer {
         Ok(Adaptation::AsItIs) => EtcsAdapted {
@@ -94,7 +94,7 @@ fn copy_front(from: &[u8; TELEGRAM_BYTES], count: usize, out: &mut [u8])
 fn adapt_into(bytes: &[u8], out: &mut [u8]) -> Result<Adaptation, AdaptError>
     requires { 104 ≤ length out.old }
     ensures long { 104 < length bytes.now → (result ≡ Ok Adaptation.AsItIs) × (out.new ≡ out.old) }
-    ensures told { length bytes.now ≤ 104 → Tells (found_in bytes.now) (bits_of bytes.now) result out.old out.new }
+    ensures reported { length bytes.now ≤ 104 → Describes (found_in bytes.now) (bits_of bytes.now) result out.old out.new }
     ensures fits { (n : ℕ) (place : a_place) → result ≡ Ok (Adaptation.Written n place) → n ≤ 104 }
 {
     let mut written = [0; TELEGRAM_BYTES];
@@ -108,28 +108,28 @@ fn adapt_into(bytes: &[u8], out: &mut [u8]) -> Result<Adaptation, AdaptError>
     }
 }
 
-/// As `adapt_into`, told to C.
-fn adapt_told(bytes: &[u8], out: &mut [u8]) -> EtcsAdapted
+/// As `adapt_into`, reported to C.
+fn adapt_reported(bytes: &[u8], out: &mut [u8]) -> EtcsAdapted
     requires { 104 ≤ length out.old }
     ensures { Answers bytes.now out.old out.new result }
 {
     let answer = adapt_into(bytes, out);
-    told_to_c(answer)
+    reported_to_c(answer)
 }
 
-/// Writes the telegram that a unit is to be handed in place of one with a packet 3 as a track sends it, and tells what came
-/// of it (`adapt`): 0, or 252 where `out` has room for fewer than 104 bytes; then nothing is written and told.
-pub fn adapt_call(bytes: &[u8], out: &mut [u8], told: &mut EtcsAdapted) -> u32
-    ensures { TellsC bytes.now out.old out.new told.old told.new result }
+/// Writes the telegram that a unit is to be handed in place of one with a packet 3 as a track sends it, and says what came
+/// of it (`adapt`): 0, or 252 where `out` has room for fewer than 104 bytes; then nothing is written and reported.
+pub fn adapt_call(bytes: &[u8], out: &mut [u8], reported: &mut EtcsAdapted) -> u32
+    ensures { DescribesC bytes.now out.old out.new reported.old reported.new result }
 {
     if out.len() < TELEGRAM_BYTES {
         return NO_ROOM;
     }
-    *told = adapt_told(bytes, out);
+    *reported = adapt_reported(bytes, out);
     DONE
 }
 
-/// The number of a variable that is left out; 7 for all others, which are never told.
+/// The number of a variable that is left out; 7 for all others, which are never reported.
 fn variable_number(variable: Variable) -> u32
     ensures { result ≡ number_of variable }
 {
@@ -145,9 +145,9 @@ fn variable_number(variable: Variable) -> u32
     }
 }
 
-/// A value as C is told it.
+/// A value as C gets it.
 fn value_to_c(value: Dropped) -> EtcsDropped
-    ensures { result ≡ value_told value }
+    ensures { result ≡ value_reported value }
 {
     EtcsDropped {
         number: value.number,
@@ -156,14 +156,14 @@ fn value_to_c(value: Dropped) -> EtcsDropped
     }
 }
 
-/// Tells the value of this index, from 0 on, among those that `adapt` leaves out of a telegram, in the order of the packet 3:
-/// 0, or 38 where there are no more, or where `adapt` writes nothing; then nothing is told.
-pub fn dropped_call(bytes: &[u8], index: u32, told: &mut EtcsDropped) -> u32
-    ensures { TellsValue bytes.now index told.old told.new result }
+/// Reports the value of this index, from 0 on, among those that `adapt` leaves out of a telegram, in the order of the packet 3:
+/// 0, or 38 where there are no more, or where `adapt` writes nothing; then nothing is reported.
+pub fn dropped_call(bytes: &[u8], index: u32, reported: &mut EtcsDropped) -> u32
+    ensures { DescribesValue bytes.now index reported.old reported.new result }
 {
     match dropped_of(bytes, index) {
         Some(value) => {
-            *told = value_to_c(value);
+            *reported = value_to_c(value);
             DONE
         }
         None => END,

@@ -3,9 +3,9 @@ ghost use Rattle.std.specs.Prelude.{◌≡◌, ◌+◌, ◌*◌, ◌<◌, ◌≤
 ghost use Rattle.std.specs.List.{slice_get};
 ghost use Rattle.bits.specs.Bits.{bits_of};
 ghost use Rattle.installed_values.specs.Adapting.{found_in};
-ghost use Rattle.installed_values.specs.Dropping.{TellsDropped, are_single, dropped_by, value_dropped, values_dropped};
+ghost use Rattle.installed_values.specs.Dropping.{DescribesDropped, are_single, dropped_by, value_dropped, values_dropped};
 ghost use Rattle.installed_values.specs.Keeping.{total_bits};
-ghost use Rattle.track_packets.specs.Layouts.{rows_of as rows_told};
+ghost use Rattle.track_packets.specs.Layouts.{rows_of as rows_reported};
 
 use crate::adapting::found_of;
 use crate::finding::Found;
@@ -85,7 +85,7 @@ fn dropped_there(
 /// where there are no more, and where it writes nothing.
 pub fn dropped_of(bytes: &[u8], index: u32) -> Option<Dropped>
     ensures long { 104 < length bytes.now → result ≡ None }
-    ensures told { length bytes.now ≤ 104 → TellsDropped (found_in bytes.now) (bits_of bytes.now) index result }
+    ensures reported { length bytes.now ≤ 104 → DescribesDropped (found_in bytes.now) (bits_of bytes.now) index result }
 {
     if bytes.len() > TELEGRAM_BYTES {
         return None;

@@ -22,7 +22,7 @@ pub fn is_installed(place: PacketPlace) -> bool
     place.number == 3 && place.length % 10 != 7
 }
 
-/// Those among some packets, behind one that was found before.
+/// Those among some packets, after one that was found before.
 pub(crate) fn find_installed(places: &[PacketPlace], before: Option<PacketPlace>) -> Found
     ensures { result ≡ of_installed (option_to_list before ++ installed_in places.now) }
 {

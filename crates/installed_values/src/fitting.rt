@@ -3,7 +3,7 @@ ghost use Rattle.std.specs.Prelude.{◌≡◌, ◌+◌, ◌*◌, ◌≤◌, IfNo
 ghost use Rattle.installed_values.specs.Fitting.{CounterFirst, CountryFirst, HasLength, all_valid as all_valid_by, counter_at as counter_in, is_valid as is_valid_number, row_is_valid as row_is_valid_at, shared_is_valid as shared_is_valid_number};
 ghost use Rattle.installed_values.specs.Keeping.{total_bits};
 ghost use Rattle.installed_values.specs.declared.fitting.TheConstants.{COUNTRY_FIRST as rows_country_first};
-ghost use Rattle.track_packets.specs.Layouts.{rows_of as rows_told};
+ghost use Rattle.track_packets.specs.Layouts.{rows_of as rows_reported};
 ghost use Rattle.track_packets.specs.Variables.{width_of};
 
 use crate::keeping::row_bits;

@@ -1,6 +1,6 @@
 //! The rows of packet 3 as a track sends it: those whose variables this project has a place for are kept.
 ghost use Rattle.std.specs.Prelude.{◌≡◌, ◌+◌, ◌*◌, ◌≤◌, ◌++◌, drop, length};
-ghost use Rattle.installed_values.specs.Keeping.{bits_of_row, has_place as has_place_told, kept, kept_row, total_bits};
+ghost use Rattle.installed_values.specs.Keeping.{bits_of_row, has_place as has_place_reported, kept, kept_row, total_bits};
 
 use crate::moving::{copy, pass};
 use bits::{BitReader, BitWriter};
@@ -8,7 +8,7 @@ use track_packets::{Row, Variable};
 
 /// Whether this project's packet 3 has a place for a variable of the track's.
 pub fn has_place(variable: Variable) -> bool
-    ensures { result ≡ has_place_told variable }
+    ensures { result ≡ has_place_reported variable }
 {
     match variable {
         Variable::Shared(_) => true,

@@ -2,7 +2,7 @@
 ghost use Rattle.installed_values.specs.Laws.{NothingIsLost, OtherFaultsStay, OthersStayAsTheyWere, ReadingsDiffer, TwiceIsOnce, ValuesAreKept, ValuesAreRead};
 
 /// A law: the header, all packets but the packet 3 and the end mark are as they were, each packet bit for bit and in its
-/// order; what is behind the packet 3 stands 29 bits earlier.
+/// order; what is after the packet 3 stands 29 bits earlier.
 pub fn others_stay_as_they_were()
     ensures { OthersStayAsTheyWere }
 {}
@@ -13,8 +13,8 @@ pub fn values_are_kept()
     ensures { ValuesAreKept }
 {}
 
-/// A law: nothing of the packet 3 is lost. The bits behind L_PACKET that the track sent are built again, row by row, of the
-/// bits that were written and of the values that `dropped_of` tells.
+/// A law: nothing of the packet 3 is lost. The bits after L_PACKET that the track sent are built again, row by row, of the
+/// bits that were written and of the values that `dropped_of` reports.
 pub fn nothing_is_lost()
     ensures { NothingIsLost }
 {}

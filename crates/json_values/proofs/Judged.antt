@@ -8,7 +8,7 @@ use Rattle.json.specs.Tree.{json_tokens, items_tokens, members_tokens, depth, it
 use Rattle.json.specs.Find.{BeginsWith}
 use Rattle.json.proofs.Unique.Spelling.{tokens-document}
 use Rattle.json.proofs.Printed.Trees.{value-json_tokens}
-use Rattle.serde_json.specs.Data as told
+use Rattle.serde_json.specs.Data as reported
 use Rattle.serde_json.specs.Read.{number_of, of_json, of_items, of_members, max_depth, read}
 use Rattle.json_values.specs.Places.{read_at, data_at, data_or_null}
 use Rattle.json_values.specs.Plain.{is_plain}
@@ -36,32 +36,32 @@ mutual
   pub passed : (j : Json) (n : ℕ) (rest : List Token) → n ≤ max_depth → is_plain n (json_tokens j ++ rest) ≡ true → Passed n depth of_json j (is_plain n rest)
   passed null n rest le h = (omega arith, refl, h)
   passed (boolean b) n rest le h = (omega arith, refl, h)
-  passed (number s) n rest le h = let both = and_parts (is_some (number_of s)) (is_plain n rest) h in (omega arith, mapped told.number (number_of s) both.0, both.1)
+  passed (number s) n rest le h = let both = and_parts (is_some (number_of s)) (is_plain n rest) h in (omega arith, mapped reported.number (number_of s) both.0, both.1)
   passed (string s) n rest le h = (omega arith, refl, h)
   passed (array js) n rest le h =
       let o = opened n _ h in
       let p = items_passed js (n + 1) rest (omega (arith, o.0)) o.1 in
-      (omega (arith, p.0), mapped told.array (of_items js) p.1, closed n rest p.2)
+      (omega (arith, p.0), mapped reported.array (of_items js) p.1, closed n rest p.2)
   passed (object ms) n rest le h =
       let o = opened n _ h in
-      let p = members_passed ms told.no_members (n + 1) rest (omega (arith, o.0)) o.1 in
-      (omega (arith, p.0), mapped told.object (of_members ms told.no_members) p.1, closed n rest p.2)
+      let p = members_passed ms reported.no_members (n + 1) rest (omega (arith, o.0)) o.1 in
+      (omega (arith, p.0), mapped reported.object (of_members ms reported.no_members) p.1, closed n rest p.2)
 
   items_passed : (js : Items) (n : ℕ) (rest : List Token) → n ≤ max_depth → is_plain n (items_tokens js ++ rest) ≡ true → Passed n items_depth of_items js (is_plain (n - 1) rest)
   items_passed no_items n rest le h = (omega arith, refl, h)
   items_passed (item j js) n rest le h =
       let first = passed j n (items_tokens js ++ rest) le (ap (is_plain n) (sym (append_assoc (json_tokens j) (items_tokens js) rest)) ∙ h) in
       let more = items_passed js n rest le first.2 in
-      (omega (arith, first.0, more.0), then _ (of_json j) first.1 (λ d. mapped (told.item d) (of_items js) more.1), more.2)
+      (omega (arith, first.0, more.0), then _ (of_json j) first.1 (λ d. mapped (reported.item d) (of_items js) more.1), more.2)
 
-  members_passed : (ms : Members) (found : told.Members) (n : ℕ) (rest : List Token) → n ≤ max_depth → is_plain n (members_tokens ms ++ rest) ≡ true
+  members_passed : (ms : Members) (found : reported.Members) (n : ℕ) (rest : List Token) → n ≤ max_depth → is_plain n (members_tokens ms ++ rest) ≡ true
       → Passed n members_depth (λ m. of_members m found) ms (is_plain (n - 1) rest)
   members_passed no_members found n rest le h = (omega arith, refl, h)
   members_passed (member k j ms) found n rest le h =
       let first = passed j n (members_tokens ms ++ rest) le (ap (is_plain n) (sym (append_assoc (json_tokens j) (members_tokens ms) rest)) ∙ h) in
       let depth_and_rest = members_passed ms found n rest le first.2 in (
         omega (arith, first.0, depth_and_rest.0),
-        then _ (of_json j) first.1 (λ d. (members_passed ms (told.put k d found) n rest le first.2).1),
+        then _ (of_json j) first.1 (λ d. (members_passed ms (reported.put k d found) n rest le first.2).1),
         depth_and_rest.2,
       )
 

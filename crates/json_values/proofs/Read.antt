@@ -4,7 +4,7 @@ use Rattle.std.proofs.lemmas.Bool.{false≢true}
 use Rattle.json.specs.Token.{Token}
 use Rattle.json.specs.Json.{Json, Items, items, value}
 use Rattle.json.specs.Find.{BeginsWith, InItems}
-use Rattle.serde_json.specs.Data as told
+use Rattle.serde_json.specs.Data as reported
 use Rattle.serde_json.specs.Read.{of_json, of_items}
 use Rattle.json_values.specs.Places.{read_at, data_at, read_items_at, items_from, list_or_none, data_or_null}
 use Rattle.json_values.specs.Shapes.{list_of}
@@ -35,11 +35,11 @@ begins ts h = of_value (value (length ts) ts) refl
         let d = there (of_json p.0) (ap is_some (sym same) ∙ h) in
         (p.0, (length ts, p.1, e), d.1 ∙ ap Some (sym (ap data_or_null (same ∙ d.1))))
 
-pub in_items : (ts : List Token) → is_some (read_items_at ts) ≡ true → (js : Items) × InItems ts js × (ds : told.Items) × (of_items js ≡ Some ds) × (items_from ts ≡ list_of ds)
+pub in_items : (ts : List Token) → is_some (read_items_at ts) ≡ true → (js : Items) × InItems ts js × (ds : reported.Items) × (of_items js ≡ Some ds) × (items_from ts ≡ list_of ds)
 unfolding read_items_at
 in_items ts h = of_value (items (value (length ts)) (length ts) ts) refl
   where
-    of_value : (o : Option (Items × List Token)) → items (value (length ts)) (length ts) ts ≡ o → (js : Items) × InItems ts js × (ds : told.Items) × (of_items js ≡ Some ds) × (items_from ts ≡ list_of ds)
+    of_value : (o : Option (Items × List Token)) → items (value (length ts)) (length ts) ts ≡ o → (js : Items) × InItems ts js × (ds : reported.Items) × (of_items js ≡ Some ds) × (items_from ts ≡ list_of ds)
     of_value None e = absurd (false≢true (ap (λ (o : Option (Items × List Token)). is_some (option_and_then (λ p. of_items p.0) o)) (sym e) ∙ h))
     of_value (Some p) e =
         let same : option_and_then (λ (q : Items × List Token). of_items q.0) (items (value (length ts)) (length ts) ts) ≡ of_items p.0 = ap (option_and_then (λ (q : Items × List Token). of_items q.0)) e in

@@ -96,7 +96,7 @@ impl Building {
         }
     }
 
-    // Takes a token, which begins here; false where nothing behind it is noted.
+    // Takes a token, which begins here; false where nothing after it is noted.
     fn take(&mut self, token: Token<'_>, at: Position) -> Result<bool, AllocError> {
         match token {
             Token::Key(name) => self.take_name(name, at)?,

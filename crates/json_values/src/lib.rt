@@ -1,4 +1,4 @@
-//! JSON texts (RFC 8259): values that lie on a tape of borrowed text, or in a tree of the kit's `serde_json`, told the
+//! JSON texts (RFC 8259): values that lie on a tape of borrowed text, or in a tree of the kit's `serde_json`, reported the
 //! same way; and where values and names stand, by pointers (RFC 6901), lines and columns, with names that come twice in
 //! one object.
 #![tactic(auto)]

@@ -4,7 +4,7 @@ ghost use Rattle.std.specs.List.{list_any};
 ghost use Rattle.std.specs.Str.{bytes_eq};
 ghost use Rattle.json.specs.Json as spec;
 ghost use Rattle.json.specs.Find.{InMembers};
-ghost use Rattle.serde_json.specs.Data as told;
+ghost use Rattle.serde_json.specs.Data as reported;
 ghost use Rattle.serde_json.specs.Data.{no_members};
 ghost use Rattle.serde_json.specs.Events.{members_len};
 ghost use Rattle.serde_json.specs.Read.{of_members};
@@ -30,7 +30,7 @@ fn is_among(name: &str, names: &[&str]) -> bool
 /// Whether members have so many names.
 pub(crate) fn are_so_many(mut members: Members<'_, '_>, count: usize) -> bool
     requires { count ≤ 3 }
-    ensures { (ms : spec.Members) → InMembers members.entry ms → (found : told.Members) → of_members ms no_members ≡ Some found
+    ensures { (ms : spec.Members) → InMembers members.entry ms → (found : reported.Members) → of_members ms no_members ≡ Some found
         → result ≡ (members_len found == count) }
 {
     let mut names: ArrayVec<&str, MOST_NAMES> = ArrayVec::new();

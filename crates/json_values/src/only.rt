@@ -2,7 +2,7 @@
 ghost use Rattle.std.specs.Prelude.{◌≡◌, ◌==◌, true, false, is_some, MatchOption, Some};
 ghost use Rattle.json.specs.Json as spec;
 ghost use Rattle.json.specs.Find.{InMembers};
-ghost use Rattle.serde_json.specs.Data as told;
+ghost use Rattle.serde_json.specs.Data as reported;
 ghost use Rattle.serde_json.specs.Data.{no_members, member};
 ghost use Rattle.serde_json.specs.Events.{members_len};
 ghost use Rattle.serde_json.specs.Read.{of_members};
@@ -15,7 +15,7 @@ use serde_json::Value;
 
 /// The one name of members and where its last value begins.
 pub(crate) fn only_of<'t, 'a>(mut members: Members<'t, 'a>) -> Option<(&'a str, Element<'t, 'a>)>
-    ensures { (ms : spec.Members) → InMembers members.entry ms → (found : told.Members) → of_members ms no_members ≡ Some found
+    ensures { (ms : spec.Members) → InMembers members.entry ms → (found : reported.Members) → of_members ms no_members ≡ Some found
         → MatchOption result ((members_len found == 1) ≡ false)
         (λ r. (is_some (read_at r.1) ≡ true) × (found ≡ member r.0.now (data_at r.1) no_members)) }
 {

@@ -29,7 +29,7 @@ pub(crate) struct Part {
     pub(crate) name: Position,
     /// Where it begins.
     pub(crate) value: Position,
-    /// The part behind it and all that it holds.
+    /// The part after it and all that it holds.
     pub(crate) end: usize,
 }
 
@@ -95,7 +95,7 @@ impl Outline {
         }
     }
 
-    // The parts behind a value up to the end of all that it holds.
+    // The parts after a value up to the end of all that it holds.
     fn end(&self, spot: Spot) -> usize {
         match self.part(spot) {
             Some(part) => part.end.min(self.parts.len()),
@@ -140,8 +140,8 @@ impl Outline {
         let Some(name) = self.name(spot) else {
             return false;
         };
-        for told in names {
-            if *told == name {
+        for reported in names {
+            if *reported == name {
                 return false;
             }
         }

@@ -4,7 +4,7 @@ use crate::outline::{Outline, Place, Spot, Step};
 use std::fmt;
 use std::fmt::{Formatter, Write};
 
-/// The JSON pointer of a place. It is written as it stands within a JSON string (RFC 6901, 5): behind a backslash stand
+/// The JSON pointer of a place. It is written as it stands within a JSON string (RFC 6901, 5): after a backslash stand
 /// quotation marks, backslashes, and, in four hexadecimal digits, characters that control a terminal or the direction
 /// of a text.
 #[derive(Clone, Copy)]

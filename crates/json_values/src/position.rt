@@ -25,7 +25,7 @@ impl Position {
         Position { line: 1, column: 1 }
     }
 
-    // The place behind a byte that stands here.
+    // The place after a byte that stands here.
     fn behind(self, byte: u8) -> Position {
         if byte == b'\n' {
             Position {
@@ -59,7 +59,7 @@ impl<'a> Walk<'a> {
         }
     }
 
-    /// Goes forward to so many bytes behind the beginning, or to the end, and answers where that is.
+    /// Goes forward to so many bytes after the beginning, or to the end, and answers where that is.
     pub(crate) fn go_to(&mut self, place: usize) -> Position {
         let count = place.saturating_sub(self.passed).min(self.rest.len());
         let (next, rest) = self.rest.split_at(count);

@@ -7,7 +7,7 @@ use crate::outline::{Outline, Spot, Step};
 use json::{Scratch, Value};
 use std::alloc::{AllocError, Global};
 
-/// Why it can't be told whether a name comes twice.
+/// Why it can't be reported whether a name comes twice.
 #[derive(Clone, Copy, Drop)]
 pub enum RepeatsError {
     /// The text is no JSON in UTF-8.
@@ -47,10 +47,10 @@ impl Outline {
     // Each member by its object, its name and its own number, in this order.
     fn sorted_names(&self, alloc: Global) -> Result<Vec<(usize, &str, usize)>, AllocError> {
         let mut names = Vec::new(alloc);
-        for (part, told) in self.parts.iter().enumerate() {
-            if let Step::Member(_, _) = told.step {
+        for (part, reported) in self.parts.iter().enumerate() {
+            if let Step::Member(_, _) = reported.step {
                 let name = self.name(Spot { part }).unwrap_or("");
-                names.push((told.holder, name, part))?;
+                names.push((reported.holder, name, part))?;
             }
         }
         names.sort_unstable();
@@ -64,7 +64,7 @@ impl Outline {
         let mut first = None;
         for (holder, name, part) in names.as_slice() {
             match first {
-                Some((object, told, before)) if object == *holder && told == *name => {
+                Some((object, reported, before)) if object == *holder && reported == *name => {
                     pairs.push((*part, before))?;
                 }
                 _ => first = Some((*holder, *name, *part)),

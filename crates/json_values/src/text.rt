@@ -2,7 +2,7 @@
 ghost use Rattle.std.specs.Prelude.{◌≡◌, IsUtf8, IfOk, IfErr, Some, None};
 ghost use Rattle.serde_json.specs.Errors.{IsMemory};
 ghost use Rattle.serde_json.specs.Read.{read};
-ghost use Rattle.json_values.specs.Looking.{told, told_by};
+ghost use Rattle.json_values.specs.Looking.{reported, reported_by};
 
 use crate::plain::PlainTape;
 use crate::value::JsonValue;
@@ -27,7 +27,7 @@ impl<'a> JsonText<'a> {
         bytes: &'a [u8],
         scratch: &'a mut Scratch,
     ) -> Result<JsonText<'a>, Error>
-        ensures ok { IfOk result (λ t. IsUtf8 bytes.now × (read bytes.now ≡ Some (told_by t))) }
+        ensures ok { IfOk result (λ t. IsUtf8 bytes.now × (read bytes.now ≡ Some (reported_by t))) }
         ensures err { IfErr result (λ e. ¬ IsMemory e → IsUtf8 bytes.now → read bytes.now ≡ None) }
     {
         match PlainTape::of(alloc, bytes, scratch) {
@@ -41,7 +41,7 @@ impl<'a> JsonText<'a> {
 
     /// The value.
     pub fn value(&self) -> JsonValue<'_, 'a>
-        ensures { told result ≡ told_by self.now }
+        ensures { reported result ≡ reported_by self.now }
     {
         match self {
             JsonText::Tape(tape) => JsonValue::Tape(tape.root()),

@@ -1,7 +1,7 @@
 //! One JSON value, and the items of a list.
 ghost use Rattle.std.specs.Prelude.{◌≡◌, ◌==◌, ◌≤◌, ◌∷◌, [], nat_le, is_some, option_map, option_and_then, true, false, MatchOption, slice_get, length};
 ghost use Rattle.serde_json.specs.Find.{as_str, as_bool, as_number, as_i64, get};
-ghost use Rattle.json_values.specs.Looking.{told, told_items, listed};
+ghost use Rattle.json_values.specs.Looking.{reported, reported_items, listed};
 ghost use Rattle.json_values.specs.Shapes.{has_members, object_of_one, list_in};
 
 use crate::only::only_entry;
@@ -21,7 +21,7 @@ pub enum JsonValue<'t, 'a> {
 impl<'t, 'a> JsonValue<'t, 'a> {
     /// The text, where the value is one.
     pub fn as_str(&self) -> Option<&str>
-        ensures { option_map (λ s. s.now) result ≡ as_str (told self.now) }
+        ensures { option_map (λ s. s.now) result ≡ as_str (reported self.now) }
     {
         match self {
             JsonValue::Tape(placed) => placed.as_str(),
@@ -31,14 +31,14 @@ impl<'t, 'a> JsonValue<'t, 'a> {
 
     /// Whether the value is a text.
     pub fn is_string(&self) -> bool
-        ensures { result ≡ is_some (as_str (told self.now)) }
+        ensures { result ≡ is_some (as_str (reported self.now)) }
     {
         self.as_str().is_some()
     }
 
     /// What the value says, where it is `true` or `false`.
     pub fn as_bool(&self) -> Option<bool>
-        ensures { result ≡ as_bool (told self.now) }
+        ensures { result ≡ as_bool (reported self.now) }
     {
         match self {
             JsonValue::Tape(placed) => placed.as_bool(),
@@ -48,7 +48,7 @@ impl<'t, 'a> JsonValue<'t, 'a> {
 
     /// The whole number of 64 bits, where the value is one.
     pub fn as_i64(&self) -> Option<i64>
-        ensures { result ≡ option_and_then as_i64 (as_number (told self.now)) }
+        ensures { result ≡ option_and_then as_i64 (as_number (reported self.now)) }
     {
         match self {
             JsonValue::Tape(placed) => placed.as_i64(),
@@ -58,7 +58,7 @@ impl<'t, 'a> JsonValue<'t, 'a> {
 
     /// The value at a name of an object; the last one, where the name comes twice.
     pub fn get(&self, name: &str) -> Option<JsonValue<'t, 'a>>
-        ensures { option_map told result ≡ get name.now (told self.now) }
+        ensures { option_map reported result ≡ get name.now (reported self.now) }
     {
         match self {
             JsonValue::Tape(placed) => match placed.get(name) {
@@ -75,7 +75,7 @@ impl<'t, 'a> JsonValue<'t, 'a> {
     /// Whether it is an object of so many names, at most three.
     pub fn has_members(&self, count: usize) -> bool
         requires { count ≤ 3 }
-        ensures { result ≡ has_members count (told self.now) }
+        ensures { result ≡ has_members count (reported self.now) }
     {
         match self {
             JsonValue::Tape(placed) => placed.has_members(count),
@@ -88,8 +88,8 @@ impl<'t, 'a> JsonValue<'t, 'a> {
 
     /// The name of an object of one name, with its value; the last one, where the name comes twice.
     pub fn only_member(&self) -> Option<(&str, JsonValue<'t, 'a>)>
-        ensures { MatchOption result (has_members 1 (told self.now) ≡ false)
-            (λ r. told self.now ≡ object_of_one r.0.now (told r.1)) }
+        ensures { MatchOption result (has_members 1 (reported self.now) ≡ false)
+            (λ r. reported self.now ≡ object_of_one r.0.now (reported r.1)) }
     {
         match self {
             JsonValue::Tape(placed) => match placed.only_member() {
@@ -104,7 +104,7 @@ impl<'t, 'a> JsonValue<'t, 'a> {
     }
 
     fn items(&self) -> Option<JsonItems<'t, 'a>>
-        ensures { option_map told_items result ≡ list_in (told self.now) }
+        ensures { option_map reported_items result ≡ list_in (reported self.now) }
     {
         match self {
             JsonValue::Tape(placed) => match placed.items() {
@@ -120,7 +120,7 @@ impl<'t, 'a> JsonValue<'t, 'a> {
 
     /// The list, where the value is one.
     pub fn into_list(self) -> Option<JsonList<'t, 'a>>
-        ensures { option_map listed result ≡ list_in (told self.entry) }
+        ensures { option_map listed result ≡ list_in (reported self.entry) }
     {
         match self.items() {
             Some(_) => Some(JsonList { value: self }),
@@ -138,7 +138,7 @@ pub struct JsonList<'t, 'a> {
 impl<'t, 'a> JsonList<'t, 'a> {
     /// The items.
     pub fn items(&self) -> JsonItems<'t, 'a>
-        ensures { told_items result ≡ listed self.now }
+        ensures { reported_items result ≡ listed self.now }
     {
         match self.value.items() {
             Some(items) => items,
@@ -148,7 +148,7 @@ impl<'t, 'a> JsonList<'t, 'a> {
 
     /// The item at a place.
     pub fn at(&self, place: usize) -> Option<JsonValue<'t, 'a>>
-        ensures { option_map told result ≡ slice_get (listed self.now) place }
+        ensures { option_map reported result ≡ slice_get (listed self.now) place }
     {
         let mut left = self.items();
         let mut before = place;
@@ -209,7 +209,7 @@ pub enum JsonItems<'t, 'a> {
 impl<'t, 'a> JsonItems<'t, 'a> {
     /// The first item and the others.
     pub fn split_first(self) -> Option<(JsonValue<'t, 'a>, JsonItems<'t, 'a>)>
-        ensures { MatchOption result (told_items self.entry ≡ []) (λ r. told_items self.entry ≡ told r.0 ∷ told_items r.1) }
+        ensures { MatchOption result (reported_items self.entry ≡ []) (λ r. reported_items self.entry ≡ reported r.0 ∷ reported_items r.1) }
     {
         match self {
             JsonItems::Tape(items) => match items.split_first() {

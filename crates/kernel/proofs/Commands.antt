@@ -8,7 +8,7 @@ use Rattle.events.specs.declared.output.Brake.{Brake}
 use Rattle.events.specs.declared.output.Brake.TheVariants as brake
 use Rattle.mode_control.specs.Life.{Life}
 use Rattle.mode_table.specs.declared.mode.Mode.TheVariants.{Trip, SystemFailure}
-use Rattle.kernel.specs.Brake.{is_not_revalidated, is_in, owes_trip, has_begun, is_above_limit_by, train_stood, has_rolled_too_far, asked_for_service, was_within_limit, must_stand, owes_too_long, where_so, brake_of, causes_of}
+use Rattle.kernel.specs.Brake.{is_not_revalidated, is_in, owes_trip, has_begun, is_above_limit_by, train_stood, has_rolled_too_far, service_brake_requested, was_within_limit, must_stand, owes_too_long, where_so, brake_of, causes_of}
 use Rattle.kernel.specs.Causes.{command_of, is_emergency, is_service}
 
 -- ---- what is commanded where a cause for the emergency brake is there, or else one for the service brake
@@ -29,23 +29,23 @@ by_causes causes = commanded (for_emergency causes) (for_service causes)
 
 emergency_row : (holds : Bool) (why : BrakeCause) (causes : List BrakeCause) (later : Brake) → command_of why ≡ brake.Emergency →
     later ≡ by_causes causes → cond holds brake.Emergency later ≡ by_causes (where_so holds why causes)
-emergency_row true why causes later is told =
+emergency_row true why causes later is reported =
     sym (λ i. commanded (is_emergency (is i) || for_emergency causes) (is_service (is i) || for_service causes))
-emergency_row false why causes later is told = told
+emergency_row false why causes later is reported = reported
 
 service_row : (holds : Bool) (why : BrakeCause) (causes : List BrakeCause) (later : Brake) → command_of why ≡ brake.Service →
     (later ≡ by_causes causes) × (for_emergency causes ≡ false) →
     (cond holds brake.Service later ≡ by_causes (where_so holds why causes)) × (for_emergency (where_so holds why causes) ≡ false)
-service_row true why causes later is told = (
-  sym (λ i. commanded (is_emergency (is i) || told.1 i) (is_service (is i) || for_service causes)),
-  (λ i. is_emergency (is i) || told.1 i),
+service_row true why causes later is reported = (
+  sym (λ i. commanded (is_emergency (is i) || reported.1 i) (is_service (is i) || for_service causes)),
+  (λ i. is_emergency (is i) || reported.1 i),
 )
-service_row false why causes later is told = told
+service_row false why causes later is reported = reported
 
 pub commands : (life : Life) → brake_of life ≡ by_causes (causes_of life)
 commands life =
     let services =
-    service_row (has_begun asked_for_service train_stood life) cause.AskedForService _ _ refl
+    service_row (has_begun service_brake_requested train_stood life) cause.ServiceBrakeRequested _ _ refl
     (service_row (has_begun (is_above_limit_by 5_000) was_within_limit life) cause.TooFast _ _ refl
     (service_row (must_stand life) cause.MustStand _ _ refl
     (service_row (owes_too_long life) cause.OwesTooLong [] brake.None refl (refl, refl)))) in

@@ -9,8 +9,8 @@ use Rattle.driver.specs.Entries.{DriverEntry, after_all}
 use Rattle.driver.specs.Known.{trip_after}
 use Rattle.driver.specs.LastGiven.{HasValue, WasGiven}
 use Rattle.driver.specs.Laws.{HasTripped, IsOutstanding}
-use Rattle.driver.specs.Telling.{ItemTold, after_told, datum_after, deletes, identity_told, running_number_told, train_data_told, level_told}
-use Rattle.driver.specs.Telling.ItemTold.{Gives, Confirms, Leaves, Nothing}
+use Rattle.driver.specs.Description.{ItemReport, after_reported, datum_after, deletes, identity_reported, running_number_reported, train_data_reported, level_reported}
+use Rattle.driver.specs.Description.ItemReport.{Gives, Confirms, Leaves, Nothing}
 use Rattle.driver.proofs.Giving.{value_so}
 use Rattle.driver.proofs.Outstanding.{outstanding_so}
 use Rattle.events.specs.declared.input.Event.{Event}
@@ -51,24 +51,24 @@ lives_counted (Input input ∷ events) = lives_counted events
 
 -- ---- what bears on the driver's data, entry by entry
 
-behind_deed : (deed : Option Deed) (rest : List DriverEntry) → after_deed deed rest ≡ after_deed deed [] ++ rest
-behind_deed None rest = refl
-behind_deed (Some deed) rest = refl
+later_deed : (deed : Option Deed) (rest : List DriverEntry) → after_deed deed rest ≡ after_deed deed [] ++ rest
+later_deed None rest = refl
+later_deed (Some deed) rest = refl
 
-behind_level : (level : Option TrainLevel) (first rest : List DriverEntry) → after_level level (first ++ rest) ≡ after_level level first ++ rest
-behind_level None first rest = refl
-behind_level (Some level) first rest = refl
+later_level : (level : Option TrainLevel) (first rest : List DriverEntry) → after_level level (first ++ rest) ≡ after_level level first ++ rest
+later_level None first rest = refl
+later_level (Some level) first rest = refl
 
-behind_mode : (mode : Option Mode) (first rest : List DriverEntry) → after_mode mode (first ++ rest) ≡ after_mode mode first ++ rest
-behind_mode None first rest = refl
-behind_mode (Some mode) first rest = refl
+later_mode : (mode : Option Mode) (first rest : List DriverEntry) → after_mode mode (first ++ rest) ≡ after_mode mode first ++ rest
+later_mode None first rest = refl
+later_mode (Some mode) first rest = refl
 
 pub one_entry : (entry : SupervisionEntry) (entries : List SupervisionEntry) → deeds (entry ∷ entries) ≡ deeds (entry ∷ []) ++ deeds entries
 one_entry entry entries =
     let rest = deeds entries in
-    ap (λ (es : List DriverEntry). after_mode entry.track.entered (after_level entry.level es)) (behind_deed entry.deed rest)
-    ∙ ap (after_mode entry.track.entered) (behind_level entry.level (after_deed entry.deed []) rest)
-    ∙ behind_mode entry.track.entered (after_level entry.level (after_deed entry.deed [])) rest
+    ap (λ (es : List DriverEntry). after_mode entry.track.entered (after_level entry.level es)) (later_deed entry.deed rest)
+    ∙ ap (after_mode entry.track.entered) (later_level entry.level (after_deed entry.deed []) rest)
+    ∙ later_mode entry.track.entered (after_level entry.level (after_deed entry.deed [])) rest
 
 -- ---- the value of a datum
 
@@ -87,11 +87,11 @@ as_confirmed Unknown = refl
 as_confirmed (Valid v) = refl
 as_confirmed (Invalid v) = refl
 
-by_told : {A : Type 0} (told : ItemTold A) (one other : Datum A) → value_of one ≡ value_of other → value_of (after_told told one) ≡ value_of (after_told told other)
-by_told (Gives v) one other same = refl
-by_told Confirms one other same = as_confirmed one ∙ same ∙ sym (as_confirmed other)
-by_told (Leaves fate) one other same = by_fate fate one other same
-by_told Nothing one other same = same
+by_reported : {A : Type 0} (reported : ItemReport A) (one other : Datum A) → value_of one ≡ value_of other → value_of (after_reported reported one) ≡ value_of (after_reported reported other)
+by_reported (Gives v) one other same = refl
+by_reported Confirms one other same = as_confirmed one ∙ same ∙ sym (as_confirmed other)
+by_reported (Leaves fate) one other same = by_fate fate one other same
+by_reported Nothing one other same = same
 
 still_invalid : {A : Type 0} (kept : Option A) → value_of (met_by I (entered kept)) ≡ kept
 still_invalid None = refl
@@ -102,61 +102,61 @@ still_known cold.NotMoved kept = refl
 still_known cold.Unknown kept = as_invalid kept
 still_known cold.Moved kept = as_invalid kept
 
-module _ {A : Type 0} (told : DriverEntry → ItemTold A) where
-  pub in_turn : (kept : Datum A) (first rest : List DriverEntry) → datum_after told kept (first ++ rest) ≡ datum_after told (datum_after told kept rest) first
+module _ {A : Type 0} (reported : DriverEntry → ItemReport A) where
+  pub in_turn : (kept : Datum A) (first rest : List DriverEntry) → datum_after reported kept (first ++ rest) ≡ datum_after reported (datum_after reported kept rest) first
   in_turn kept [] rest = refl
-  in_turn kept (e ∷ first) rest = ap (after_told (told e)) (in_turn kept first rest)
+  in_turn kept (e ∷ first) rest = ap (after_reported (reported e)) (in_turn kept first rest)
 
-  by_all : (one other : Datum A) (entries : List DriverEntry) → value_of one ≡ value_of other → value_of (datum_after told one entries) ≡ value_of (datum_after told other entries)
+  by_all : (one other : Datum A) (entries : List DriverEntry) → value_of one ≡ value_of other → value_of (datum_after reported one entries) ≡ value_of (datum_after reported other entries)
   by_all one other [] same = same
-  by_all one other (e ∷ entries) same = by_told (told e) (datum_after told one entries) (datum_after told other entries) (by_all one other entries same)
+  by_all one other (e ∷ entries) same = by_reported (reported e) (datum_after reported one entries) (datum_after reported other entries) (by_all one other entries same)
 
   -- one input more
-  one_more : (kept : Datum A) (entry : SupervisionEntry) (entries : List SupervisionEntry) (all : List DriverEntry) → value_of (datum_after told kept (deeds entries)) ≡ value_of (datum_after told Unknown all) →
-      value_of (datum_after told kept (deeds (entry ∷ entries))) ≡ value_of (datum_after told Unknown (deeds (entry ∷ []) ++ all))
+  one_more : (kept : Datum A) (entry : SupervisionEntry) (entries : List SupervisionEntry) (all : List DriverEntry) → value_of (datum_after reported kept (deeds entries)) ≡ value_of (datum_after reported Unknown all) →
+      value_of (datum_after reported kept (deeds (entry ∷ entries))) ≡ value_of (datum_after reported Unknown (deeds (entry ∷ []) ++ all))
   one_more kept entry entries all same =
       let now = deeds (entry ∷ []) in
-      ap (λ (es : List DriverEntry). value_of (datum_after told kept es)) (one_entry entry entries)
+      ap (λ (es : List DriverEntry). value_of (datum_after reported kept es)) (one_entry entry entries)
       ∙ ap value_of (in_turn kept now (deeds entries))
-      ∙ by_all (datum_after told kept (deeds entries)) (datum_after told Unknown all) now same
+      ∙ by_all (datum_after reported kept (deeds entries)) (datum_after reported Unknown all) now same
       ∙ sym (ap value_of (in_turn Unknown now all))
 
-  given_alone : (entries : List DriverEntry) (value : A) → HasValue told Unknown entries value → WasGiven told entries value
+  given_alone : (entries : List DriverEntry) (value : A) → HasValue reported Unknown entries value → WasGiven reported entries value
   given_alone entries value (inl given) = given
   given_alone entries value (inr was) = absurd (let no : None ≡ Some value = was.1 in cc)
 
-  pub last_given : ((entry : DriverEntry) → deletes (told entry) ≡ false) → (kept : List Event → Option A) →
-      ((events : List Event) → kept events ≡ value_of (datum_after told Unknown (all_deeds events))) → IsLastGiven told kept
+  pub last_given : ((entry : DriverEntry) → deletes (reported entry) ≡ false) → (kept : List Event → Option A) →
+      ((events : List Event) → kept events ≡ value_of (datum_after reported Unknown (all_deeds events))) → IsLastGiven reported kept
   last_given never kept is events value =
       let all = all_deeds events in
-      let so = value_so told never Unknown all value in (
+      let so = value_so reported never Unknown all value in (
         λ (h : kept events ≡ Some value). given_alone all value (so.0 (sym (is events) ∙ h)),
-        λ (h : WasGiven told all value). is events ∙ so.1 (inl h),
+        λ (h : WasGiven reported all value). is events ∙ so.1 (inl h),
       )
 
-pub identity_is : (events : List Event) → (kept_by events).identity ≡ value_of (datum_after identity_told Unknown (all_deeds events))
+pub identity_is : (events : List Event) → (kept_by events).identity ≡ value_of (datum_after identity_reported Unknown (all_deeds events))
 identity_is [] = refl
 identity_is (PowerUp c ∷ events) = still_invalid (kept_by events).identity ∙ identity_is events
 identity_is (Input input ∷ events) =
-    let life = life_of events in one_more identity_told (left_at_power_up life).identity (entry_of life input) life.entries (all_deeds events) (identity_is events)
+    let life = life_of events in one_more identity_reported (left_at_power_up life).identity (entry_of life input) life.entries (all_deeds events) (identity_is events)
 
-pub running_number_is : (events : List Event) → (kept_by events).running_number ≡ value_of (datum_after running_number_told Unknown (all_deeds events))
+pub running_number_is : (events : List Event) → (kept_by events).running_number ≡ value_of (datum_after running_number_reported Unknown (all_deeds events))
 running_number_is [] = refl
 running_number_is (PowerUp c ∷ events) = still_invalid (kept_by events).running_number ∙ running_number_is events
 running_number_is (Input input ∷ events) =
-    let life = life_of events in one_more running_number_told (left_at_power_up life).running_number (entry_of life input) life.entries (all_deeds events) (running_number_is events)
+    let life = life_of events in one_more running_number_reported (left_at_power_up life).running_number (entry_of life input) life.entries (all_deeds events) (running_number_is events)
 
-pub train_data_is : (events : List Event) → (kept_by events).train_data ≡ value_of (datum_after train_data_told Unknown (all_deeds events))
+pub train_data_is : (events : List Event) → (kept_by events).train_data ≡ value_of (datum_after train_data_reported Unknown (all_deeds events))
 train_data_is [] = refl
 train_data_is (PowerUp c ∷ events) = still_invalid (kept_by events).train_data ∙ train_data_is events
 train_data_is (Input input ∷ events) =
-    let life = life_of events in one_more train_data_told (left_at_power_up life).train_data (entry_of life input) life.entries (all_deeds events) (train_data_is events)
+    let life = life_of events in one_more train_data_reported (left_at_power_up life).train_data (entry_of life input) life.entries (all_deeds events) (train_data_is events)
 
-pub level_is : (events : List Event) → value_of (kept_by events).level ≡ value_of (datum_after level_told Unknown (all_deeds events))
+pub level_is : (events : List Event) → value_of (kept_by events).level ≡ value_of (datum_after level_reported Unknown (all_deeds events))
 level_is [] = refl
 level_is (PowerUp c ∷ events) = still_known c (kept_by events).level ∙ level_is events
 level_is (Input input ∷ events) =
-    let life = life_of events in one_more level_told (left_at_power_up life).level (entry_of life input) life.entries (all_deeds events) (level_is events)
+    let life = life_of events in one_more level_reported (left_at_power_up life).level (entry_of life input) life.entries (all_deeds events) (level_is events)
 
 -- ---- an outstanding trip
 
@@ -194,10 +194,10 @@ first_of : {A : Type 0} (one two three : Option A) → option_or (option_or one 
 first_of None two three = refl
 first_of (Some v) two three = refl
 
-fixing_behind : (outcomes : List Outcome) (group other : Option GroupIdentity) → option_or (latest_fixed outcomes group) other ≡ latest_fixed outcomes (option_or group other)
-fixing_behind [] group other = refl
-fixing_behind (outcome ∷ outcomes) group other =
-    first_of (fixed_by outcome) (latest_fixed outcomes group) other ∙ ap (option_or (fixed_by outcome)) (fixing_behind outcomes group other)
+fixing_after : (outcomes : List Outcome) (group other : Option GroupIdentity) → option_or (latest_fixed outcomes group) other ≡ latest_fixed outcomes (option_or group other)
+fixing_after [] group other = refl
+fixing_after (outcome ∷ outcomes) group other =
+    first_of (fixed_by outcome) (latest_fixed outcomes group) other ∙ ap (option_or (fixed_by outcome)) (fixing_after outcomes group other)
 
 going_on : (near : Bool) (one two : PositionFrom) → one.group ≡ two.group → group_in (cond near (Valid one) (Invalid two)) ≡ Some two.group
 going_on true one two same = ap Some same
@@ -230,7 +230,7 @@ groups_are (PowerUp c ∷ events) = still_there c (kept_by events).position ∙ 
 groups_are (Input input ∷ events) =
     let life = life_of events in
     let outcomes = (entry_of life input).track.used.groups in
-    fixing_behind outcomes (group_of_fix (tracks life.entries)) (group_in (position_at_power_up life)) ∙ ap (latest_fixed outcomes) (groups_are events)
+    fixing_after outcomes (group_of_fix (tracks life.entries)) (group_in (position_at_power_up life)) ∙ ap (latest_fixed outcomes) (groups_are events)
 
 pub position_so : (events : List Event) → group_in (kept_by events).position ≡ last_group events
 position_so events = group_of_life (life_of events) ∙ groups_are events

@@ -20,27 +20,27 @@ not_both true = refl
 not_both false = refl
 
 module _ (life : Life) (train : Span) where
-  abbrev IsTold : Mode → Mode → Bool → Type 0
-  IsTold old new same =
+  abbrev IsReported : Mode → Mode → Bool → Type 0
+  IsReported old new same =
       is_some (row_where (cond same None (Some new)) life train) ≡ (is_mode Trip (unwrap_or (cond same None (Some new)) old) && not (is_mode Trip old))
 
-  to_another : (old new : Mode) (same : Bool) → is_some (row_where (Some new) life train) ≡ false → is_mode Trip new ≡ false → IsTold old new same
-  to_another old new true untold other = sym (not_both (is_mode Trip old))
-  to_another old new false untold other = untold ∙ (λ i. sym other i && not (is_mode Trip old))
+  to_another : (old new : Mode) (same : Bool) → is_some (row_where (Some new) life train) ≡ false → is_mode Trip new ≡ false → IsReported old new same
+  to_another old new true unreported other = sym (not_both (is_mode Trip old))
+  to_another old new false unreported other = unreported ∙ (λ i. sym other i && not (is_mode Trip old))
 
-  to_trip : (old : Mode) → IsTold old Trip (is_mode old Trip)
+  to_trip : (old : Mode) → IsReported old Trip (is_mode old Trip)
   to_trip FullSupervision = refl
   to_trip other = refl
 
-  told_by : (old new : Mode) → IsTold old new (is_mode old new)
-  told_by old Trip = to_trip old
-  told_by old other = to_another old other (is_mode old other) refl refl
+  reported_by : (old new : Mode) → IsReported old new (is_mode old new)
+  reported_by old Trip = to_trip old
+  reported_by old other = to_another old other (is_mode old other) refl refl
 
-pub trips_told : TripsHaveCauses
-trips_told (PowerUp cold) events = refl
-trips_told (Input input) events =
+pub trips_reported : TripsHaveCauses
+trips_reported (PowerUp cold) events = refl
+trips_reported (Input input) events =
     let life = life_of events in
     let now = grown life (seen_by life input) in
     let train = train_in now (seen_by life input) in
     let old = mode_of life.entries in
-    told_by now train old (next_mode old (conditions now train))
+    reported_by now train old (next_mode old (conditions now train))

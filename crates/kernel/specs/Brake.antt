@@ -1,6 +1,6 @@
 -- When the brakes are commanded, and why: a table, of which the first row counts that holds, and each row that holds is
 -- a cause (SUBSET-026; the rows, their order and their margins: this project's profile). Speeds are metres per hour,
--- distances centimetres, moments milliseconds; lists have the newest first. Told elsewhere, and taken for granted here:
+-- distances centimetres, moments milliseconds; lists have the newest first. Reported elsewhere, and taken for granted here:
 -- the limit that an event answered (`limit`, in speed_supervision), the speed of the last reading (`speed_of`; 0 before
 -- the first one), and when an acknowledgement has been owed too long (`brakes`, in areas).
 use Rattle.std.specs.Prelude.{ℕ, ◌+◌, ◌==◌, nat_lt, ℤ, pos, int_lt, Bool, false, not, ◌&&◌, ◌||◌, if◌then◌else◌, Option, List, [], ◌∷◌, sum_by}
@@ -95,8 +95,8 @@ has_rolled_too_far life = nat_lt (values_of life).roll (rolled_backward life)
 -- ---- why the service brake is commanded
 
 -- linking or a balise group asked for it
-abbrev pub asked_for_service : Snapshot → Bool
-asked_for_service snapshot = snapshot.event.track.used.happened.asked.service
+abbrev pub service_brake_requested : Snapshot → Bool
+service_brake_requested snapshot = snapshot.event.track.used.happened.asked.service
 
 -- it moves in Stand By or in Post Trip
 abbrev pub must_stand : Life → Bool
@@ -135,7 +135,7 @@ rows =
     ∷ while_so brake.Emergency cause.OwesTrip owes_trip  -- 5.11
     ∷ from_until brake.Emergency cause.FarTooFast (is_above_limit_by 10_000) train_stood  -- 3.13, 3.14
     ∷ while_so brake.Emergency cause.RolledTooFar has_rolled_too_far  -- 3.14
-    ∷ from_until brake.Service cause.AskedForService asked_for_service train_stood  -- 3.4.4, 3.16.2
+    ∷ from_until brake.Service cause.ServiceBrakeRequested service_brake_requested train_stood  -- 3.4.4, 3.16.2
     ∷ from_until brake.Service cause.TooFast (is_above_limit_by 5_000) was_within_limit  -- 3.13, 3.14
     ∷ while_so brake.Service cause.MustStand must_stand  -- 3.14, 4.4
     ∷ while_so brake.Service cause.OwesTooLong owes_too_long  -- 5.7, 5.9, 5.10

@@ -7,7 +7,7 @@ use Rattle.driver.specs.Data.{is_valid, value_of}
 use Rattle.driver.specs.Entries.{DriverEntry}
 use Rattle.driver.specs.LastGiven.{WasGiven}
 use Rattle.driver.specs.Laws.{IsRevalidated, HasTripped}
-use Rattle.driver.specs.Telling.{ItemTold, identity_told, running_number_told, train_data_told, level_told}
+use Rattle.driver.specs.Description.{ItemReport, identity_reported, running_number_reported, train_data_reported, level_reported}
 use Rattle.events.specs.declared.input.Event.{Event}
 use Rattle.events.specs.declared.input.Event.TheVariants.{PowerUp, Input}
 use Rattle.events.specs.declared.output.Brake.TheVariants as brake
@@ -41,20 +41,20 @@ all_deeds (PowerUp cold ∷ events) = all_deeds events
 all_deeds (Input input ∷ events) = deeds (entry_of (life_of events) input ∷ []) ++ all_deeds events
 
 -- a value is kept exactly where it is the last one that was given in any life
-abbrev pub IsLastGiven : {A : Type 0} → (DriverEntry → ItemTold A) → (List Event → Option A) → Type 0
-IsLastGiven {A} told kept = (events : List Event) (value : A) → (kept events ≡ Some value) ↔ WasGiven told (all_deeds events) value
+abbrev pub IsLastGiven : {A : Type 0} → (DriverEntry → ItemReport A) → (List Event → Option A) → Type 0
+IsLastGiven {A} reported kept = (events : List Event) (value : A) → (kept events ≡ Some value) ↔ WasGiven reported (all_deeds events) value
 
 abbrev pub IdentitySo : Type 0
-IdentitySo = IsLastGiven identity_told (λ events. (kept_by events).identity)
+IdentitySo = IsLastGiven identity_reported (λ events. (kept_by events).identity)
 
 abbrev pub RunningNumberSo : Type 0
-RunningNumberSo = IsLastGiven running_number_told (λ events. (kept_by events).running_number)
+RunningNumberSo = IsLastGiven running_number_reported (λ events. (kept_by events).running_number)
 
 abbrev pub TrainDataSo : Type 0
-TrainDataSo = IsLastGiven train_data_told (λ events. (kept_by events).train_data)
+TrainDataSo = IsLastGiven train_data_reported (λ events. (kept_by events).train_data)
 
 abbrev pub LevelSo : Type 0
-LevelSo = IsLastGiven level_told (λ events. value_of (kept_by events).level)
+LevelSo = IsLastGiven level_reported (λ events. value_of (kept_by events).level)
 
 -- a trip is outstanding exactly where one was entered in any life, and none was acknowledged since
 abbrev pub TripSo : Type 0

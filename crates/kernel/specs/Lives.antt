@@ -32,7 +32,7 @@ counts_of [] = record { events = 0; lives = 0 }
 counts_of (event ∷ events) = counted (counts_of events) event
 
 -- ---- what is kept of a life: the driver's identity, the running number and the train data that were entered last,
--- never valid behind a power-up; level and position as they are; the national values in force; an outstanding trip; the
+-- never valid after a power-up; level and position as they are; the national values in force; an outstanding trip; the
 -- counts
 
 abbrev pub kept_of : Counts → Life → Kept
@@ -75,7 +75,7 @@ abbrev pub kept_by : List events.Event → Kept
 kept_by events = kept_of (counts_of events) (life_of events)
 
 -- ---- the past of an event, as far as it bears on what is answered: the life that the event comes in, and what a
--- power-up keeps. It may be that of a list of events, or what a head of a block tells, whatever came before
+-- power-up keeps. It may be that of a list of events, or what a head of a block says, whatever came before
 
 pub record Past : Type 0 where
   pub life : Life
@@ -98,7 +98,7 @@ past_in counts life = record { life = life; kept = kept_of counts life }
 abbrev pub past_after : Past → events.Event → Past
 past_after past event = past_in (counted (counts_in past.kept) event) (life_after past.kept past.life event)
 
--- ---- a story: what a head of a block tells to be kept, whatever came before it, and the events since, the newest first
+-- ---- a story: what a head of a block says to be kept, whatever came before it, and the events since, the newest first
 
 pub record Story : Type 0 where
   pub kept : Kept
@@ -116,12 +116,12 @@ story_of events = record { kept = nothing_kept; events = events }
 abbrev pub onward : Story → events.Event → Story
 onward story event = record { kept = story.kept; events = event ∷ story.events }
 
-abbrev pub past_behind : Past → List events.Event → Past
-past_behind past [] = past
-past_behind past (event ∷ events) = past_after (past_behind past events) event
+abbrev pub later_past : Past → List events.Event → Past
+later_past past [] = past
+later_past past (event ∷ events) = past_after (later_past past events) event
 
 abbrev pub past_at : Story → Past
-past_at story = past_behind (past_by story.kept) story.events
+past_at story = later_past (past_by story.kept) story.events
 
 -- how many events there were over all lives
 abbrev pub number_from : ℕ → List events.Event → ℕ

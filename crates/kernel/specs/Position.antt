@@ -1,4 +1,4 @@
--- The position of a life: where the train is, behind the balise group of the last fix (this project's profile).
+-- The position of a life: where the train is, beyond the balise group of the last fix (this project's profile).
 -- Distances are centimetres.
 use Rattle.std.specs.Prelude.{◌*◌, ℤ, ◌+ℤ◌, ◌-ℤ◌, nat_le, if◌then◌else◌, Option, Some, None}
 use Rattle.std.specs.Int.RustNames.{unsigned_abs}

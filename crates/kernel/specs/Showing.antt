@@ -1,6 +1,6 @@
--- What a display is told beside the output, and how the train moves (SUBSET-026, 3.13, 5.7, 5.8, 5.9, 5.10; this
+-- What a display is reported along with the output, and how the train moves (SUBSET-026, 3.13, 5.7, 5.8, 5.9, 5.10; this
 -- project's profile). Moments and times are milliseconds, speeds metres per hour, distances centimetres; lists of entries
--- have the newest first. Told elsewhere, and taken for granted here: the limit, the acknowledgements, how long one may be
+-- have the newest first. Reported elsewhere, and taken for granted here: the limit, the acknowledgements, how long one may be
 -- owed before the service brake (`brake_delay`, in areas), and what is left of an override (`left_of_override`).
 use Rattle.std.specs.Prelude.{ℕ, ◌+◌, ◌-◌, ◌^◌, min}
 use Rattle.areas.specs.Acknowledging.{brake_delay}

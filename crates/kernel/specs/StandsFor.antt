@@ -19,7 +19,7 @@ use Rattle.track_picture.specs.Stores.{Stores}
 use Rattle.kernel.specs.declared.counts.Counts.{Counts}
 use Rattle.kernel.specs.declared.sight.Sight.{Sight}
 use Rattle.kernel.specs.declared.window.Window.{Window}
-use Rattle.kernel.specs.Brake.{stands, train_stood, was_within_limit, is_above_limit_by, asked_for_service, backward_at, rolled_backward, has_begun}
+use Rattle.kernel.specs.Brake.{stands, train_stood, was_within_limit, is_above_limit_by, service_brake_requested, backward_at, rolled_backward, has_begun}
 use Rattle.kernel.specs.Lives.{Past, kept_of, counts_of, counts_in, life_of}
 use Rattle.kernel.specs.Position.{position_at_power_up}
 
@@ -28,7 +28,7 @@ use Rattle.kernel.specs.Position.{position_at_power_up}
 abbrev pub window_of : Life → Window
 window_of life = record {
   far_too_fast = has_begun (is_above_limit_by 10_000) train_stood life;
-  asked_for_service = has_begun asked_for_service train_stood life;
+  service_brake_requested = has_begun service_brake_requested train_stood life;
   backward = min (rolled_backward life) (2 ^ 64 - 1);
   too_fast = has_begun (is_above_limit_by 5_000) was_within_limit life;
 }
@@ -46,20 +46,20 @@ abbrev pub sight_at : Life → SupervisionEntry → Sight
 sight_at life entry = record {
   stands = stands entry.track.begun.reading;
   backward = backward_at entry;
-  asked_for_service = entry.track.used.happened.asked.service;
+  service_brake_requested = entry.track.used.happened.asked.service;
   speed = speed_of (tracks (entry ∷ life.entries));
   limit = limit (grown life entry);
 }
 
 -- ---- what is known
 
--- what is known beside what is supervised
-pub record KnownBeside : Type 0 where
+-- what is known along with what is supervised
+pub record KnownAlongside : Type 0 where
   pub window : Window
   pub limit : ℕ
   pub position : Datum PositionFrom
 
-abbrev pub parts_of : Life → KnownBeside
+abbrev pub parts_of : Life → KnownAlongside
 parts_of life = record {
   window = window_of life;
   limit = limit life;
@@ -67,7 +67,7 @@ parts_of life = record {
 }
 
 pub record Knowledge (G S : Type 0) : Type 0 where
-  pub parts : KnownBeside
+  pub parts : KnownAlongside
   pub counts : Counts
   pub supervision : mode_control.Knowledge G S
 

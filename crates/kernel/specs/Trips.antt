@@ -16,12 +16,12 @@ trip_at [] = None
 trip_at (PowerUp cold ∷ events) = None
 trip_at (Input input ∷ events) = trip_by (life_of events) input
 
--- the same of an event behind a past
-abbrev pub trip_behind : Past → Event → Option TripCause
-trip_behind past (PowerUp cold) = None
-trip_behind past (Input input) = trip_by past.life input
+-- the same of an event after a past
+abbrev pub later_trip : Past → Event → Option TripCause
+later_trip past (PowerUp cold) = None
+later_trip past (Input input) = trip_by past.life input
 
--- an event has a cause exactly where the mode behind it is Trip, and that before it wasn't
+-- an event has a cause exactly where the mode after it is Trip, and that before it wasn't
 abbrev pub TripsHaveCauses : Type 0
 TripsHaveCauses = (event : Event) (events : List Event) →
     is_some (trip_at (event ∷ events)) ≡ (is_mode Trip (output_after (event ∷ events)).mode && not (is_mode Trip (output_after events).mode))

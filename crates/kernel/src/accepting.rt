@@ -13,7 +13,7 @@ use track_picture::ProfileStores;
 
 impl<T: ProfileStores> StateOver<T> {
     /// Whether an action of the driver would be accepted as the next event (the table of actions: this project's
-    /// profile): by the driver's data and the situation behind the last event. An action that wouldn't has no effect.
+    /// profile): by the driver's data and the situation after the last event. An action that wouldn't has no effect.
     /// Takes no memory.
     pub fn accepts(&self, action: &Action) -> bool
         ensures { (events : List Event) → StandsFor T.stores self.now events

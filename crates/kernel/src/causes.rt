@@ -21,7 +21,7 @@ pub enum BrakeCause {
     /// The train has rolled backward farther than is allowed since it stood (3.14).
     RolledTooFar,
     /// Linking or a balise group asked for the service brake, and the train hasn't stood since (3.4.4, 3.16.2).
-    AskedForService,
+    ServiceBrakeRequested,
     /// The speed was above the limit by more than 5 km/h, and not at or below it since (3.13).
     TooFast,
     /// The train moves in Stand By or in Post Trip (4.4).
@@ -39,7 +39,7 @@ impl BrakeCause {
         BrakeCause::OwesTrip,
         BrakeCause::FarTooFast,
         BrakeCause::RolledTooFar,
-        BrakeCause::AskedForService,
+        BrakeCause::ServiceBrakeRequested,
         BrakeCause::TooFast,
         BrakeCause::MustStand,
         BrakeCause::OwesTooLong,
@@ -56,7 +56,7 @@ impl BrakeCause {
             BrakeCause::OwesTrip => 3,
             BrakeCause::FarTooFast => 4,
             BrakeCause::RolledTooFar => 5,
-            BrakeCause::AskedForService => 6,
+            BrakeCause::ServiceBrakeRequested => 6,
             BrakeCause::TooFast => 7,
             BrakeCause::MustStand => 8,
             BrakeCause::OwesTooLong => 9,
@@ -74,7 +74,7 @@ impl BrakeCause {
             | BrakeCause::OwesTrip
             | BrakeCause::FarTooFast
             | BrakeCause::RolledTooFar => Brake::Emergency,
-            BrakeCause::AskedForService
+            BrakeCause::ServiceBrakeRequested
             | BrakeCause::TooFast
             | BrakeCause::MustStand
             | BrakeCause::OwesTooLong => Brake::Service,

@@ -79,7 +79,7 @@ impl<T: ProfileStores> StateOver<T> {
             || self.has_rolled_too_far()
         {
             Brake::Emergency
-        } else if window.asked_for_service
+        } else if window.service_brake_requested
             || window.too_fast
             || self.must_stand()
             || self.owes_too_long()
@@ -105,7 +105,7 @@ impl<T: ProfileStores> StateOver<T> {
                 driver.is_trip_outstanding(),
                 window.far_too_fast,
                 self.has_rolled_too_far(),
-                window.asked_for_service,
+                window.service_brake_requested,
                 window.too_fast,
                 self.must_stand(),
                 self.owes_too_long(),

@@ -38,7 +38,7 @@ pub fn causes_command()
     ensures none { NoneHasNoCause }
 {}
 
-/// A law: an event has a cause of a trip exactly where the mode behind it is Trip, and that before it wasn't.
+/// A law: an event has a cause of a trip exactly where the mode after it is Trip, and that before it wasn't.
 pub fn trips_have_causes()
     ensures { TripsHaveCauses }
 {}

@@ -1,4 +1,4 @@
-//! What the kernel holds beside supervision and counts: the window of the brakes, the limit, the kept position.
+//! What the kernel holds along with supervision and counts: the window of the brakes, the limit, the kept position.
 ghost use Rattle.std.specs.Prelude.{◌≡◌, []};
 ghost use Rattle.kernel.specs.StandsFor.{parts_of};
 ghost use Rattle.mode_control.specs.Sentences.{begun_life};
@@ -10,7 +10,7 @@ use mode_table::{Cold, Item, power_up_status};
 use std::marker::Model;
 use units::Mph;
 
-/// What is known beside what is supervised (this project's profile).
+/// What is known along with what is supervised (this project's profile).
 #[derive(Clone, Copy)]
 pub struct Parts {
     /// What the brakes remember of the time since the train was at standstill.
@@ -22,9 +22,9 @@ pub struct Parts {
 }
 
 impl Model for Parts {
-    ghost use Rattle.kernel.specs.StandsFor.{KnownBeside};
+    ghost use Rattle.kernel.specs.StandsFor.{KnownAlongside};
 
-    ghost Value = { KnownBeside };
+    ghost Value = { KnownAlongside };
 
     ghost view = { λ p. record {
       window = p.window;

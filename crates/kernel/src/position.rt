@@ -36,7 +36,7 @@ fn fixed_at(group: GroupIdentity, place: &Place) -> Datum<Position>
     Datum::Valid(Position::new(group, place.since_fix()).unwrap())
 }
 
-/// The position, by the group of the last fix, or else by what was kept of it; how far behind the group is centimetres.
+/// The position, by the group of the last fix, or else by what was kept of it; how far beyond the group is centimetres.
 pub fn position_by(
     group: &Option<GroupIdentity>,
     kept: &Datum<Position>,

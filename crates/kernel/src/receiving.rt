@@ -42,7 +42,7 @@ fn sight_of<T: ProfileStores>(supervision: &SupervisionOver<T>, input: &Input) -
     Sight {
         stands: stands(&reading),
         backward: backward_by(happened.overrun, &reading),
-        asked_for_service: happened.asked.service,
+        service_brake_requested: happened.asked.service,
         speed: supervision.track().speed(),
         limit: limit(supervision),
     }

@@ -1,4 +1,4 @@
-//! What a display is told beside the output.
+//! What a display is reported along with the output.
 ghost use Rattle.std.specs.Prelude.{◌≡◌, is_some};
 ghost use Rattle.kernel.specs.Showing.{waiting, motion_of, shown_of};
 ghost use Rattle.kernel.specs.StandsFor.{StandsForLife};
@@ -62,7 +62,7 @@ pub struct Motion {
     pub allowed: u64,
 }
 
-/// What a display shows beside the output.
+/// What a display shows along with the output.
 #[derive(Clone, Copy)]
 pub struct Shown {
     /// Which acknowledgements the driver is waited for, and how long yet.
@@ -93,7 +93,7 @@ impl<T: ProfileStores> StateOver<T> {
         }
     }
 
-    /// What a display shows beside the output of the last event. Takes no memory, and is worked out where it is asked
+    /// What a display shows along with the output of the last event. Takes no memory, and is worked out where it is asked
     /// alone.
     pub fn shown(&self) -> Shown
         ensures shown { (life : Life) → StandsForLife T.stores self.now life → result ≡ shown_of life }

@@ -14,7 +14,7 @@ pub struct Sight {
     /// How far the train has rolled backward in it, in centimetres.
     pub backward: u64,
     /// Whether linking or a balise group asks for the service brake.
-    pub asked_for_service: bool,
+    pub service_brake_requested: bool,
     /// The speed of the last reading, in metres per hour.
     pub speed: Mph,
     /// The limit after the event, in metres per hour.

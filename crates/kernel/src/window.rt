@@ -22,7 +22,7 @@ pub struct Window {
     /// After some event the speed was above the limit by more than 10 km/h.
     pub far_too_fast: bool,
     /// Linking or a balise group asked for the service brake.
-    pub asked_for_service: bool,
+    pub service_brake_requested: bool,
     /// How far the train has rolled backward, in centimetres, up to the greatest number of 64 bits.
     pub backward: u64,
     /// The speed was above the limit by more than 5 km/h, and not at or below it since.
@@ -44,7 +44,7 @@ impl Window {
     {
         Window {
             far_too_fast: false,
-            asked_for_service: false,
+            service_brake_requested: false,
             backward: 0,
             too_fast: false,
         }
@@ -60,10 +60,10 @@ impl Window {
                 sight.stands,
                 self.far_too_fast,
             ),
-            asked_for_service: from_until(
-                sight.asked_for_service,
+            service_brake_requested: from_until(
+                sight.service_brake_requested,
                 sight.stands,
-                self.asked_for_service,
+                self.service_brake_requested,
             ),
             backward: sight.rolled(self.backward),
             too_fast: from_until(

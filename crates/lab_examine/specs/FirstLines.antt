@@ -20,13 +20,13 @@ some_if false slots = None
 abbrev pub slots_by_size : ℕ → Option ℕ
 slots_by_size sectors = some_if (is_size sectors ((sectors - 1) / 6)) ((sectors - 1) / 6)
 
--- the first sector tells the slots that the image is read to have, and its size is theirs
+-- the first sector says the slots that the image is read to have, and its size is theirs
 abbrev pub is_plain : FirstSector → Option ℕ → Option ℕ → Bool
 is_plain Missing slots by_size = false
 is_plain (Unreadable fault) slots by_size = false
-is_plain (Readable told) None by_size = false
-is_plain (Readable told) (Some slots) None = false
-is_plain (Readable told) (Some slots) (Some sized) = (told == slots) && (slots == sized)
+is_plain (Readable reported) None by_size = false
+is_plain (Readable reported) (Some slots) None = false
+is_plain (Readable reported) (Some slots) (Some sized) = (reported == slots) && (slots == sized)
 
 -- for people there is no line then
 abbrev pub is_quiet : Form → FirstSector → Option ℕ → Option ℕ → Bool

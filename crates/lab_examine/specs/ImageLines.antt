@@ -1,4 +1,4 @@
--- The lines of an image as a whole (this project's profile). As JSON the list of its slots begins behind them.
+-- The lines of an image as a whole (this project's profile). As JSON the list of its slots begins after them.
 use Rattle.std.specs.Prelude.{ℕ, ◌+◌, ◌-◌, ◌*◌, ◌++◌, List, [], ◌∷◌, codes, decimal, Option, Some, None}
 use Rattle.examination.specs.FirstSectors.{seen_of}
 use Rattle.examination.specs.declared.survey.Survey.{Survey}
@@ -7,9 +7,9 @@ use Rattle.text_output.specs.declared.piece.Form.{Form}
 use Rattle.lab_examine.specs.FirstLines.{sector_text}
 use Rattle.lab_examine.specs.declared.file_facts.FileFacts.{FileFacts}
 
--- how many bytes lie behind the last whole slot
-abbrev pub behind_of : ℕ → ℕ → ℕ
-behind_of bytes whole = bytes - 512 * (1 + 6 * whole)
+-- how many bytes lie beyond the last whole slot
+abbrev pub after_of : ℕ → ℕ → ℕ
+after_of bytes whole = bytes - 512 * (1 + 6 * whole)
 
 abbrev pub sizes_text : Form → ℕ → ℕ → List ℕ → ℕ → ℕ → List ℕ
 sizes_text form bytes sectors slots whole behind = joined (
@@ -17,10 +17,10 @@ sizes_text form bytes sectors slots whole behind = joined (
     ∷ text_in form (codes " sectors ") (codes ",\"sectors\":") ∷ decimal sectors
     ∷ text_in form (codes " slots ") (codes ",\"slots\":") ∷ slots
     ∷ text_in form (codes " whole ") (codes ",\"whole_slots\":") ∷ decimal whole
-    ∷ text_in form (codes " bytes behind ") (codes ",\"bytes_behind\":") ∷ decimal behind ∷ [])
+    ∷ text_in form (codes " trailing bytes ") (codes ",\"trailing_bytes\":") ∷ decimal behind ∷ [])
 
 abbrev pub size_text : Form → ℕ → Survey → List ℕ
-size_text form bytes it = sizes_text form bytes it.sectors (known_text form it.slots) it.whole (behind_of bytes it.whole)
+size_text form bytes it = sizes_text form bytes it.sectors (known_text form it.slots) it.whole (after_of bytes it.whole)
 
 abbrev pub digits_text : Form → List ℕ → List ℕ
 digits_text form digits =

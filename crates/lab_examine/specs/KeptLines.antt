@@ -14,7 +14,7 @@ use Rattle.text_output.specs.Pieces.{text_in, joined, escaped}
 use Rattle.text_output.specs.declared.piece.Form.{Form}
 use Rattle.lab_examine.specs.NationalLines.{modes_text, speeds_text, ranges_text, countries_text}
 
--- an identity between what stands before and behind it
+-- an identity between what stands before and after it
 abbrev pub identity_text : Form → Option (List ℕ) → List ℕ
 identity_text form None = joined (text_in form (codes "kept identity none\n") (codes "\"identity\":null") ∷ [])
 identity_text form (Some text) =

@@ -34,7 +34,7 @@ ranges_text form v = joined (
     ∷ text_in form (codes " staff_responsible_distance_cm ") (codes ",\"staff_responsible_distance_cm\":") ∷ open_text form v.staff_responsible_distance
     ∷ text_in form (codes "\nkept national countries") (codes "},\"countries\":[") ∷ [])
 
--- a country behind another one
+-- a country after another one
 abbrev pub next_country : Form → ℕ → List ℕ
 next_country form country = joined (text_in form (codes " ") (codes ",") ∷ decimal country ∷ [])
 

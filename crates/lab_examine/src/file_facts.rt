@@ -1,6 +1,6 @@
-//! What is told of a file.
+//! What is reported of a file.
 
-/// What is told of a file as a whole.
+/// What is reported of a file as a whole.
 #[derive(Clone, Copy)]
 pub struct FileFacts {
     /// How many bytes it has.

@@ -33,16 +33,16 @@ fn slots_by_size(sectors: u64) -> Option<u64>
     some_if(is_size(sectors, slots), slots)
 }
 
-// Whether the first sector tells the slots that the image is read to have, and its size is theirs.
+// Whether the first sector says the slots that the image is read to have, and its size is theirs.
 fn is_plain(seen: FirstSector, slots: Option<u64>, by_size: Option<u64>) -> bool
     ensures { result ≡ is_plain seen slots by_size }
 {
     match seen {
-        FirstSector::Readable(told) => match slots {
+        FirstSector::Readable(reported) => match slots {
             None => false,
             Some(slots) => match by_size {
                 None => false,
-                Some(sized) => told == slots && slots == sized,
+                Some(sized) => reported == slots && slots == sized,
             },
         },
         FirstSector::Unreadable(_) | FirstSector::Missing => false,
@@ -142,7 +142,7 @@ fn write_shown<W: Write>(
     write_parts(form, &[&sector, &size], out)
 }
 
-/// Writes what the first sector of a file holds, whose image was surveyed so; for people nothing where it tells the slots
+/// Writes what the first sector of a file holds, whose image was surveyed so; for people nothing where it says the slots
 /// that the image is read to have, and the size is theirs. The error is that of a write.
 pub(crate) fn write_first_sector<W: Write>(
     form: Form,

@@ -3,7 +3,7 @@ ghost use Rattle.std.specs.Prelude.{◌≡◌, ◌≤◌, OnOk};
 ghost use Rattle.std.specs.Io.KnownBytes.{Appends};
 ghost use Rattle.text_output.specs.Pieces.{texts};
 ghost use Rattle.text_output.specs.declared.piece.Form.{Form as a_form};
-ghost use Rattle.lab_examine.specs.ImageLines.{behind_of, size_text, digits_text, digest_text, image_text};
+ghost use Rattle.lab_examine.specs.ImageLines.{after_of, size_text, digits_text, digest_text, image_text};
 
 use crate::file_facts::FileFacts;
 use crate::first_lines::write_first_sector;
@@ -12,10 +12,10 @@ use std::io;
 use std::io::Write;
 use text_output::{Form, Piece, known, write_pieces};
 
-// How many bytes lie behind the last whole slot.
-fn behind_of(bytes: u64, whole: u64) -> u64
+// How many bytes lie beyond the last whole slot.
+fn after_of(bytes: u64, whole: u64) -> u64
     requires { whole ≤ 1_048_576 }
-    ensures { result ≡ behind_of bytes whole }
+    ensures { result ≡ after_of bytes whole }
 {
     bytes.saturating_sub(512 * (1 + 6 * whole))
 }
@@ -33,8 +33,8 @@ fn size_pieces(bytes: u64, survey: Survey) -> [Piece; 10]
         known(survey.slots),
         Piece::Text(" whole ", ",\"whole_slots\":"),
         Piece::Number(survey.whole),
-        Piece::Text(" bytes behind ", ",\"bytes_behind\":"),
-        Piece::Number(behind_of(bytes, survey.whole)),
+        Piece::Text(" trailing bytes ", ",\"trailing_bytes\":"),
+        Piece::Number(after_of(bytes, survey.whole)),
     ]
 }
 

@@ -108,7 +108,7 @@ pub(crate) fn ranges_pieces(values: &Values) -> [Piece; 7]
     ]
 }
 
-// A country behind another one.
+// A country after another one.
 fn country_pieces(country: Country) -> [Piece; 2]
     ensures { (form : a_form) → texts form result ≡ next_country form country }
 {

@@ -4,7 +4,7 @@ use Rattle.std.specs.Prelude.{ℕ, Bool, true, false, Option, Some, None, option
 use Rattle.lives.specs.declared.visit.Unknown.TheVariants.{BeforeOldest, Gap}
 use Rattle.lab_events.specs.declared.left_out.Stretch.{Stretch}
 use Rattle.replaying.specs.declared.judging.Judged.{Judged}
-use Rattle.replaying.specs.declared.judging.Judged.TheVariants.{Unknown, BehindDifference}
+use Rattle.replaying.specs.declared.judging.Judged.TheVariants.{Unknown, AfterDifference}
 use Rattle.lab_replay.specs.Lines.{stretch_line}
 use Rattle.lab_replay.specs.declared.course.Course.{Course}
 use Rattle.lab_replay.specs.declared.line.Outcome.{Outcome}
@@ -38,7 +38,7 @@ after_gap c = record c { stretch = None; judged = Unknown Gap; is_whole = false 
 
 -- after a record that differs
 abbrev pub after_difference : Course → Course
-after_difference c = record c { stretch = None; judged = BehindDifference; is_whole = false }
+after_difference c = record c { stretch = None; judged = AfterDifference; is_whole = false }
 
 abbrev pub judged_so : Course → Judged → Course
 judged_so c judged = record c { judged = judged }

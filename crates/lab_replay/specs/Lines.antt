@@ -10,7 +10,7 @@ use Rattle.lab_events.specs.declared.left_out.Stretch.{Stretch}
 use Rattle.replaying.specs.declared.following.Found.{Found}
 use Rattle.replaying.specs.declared.heads.HeadFound.{HeadFound}
 use Rattle.replaying.specs.declared.judging.Judged.{Judged}
-use Rattle.replaying.specs.declared.judging.Judged.TheVariants.{Agrees, Unknown, BehindDifference}
+use Rattle.replaying.specs.declared.judging.Judged.TheVariants.{Agrees, Unknown, AfterDifference}
 use Rattle.lab_replay.specs.declared.line.Answer.{Answer}
 use Rattle.lab_replay.specs.declared.line.Outcome.{Outcome}
 use Rattle.lab_replay.specs.declared.line.ReplayLine.{ReplayLine}
@@ -23,8 +23,8 @@ stretch_line (Agrees replay) s =
     a_line.Stretch (record { life = s.life; first_event = s.first; last_event = s.last; replay = a_verdict.Agrees; reason = None })
 stretch_line (Unknown why) s =
     a_line.Stretch (record { life = s.life; first_event = s.first; last_event = s.last; replay = a_verdict.NotReplayed; reason = Some (reason_of why) })
-stretch_line BehindDifference s =
-    a_line.Stretch (record { life = s.life; first_event = s.first; last_event = s.last; replay = a_verdict.NotReplayed; reason = Some a_reason.BehindDifference })
+stretch_line AfterDifference s =
+    a_line.Stretch (record { life = s.life; first_event = s.first; last_event = s.last; replay = a_verdict.NotReplayed; reason = Some a_reason.AfterDifference })
 
 -- what a record holds next to its event; a place and a limit where its format records them
 abbrev pub answer_of : BlockRecord → Answer

@@ -165,7 +165,7 @@ pub(crate) fn stretch_line(judged: &Judged, stretch: Stretch) -> ReplayLine
     let (replay, reason) = match judged {
         Judged::Agrees(_) => (Verdict::Agrees, None),
         Judged::Unknown(why) => (Verdict::NotReplayed, Some(Reason::of(*why))),
-        Judged::BehindDifference => (Verdict::NotReplayed, Some(Reason::BehindDifference)),
+        Judged::AfterDifference => (Verdict::NotReplayed, Some(Reason::AfterDifference)),
     };
     ReplayLine::Stretch(StretchLine {
         life: stretch.life,

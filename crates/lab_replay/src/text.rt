@@ -9,8 +9,8 @@ fn reason_text(reason: Reason) -> &'static str {
     match reason {
         Reason::BeforeOldest => "what was kept before its power-up is in no block that is retained",
         Reason::Gap => "blocks or events are missing before",
-        Reason::WithinBlock => "no head tells what was kept before its power-up",
-        Reason::BehindDifference => "they follow a record that differs",
+        Reason::WithinBlock => "no head contains what was kept before its power-up",
+        Reason::AfterDifference => "they follow a record that differs",
     }
 }
 

@@ -21,17 +21,17 @@ by_end end a b at_a at_b first part true false x y le ended more =
     absurd (let one = leb-true end a x in let other : leb end b ≡ true = le-leb end b (omega (arith, one, le)) in let clash : true ≡ false = sym other ∙ y in cc)
 by_end end a b at_a at_b first part true true x y le ended more = let same = more (omega (arith, ended)) in omega (arith, same)
 
--- behind steps that have ended, the next ones are looked through alone
-pub behind_ended : (ends : List ℕ) (first a b : ℕ) → a ≤ b → first ≤ step_at ends a → step_at ends b ≡ first + step_at (drop first ends) b
-behind_ended ends zero a b le ended = omega arith
-behind_ended [] (suc first) a b le ended = absurd (omega (arith, ended))
-behind_ended (end ∷ ends) (suc first) a b le ended =
-    by_end end a b (step_at ends a) (step_at ends b) first (step_at (drop first ends) b) (leb end a) (leb end b) refl refl le ended (behind_ended ends first a b le)
+-- after steps that have ended, the next ones are looked through alone
+pub after_ended : (ends : List ℕ) (first a b : ℕ) → a ≤ b → first ≤ step_at ends a → step_at ends b ≡ first + step_at (drop first ends) b
+after_ended ends zero a b le ended = omega arith
+after_ended [] (suc first) a b le ended = absurd (omega (arith, ended))
+after_ended (end ∷ ends) (suc first) a b le ended =
+    by_end end a b (step_at ends a) (step_at ends b) first (step_at (drop first ends) b) (leb end a) (leb end b) refl refl le ended (after_ended ends first a b le)
 
 pub step_later : (ends : List ℕ) (step place : ℕ) → step ≤ step_at ends place → step ≤ step_at ends (place + 1)
 step_later ends step place le =
     let more : step_at ends (place + 1) ≡ step_at ends place + step_at (drop (step_at ends place) ends) (place + 1) =
-    behind_ended ends (step_at ends place) place (place + 1) (omega arith) (omega arith) in
+    after_ended ends (step_at ends place) place (place + 1) (omega arith) (omega arith) in
     omega (arith, le, more)
 
 -- ---- the inputs among steps
@@ -43,7 +43,7 @@ count_accepted events place (Accept input ∷ steps) =
     omega (arith, more)
 count_accepted events place (Flush ∷ steps) = count_accepted events (place + 1) steps
 
--- what is told of an input's place is found behind that of the inputs before it
+-- what is reported of an input's place is found after that of the inputs before it
 pub its_place : (f : ℕ → ℕ) (steps : List Step) (place first : ℕ) (input : Input) (d : Step) → place < length steps → Accept input ≡ get_or steps place d
     → slice_index (map f (inputs_from first steps)) (length (inputs_from first (take place steps))) ≡ f (first + place)
 its_place f [] place first input d below is = absurd (omega (arith, below))

@@ -16,7 +16,7 @@ use Rattle.unit_start.specs.Lives.{IsReady, IsWord, IsBlank, IsOpenRefusal, IsNe
 use Rattle.unit_start.specs.Releases.{Release}
 use Rattle.whole_lives.specs.Runs.{durable_by, NothingReleased}
 use Rattle.onboard.specs.Progress.{begun_with}
-use Rattle.whole_lives.specs.Stops.{AllStand, Stopped, LifeEnds, IsUnopened, AreBehind, IsDone}
+use Rattle.whole_lives.specs.Stops.{AllStand, Stopped, LifeEnds, IsUnopened, AreAfter, IsDone}
 use Rattle.whole_lives.specs.declared.errors.LiveError.{LiveError}
 use Rattle.whole_lives.specs.declared.errors.LiveError.TheVariants as a_live
 use Rattle.unit_start.specs.declared.errors.OpenError.{OpenError}
@@ -78,9 +78,9 @@ module _ (disk : Recording) (empty : IsEmpty disk) where
       → (word ≡ cold) ⊎ (released ≡ [])
   word_or_nothing cold word released P is = ⊎_elim (λ (its : IsWord (memory_state disk).sectors (contents_of (memory_state disk)) cold word). inl (its.blank blank)) (λ (none : P × NothingReleased released). inr none.1) is
 
--- behind steps that were carried out
+-- after steps that were carried out
 behind : (cold word : Cold) (found : List Event) (done : List Step) (durable accepted : List Event) (released out : List Release) → found ≡ [] → out ≡ released
-    → (word ≡ cold) ⊎ (released ≡ []) → AreBehind (an_event.PowerUp word ∷ found) done durable accepted released
+    → (word ≡ cold) ⊎ (released ≡ []) → AreAfter (an_event.PowerUp word ∷ found) done durable accepted released
     → pairs_of (durable_by (begun cold) done) ≡ pairs_of (begun cold) ++ out
 behind cold word found done durable accepted released out none same word_is so =
     let R : List Event → Type 0 = λ f. pairs_of (durable_by (an_event.PowerUp word ∷ f) done) ≡ pairs_of (an_event.PowerUp word ∷ f) ++ released in

@@ -25,8 +25,8 @@ module _ (cold : Cold) (steps : List Step) (place : ℕ) where
   up_to_here = accepted_by (begun cold) (take place steps)
 
   -- .. are the older part of all
-  pub all_behind : accepted_by (begun cold) steps ≡ accepted_by [] (drop place steps) ++ up_to_here
-  all_behind = ap (accepted_by (begun cold)) (sym (take-append-drop place steps)) ∙ up_to (begun cold) (take place steps) (drop place steps)
+  pub all_after : accepted_by (begun cold) steps ≡ accepted_by [] (drop place steps) ++ up_to_here
+  all_after = ap (accepted_by (begun cold)) (sym (take-append-drop place steps)) ∙ up_to (begun cold) (take place steps) (drop place steps)
 
   -- .. and by that step
   pub one_on : (x d : Step) → place < length steps → x ≡ get_or steps place d → accepted_by (begun cold) (take (place + 1) steps) ≡ accept_one up_to_here x
@@ -41,18 +41,18 @@ module _ (cold : Cold) (steps : List Step) (place : ℕ) where
       ap (λ (n : ℕ). slice_index (map (step_at ends) (inputs_from 0 steps)) n) number ∙ its_place (step_at ends) steps place 0 input d below is ∙ ap (step_at ends) same
 
   module _ (durable more : List Event) (released : List Release) (older : accepted_by (begun cold) steps ≡ more ++ durable) (pairs : pairs_of durable ≡ pairs_of (begun cold) ++ released) where
-    -- so many were told as were released: these are all
-    pub all_told : length up_to_here ≡ suc (length released) → up_to_here ≡ durable
-    all_told count = sym (same_end (accepted_by (begun cold) steps) more durable (accepted_by [] (drop place steps)) up_to_here older all_behind (count_released cold durable released pairs ∙ sym count))
+    -- so many were reported as were released: these are all
+    pub all_reported : length up_to_here ≡ suc (length released) → up_to_here ≡ durable
+    all_reported count = sym (same_end (accepted_by (begun cold) steps) more durable (accepted_by [] (drop place steps)) up_to_here older all_after (count_released cold durable released pairs ∙ sym count))
 
     -- .. and so it is at the end
-    pub none_left : (told : ℕ) → length steps ≤ place → length up_to_here ≡ suc told → told ≤ length released → up_to_here ≡ durable
-    none_left told over count within =
-        let whole : accepted_by (begun cold) steps ≡ up_to_here = all_behind ∙ ap (λ (l : List Step). accepted_by [] l ++ up_to_here) (drop_of_length-le steps over) in
+    pub none_left : (reported : ℕ) → length steps ≤ place → length up_to_here ≡ suc reported → reported ≤ length released → up_to_here ≡ durable
+    none_left reported over count within =
+        let whole : accepted_by (begun cold) steps ≡ up_to_here = all_after ∙ ap (λ (l : List Step). accepted_by [] l ++ up_to_here) (drop_of_length-le steps over) in
         let long : length durable ≡ suc (length released) = count_released cold durable released pairs in
         let all : length (accepted_by (begun cold) steps) ≡ length more + length durable = ap length older ∙ length-append more durable in
         let same : length (accepted_by (begun cold) steps) ≡ length up_to_here = ap length whole in
-        all_told (omega (arith, long, all, same, count, within))
+        all_reported (omega (arith, long, all, same, count, within))
 
 -- a line more
 pub one_line : (input_steps : List ℕ) (events : List Event) (input : Input) (one : Release) (step : ℕ) (lines line : List ℕ)

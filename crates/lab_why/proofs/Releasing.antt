@@ -1,4 +1,4 @@
--- What is released of a life, beside the inputs that it accepts.
+-- What is released of a life, along with the inputs that it accepts.
 use Rattle.std.proofs.Common.{◌≡◌, ℕ, suc, ◌+◌, ◌<◌, List, [], ◌∷◌, ◌++◌, length, take, drop, get_or, Option, Some, None, refl, sym, ◌∙◌, ap, arith, append_assoc, length-append}
 use Rattle.std.proofs.lemmas.List.{take-append-drop}
 use Rattle.std.proofs.lemmas.List.Sums.{fold-append}
@@ -33,7 +33,7 @@ older_pair (event ∷ more) events k d below =
     get_or-append (pairs_of (more ++ events)) (pair_of (more ++ events) event ∷ []) d k (omega (arith, below, length_pairs (more ++ events), length-append more events))
     ∙ older_pair more events k d below
 
--- so many are durable behind the power-up as were released
+-- so many are durable after the power-up as were released
 pub count_released : (word : Cold) (durable : List Event) (released : List Release) → pairs_of durable ≡ pairs_of (an_event.PowerUp word ∷ []) ++ released
     → length durable ≡ suc (length released)
 count_released word durable released is = sym (length_pairs durable) ∙ ap length is
@@ -56,27 +56,27 @@ same_end all more one others other is also long =
 abbrev pub begun : Cold → List Event
 begun word = an_event.PowerUp word ∷ []
 
--- the input, behind all that was accepted before it, is where it was accepted
+-- the input, after all that was accepted before it, is where it was accepted
 pub up_to : (events : List Event) (first rest : List Step) → accepted_by events (first ++ rest) ≡ accepted_by [] rest ++ accepted_by events first
 up_to events first rest = fold-append accept_one events first rest ∙ accepted_on (accepted_by events first) rest
 
 -- what is released of an event, where that many are released before it
-pub its_release : (word : Cold) (event : Event) (all more durable rest events : List Event) (released : List Release) (told : ℕ) (d : Release)
+pub its_release : (word : Cold) (event : Event) (all more durable rest events : List Event) (released : List Release) (reported : ℕ) (d : Release)
     → all ≡ more ++ durable → all ≡ rest ++ event ∷ events → pairs_of durable ≡ pairs_of (begun word) ++ released
-    → length events ≡ suc told → told < length released → get_or released told d ≡ pair_of events event
-its_release word event all more durable rest events released told d older also pairs counted below =
+    → length events ≡ suc reported → reported < length released → get_or released reported d ≡ pair_of events event
+its_release word event all more durable rest events released reported d older also pairs counted below =
     let count : length durable ≡ suc (length released) = count_released word durable released pairs in
-    let long : suc told ≡ length (pairs_of events) = sym counted ∙ sym (length_pairs events) in
-    ap (λ (l : List Release). get_or l (suc told) d) (sym pairs)
-    ∙ sym (older_pair more durable (suc told) d (omega (arith, count, below)))
-    ∙ ap (λ (l : List Event). get_or (pairs_of l) (suc told) d) (sym older ∙ also)
-    ∙ older_pair rest (event ∷ events) (suc told) d (omega (arith, counted))
+    let long : suc reported ≡ length (pairs_of events) = sym counted ∙ sym (length_pairs events) in
+    ap (λ (l : List Release). get_or l (suc reported) d) (sym pairs)
+    ∙ sym (older_pair more durable (suc reported) d (omega (arith, count, below)))
+    ∙ ap (λ (l : List Event). get_or (pairs_of l) (suc reported) d) (sym older ∙ also)
+    ∙ older_pair rest (event ∷ events) (suc reported) d (omega (arith, counted))
     ∙ ap (λ (n : ℕ). get_or (pairs_of (event ∷ events)) n d) long
     ∙ get_or-append_seam (pairs_of events) (pair_of events event) [] d
 
 -- ---- what is durable
 
--- what is durable behind steps is the older part of what they accepted
+-- what is durable after steps is the older part of what they accepted
 older : (d a m : List Event) (steps : List Step) → a ≡ m ++ d → (more : List Event) × (accepted_by a steps ≡ more ++ flushed_by d a steps)
 older d a m [] is = (m, is)
 older d a m (Accept input ∷ steps) is = older d (an_event.Input input ∷ a) (an_event.Input input ∷ m) steps (ap (λ (l : List Event). an_event.Input input ∷ l) is)
@@ -108,7 +108,7 @@ flushed_on d a events [] = refl
 flushed_on d a events (Accept input ∷ steps) = flushed_on d (an_event.Input input ∷ a) events steps
 flushed_on d a events (Flush ∷ steps) = flushed_on a a events steps
 
--- where nothing was released behind one power-up, nothing is durable behind another one
+-- where nothing was released after one power-up, nothing is durable after another one
 pub nothing_durable : (word other : Cold) (steps : List Step) → pairs_of (durable_by (begun word) steps) ≡ pairs_of (begun word) ++ [] → durable_by (begun other) steps ≡ begun other
 nothing_durable word other steps none =
     let count : length (durable_by (begun word) steps) ≡ 1 = count_released word (durable_by (begun word) steps) [] none in

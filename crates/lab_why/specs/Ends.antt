@@ -11,10 +11,10 @@ use Rattle.text_output.specs.Pieces.{joined, known_text}
 use Rattle.text_output.specs.declared.piece.Form.TheVariants.{Json}
 use Rattle.sessions.specs.Reasons.{stop_reason}
 
--- ---- which step of the scenario a step of the life comes from: of each step of the scenario it is told how many steps
+-- ---- which step of the scenario a step of the life comes from: of each step of the scenario it is reported how many steps
 -- of the life there are up to its end
 
--- the first step of the scenario whose end is behind the step of the life; a last flush comes from none
+-- the first step of the scenario whose end is after the step of the life; a last flush comes from none
 abbrev pub step_at : List ℕ → ℕ → ℕ
 step_at ends place = prefix_len (λ end. nat_le end place) ends
 

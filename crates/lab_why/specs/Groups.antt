@@ -1,17 +1,17 @@
--- What a line tells of the balise groups that its event closed, for people and as a JSON member (this project's
+-- What a line says about the balise groups that its event closed, for people and as a JSON member (this project's
 -- profile; RFC 8259). Groups stand in the order in which they closed, packets in that of their message.
 use Rattle.std.specs.Prelude.{ℕ, Bool, true, false, if◌then◌else◌, Option, Some, None, List, [], ◌∷◌, ◌++◌, codes, decimal}
 use Rattle.text_output.specs.OutputWords.{mode_text}
 use Rattle.mode_table.specs.declared.mode.Mode.{Mode}
-use Rattle.packet_uses.specs.Words.{number_text, name_told, why_text}
+use Rattle.packet_uses.specs.Words.{number_text, name_reported, why_text}
 use Rattle.packet_uses.specs.declared.fate.Fate.{Fate}
-use Rattle.packet_uses.specs.Fates.{fate_told}
+use Rattle.packet_uses.specs.Fates.{fate_reported}
 use Rattle.packets.specs.declared.packet.Packet.{Packet}
 use Rattle.packets.specs.Packets.{number_of}
 use Rattle.text_output.specs.Pieces.{text_in, joined}
 use Rattle.text_output.specs.declared.piece.Form.{Form}
-use Rattle.reasons.specs.declared.group_words.GroupTold.{GroupTold}
-use Rattle.reasons.specs.GroupWords.{group_told, group_word_of, group_sentence_of, group_section_of, is_accepted}
+use Rattle.reasons.specs.declared.group_words.GroupReport.{GroupReport}
+use Rattle.reasons.specs.GroupWords.{group_reported, group_word_of, group_sentence_of, group_section_of, is_accepted}
 use Rattle.track_picture.specs.declared.closings.Closing.{Closing}
 use Rattle.track_picture.specs.declared.closings.Closing.TheVariants as closing
 use Rattle.vars.specs.declared.linking.LinkOrientation.{LinkOrientation}
@@ -32,14 +32,14 @@ packet_back form accepted fate =
 
 abbrev pub packet_text : Form → Bool → Bool → ℕ → Fate → List ℕ
 packet_text form accepted later number fate =
-    number_text form (codes ", packet ") later number ++ name_told form number ++ packet_back form accepted fate
+    number_text form (codes ", packet ") later number ++ name_reported form number ++ packet_back form accepted fate
 
 -- packets, each with what becomes of it in the mode and in the direction of its group
-abbrev pub packets_text : Form → Mode → GroupTold → Bool → List Packet → List ℕ
-packets_text form mode told later [] = []
-packets_text form mode told later (p ∷ ps) =
-    packet_text form (is_accepted told.kind) later (number_of p) (fate_told mode told.direction false p)
-    ++ packets_text form mode told true ps
+abbrev pub packets_text : Form → Mode → GroupReport → Bool → List Packet → List ℕ
+packets_text form mode reported later [] = []
+packets_text form mode reported later (p ∷ ps) =
+    packet_text form (is_accepted reported.kind) later (number_of p) (fate_reported mode reported.direction false p)
+    ++ packets_text form mode reported true ps
 
 -- a broken group has no message
 abbrev pub packets_of : Closing → List Packet
@@ -67,27 +67,27 @@ reaction_text form reaction.NoReaction = text_in form [] (codes ",\"reaction\":n
 abbrev pub group_begun : Form → Bool → List ℕ
 group_begun form later = text_in form (codes "; group ") (if later then codes ",{\"country\":" else codes "{\"country\":")
 
-abbrev pub group_front : Form → Bool → Mode → GroupTold → List ℕ
-group_front form later mode told =
-    joined (group_begun form later ∷ decimal told.group.country
-    ∷ text_in form (codes " ") (codes ",\"group\":") ∷ decimal told.group.number
+abbrev pub group_front : Form → Bool → Mode → GroupReport → List ℕ
+group_front form later mode reported =
+    joined (group_begun form later ∷ decimal reported.group.country
+    ∷ text_in form (codes " ") (codes ",\"group\":") ∷ decimal reported.group.number
     ∷ text_in form (codes " in mode ") (codes ",\"mode\":\"") ∷ mode_text mode
-    ∷ text_in form (codes ", direction ") (codes "\",\"direction\":") ∷ direction_text form told.direction
-    ∷ text_in form (codes ": ") (codes ",\"outcome\":\"") ∷ text_in form (group_sentence_of told.kind) (group_word_of told.kind) ∷ [])
+    ∷ text_in form (codes ", direction ") (codes "\",\"direction\":") ∷ direction_text form reported.direction
+    ∷ text_in form (codes ": ") (codes ",\"outcome\":\"") ∷ text_in form (group_sentence_of reported.kind) (group_word_of reported.kind) ∷ [])
 
-abbrev pub group_back : Form → GroupTold → List ℕ
-group_back form told =
-    joined (reaction_text form told.reaction ∷ text_in form (codes " (") (codes ",\"section\":\"")
-    ∷ group_section_of told.kind ∷ text_in form (codes ")") (codes "\",\"packets\":[") ∷ [])
+abbrev pub group_back : Form → GroupReport → List ℕ
+group_back form reported =
+    joined (reaction_text form reported.reaction ∷ text_in form (codes " (") (codes ",\"section\":\"")
+    ∷ group_section_of reported.kind ∷ text_in form (codes ")") (codes "\",\"packets\":[") ∷ [])
 
 -- up to its packets
-abbrev pub head_text : Form → Mode → Bool → GroupTold → List ℕ
-head_text form mode later told =
-    group_front form later mode told ++ announcement_text form told.announcement ++ group_back form told
+abbrev pub head_text : Form → Mode → Bool → GroupReport → List ℕ
+head_text form mode later reported =
+    group_front form later mode reported ++ announcement_text form reported.announcement ++ group_back form reported
 
 abbrev pub group_text : Form → Mode → Bool → Closing → List ℕ
 group_text form mode later one =
-    head_text form mode later (group_told one) ++ packets_text form mode (group_told one) false (packets_of one)
+    head_text form mode later (group_reported one) ++ packets_text form mode (group_reported one) false (packets_of one)
     ++ text_in form [] (codes "]}")
 
 abbrev pub group_if : Form → Mode → Bool → Option Closing → List ℕ

@@ -11,16 +11,16 @@ use Rattle.reasons.specs.declared.runs.Runs.{Runs}
 use Rattle.reasons.specs.Runs.{first_in}
 use Rattle.reasons.specs.Words.{word_of, sentence_of, ending_of}
 use Rattle.reasons.specs.declared.limit_words.LimitKind.{LimitKind}
-use Rattle.reasons.specs.declared.limit_words.LimitTold.{LimitTold}
+use Rattle.reasons.specs.declared.limit_words.LimitReport.{LimitReport}
 use Rattle.reasons.specs.LimitWords.{limit_word_of, limit_sentence_of, limit_section_of}
 use Rattle.mode_control.specs.declared.tripping.TripCause.{TripCause}
-use Rattle.reasons.specs.declared.trips.TripTold.{TripTold}
+use Rattle.reasons.specs.declared.trips.TripReport.{TripReport}
 use Rattle.reasons.specs.TripWords.{trip_word_of, trip_sentence_of, trip_section_of}
 use Rattle.lab_why.specs.Groups.{groups_text}
 use Rattle.mode_table.specs.declared.mode.Mode.{Mode}
 use Rattle.track_picture.specs.declared.closings.Closing.{Closing}
 use Rattle.lab_why.specs.declared.lines.Answer.{Answer}
-use Rattle.lab_why.specs.declared.lines.Told.{Told}
+use Rattle.lab_why.specs.declared.lines.Reported.{Reported}
 
 -- what was answered, and the numbers that causes speak of
 abbrev pub front_text : Form → Answer → List ℕ
@@ -46,12 +46,12 @@ abbrev pub run_text : Form → BrakeCause → Option ℕ → List ℕ
 run_text form cause (Some first) = held_text form cause first
 run_text form cause None = free_text form cause
 
-abbrev pub cause_text : Form → Told → List ℕ
-cause_text form told = run_text form told.cause told.first
+abbrev pub cause_text : Form → Reported → List ℕ
+cause_text form reported = run_text form reported.cause reported.first
 
 -- each cause with its first event, in the order of the brake table
-abbrev pub told_of : Runs → List Told
-told_of runs = map (λ why. record { cause = why; first = first_in runs why }) all_causes
+abbrev pub description_of : Runs → List Reported
+description_of runs = map (λ why. record { cause = why; first = first_in runs why }) all_causes
 
 -- the trip that is owed, where it is known why: why, its event and the sections
 abbrev pub trip_known_text : Form → TripCause → ℕ → List ℕ
@@ -65,8 +65,8 @@ abbrev pub trip_unknown_text : Form → List ℕ
 trip_unknown_text form =
     text_in form [] (codes ",\"trip_cause\":null,\"trip_cause_event\":null,\"trip_cause_section\":null")
 
-abbrev pub trip_text : Form → Option TripTold → List ℕ
-trip_text form (Some told) = trip_known_text form told.cause told.event
+abbrev pub trip_text : Form → Option TripReport → List ℕ
+trip_text form (Some reported) = trip_known_text form reported.cause reported.event
 trip_text form None = trip_unknown_text form
 
 -- what decides the limit, its speed, and where it has them its place and its number
@@ -93,16 +93,16 @@ abbrev pub end_text : Form → List ℕ
 end_text form = text_in form (codes "\n") (codes "}\n")
 
 -- after the causes: the trip and what decides the limit
-abbrev pub limit_text : Form → Option TripTold → LimitTold → List ℕ
-limit_text form trip told =
-    trip_text form trip ++ decides_text form told.kind told.speed ++ place_text form told.place ++ number_text form told.number
-    ++ section_text form told.kind
+abbrev pub limit_text : Form → Option TripReport → LimitReport → List ℕ
+limit_text form trip reported =
+    trip_text form trip ++ decides_text form reported.kind reported.speed ++ place_text form reported.place ++ number_text form reported.number
+    ++ section_text form reported.kind
 
 -- .. and the groups that the event closed, which were judged in a mode, and the end of the line
-abbrev pub last_text : Form → Option TripTold → LimitTold → Mode → List Closing → List ℕ
-last_text form trip told mode closings =
-    limit_text form trip told ++ (groups_text form mode closings ++ end_text form)
+abbrev pub last_text : Form → Option TripReport → LimitReport → Mode → List Closing → List ℕ
+last_text form trip reported mode closings =
+    limit_text form trip reported ++ (groups_text form mode closings ++ end_text form)
 
-abbrev pub line_of : Form → Answer → List Told → Option TripTold → LimitTold → Mode → List Closing → List ℕ
-line_of form answer told trip decides mode closings =
-    front_text form answer ++ (flat_map (cause_text form) told ++ last_text form trip decides mode closings)
+abbrev pub line_of : Form → Answer → List Reported → Option TripReport → LimitReport → Mode → List Closing → List ℕ
+line_of form answer reported trip decides mode closings =
+    front_text form answer ++ (flat_map (cause_text form) reported ++ last_text form trip decides mode closings)

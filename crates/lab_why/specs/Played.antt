@@ -14,15 +14,15 @@ use Rattle.unit_start.specs.Releases.{Release}
 use Rattle.text_output.specs.OutputWords.{mode_text}
 use Rattle.text_output.specs.Pieces.{joined}
 use Rattle.text_output.specs.declared.piece.Form.TheVariants.{Json}
-use Rattle.reasons.specs.declared.limit_words.LimitTold.{LimitTold}
-use Rattle.reasons.specs.declared.trips.TripTold.{TripTold}
+use Rattle.reasons.specs.declared.limit_words.LimitReport.{LimitReport}
+use Rattle.reasons.specs.declared.trips.TripReport.{TripReport}
 use Rattle.lab_events.specs.Signs.{signs_of}
 use Rattle.lab_events.specs.Words.{level_value}
 use Rattle.track_picture.specs.declared.closings.Closing.{Closing}
 use Rattle.track_picture.specs.History.{speed_of}
 use Rattle.lab_why.specs.Lines.{front_text, cause_text, last_text}
 use Rattle.lab_why.specs.declared.lines.Answer.{Answer}
-use Rattle.lab_why.specs.declared.lines.Told.{Told}
+use Rattle.lab_why.specs.declared.lines.Reported.{Reported}
 use Rattle.lab_why.specs.declared.played.Played.{Played}
 
 -- the step, the mode and the level, up to the list of the indications
@@ -43,9 +43,9 @@ abbrev pub played_text : Answer → Played → List ℕ
 played_text answer p = front_text Json answer ++ output_text p
 
 -- the line: its members are those of `line_of`, and these
-abbrev pub played_line_of : Answer → Played → List Told → Option TripTold → LimitTold → Mode → List Closing → List ℕ
-played_line_of answer played told trip decides mode closings =
-    played_text answer played ++ (flat_map (cause_text Json) told ++ last_text Json trip decides mode closings)
+abbrev pub played_line_of : Answer → Played → List Reported → Option TripReport → LimitReport → Mode → List Closing → List ℕ
+played_line_of answer played reported trip decides mode closings =
+    played_text answer played ++ (flat_map (cause_text Json) reported ++ last_text Json trip decides mode closings)
 
 -- ---- the answer to the last event of a story
 
@@ -62,7 +62,7 @@ answer_in story event output = record {
 abbrev pub answer_of : Story → Release → Answer
 answer_of story one = answer_in story one.number one.output
 
--- .. and what is told of it beside, where its output was released and it comes from this step of the scenario
+-- .. and what is reported of it along with, where its output was released and it comes from this step of the scenario
 abbrev pub played_of : Story → Release → ℕ → Played
 played_of story one step = record {
   step = step;

@@ -1,6 +1,6 @@
 -- What is written while the life of a scenario is played on an empty image (this project's profile). Events and the
 -- steps of a scenario are numbered from 0; lists of events have the newest first, lists of steps the oldest first.
--- Told elsewhere, and taken for granted here: the text of a line (`played_line_of`, in Played), what of a life is durable
+-- Reported elsewhere, and taken for granted here: the text of a line (`played_line_of`, in Played), what of a life is durable
 -- and what is released of it (`durable_by`, `pair_of`, in onboard), and what decides a limit (`IsLimitCause`, in
 -- speed_supervision), where of several of equal force one is named.
 use Rattle.std.specs.Prelude.{◌≡◌, ◌⊎◌, ℕ, ◌+◌, ◌-◌, Option, Some, None, List, [], ◌∷◌, ◌++◌, length, map, take, slice_index}
@@ -22,11 +22,11 @@ use Rattle.whole_lives.specs.declared.errors.LiveError.{LiveError}
 use Rattle.whole_lives.specs.declared.errors.LiveError.TheVariants as a_live
 use Rattle.unit_start.specs.declared.errors.OpenError.TheVariants as an_open
 use Rattle.reasons.specs.Closings.{judged_in, closings_of}
-use Rattle.reasons.specs.LimitWords.{limit_told}
+use Rattle.reasons.specs.LimitWords.{limit_reported}
 use Rattle.reasons.specs.Runs.{runs_of}
 use Rattle.reasons.specs.Trips.{trip_of}
 use Rattle.lab_why.specs.Ends.{step_at, first_line, last_line}
-use Rattle.lab_why.specs.Lines.{told_of}
+use Rattle.lab_why.specs.Lines.{description_of}
 use Rattle.lab_why.specs.Played.{answer_of, played_of, played_line_of}
 use Rattle.lab_why.specs.declared.playing.PlayedLife.{PlayedLife}
 
@@ -47,10 +47,10 @@ input_steps life = map (step_at life.ends.items) (inputs_from 0 life.steps.items
 abbrev pub IsLine : ℕ → Story → Release → List ℕ → Type 0
 IsLine step story one line =
     (cause : LimitCause) × IsLimitCause (past_at story).life (output_at story).limit cause
-    × (line ≡ played_line_of (answer_of story one) (played_of story one step) (told_of (runs_of story)) (trip_of story) (limit_told one.output.limit cause)
+    × (line ≡ played_line_of (answer_of story one) (played_of story one step) (description_of (runs_of story)) (trip_of story) (limit_reported one.output.limit cause)
     (judged_in story) (closings_of story))
 
--- a text, and another one behind it
+-- a text, and another one after it
 pub record IsFollowed (Earlier Later : List ℕ → Type 0) (text : List ℕ) : Type 0 where
   pub earlier : List ℕ
   pub later : List ℕ
@@ -71,7 +71,7 @@ abbrev pub carried_out : List Step → Option LiveError → List Step
 carried_out steps None = steps
 carried_out steps (Some error) = option_map_or (λ number. take number steps) (step_of error) []
 
--- the events whose outputs were released, behind the power-up
+-- the events whose outputs were released, after the power-up
 abbrev pub released_in : PlayedLife → Option LiveError → List Event
 released_in life stopped = durable_by (PowerUp life.cold ∷ []) (carried_out life.steps.items stopped)
 

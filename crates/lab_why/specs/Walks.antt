@@ -1,4 +1,4 @@
--- All that is told of the events of an image, and why they were answered so (this project's profile; docs/reference/format.md).
+-- All that is reported of the events of an image, and why they were answered so (this project's profile; docs/reference/format.md).
 use Rattle.std.specs.Prelude.{◌≡◌, ℕ, false, Option, List}
 use Rattle.std.specs.Io.KnownBytes.{Appends}
 use Rattle.lives.specs.Walks.{IsWalked}
@@ -7,9 +7,9 @@ use Rattle.lab_why.specs.Courses.{begun, left_text, AddsStep}
 use Rattle.lab_why.specs.declared.course.Course.{Course}
 use Rattle.lab_why.specs.declared.walk.Walked.{Walked}
 
--- What a writer holds grew by what is told of each step of an image, from the oldest block that is retained on, and by
+-- What a writer holds grew by what is reported of each step of an image, from the oldest block that is retained on, and by
 -- what is left at the end.
-pub record TellsWhy {W : Type 0} (contents : W → Option (List ℕ)) (only : Option ℕ) (form : Form) (sectors : ℕ) (image : ℕ → List ℕ) (old new : W) (walked : Walked) : Type 0 where
+pub record DescribesWhy {W : Type 0} (contents : W → Option (List ℕ)) (only : Option ℕ) (form : Form) (sectors : ℕ) (image : ℕ → List ℕ) (old new : W) (walked : Walked) : Type 0 where
   pub last : Course
   pub mid : W
   pub steps : IsWalked (λ step c out next after. AddsStep step c next (contents out) (contents after)) (λ _. false) sectors image (begun only form) old last mid

@@ -62,7 +62,7 @@ fn stopped_pieces(step: Option<u64>, number: u8, name: &'static str) -> [Piece; 
     ]
 }
 
-/// The line behind the last output: the life came to its end, or at which step of the scenario it stopped, and why.
+/// The line after the last output: the life came to its end, or at which step of the scenario it stopped, and why.
 pub(crate) fn last_pieces(ends: &[usize], stopped: &Option<LiveError>) -> [Piece; 7]
     ensures { texts Json result ≡ last_line ends.now stopped.now }
 {

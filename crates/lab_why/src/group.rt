@@ -8,7 +8,9 @@ ghost use Rattle.lab_why.specs.Groups.{announcement_text, direction_text, group_
 
 use crate::packet::write_packets;
 use mode_table::Mode;
-use reasons::{GroupTold, GroupsTold, group_section, group_sentence, group_told, group_word};
+use reasons::{
+    GroupReport, GroupsReport, group_reported, group_section, group_sentence, group_word,
+};
 use std::io;
 use std::io::Write;
 use text_output::{Form, Piece, both, mode_word, write_parts, write_pieces};
@@ -60,30 +62,30 @@ fn begun_piece(later: bool) -> Piece
     }
 }
 
-fn front_pieces(later: bool, mode: Mode, told: &GroupTold) -> [Piece; 10]
-    ensures { (form : a_form) → texts form result ≡ group_front form later mode told.now }
+fn front_pieces(later: bool, mode: Mode, reported: &GroupReport) -> [Piece; 10]
+    ensures { (form : a_form) → texts form result ≡ group_front form later mode reported.now }
 {
     [
         begun_piece(later),
-        Piece::Number(told.group.country.number()),
+        Piece::Number(reported.group.country.number()),
         Piece::Text(" ", ",\"group\":"),
-        Piece::Number(told.group.number.number()),
+        Piece::Number(reported.group.number.number()),
         Piece::Text(" in mode ", ",\"mode\":\""),
         both(mode_word(mode)),
         Piece::Text(", direction ", "\",\"direction\":"),
-        direction_piece(told.direction),
+        direction_piece(reported.direction),
         Piece::Text(": ", ",\"outcome\":\""),
-        Piece::Text(group_sentence(told.kind), group_word(told.kind)),
+        Piece::Text(group_sentence(reported.kind), group_word(reported.kind)),
     ]
 }
 
-fn back_pieces(told: &GroupTold) -> [Piece; 4]
-    ensures { (form : a_form) → texts form result ≡ group_back form told.now }
+fn back_pieces(reported: &GroupReport) -> [Piece; 4]
+    ensures { (form : a_form) → texts form result ≡ group_back form reported.now }
 {
     [
-        reaction_piece(told.reaction),
+        reaction_piece(reported.reaction),
         Piece::Text(" (", ",\"section\":\""),
-        both(group_section(told.kind)),
+        both(group_section(reported.kind)),
         Piece::Text(")", "\",\"packets\":["),
     ]
 }
@@ -93,28 +95,28 @@ fn write_head<W: Write>(
     form: Form,
     mode: Mode,
     later: bool,
-    told: &GroupTold,
+    reported: &GroupReport,
     out: &mut W,
 ) -> io::Result<()>
-    ensures { OnOk result (Appends (W.contents out.old) (W.contents out.new) (head_text form mode later told.now)) }
+    ensures { OnOk result (Appends (W.contents out.old) (W.contents out.new) (head_text form mode later reported.now)) }
 {
-    let front = front_pieces(later, mode, told);
-    let announced = announcement_pieces(told.announcement);
-    let back = back_pieces(told);
+    let front = front_pieces(later, mode, reported);
+    let announced = announcement_pieces(reported.announcement);
+    let back = back_pieces(reported);
     write_parts(form, &[&front, &announced, &back], out)
 }
 
 fn write_packets_of<W: Write>(
     form: Form,
     mode: Mode,
-    told: &GroupTold,
+    reported: &GroupReport,
     closing: &Closing,
     out: &mut W,
 ) -> io::Result<()>
-    ensures { OnOk result (Appends (W.contents out.old) (W.contents out.new) (packets_text form mode told.now false (packets_of closing.now))) }
+    ensures { OnOk result (Appends (W.contents out.old) (W.contents out.new) (packets_text form mode reported.now false (packets_of closing.now))) }
 {
     match closing {
-        Closing::Whole(message, _) => write_packets(form, mode, told, &message.packets, out),
+        Closing::Whole(message, _) => write_packets(form, mode, reported, &message.packets, out),
         Closing::Broken(_, _) => write_pieces(form, &[], out),
     }
 }
@@ -128,9 +130,9 @@ fn write_group<W: Write>(
 ) -> io::Result<()>
     ensures { OnOk result (Appends (W.contents out.old) (W.contents out.new) (group_text form mode later closing.now)) }
 {
-    let told = group_told(closing);
-    write_head(form, mode, later, &told, out)?;
-    write_packets_of(form, mode, &told, closing, out)?;
+    let reported = group_reported(closing);
+    write_head(form, mode, later, &reported, out)?;
+    write_packets_of(form, mode, &reported, closing, out)?;
     write_pieces(form, &[Piece::Text("", "]}")], out)
 }
 
@@ -152,16 +154,20 @@ fn write_if<W: Write>(
 /// Writes what became of the groups that an event closed, with the packets of each and why they aren't used; nothing
 /// where it closed none. For people each is a part of a line that begins with a semicolon, as JSON all are a member
 /// that begins with a comma. The error is that of a write.
-pub(crate) fn write_groups<W: Write>(form: Form, told: &GroupsTold, out: &mut W) -> io::Result<()>
-    ensures { OnOk result (Appends (W.contents out.old) (W.contents out.new) (groups_text form told.now.mode (all_of told.now.closings))) }
+pub(crate) fn write_groups<W: Write>(
+    form: Form,
+    reported: &GroupsReport,
+    out: &mut W,
+) -> io::Result<()>
+    ensures { OnOk result (Appends (W.contents out.old) (W.contents out.new) (groups_text form reported.now.mode (all_of reported.now.closings))) }
 {
-    let ended = &told.closings.ended;
-    let whole = &told.closings.whole;
+    let ended = &reported.closings.ended;
+    let whole = &reported.closings.whole;
     if ended.is_none() && whole.is_none() {
         return write_pieces(form, &[], out);
     }
     write_pieces(form, &[Piece::Text("", ",\"groups\":[")], out)?;
-    write_if(form, told.mode, false, ended, out)?;
-    write_if(form, told.mode, ended.is_some(), whole, out)?;
+    write_if(form, reported.mode, false, ended, out)?;
+    write_if(form, reported.mode, ended.is_some(), whole, out)?;
     write_pieces(form, &[Piece::Text("", "]")], out)
 }

@@ -4,20 +4,20 @@
 #![tactic(auto)]
 
 mod course;
+mod description;
 mod ends;
 mod group;
 mod lines;
 mod packet;
 mod played;
 mod playing;
-mod telling;
 mod visiting;
 mod walk;
 
-pub use lines::{Answer, Told, told_of, write_line};
+pub use lines::{Answer, Reported, description_of, write_line};
 pub use lives::{LateError, WalkError};
 pub use onboard::{FlushError, OpenError};
 pub use played::{Played, write_played_line};
 pub use playing::{PlayedLife, play};
-pub use walk::{Walked, tell_why};
+pub use walk::{Walked, describe_why};
 pub use whole_lives::LiveError;

@@ -4,13 +4,13 @@ ghost use Rattle.std.specs.Io.KnownBytes.{Appends};
 ghost use Rattle.text_output.specs.Pieces.{texts};
 ghost use Rattle.text_output.specs.declared.piece.Form.{Form as a_form};
 ghost use Rattle.track_picture.specs.Closings.{all_of};
-ghost use Rattle.lab_why.specs.Lines.{front_text, held_text, free_text, cause_text, told_of, trip_known_text, trip_unknown_text, trip_text, decides_text, place_text, number_text, section_text, end_text, limit_text, last_text, line_of};
+ghost use Rattle.lab_why.specs.Lines.{front_text, held_text, free_text, cause_text, description_of, trip_known_text, trip_unknown_text, trip_text, decides_text, place_text, number_text, section_text, end_text, limit_text, last_text, line_of};
 
 use crate::group::write_groups;
 use events::Brake;
 use kernel::{BrakeCause, TripCause};
 use reasons::{
-    GroupsTold, LimitKind, LimitTold, Runs, TripTold, ending, limit_section, limit_sentence,
+    GroupsReport, LimitKind, LimitReport, Runs, TripReport, ending, limit_section, limit_sentence,
     limit_word, sentence, trip_section, trip_sentence, trip_word, word,
 };
 use std::io;
@@ -34,9 +34,9 @@ pub struct Answer {
     pub allowed: u64,
 }
 
-/// A cause, and the first event behind which it has held, if it holds.
+/// A cause, and the first event after which it has held, if it holds.
 #[derive(Clone, Copy)]
-pub struct Told {
+pub struct Reported {
     /// The cause.
     pub cause: BrakeCause,
     /// The number of that event.
@@ -44,24 +44,24 @@ pub struct Told {
 }
 
 /// Each cause with its first event, in the order of the brake table.
-pub fn told_of(runs: &Runs) -> [Told; 10]
-    ensures { result ≡ told_of runs.now }
+pub fn description_of(runs: &Runs) -> [Reported; 10]
+    ensures { result ≡ description_of runs.now }
 {
-    let told = |cause: BrakeCause| Told {
+    let reported = |cause: BrakeCause| Reported {
         cause,
         first: runs.first(cause),
     };
     [
-        told(BrakeCause::NotRevalidated),
-        told(BrakeCause::InTrip),
-        told(BrakeCause::InSystemFailure),
-        told(BrakeCause::OwesTrip),
-        told(BrakeCause::FarTooFast),
-        told(BrakeCause::RolledTooFar),
-        told(BrakeCause::AskedForService),
-        told(BrakeCause::TooFast),
-        told(BrakeCause::MustStand),
-        told(BrakeCause::OwesTooLong),
+        reported(BrakeCause::NotRevalidated),
+        reported(BrakeCause::InTrip),
+        reported(BrakeCause::InSystemFailure),
+        reported(BrakeCause::OwesTrip),
+        reported(BrakeCause::FarTooFast),
+        reported(BrakeCause::RolledTooFar),
+        reported(BrakeCause::ServiceBrakeRequested),
+        reported(BrakeCause::TooFast),
+        reported(BrakeCause::MustStand),
+        reported(BrakeCause::OwesTooLong),
     ]
 }
 
@@ -188,11 +188,11 @@ fn unknown_trip_pieces() -> [Piece; 7]
     [null, none, none, none, none, none, none]
 }
 
-fn trip_pieces(trip: &Option<TripTold>) -> [Piece; 7]
+fn trip_pieces(trip: &Option<TripReport>) -> [Piece; 7]
     ensures { (form : a_form) → texts form result ≡ trip_text form trip.now }
 {
     match trip {
-        Some(told) => known_trip_pieces(told.cause, told.event),
+        Some(reported) => known_trip_pieces(reported.cause, reported.event),
         None => unknown_trip_pieces(),
     }
 }
@@ -203,20 +203,24 @@ fn end_piece() -> [Piece; 1]
     [Piece::Text("\n", "}\n")]
 }
 
-fn write_cause<W: Write>(form: Form, told: &Told, out: &mut W) -> io::Result<()>
-    ensures { OnOk result (Appends (W.contents out.old) (W.contents out.new) (cause_text form told.now)) }
+fn write_cause<W: Write>(form: Form, reported: &Reported, out: &mut W) -> io::Result<()>
+    ensures { OnOk result (Appends (W.contents out.old) (W.contents out.new) (cause_text form reported.now)) }
 {
-    match told.first {
-        Some(first) => write_pieces(form, &held_pieces(told.cause, first), out),
-        None => write_pieces(form, &free_pieces(told.cause), out),
+    match reported.first {
+        Some(first) => write_pieces(form, &held_pieces(reported.cause, first), out),
+        None => write_pieces(form, &free_pieces(reported.cause), out),
     }
 }
 
 /// Writes causes, in their order.
-pub(crate) fn write_causes<W: Write>(form: Form, told: &[Told], out: &mut W) -> io::Result<()>
-    ensures { OnOk result (Appends (W.contents out.old) (W.contents out.new) (flat_map (cause_text form) told.now)) }
+pub(crate) fn write_causes<W: Write>(
+    form: Form,
+    reported: &[Reported],
+    out: &mut W,
+) -> io::Result<()>
+    ensures { OnOk result (Appends (W.contents out.old) (W.contents out.new) (flat_map (cause_text form) reported.now)) }
 {
-    for one in told {
+    for one in reported {
         write_cause(form, one, out)?;
     }
     Ok(())
@@ -232,21 +236,21 @@ pub(crate) fn write_front<W: Write>(form: Form, answer: &Answer, out: &mut W) ->
 // Writes the trip and what decides the limit.
 fn write_limit<W: Write>(
     form: Form,
-    trip: &Option<TripTold>,
-    told: &LimitTold,
+    trip: &Option<TripReport>,
+    reported: &LimitReport,
     out: &mut W,
 ) -> io::Result<()>
-    ensures { OnOk result (Appends (W.contents out.old) (W.contents out.new) (limit_text form trip.now told.now)) }
+    ensures { OnOk result (Appends (W.contents out.old) (W.contents out.new) (limit_text form trip.now reported.now)) }
 {
-    let speed = u64::from(told.speed.get());
+    let speed = u64::from(reported.speed.get());
     write_parts(
         form,
         &[
             &trip_pieces(trip),
-            &decides_pieces(told.kind, speed),
-            &place_pieces(told.place),
-            &number_pieces(told.number),
-            &section_pieces(told.kind),
+            &decides_pieces(reported.kind, speed),
+            &place_pieces(reported.place),
+            &number_pieces(reported.number),
+            &section_pieces(reported.kind),
         ],
         out,
     )
@@ -255,15 +259,15 @@ fn write_limit<W: Write>(
 /// Writes what follows the causes, up to the end of the line.
 pub(crate) fn write_last<W: Write>(
     form: Form,
-    trip: &Option<TripTold>,
-    told: &LimitTold,
-    groups: &GroupsTold,
+    trip: &Option<TripReport>,
+    reported: &LimitReport,
+    groups: &GroupsReport,
     out: &mut W,
 ) -> io::Result<()>
     ensures { OnOk result (Appends (W.contents out.old) (W.contents out.new)
-        (last_text form trip.now told.now groups.now.mode (all_of groups.now.closings))) }
+        (last_text form trip.now reported.now groups.now.mode (all_of groups.now.closings))) }
 {
-    write_limit(form, trip, told, out)?;
+    write_limit(form, trip, reported, out)?;
     write_groups(form, groups, out)?;
     write_pieces(form, &end_piece(), out)
 }
@@ -273,17 +277,17 @@ pub(crate) fn write_last<W: Write>(
 pub fn write_line<W: Write>(
     form: Form,
     answer: &Answer,
-    told: &[Told],
-    trip: &Option<TripTold>,
-    decides: &LimitTold,
-    groups: &GroupsTold,
+    reported: &[Reported],
+    trip: &Option<TripReport>,
+    decides: &LimitReport,
+    groups: &GroupsReport,
     out: &mut W,
 ) -> io::Result<()>
     ensures { OnOk result (Appends (W.contents out.old) (W.contents out.new)
-        (line_of form answer.now told.now trip.now decides.now groups.now.mode (all_of groups.now.closings))) }
+        (line_of form answer.now reported.now trip.now decides.now groups.now.mode (all_of groups.now.closings))) }
 {
     write_front(form, answer, out)?;
-    write_causes(form, told, out)?;
+    write_causes(form, reported, out)?;
     write_last(form, trip, decides, groups, out)?;
     Ok(())
 }

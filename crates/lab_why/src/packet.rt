@@ -3,7 +3,7 @@ ghost use Rattle.std.specs.Prelude.{◌≡◌, OnOk, false};
 ghost use Rattle.std.specs.Io.KnownBytes.{Appends};
 ghost use Rattle.text_output.specs.Pieces.{text_of, texts};
 ghost use Rattle.text_output.specs.declared.piece.Form.{Form as a_form};
-ghost use Rattle.packet_uses.specs.Fates.{fate_told};
+ghost use Rattle.packet_uses.specs.Fates.{fate_reported};
 ghost use Rattle.packets.specs.Packets.{number_of};
 ghost use Rattle.reasons.specs.GroupWords.{is_accepted};
 ghost use Rattle.lab_why.specs.Groups.{why_in, packet_back, packet_text, packets_text};
@@ -12,7 +12,7 @@ use balise_groups::GroupPackets;
 use mode_table::Mode;
 use packet_uses::{Fate, fate_of, name_pieces, number_pieces, why_piece};
 use packets::Packet;
-use reasons::{GroupTold, is_accepted};
+use reasons::{GroupReport, is_accepted};
 use std::io;
 use std::io::Write;
 use text_output::{Form, Piece, write_parts};
@@ -57,32 +57,32 @@ fn write_packet<W: Write>(
 fn write_one<W: Write>(
     form: Form,
     mode: Mode,
-    told: &GroupTold,
+    reported: &GroupReport,
     later: bool,
     packet: &Packet<'_>,
     out: &mut W,
 ) -> io::Result<()>
     ensures { OnOk result (Appends (W.contents out.old) (W.contents out.new)
-        (packet_text form (is_accepted told.now.kind) later (number_of packet.now) (fate_told mode told.now.direction false packet.now))) }
+        (packet_text form (is_accepted reported.now.kind) later (number_of packet.now) (fate_reported mode reported.now.direction false packet.now))) }
 {
-    let fate = fate_of(packet, mode, told.direction, false);
+    let fate = fate_of(packet, mode, reported.direction, false);
     let number = packet.number().get();
-    write_packet(form, is_accepted(told.kind), later, number, fate, out)
+    write_packet(form, is_accepted(reported.kind), later, number, fate, out)
 }
 
 /// Writes the packets of a group that closed in a mode, in their order. The error is that of a write.
 pub(crate) fn write_packets<W: Write>(
     form: Form,
     mode: Mode,
-    told: &GroupTold,
+    reported: &GroupReport,
     packets: &GroupPackets,
     out: &mut W,
 ) -> io::Result<()>
-    ensures { OnOk result (Appends (W.contents out.old) (W.contents out.new) (packets_text form mode told.now false packets.now)) }
+    ensures { OnOk result (Appends (W.contents out.old) (W.contents out.new) (packets_text form mode reported.now false packets.now)) }
 {
     let mut later = false;
     for item in packets.iter() {
-        write_one(form, mode, told, later, item.packet(), out)?;
+        write_one(form, mode, reported, later, item.packet(), out)?;
         later = true;
     }
     Ok(())

@@ -1,4 +1,4 @@
-//! A scenario's life is played on an image of its own, and each output that is released is told.
+//! A scenario's life is played on an image of its own, and each output that is released is reported.
 ghost use Rattle.std.specs.Prelude.{◌≡◌, ◌∷◌, ◌++◌, [], List, ℕ, IfOk, OnOk};
 ghost use Rattle.std.specs.Io.KnownBytes.{Appends};
 ghost use Rattle.events.specs.declared.input.Event.TheVariants.{PowerUp};
@@ -6,8 +6,8 @@ ghost use Rattle.unit_start.specs.Events.{pairs_of};
 ghost use Rattle.lab_why.specs.Images.{IsEmpty};
 ghost use Rattle.lab_why.specs.Playing.{released_in, IsPlayed, PlayEnds};
 
+use crate::description::describe_released;
 use crate::ends::{first_pieces, last_pieces};
-use crate::telling::tell_released;
 use disk::Memory;
 use events::Step;
 use journal::format;
@@ -77,8 +77,8 @@ fn run_life(alloc: Global, life: &PlayedLife) -> Result<Lived, NoMemory>
     Ok(Lived { released, stopped })
 }
 
-// Tells what a life released, and how it ended.
-fn tell<W: Write>(
+// Reports what a life released, and how it ended.
+fn describe<W: Write>(
     alloc: Global,
     life: &PlayedLife,
     lived: &Lived,
@@ -89,13 +89,13 @@ fn tell<W: Write>(
 {
     let ends = life.ends.as_slice();
     write_pieces(Form::Json, &first_pieces(life.cold, ends.len()), out)?;
-    tell_released(alloc, life, lived.released.as_slice(), out)?;
+    describe_released(alloc, life, lived.released.as_slice(), out)?;
     write_pieces(Form::Json, &last_pieces(ends, &lived.stopped), out)?;
     Ok(())
 }
 
 /// Plays a life on an empty image in memory, and writes a line before the first output, one of each output that is
-/// released, with the step of the scenario that it comes from and its causes, and a last one, which tells whether the
+/// released, with the step of the scenario that it comes from and its causes, and a last one, which says whether the
 /// life came to its end (this project's profile). It answers why it didn't. Write is an error of the writer; NoMemory
 /// where memory is refused for the image or a line.
 pub fn play<W: Write>(
@@ -113,6 +113,6 @@ pub fn play<W: Write>(
     let Ok(lived) = run_life(alloc, life) else {
         return Err(LateError::NoMemory);
     };
-    tell(alloc, life, &lived, out)?;
+    describe(alloc, life, &lived, out)?;
     Ok(lived.stopped)
 }

@@ -1,14 +1,14 @@
-//! The steps of a walk, told: a life is run again, and its events have their lines.
+//! The steps of a walk, reported: a life is run again, and its events have their lines.
 ghost use Rattle.std.specs.Prelude.{◌≡◌, false, IfOk, OnOk};
 ghost use Rattle.std.specs.Io.KnownBytes.{Appends};
 ghost use Rattle.kernel.specs.Lives.{Story};
 ghost use Rattle.text_output.specs.Pieces.{texts};
 ghost use Rattle.text_output.specs.declared.piece.Form.{Form as a_form};
-ghost use Rattle.reasons.specs.Told.{Reasons};
-ghost use Rattle.lab_why.specs.Courses.{line_at, lost_in, AddsLine, Follows, Begins, Tells, AddsStep};
+ghost use Rattle.reasons.specs.Reported.{Reasons};
+ghost use Rattle.lab_why.specs.Courses.{line_at, lost_in, AddsLine, Follows, Begins, Describes, AddsStep};
 
-use crate::course::{Course, Shown, begin_behind, finish, has_line, leave_out, pass_gap, shown_in};
-use crate::lines::{told_of, write_line};
+use crate::course::{Course, Shown, begin_after, finish, has_line, leave_out, pass_gap, shown_in};
+use crate::lines::{description_of, write_line};
 use crate::played::answer_in;
 use blocks::Block;
 use events::{Event, Kept};
@@ -33,7 +33,7 @@ fn follow(alloc: Global, life: &mut Option<Reasoning>, event: &Event) -> Result<
     }
 }
 
-// Runs the power-up of a life behind what was kept before it; where nobody knows that, as one event more.
+// Runs the power-up of a life after what was kept before it; where nobody knows that, as one event more.
 fn begin(
     alloc: Global,
     life: &mut Option<Reasoning>,
@@ -66,11 +66,11 @@ fn write_event<W: Write>(
 {
     let output = life.output();
     let answer = answer_in(life, event, &output);
-    let told = told_of(&shown.runs);
+    let reported = description_of(&shown.runs);
     write_line(
         form,
         &answer,
-        &told,
+        &reported,
         &life.trip(),
         &shown.decides,
         life.groups(),
@@ -80,7 +80,7 @@ fn write_event<W: Write>(
 }
 
 // Writes the line of the last event of a life, if it has one. How many lines that makes.
-fn write_told<W: Write>(
+fn write_reported<W: Write>(
     course: &Course,
     life: &Reasoning,
     event: u64,
@@ -98,9 +98,9 @@ fn write_told<W: Write>(
     Ok(course.lines)
 }
 
-// Tells an event that was run, or leaves it out.
-fn tell<W: Write>(course: &mut Course, seen: &Seen<'_>, out: &mut W) -> Result<(), LateError>
-    ensures { OnOk result (Tells course.old.life seen.now.life seen.now.entry.now.number course.old course.new
+// Reports an event that was run, or leaves it out.
+fn describe<W: Write>(course: &mut Course, seen: &Seen<'_>, out: &mut W) -> Result<(), LateError>
+    ensures { OnOk result (Describes course.old.life seen.now.life seen.now.entry.now.number course.old course.new
         (W.contents out.old) (W.contents out.new)) }
 {
     let event = seen.entry.number;
@@ -109,7 +109,7 @@ fn tell<W: Write>(course: &mut Course, seen: &Seen<'_>, out: &mut W) -> Result<(
         return Ok(());
     };
     let shown = shown_in(life);
-    let lines = write_told(course, life, event, &shown, out)?;
+    let lines = write_reported(course, life, event, &shown, out)?;
     course.shown = Some(shown);
     course.lines = lines;
     Ok(())
@@ -126,7 +126,7 @@ fn lost_pieces(only: Option<u64>, number: u64) -> [Piece; 3]
 }
 
 impl<W: Write> Visit<W> for Course {
-    ghost IsTold = { λ step old out new after. AddsStep step old new (W.contents out) (W.contents after) };
+    ghost IsReported = { λ step old out new after. AddsStep step old new (W.contents out) (W.contents after) };
 
     ghost enough = { λ _. false };
 
@@ -159,14 +159,14 @@ impl<W: Write> Visit<W> for Course {
         let form = self.form;
         let left = finish(self);
         write_pieces(form, &left, out)?;
-        begin_behind(self, before);
+        begin_after(self, before);
         begin(alloc, &mut self.life, before, &seen.entry.event)?;
-        tell(self, seen, out)
+        describe(self, seen, out)
     }
 
     fn goes_on(&mut self, alloc: Global, seen: &Seen<'_>, out: &mut W) -> Result<(), LateError> {
         follow(alloc, &mut self.life, &seen.entry.event)?;
-        tell(self, seen, out)
+        describe(self, seen, out)
     }
 
     fn head(&mut self, _block: &Block, _out: &mut W) -> Result<(), LateError> {

@@ -14,7 +14,7 @@ filter-true : {X : Type 0} (xs : List X) → filter (λ x. true) xs ≡ xs
 filter-true [] = refl
 filter-true (x ∷ xs) = ap (λ ys. x ∷ ys) (filter-true xs)
 
--- what neither of two tests takes is what is left behind both, in either order
+-- what neither of two tests takes is what is left after both, in either order
 neither : {X : Type 0} (p q : X → Bool) (xs : List X) →
     filter (λ x. not (p x || q x)) xs ≡ filter (λ x. not (p x)) (filter (λ x. not (q x)) xs)
 neither p q [] = refl

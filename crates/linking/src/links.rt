@@ -11,7 +11,7 @@ use std::marker::Model;
 use units::Cm;
 use vars::GroupIdentity;
 
-/// How many groups a list of links announces at most: the first element of packet 5 and the 31 behind it.
+/// How many groups a list of links announces at most: the first element of packet 5 and the 31 after it.
 pub const MOST_ANNOUNCED: usize = 32;
 
 /// The announced groups that are left, and whether one was missed since the last that was accepted (SUBSET-026, 3.4.4).

@@ -2,7 +2,7 @@
 use Rattle.std.specs.Prelude.{◌≡◌, ◌≢◌, ◌⊎◌, ℕ, ◌+◌, ◌*◌, List, Bool, true, false, Result, Ok, Err, Some, None}
 use Rattle.std.specs.declared.io.ErrorKind.{ErrorKind}
 use Rattle.std.specs.declared.io.ErrorKind.TheVariants.{OutOfMemory}
-use Rattle.blocks.specs.FirstSector.{slots_told}
+use Rattle.blocks.specs.FirstSector.{slots_reported}
 use Rattle.ring.specs.Slots.{IsFormatted}
 use Rattle.lives.specs.declared.errors.LateError.{LateError}
 use Rattle.lives.specs.declared.errors.LateError.TheVariants as a_late
@@ -25,11 +25,11 @@ IsImageOf sectors first = (slots : ℕ) × IsFormatted sectors slots first
 -- what an error says of the first sector and the size of the disk
 abbrev pub IsRefusal : ℕ → List ℕ → WalkError → Type 0
 IsRefusal sectors first an_error.DeviceFault = Unit {0}
-IsRefusal sectors first an_error.NotFormatted = (sectors ≡ 0) ⊎ (slots_told first ≡ None)
-IsRefusal sectors first an_error.Damaged = (slots : ℕ) × (slots_told first ≡ Some slots) × (sectors ≢ 1 + 6 * slots)
+IsRefusal sectors first an_error.NotFormatted = (sectors ≡ 0) ⊎ (slots_reported first ≡ None)
+IsRefusal sectors first an_error.Damaged = (slots : ℕ) × (slots_reported first ≡ Some slots) × (sectors ≢ 1 + 6 * slots)
 IsRefusal sectors first _ = ⊥
 
--- an error that may come behind the first sector
+-- an error that may come after the first sector
 abbrev pub IsLate : WalkError → Type 0
 IsLate an_error.NotFormatted = ⊥
 IsLate an_error.Damaged = ⊥

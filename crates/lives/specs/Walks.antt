@@ -1,4 +1,4 @@
--- What steps make of a visitor, and of what it tells on to (this project's profile).
+-- What steps make of a visitor, and of what it says on to (this project's profile).
 use Rattle.std.specs.Prelude.{◌≡◌, ℕ, Bool, true, false, List, [], ◌∷◌}
 use Rattle.ring.specs.Scans.{IsScanned}
 use Rattle.ring.specs.Slots.{IsFormatted, valid_at}
@@ -11,15 +11,15 @@ WalksOn false Ends GoesOn = GoesOn
 
 -- one step after another, until the visitor has enough
 abbrev pub Walked : {V O : Type 0} → (Step → V → O → V → O → Type 0) → (V → Bool) → List Step → V → O → V → O → Type 0
-Walked IsTold enough [] old out new after = (new ≡ old) × (after ≡ out)
-Walked {V} {O} IsTold enough (step ∷ steps) old out new after = WalksOn (enough old) ((new ≡ old) × (after ≡ out))
-    ((one : V) × (mid : O) × IsTold step old out one mid × Walked IsTold enough steps one mid new after)
+Walked IsReported enough [] old out new after = (new ≡ old) × (after ≡ out)
+Walked {V} {O} IsReported enough (step ∷ steps) old out new after = WalksOn (enough old) ((new ≡ old) × (after ≡ out))
+    ((one : V) × (mid : O) × IsReported step old out one mid × Walked IsReported enough steps one mid new after)
 
--- All steps of an image were told, until the visitor had enough.
-pub record IsWalked {V O : Type 0} (IsTold : Step → V → O → V → O → Type 0) (enough : V → Bool) (sectors : ℕ) (image : ℕ → List ℕ) (old : V) (out : O) (new : V) (after : O) : Type 0 where
+-- All steps of an image were reported, until the visitor had enough.
+pub record IsWalked {V O : Type 0} (IsReported : Step → V → O → V → O → Type 0) (enough : V → Bool) (sectors : ℕ) (image : ℕ → List ℕ) (old : V) (out : O) (new : V) (after : O) : Type 0 where
   pub slots : ℕ
   pub first : ℕ
   pub newest : ℕ
   pub formatted : IsFormatted sectors slots (image 0)
   pub retained : IsScanned slots (valid_at slots image) first newest
-  pub steps : Walked IsTold enough (steps_of slots (valid_at slots image) first newest) old out new after
+  pub steps : Walked IsReported enough (steps_of slots (valid_at slots image) first newest) old out new after

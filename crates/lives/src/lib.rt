@@ -1,4 +1,4 @@
-//! The lives of a journal: one walk over the blocks that an image retains, which tells a visitor what it sees, block by
+//! The lives of a journal: one walk over the blocks that an image retains, which gives a visitor what it sees, block by
 //! block and record by record (this project's profile; `docs/reference/format.md`). It writes nothing to the disk, and takes no
 //! memory. Slots and events are numbered from 0, blocks from 1.
 #![tactic(auto)]

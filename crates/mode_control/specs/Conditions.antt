@@ -77,7 +77,7 @@ trips life train =
 
 -- ---- in Staff Responsible: the path since it was entered is above the national distance
 
--- the path of the life is above the one from which Staff Responsible counts, and the distance behind it
+-- the path of the life is above the one from which Staff Responsible counts, and the distance beyond it
 abbrev pub is_beyond_staff_distance : Life → Bool
 is_beyond_staff_distance life =
     option_map_or (λ distance. nat_lt (staff_from life.entries + distance) (place_of (tracks life.entries)).sums.path)

@@ -10,7 +10,7 @@ use Rattle.mode_control.specs.declared.calls.Left.{Left}
 use Rattle.mode_control.specs.declared.deed.Deed.{Deed}
 
 pub record SupervisionEntry : Type 0 where
-  pub track : track.TrackEntry  -- what the track told, and which mode was entered
+  pub track : track.TrackEntry  -- what the track announced, and which mode was entered
   pub deed : Option Deed
   pub level : Option TrainLevel  -- the announced level that came into force
   pub calls : Calls  -- what it calls for from the driver

@@ -72,8 +72,8 @@ deed_of life (Odometer reading) = None
 deed_of life (Clock moment) = None
 deed_of life (Driver action) = deed_by life action
 
-abbrev pub told : Life → inputs.Input → track.TrackEntry
-told life input = received (mode_of life.entries) (tracks life.entries) input
+abbrev pub reported : Life → inputs.Input → track.TrackEntry
+reported life input = received (mode_of life.entries) (tracks life.entries) input
 
 -- ---- the train is seen: it is looked at where the groups that closed have put it, and the level comes into force that
 -- is announced for a place which its maximum safe front has reached
@@ -154,10 +154,10 @@ the_mode_changes now event =
 -- deleted what it deletes
 
 abbrev pub left_in : List track.TrackEntry → Span → Left
-left_in told train = record {
-  on_sight = any_remains area.OnSight train.min_front (areas_of told);
-  shunting = any_remains area.Shunting train.min_front (areas_of told);
-  level_0 = is_level_0_announced (announced_level told);
+left_in reported train = record {
+  on_sight = any_remains area.OnSight train.min_front (areas_of reported);
+  shunting = any_remains area.Shunting train.min_front (areas_of reported);
+  level_0 = is_level_0_announced (announced_level reported);
 }
 
 abbrev pub the_calls_are_settled : Sentence
@@ -184,7 +184,7 @@ written [] life event = event
 written (sentence ∷ later) life event = written later life (sentence (grown life event) event)
 
 abbrev pub entry_of : Life → inputs.Input → SupervisionEntry
-entry_of life input = written sentences life (begun (told life input) (deed_of life input))
+entry_of life input = written sentences life (begun (reported life input) (deed_of life input))
 
 -- a power-up: nothing but the place and the forgetting mark
 abbrev pub powered_up_in : Life → SupervisionEntry

@@ -1,6 +1,6 @@
 -- Why Trip is entered: which row of the mode table leads there (SUBSET-026, 4.6; the rows and their conditions: this
 -- project's profile). Rows 3, 4 and 5 lead to Trip from Full Supervision, On Sight and Staff Responsible, where the train
--- is to be tripped; row 6 from Staff Responsible, behind row 5; row 9 from Unfitted; no other row does. A reader may take
+-- is to be tripped; row 6 from Staff Responsible, after row 5; row 9 from Unfitted; no other row does. A reader may take
 -- for granted that Trip is entered where this is asked.
 use Rattle.std.specs.Prelude.{Bool, ◌&&◌, if◌then◌else◌, Option, Some, None, [], ◌∷◌}
 use Rattle.std.specs.List.{list_any}
@@ -15,7 +15,7 @@ use Rattle.mode_control.specs.Conditions.{is_beyond_end, trips}
 use Rattle.mode_control.specs.Entry.{SupervisionEntry, begun}
 use Rattle.mode_control.specs.History.{tracks, mode_of}
 use Rattle.mode_control.specs.Life.{Life, grown}
-use Rattle.mode_control.specs.Sentences.{told, deed_of, entered_in, train_in, the_train_is_seen, written}
+use Rattle.mode_control.specs.Sentences.{reported, deed_of, entered_in, train_in, the_train_is_seen, written}
 use Rattle.mode_control.specs.declared.tripping.TripCause.{TripCause}
 use Rattle.mode_control.specs.declared.tripping.TripCause.TheVariants.{EndPassed, Linking, Stop, StaffDistance, Level}
 
@@ -47,7 +47,7 @@ trip_in life train = row_where (entered_in life train) life train
 
 -- .. by an input, as the next event
 abbrev pub seen_by : Life → inputs.Input → SupervisionEntry
-seen_by life input = written (the_train_is_seen ∷ []) life (begun (told life input) (deed_of life input))
+seen_by life input = written (the_train_is_seen ∷ []) life (begun (reported life input) (deed_of life input))
 
 abbrev pub trip_by : Life → inputs.Input → Option TripCause
 trip_by life input = let now = grown life (seen_by life input) in trip_in now (train_in now (seen_by life input))

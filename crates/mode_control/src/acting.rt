@@ -19,8 +19,8 @@ use track_picture::ProfileStores;
 impl Parts {
     // An action is accepted.
     fn act(&mut self, deed: &Deed)
-        ensures { (life : Life) (told : TrackEntry) → self.old ≡ parts_of life
-            → self.new ≡ parts_of (grown life (begun (record told { entered = None }) (Some deed.now))) }
+        ensures { (life : Life) (reported : TrackEntry) → self.old ≡ parts_of life
+            → self.new ≡ parts_of (grown life (begun (record reported { entered = None }) (Some deed.now))) }
     {
         self.driver.act(&deed.action, &deed.occasion);
         acknowledge(&mut self.on_sight, Kind::OnSight, &deed.action);
@@ -31,8 +31,8 @@ impl Parts {
 
     /// What the driver did in an event.
     pub fn note(&mut self, deed: &Option<Deed>)
-        ensures { (life : Life) (told : TrackEntry) → self.old ≡ parts_of life
-            → self.new ≡ parts_of (grown life (begun (record told { entered = None }) deed.now)) }
+        ensures { (life : Life) (reported : TrackEntry) → self.old ≡ parts_of life
+            → self.new ≡ parts_of (grown life (begun (record reported { entered = None }) deed.now)) }
     {
         match deed {
             None => self.done = None,

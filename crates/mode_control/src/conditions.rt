@@ -153,7 +153,7 @@ impl<T: ProfileStores> SupervisionOver<T> {
         }
     }
 
-    // All conditions, where the train is there, but whether the track ahead is known, which is told.
+    // All conditions, where the train is there, but whether the track ahead is known, which is reported.
     fn conditions(&self, full: bool, train: &Stretch) -> Conditions
         ensures { (life : Life) → StandsForLife T.stores self.now life → result ≡ record (conditions life train.now) { full = full } }
     {
@@ -177,7 +177,7 @@ impl<T: ProfileStores> SupervisionOver<T> {
         }
     }
 
-    /// The mode behind the event, where the train is there. Whether the track ahead is known up to the end of authority
+    /// The mode after the event, where the train is there. Whether the track ahead is known up to the end of authority
     /// is looked for only where rows ask for it: in Full Supervision none does.
     pub(crate) fn mode_behind(&self, train: &Stretch) -> Mode
         ensures { (life : Life) → StandsForLife T.stores self.now life → result ≡ next_mode (mode_of life.entries) (conditions life train.now) }

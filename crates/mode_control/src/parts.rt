@@ -12,7 +12,7 @@ use mode_table::{Cold, Mode};
 use std::marker::Model;
 use units::Length;
 
-/// What is known beside what the track sent.
+/// What is known along with what the track sent.
 #[derive(Clone, Copy)]
 pub struct Parts {
     /// What the driver entered.

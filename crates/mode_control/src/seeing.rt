@@ -40,9 +40,9 @@ fn come_in(driver: &mut Driver, level: &Option<TrainLevel>)
 impl Parts {
     // An announced level comes into force, if one does.
     fn come_in(&mut self, level: &Option<TrainLevel>)
-        ensures { (life : Life) (told : TrackEntry) (train : Option Span) (deed : Option Deed)
-            → self.old ≡ parts_of (grown life (begun (record told { entered = None }) deed))
-            → self.new ≡ parts_of (grown life (record (begun (record told { train = train; entered = None }) deed) { level = level.now })) }
+        ensures { (life : Life) (reported : TrackEntry) (train : Option Span) (deed : Option Deed)
+            → self.old ≡ parts_of (grown life (begun (record reported { entered = None }) deed))
+            → self.new ≡ parts_of (grown life (record (begun (record reported { train = train; entered = None }) deed) { level = level.now })) }
     {
         come_in(&mut self.driver, level);
     }
@@ -53,11 +53,11 @@ impl<T: ProfileStores> SupervisionOver<T> {
     pub(crate) fn see(&mut self) -> Seen
         ensures train { (life : Life) (event : SupervisionEntry) → StandsForLife T.stores self.old (grown life event)
             → result.train ≡ span_of (grown life event) }
-        ensures level { (life : Life) (told : TrackEntry) (deed : Option Deed)
-            → (let event = begun (record told { train = None; entered = None }) deed in
+        ensures level { (life : Life) (reported : TrackEntry) (deed : Option Deed)
+            → (let event = begun (record reported { train = None; entered = None }) deed in
             StandsForLife T.stores self.old (grown life event) → result.level ≡ level_in (grown life event)) }
-        ensures stands { (life : Life) (told : TrackEntry) (deed : Option Deed)
-            → (let event = begun (record told { train = None; entered = None }) deed in
+        ensures stands { (life : Life) (reported : TrackEntry) (deed : Option Deed)
+            → (let event = begun (record reported { train = None; entered = None }) deed in
             StandsForLife T.stores self.old (grown life event)
             → StandsForLife T.stores self.new (grown life (the_train_is_seen (grown life event) event))) }
         ensures size { size_in T.stores self.new.track ≡ size_in T.stores self.old.track }

@@ -1,4 +1,4 @@
-//! The supervision of a train: as a life begins, copied, and what it tells.
+//! The supervision of a train: as a life begins, copied, and what it says.
 ghost use Rattle.std.specs.Prelude.{◌≡◌, ◌≤◌, [], IsOk, IfOk};
 ghost use Rattle.events.specs.declared.kept.Kept.{Kept as KeptItems};
 ghost use Rattle.mode_table.specs.declared.statuses.Cold.{Cold as ColdWord};

@@ -89,10 +89,10 @@ impl Parts {
     // A mode is entered, if another one is, at this path of the life; what is called for then, and what is left.
     #[inline(always)]
     fn turn(&mut self, entered: &Option<Mode>, path: Length, calls: &Calls, left: &Left)
-        ensures { (life : Life) (told : TrackEntry) (deed : Option Deed) (level : Option Level)
-            → self.old ≡ parts_of (grown life (record (begun (record told { entered = None }) deed) { level = level }))
-            → path ≡ (place_of (told ∷ tracks life.entries)).sums.path
-            → self.new ≡ parts_of (grown life (record { track = record told { entered = entered.now }; deed = deed; level = level; calls = calls.now; left = left.now })) }
+        ensures { (life : Life) (reported : TrackEntry) (deed : Option Deed) (level : Option Level)
+            → self.old ≡ parts_of (grown life (record (begun (record reported { entered = None }) deed) { level = level }))
+            → path ≡ (place_of (reported ∷ tracks life.entries)).sums.path
+            → self.new ≡ parts_of (grown life (record { track = record reported { entered = entered.now }; deed = deed; level = level; calls = calls.now; left = left.now })) }
     {
         turn_driver(&mut self.driver, entered);
         self.mode = mode_after(self.mode, entered);
@@ -187,8 +187,8 @@ impl<T: ProfileStores> SupervisionOver<T> {
     /// One row of the mode table, then the acknowledgements, and what the mode deletes that is entered.
     #[inline(always)]
     pub(crate) fn turn(&mut self, seen: &Seen)
-        ensures stands { (life : Life) (told : TrackEntry) (deed : Option Deed)
-            → (let event = record (begun (record told { train = Some seen.now.train; entered = None }) deed) { level = seen.now.level } in
+        ensures stands { (life : Life) (reported : TrackEntry) (deed : Option Deed)
+            → (let event = record (begun (record reported { train = Some seen.now.train; entered = None }) deed) { level = seen.now.level } in
             StandsForLife T.stores self.old (grown life event)
             → StandsForLife T.stores self.new (grown life (written (the_mode_changes ∷ the_calls_are_settled ∷ []) life event))) }
         ensures size { size_in T.stores self.new.track ≤ size_in T.stores self.old.track }

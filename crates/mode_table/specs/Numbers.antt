@@ -1,4 +1,4 @@
--- The numbers by which one of several values is told, in blocks and in scenarios (this project's profile; those of modes
+-- The numbers by which one of several values is reported, in blocks and in scenarios (this project's profile; those of modes
 -- are M_MODE: SUBSET-026, 7.5.1).
 use Rattle.std.specs.Prelude.{ℕ, List, [], ◌∷◌, Option, Some, None, nat_eq, if◌then◌else◌}
 use Rattle.mode_table.specs.Modes.{number_of}

@@ -1,5 +1,5 @@
 -- The mode table (SUBSET-026, 4.6; the rows: this project's profile). The first row that starts from the mode and
--- holds counts, and one alone at an event. A reader may take for granted that the conditions are those behind the
+-- holds counts, and one alone at an event. A reader may take for granted that the conditions are those after the
 -- event.
 use Rattle.std.specs.Prelude.{ℕ, ◌+◌, Bool, not, ◌&&◌, if◌then◌else◌, List, [], ◌∷◌}
 use Rattle.mode_table.specs.Modes.{is_one_of}

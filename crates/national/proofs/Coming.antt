@@ -1,7 +1,7 @@
 -- Some country is in force exactly once a packet 3 came into force.
 use Rattle.std.proofs.Common.{◌≡◌, ℕ, ℤ, List, [], ◌∷◌, ◌++◌, Bool, true, false, refl}
 use Rattle.std.specs.Prelude.{Option, Some, None, not, ◌||◌, if◌then◌else◌}
-use Rattle.national.specs.Values.{ValuesFor, values_for, defaults, told_by, is_any, is_among}
+use Rattle.national.specs.Values.{ValuesFor, values_for, defaults, reported_by, is_any, is_among}
 use Rattle.national.specs.InForce.{NationalEntry, Fact, in_force, has_come, nothing_kept, waiting, in_force_behind, comes_by, is_reached, start_of}
 use Rattle.national.specs.InForce.NationalEntry.{Announced, Entered, Reached}
 
@@ -23,7 +23,7 @@ any_after_look : (max_front : ℤ) (waits : Option Fact) (before : ValuesFor) (a
     is_any (in_force_behind (Reached max_front) waits before).countries ≡ (comes_by (Reached max_front) waits || any)
 any_after_look max_front None before any e = e
 any_after_look max_front (Some fact) before any e =
-    let cases : (reached : Bool) → is_any (if reached then told_by fact.packet fact.country else before).countries ≡ (reached || any) =
+    let cases : (reached : Bool) → is_any (if reached then reported_by fact.packet fact.country else before).countries ≡ (reached || any) =
     elim [ true ↦ any_behind fact.packet.countries.items fact.country | false ↦ e ] in
     cases (is_reached (start_of fact) max_front)
 

@@ -6,7 +6,7 @@ use Rattle.vars.specs.declared.special_distance.StartPlace.{StartPlace}
 use Rattle.vars.specs.declared.special_distance.StartPlace.TheVariants.{At, Now}
 use Rattle.packets.specs.declared.national.NationalValues.{NationalValues}
 use Rattle.national.specs.declared.announcement.Announcement.{Announcement}
-use Rattle.national.specs.Values.{ValuesFor, values_for, defaults, told_by, distance_in, is_foreign}
+use Rattle.national.specs.Values.{ValuesFor, values_for, defaults, reported_by, distance_in, is_foreign}
 
 -- a packet 3, with the country and the place of its group
 pub record Fact : Type 0 where
@@ -73,7 +73,7 @@ abbrev pub in_force_behind : NationalEntry → Option Fact → ValuesFor → Val
 in_force_behind (Entered country) waits before =
     if is_foreign country before.countries then values_for defaults (country ∷ []) else before
 in_force_behind (Reached max_front) (Some fact) before =
-    if is_reached (start_of fact) max_front then told_by fact.packet fact.country else before
+    if is_reached (start_of fact) max_front then reported_by fact.packet fact.country else before
 in_force_behind (Reached max_front) None before = before
 in_force_behind (Announced fact) waits before = before
 
@@ -100,7 +100,7 @@ abbrev pub nothing_kept : ValuesFor
 nothing_kept = values_for defaults []
 
 abbrev pub announcement_of : Fact → Announcement
-announcement_of fact = record { values = told_by fact.packet fact.country; start = start_of fact }
+announcement_of fact = record { values = reported_by fact.packet fact.country; start = start_of fact }
 
 pub record KnownValues : Type 0 where
   pub in_force : ValuesFor

@@ -77,9 +77,9 @@ pub record ValuesFor : Type 0 where
 abbrev pub values_for : Values → List ℕ → ValuesFor
 values_for values countries = record { values = values; countries = countries }
 
--- a packet 3 is for the countries that it lists and, behind them, for that of its group
-abbrev pub told_by : NationalValues → ℕ → ValuesFor
-told_by packet country = values_for (values_of packet) (packet.countries.items ++ country ∷ [])
+-- a packet 3 is for the countries that it lists and, after them, for that of its group
+abbrev pub reported_by : NationalValues → ℕ → ValuesFor
+reported_by packet country = values_for (values_of packet) (packet.countries.items ++ country ∷ [])
 
 abbrev pub is_any : List ℕ → Bool
 is_any [] = false

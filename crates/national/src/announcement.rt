@@ -23,7 +23,7 @@ impl Announcement {
         ensures { result ≡ announcement_of (fact_of packet.now country place) }
     {
         Announcement {
-            values: CountryValues::told_by(packet, country),
+            values: CountryValues::reported_by(packet, country),
             start: start_from(packet.scale, place, packet.start),
         }
     }

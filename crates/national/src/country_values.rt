@@ -1,6 +1,6 @@
-//! National values with the countries where they hold: told by packet 3, or the defaults.
+//! National values with the countries where they hold: reported by packet 3, or the defaults.
 ghost use Rattle.std.specs.Prelude.{◌≡◌, ◌≤◌, [], ◌∷◌, length};
-ghost use Rattle.national.specs.Values.{defaults, values_for, told_by, is_any, is_among, is_foreign};
+ghost use Rattle.national.specs.Values.{defaults, values_for, reported_by, is_any, is_among, is_foreign};
 
 use crate::Values;
 use arrayvec::ArrayVec;
@@ -86,8 +86,8 @@ impl CountryValues {
     }
 
     /// The values of a packet 3 of a group of a country.
-    pub(crate) fn told_by(packet: &NationalValues, country: Country) -> Self
-        ensures { result ≡ told_by packet.now country }
+    pub(crate) fn reported_by(packet: &NationalValues, country: Country) -> Self
+        ensures { result ≡ reported_by packet.now country }
     {
         let mut countries = ArrayVec::try_from(packet.countries.as_slice()).unwrap();
         countries.push(country);

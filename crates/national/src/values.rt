@@ -1,4 +1,4 @@
-//! One set of national values: the defaults, or what packet 3 tells.
+//! One set of national values: the defaults, or what packet 3 reports.
 ghost use Rattle.std.specs.Prelude.{◌≡◌};
 ghost use Rattle.national.specs.Values.{defaults, values_of, time_of, open_distance_in};
 

@@ -111,7 +111,7 @@ impl Place {
         Cm::new(self.fix.estimate_at(&self.sums)).unwrap()
     }
 
-    /// How far the estimate lies behind the place of the last fix, in centimetres.
+    /// How far the estimate lies beyond the place of the last fix, in centimetres.
     pub fn since_fix(&self) -> Cm
         ensures value { result ≡ estimate self.now -ℤ self.now.fix.at }
         ensures near { unsigned_abs result ≤ 2 * farthest }

@@ -1,4 +1,4 @@
--- The numbers and the names by which refusals are told (this project's profile).
+-- The numbers and the names by which refusals are reported (this project's profile).
 use Rattle.std.specs.Prelude.{ℕ, List, codes}
 use Rattle.onboard.specs.declared.errors.AcceptError.{AcceptError}
 use Rattle.onboard.specs.declared.errors.AcceptError.TheVariants as an_accept

@@ -20,11 +20,11 @@ pub record Progress : Type 0 where
 abbrev pub progress_of : JournalState → LifeState → Progress
 progress_of journal life = record { failed = journal.failed; pending = length life.records; moment = life.moment; newest = journal.newest }
 
--- behind a power-up in the block of this number
+-- after a power-up in the block of this number
 abbrev pub begun_with : ℕ → Progress
 begun_with newest = record { failed = false; pending = 0; moment = 0; newest = newest }
 
--- behind one more step: an input is pending; a flush writes a block, where something is pending
+-- after one more step: an input is pending; a flush writes a block, where something is pending
 abbrev pub go_on : Progress → Step → Progress
 go_on so (Accept input) = record { failed = so.failed; pending = so.pending + 1; moment = moment_after so.moment input; newest = so.newest }
 go_on so Flush = record { failed = so.failed; pending = 0; moment = so.moment; newest = if so.pending == 0 then so.newest else so.newest + 1 }

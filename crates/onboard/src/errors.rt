@@ -19,14 +19,14 @@ pub enum AcceptError {
 }
 
 impl AcceptError {
-    /// The number by which the refusal is told.
+    /// The number by which the refusal is reported.
     pub fn number(self) -> u8
         ensures { result ≡ accept_number self }
     {
         self as u8
     }
 
-    /// The name by which the refusal is told.
+    /// The name by which the refusal is reported.
     pub fn name(self) -> &'static str
         ensures { result.now ≡ accept_name self }
     {
@@ -61,14 +61,14 @@ pub enum FlushError {
 }
 
 impl FlushError {
-    /// The number by which the refusal is told.
+    /// The number by which the refusal is reported.
     pub fn number(self) -> u8
         ensures { result ≡ flush_number self }
     {
         self as u8
     }
 
-    /// The name by which the refusal is told.
+    /// The name by which the refusal is reported.
     pub fn name(self) -> &'static str
         ensures { result.now ≡ flush_name self }
     {

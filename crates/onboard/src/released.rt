@@ -5,7 +5,7 @@ ghost use Rattle.unit_start.specs.Releases.{nothing_released};
 use events::Output;
 use std::marker::Model;
 
-/// An output that may reach the train, with the number of its event (this project's profile). Beside the default, which
+/// An output that may reach the train, with the number of its event (this project's profile). Along with the default, which
 /// commands the emergency brake, only `Onboard::flush` makes one.
 #[derive(Clone, Copy)]
 pub struct Released {

@@ -23,27 +23,27 @@ fn run<'a>(reader: &mut BitReader<'a>, bits: u32) -> Result<Run<'a>, PacketFault
     reader.run(bits).ok_or(PacketFault::Truncated)
 }
 
-/// Reads a packet that is skipped, behind its number, into the place of another packet; answers its L_PACKET.
-#[tactic(auto, unfolding(packets::specs::Layouts::skipped_telling))]
+/// Reads a packet that is skipped, after its number, into the place of another packet; answers its L_PACKET.
+#[tactic(auto, unfolding(packets::specs::Layouts::skipped_description))]
 fn read_other<'a>(
     reader: &mut BitReader<'a>,
     number: PacketNumber,
     out: &mut Packet<'a>,
 ) -> Result<PacketLength, PacketFault>
-    ensures { Gives (λ told. (told, out.new)) result reader.new (read (kind (as_packet packets.Other) as_other (skipped number)) reader.old) }
+    ensures { Gives (λ reported. (reported, out.new)) result reader.new (read (kind (as_packet packets.Other) as_other (skipped number)) reader.old) }
 {
     let direction = field(reader)?;
-    let told: PacketLength = field(reader)?;
-    if told.bits() < 23 {
+    let reported: PacketLength = field(reader)?;
+    if reported.bits() < 23 {
         return Err(PacketFault::WrongLength);
     }
-    let body = run(reader, u32::from(told.bits()) - 23)?;
+    let body = run(reader, u32::from(reported.bits()) - 23)?;
     *out = Packet::Other(Other {
         number,
         direction,
         body,
     });
-    Ok(told)
+    Ok(reported)
 }
 
 #[inline(always)]
@@ -53,7 +53,7 @@ fn read_body<'a>(
     number: PacketNumber,
     out: &mut Packet<'a>,
 ) -> Result<PacketLength, PacketFault>
-    ensures { Gives (λ told. (told, out.new)) result reader.new (read (body_of number) reader.old) }
+    ensures { Gives (λ reported. (reported, out.new)) result reader.new (read (body_of number) reader.old) }
 {
     match number.get() {
         3 => read_national_values(reader, out),
@@ -83,20 +83,20 @@ pub fn read_numbered<'a>(
         return Err(PacketFault::OutOfRange);
     }
     let before = reader.remaining();
-    let told = read_body(reader, number, out)?;
+    let reported = read_body(reader, number, out)?;
     let taken = before.saturating_sub(reader.remaining());
-    if is_length(told, taken) {
+    if is_length(reported, taken) {
         Ok(())
     } else {
         Err(PacketFault::WrongLength)
     }
 }
 
-// Whether an L_PACKET is that of a packet that has so many bits behind its number.
-fn is_length(told: PacketLength, taken: u128) -> bool
-    ensures { result ≡ (told == 8 + taken) }
+// Whether an L_PACKET is that of a packet that has so many bits after its number.
+fn is_length(reported: PacketLength, taken: u128) -> bool
+    ensures { result ≡ (reported == 8 + taken) }
 {
-    u128::from(told.bits()).checked_sub(8) == Some(taken)
+    u128::from(reported.bits()).checked_sub(8) == Some(taken)
 }
 
 #[tactic(auto, unfolding(packets::specs::Packets::packet))]

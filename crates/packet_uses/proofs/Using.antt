@@ -1,7 +1,7 @@
--- Packets that are told as used, beside those that are used.
+-- Packets that are reported as used, along with those that are used.
 use Rattle.std.proofs.Common.{◌≡◌, ℕ, ◌+◌, ◌==◌, Bool, true, false, not, ◌&&◌, ◌||◌, if◌then◌else◌, List, [], ◌∷◌, length, filter, Option, Some, None, refl, ap, ◌∙◌}
 use Rattle.std.specs.Option.{option_map_or}
-use Rattle.balise_groups.specs.Telling.{before_infill, infill}
+use Rattle.balise_groups.specs.Description.{before_infill, infill}
 use Rattle.mode_table.specs.Packets.{uses}
 use Rattle.mode_table.specs.declared.mode.Mode.{Mode}
 use Rattle.packets.specs.Packets.{length_of, number_of}
@@ -12,22 +12,22 @@ use Rattle.vars.specs.declared.packet_head.ValidityDirection.{ValidityDirection}
 use Rattle.packet_uses.specs.Calls.{is_other_than_used}
 use Rattle.packet_uses.specs.Fates.{fate_by}
 use Rattle.packet_uses.specs.Laws.{used_among}
-use Rattle.packet_uses.specs.Telling.{told_from}
+use Rattle.packet_uses.specs.Description.{reported_from}
 use Rattle.packet_uses.specs.declared.fate.Fate.TheVariants.{Used, OtherDirection, NotInMode}
 
 pub each_once : (mode : Mode) (direction : Option LinkOrientation) (behind : Bool) (start : ℕ) (ps : List Packet)
-    → length (told_from mode direction behind start ps) ≡ length ps
+    → length (reported_from mode direction behind start ps) ≡ length ps
 each_once mode direction behind start [] = refl
 each_once mode direction behind start (p ∷ ps) =
     let rest = each_once mode direction (behind || (number_of p == infill)) (start + length_of p) ps in
     rw rest refl
 
--- ---- behind infill
+-- ---- after infill
 
-none_behind : (mode : Mode) (direction : Option LinkOrientation) (start : ℕ) (ps : List Packet)
-    → used_among ps (told_from mode direction true start ps) ≡ []
-none_behind mode direction start [] = refl
-none_behind mode direction start (p ∷ ps) = none_behind mode direction (start + length_of p) ps
+none_after : (mode : Mode) (direction : Option LinkOrientation) (start : ℕ) (ps : List Packet)
+    → used_among ps (reported_from mode direction true start ps) ≡ []
+none_after mode direction start [] = refl
+none_after mode direction start (p ∷ ps) = none_after mode direction (start + length_of p) ps
 
 -- ---- before it
 
@@ -56,12 +56,12 @@ same mode direction p ps qs e =
     ap (λ b. if b then ps else p ∷ ps) (by_direction mode direction (number_of p) (valid_in p)) ∙ chosen p ps qs (is_used mode direction p) e
 
 step : (mode : Mode) (direction : Option LinkOrientation) (start : ℕ) (p : Packet) (ps : List Packet) (is_infill : Bool) → (number_of p == infill) ≡ is_infill
-    → used_among ps (told_from mode direction false (start + length_of p) ps) ≡ filter (is_used mode direction) (before_infill ps)
-    → used_among (p ∷ ps) (told_from mode direction false start (p ∷ ps)) ≡ filter (is_used mode direction) (before_infill (p ∷ ps))
-step mode direction start p ps true e rest = rw e (none_behind mode direction (start + length_of p) ps)
+    → used_among ps (reported_from mode direction false (start + length_of p) ps) ≡ filter (is_used mode direction) (before_infill ps)
+    → used_among (p ∷ ps) (reported_from mode direction false start (p ∷ ps)) ≡ filter (is_used mode direction) (before_infill (p ∷ ps))
+step mode direction start p ps true e rest = rw e (none_after mode direction (start + length_of p) ps)
 step mode direction start p ps false e rest = rw e (same mode direction p _ _ rest)
 
-pub used_is_told : (mode : Mode) (direction : Option LinkOrientation) (start : ℕ) (ps : List Packet)
-    → used_among ps (told_from mode direction false start ps) ≡ filter (is_used mode direction) (before_infill ps)
-used_is_told mode direction start [] = refl
-used_is_told mode direction start (p ∷ ps) = step mode direction start p ps (number_of p == infill) refl (used_is_told mode direction (start + length_of p) ps)
+pub used_is_reported : (mode : Mode) (direction : Option LinkOrientation) (start : ℕ) (ps : List Packet)
+    → used_among ps (reported_from mode direction false start ps) ≡ filter (is_used mode direction) (before_infill ps)
+used_is_reported mode direction start [] = refl
+used_is_reported mode direction start (p ∷ ps) = step mode direction start p ps (number_of p == infill) refl (used_is_reported mode direction (start + length_of p) ps)

@@ -1,7 +1,7 @@
 -- What becomes of a packet of a telegram whose group is accepted (SUBSET-026, 3.4 and 4.8; that infill isn't used is this
 -- project's profile). The direction is that in which the group is passed; None where it isn't known.
 use Rattle.std.specs.Prelude.{ℕ, ◌==◌, Bool, ◌||◌, Option, Some, None, if◌then◌else◌}
-use Rattle.balise_groups.specs.Telling.{infill}
+use Rattle.balise_groups.specs.Description.{infill}
 use Rattle.mode_table.specs.Packets.{uses}
 use Rattle.mode_table.specs.declared.mode.Mode.{Mode}
 use Rattle.packets.specs.Packets.{number_of}
@@ -19,6 +19,6 @@ fate_by mode direction number (Some valid) =
     if uses mode number then (if is_valid valid direction then Used else OtherDirection) else NotInMode
 
 -- What becomes of a packet, where a packet 136 stands before it or not.
-abbrev pub fate_told : Mode → Option LinkOrientation → Bool → Packet → Fate
-fate_told mode direction behind packet =
+abbrev pub fate_reported : Mode → Option LinkOrientation → Bool → Packet → Fate
+fate_reported mode direction behind packet =
     if behind || (number_of packet == infill) then Infill else fate_by mode direction (number_of packet) (valid_in packet)

@@ -3,5 +3,5 @@ pub mod Fates
 pub mod Laws
 pub mod Lists
 pub mod Never
-pub mod Telling
+pub mod Description
 pub mod Words

@@ -1,14 +1,14 @@
--- What is told of a packet, for people and as JSON: its number, its name, where it stands and why it isn't used (this
+-- What is reported of a packet, for people and as JSON: its number, its name, where it stands and why it isn't used (this
 -- project's profile; RFC 8259). Places and lengths are bits; places are counted from the first bit of the telegram.
 use Rattle.std.specs.Prelude.{ℕ, List, [], ◌∷◌, Bool, Option, Some, None, codes, decimal, if◌then◌else◌}
 use Rattle.text_output.specs.Pieces.{text_in, joined}
 use Rattle.text_output.specs.declared.piece.Form.{Form}
 use Rattle.packet_uses.specs.declared.fate.Fate.{Fate}
 use Rattle.packet_uses.specs.declared.fate.Fate.TheVariants as fates
-use Rattle.track_packets.specs.Kinds.{kind_told, name_text}
+use Rattle.track_packets.specs.Kinds.{kind_reported, name_text}
 use Rattle.track_packets.specs.declared.kind.Kind.{Kind}
 
--- the number, up to the name: for people behind these words, as JSON behind a comma where another packet is before it
+-- the number, up to the name: for people after these words, as JSON after a comma where another packet is before it
 abbrev pub number_text : Form → List ℕ → Bool → ℕ → List ℕ
 number_text form words later number =
     joined (text_in form words (if later then codes ",{\"packet\":" else codes "{\"packet\":") ∷ decimal number
@@ -19,8 +19,8 @@ abbrev pub name_in : Form → Option Kind → List ℕ
 name_in form (Some kind) = joined (text_in form [] (codes "\"") ∷ name_text kind.name ∷ text_in form [] (codes "\"") ∷ [])
 name_in form None = text_in form (codes "without a name") (codes "null")
 
-unfoldable pub name_told : Form → ℕ → List ℕ
-name_told form number = name_in form (kind_told number)
+unfoldable pub name_reported : Form → ℕ → List ℕ
+name_reported form number = name_in form (kind_reported number)
 
 -- the first bit and the length, up to why it isn't used
 abbrev pub place_text : Form → ℕ → ℕ → List ℕ

@@ -1,10 +1,10 @@
 //! What C asks of a telegram's packets (`include/etcs_unit.h`).
 ghost use Rattle.std.specs.Prelude.{◌≡◌};
 ghost use Rattle.std.specs.List.{slice_get};
-ghost use Rattle.packet_uses.specs.Calls.{TellsFor, TellsIn, TellsOne, TellsUnused, direction_by, fate_number, is_unused as is_unused_told, told_of, unused_among, wide_mode_by};
+ghost use Rattle.packet_uses.specs.Calls.{DescribesFor, DescribesIn, DescribesOne, DescribesUnused, direction_by, fate_number, is_unused as is_unused_reported, description_of, unused_among, wide_mode_by};
 
+use crate::description::{MOST_TOLD, ReportedPacket, reported_packets};
 use crate::fate::Fate;
-use crate::telling::{MOST_TOLD, ToldPacket, told_packets};
 use arrayvec::ArrayVec;
 use mode_table::Mode;
 use vars::LinkOrientation;
@@ -18,7 +18,7 @@ const END: u32 = 38;
 /// A number is outside its limits.
 const OUT_OF_RANGE: u32 = 255;
 
-/// A packet that isn't used, as C is told it.
+/// A packet that isn't used, as C gets it.
 #[repr(C)]
 #[derive(Clone, Copy)]
 pub struct EtcsPacket {
@@ -33,8 +33,8 @@ pub struct EtcsPacket {
 }
 
 /// Whether a packet isn't used.
-fn is_unused(packet: &ToldPacket) -> bool
-    ensures { result ≡ is_unused_told packet.now }
+fn is_unused(packet: &ReportedPacket) -> bool
+    ensures { result ≡ is_unused_reported packet.now }
 {
     match packet.fate {
         Fate::Used => false,
@@ -44,7 +44,7 @@ fn is_unused(packet: &ToldPacket) -> bool
 }
 
 /// The packet of this index among those that aren't used.
-fn nth_unused(packets: &[ToldPacket], index: u32) -> Option<ToldPacket>
+fn nth_unused(packets: &[ReportedPacket], index: u32) -> Option<ReportedPacket>
     ensures { result ≡ slice_get (unused_among packets.now) index }
 {
     let Some((packet, others)) = packets.split_first() else {
@@ -89,9 +89,9 @@ fn number_of(fate: Fate) -> u32
     fate as u32
 }
 
-/// A packet as C is told it.
-fn told_to_c(packet: ToldPacket) -> EtcsPacket
-    ensures { result ≡ told_of packet }
+/// A packet as C gets it.
+fn reported_to_c(packet: ReportedPacket) -> EtcsPacket
+    ensures { result ≡ description_of packet }
 {
     EtcsPacket {
         start: packet.start,
@@ -101,65 +101,69 @@ fn told_to_c(packet: ToldPacket) -> EtcsPacket
     }
 }
 
-/// Tells the packet of this index among those that aren't used.
-fn tell_one(packets: &ArrayVec<ToldPacket, MOST_TOLD>, index: u32, told: &mut EtcsPacket) -> u32
-    ensures { TellsOne (slice_get (unused_among packets.now.items) index) told.old told.new result }
+/// Reports the packet of this index among those that aren't used.
+fn describe_one(
+    packets: &ArrayVec<ReportedPacket, MOST_TOLD>,
+    index: u32,
+    reported: &mut EtcsPacket,
+) -> u32
+    ensures { DescribesOne (slice_get (unused_among packets.now.items) index) reported.old reported.new result }
 {
     match nth_unused(packets.as_slice(), index) {
         Some(packet) => {
-            *told = told_to_c(packet);
+            *reported = reported_to_c(packet);
             DONE
         }
         None => END,
     }
 }
 
-/// Tells it of a telegram, in a mode and a direction.
-fn tell_in(
+/// Reports it of a telegram, in a mode and a direction.
+fn describe_in(
     bytes: &[u8],
     mode: Mode,
     direction: Option<LinkOrientation>,
     index: u32,
-    told: &mut EtcsPacket,
+    reported: &mut EtcsPacket,
 ) -> u32
-    ensures { TellsIn bytes.now mode direction index told.old told.new result }
+    ensures { DescribesIn bytes.now mode direction index reported.old reported.new result }
 {
-    let packets = told_packets(bytes, mode, direction);
-    tell_one(&packets, index, told)
+    let packets = reported_packets(bytes, mode, direction);
+    describe_one(&packets, index, reported)
 }
 
-/// Tells it where there is such a mode and such a direction.
-fn tell_for(
+/// Reports it where there is such a mode and such a direction.
+fn describe_for(
     bytes: &[u8],
     mode: Option<Mode>,
     direction: Option<Option<LinkOrientation>>,
     index: u32,
-    told: &mut EtcsPacket,
+    reported: &mut EtcsPacket,
 ) -> u32
-    ensures { TellsFor bytes.now mode direction index told.old told.new result }
+    ensures { DescribesFor bytes.now mode direction index reported.old reported.new result }
 {
     match mode {
         Some(mode) => match direction {
-            Some(direction) => tell_in(bytes, mode, direction, index, told),
+            Some(direction) => describe_in(bytes, mode, direction, index, reported),
             None => OUT_OF_RANGE,
         },
         None => OUT_OF_RANGE,
     }
 }
 
-/// Tells the packet of this index, from 0 on, among those of a telegram that a unit doesn't use in a mode (M_MODE), where
+/// Reports the packet of this index, from 0 on, among those of a telegram that a unit doesn't use in a mode (M_MODE), where
 /// its group is accepted and passed in this direction (0 reverse, 1 nominal, 2 not known): 0, or 38 where the list ends
-/// before it, or 255 where no mode or direction has the number; then nothing is told.
+/// before it, or 255 where no mode or direction has the number; then nothing is reported.
 pub fn unused_call(
     bytes: &[u8],
     mode: u32,
     direction: u32,
     index: u32,
-    told: &mut EtcsPacket,
+    reported: &mut EtcsPacket,
 ) -> u32
-    ensures { TellsUnused bytes.now mode direction index told.old told.new result }
+    ensures { DescribesUnused bytes.now mode direction index reported.old reported.new result }
 {
     let mode = mode_of(mode);
     let direction = direction_of(direction);
-    tell_for(bytes, mode, direction, index, told)
+    describe_for(bytes, mode, direction, index, reported)
 }

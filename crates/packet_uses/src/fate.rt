@@ -1,6 +1,6 @@
 //! Whether a packet is used, or why not.
 ghost use Rattle.std.specs.Prelude.{◌≡◌};
-ghost use Rattle.packet_uses.specs.Fates.{fate_told};
+ghost use Rattle.packet_uses.specs.Fates.{fate_reported};
 
 use mode_table::{Mode, uses};
 use packets::Packet;
@@ -10,14 +10,14 @@ use vars::LinkOrientation;
 /// NID_PACKET of infill: neither it nor what follows it is used.
 pub(crate) const INFILL: u8 = 136;
 
-/// What becomes of a packet of a telegram, with the number by which C is told it.
+/// What becomes of a packet of a telegram, with the number by which C gets it.
 #[derive(Clone, Copy)]
 pub enum Fate {
     /// It is used, where its group is accepted.
     Used = 0,
     /// The kernel doesn't know it.
     NotKnown = 1,
-    /// It is a packet 136, or stands behind one.
+    /// It is a packet 136, or comes after one.
     Infill = 2,
     /// The mode doesn't use its number.
     NotInMode = 3,
@@ -41,7 +41,7 @@ pub fn fate_of(
     direction: Option<LinkOrientation>,
     is_behind: bool,
 ) -> Fate
-    ensures { result ≡ fate_told mode direction is_behind packet.now }
+    ensures { result ≡ fate_reported mode direction is_behind packet.now }
 {
     let number = packet.number().get();
     if is_behind || number == INFILL {

@@ -3,17 +3,17 @@
 #![tactic(auto)]
 
 mod calls;
+mod description;
 mod fate;
 mod laws;
 mod list;
 mod never;
-mod telling;
 mod words;
 
 pub use calls::{EtcsPacket, unused_call};
+pub use description::{MOST_TOLD, ReportedPacket, reported_packets};
 pub use fate::{Fate, fate_of};
-pub use laws::{never_used_is_so, told_as_used_is_used};
-pub use list::{write_never_used, write_told};
+pub use laws::{never_used_is_so, reported_as_used_is_used};
+pub use list::{write_never_used, write_reported};
 pub use never::never_used_packets;
-pub use telling::{MOST_TOLD, ToldPacket, told_packets};
 pub use words::{name_pieces, number_pieces, place_pieces, why_piece};

@@ -1,15 +1,15 @@
 //! The packets of a telegram that no mode uses in any direction.
 ghost use Rattle.std.specs.Prelude.{◌≡◌, ◌+◌, ◌≤◌, ◌++◌, length};
-ghost use Rattle.packet_uses.specs.Never.{TellsNeverUsed, is_never_used as is_never_used_told, never_used_among};
+ghost use Rattle.packet_uses.specs.Never.{DescribesNeverUsed, is_never_used as is_never_used_reported, never_used_among};
 
+use crate::description::{MOST_TOLD, ReportedPacket, reported_packets};
 use crate::fate::Fate;
-use crate::telling::{MOST_TOLD, ToldPacket, told_packets};
 use arrayvec::ArrayVec;
 use mode_table::Mode;
 
 /// Whether a packet of which this becomes is used in no mode and no direction.
 fn is_never_used(fate: Fate) -> bool
-    ensures { result ≡ is_never_used_told fate }
+    ensures { result ≡ is_never_used_reported fate }
 {
     match fate {
         Fate::NotKnown | Fate::Infill | Fate::Refused => true,
@@ -17,8 +17,8 @@ fn is_never_used(fate: Fate) -> bool
     }
 }
 
-/// Keeps such packets of those that are told.
-fn keep(packets: &[ToldPacket], kept: &mut ArrayVec<ToldPacket, MOST_TOLD>)
+/// Keeps such packets of those that are reported.
+fn keep(packets: &[ReportedPacket], kept: &mut ArrayVec<ReportedPacket, MOST_TOLD>)
     requires { length kept.old.items + length packets.now ≤ 34 }
     ensures { kept.new.items ≡ kept.old.items ++ never_used_among packets.now }
 {
@@ -33,11 +33,11 @@ fn keep(packets: &[ToldPacket], kept: &mut ArrayVec<ToldPacket, MOST_TOLD>)
 
 /// The packets of a telegram that no mode uses in any direction, in their order, each with why: those that the kernel
 /// doesn't know, a packet 136 and what follows it, and each packet of a telegram that is refused.
-pub fn never_used_packets(bytes: &[u8]) -> ArrayVec<ToldPacket, MOST_TOLD>
-    ensures { TellsNeverUsed bytes.now result.items }
+pub fn never_used_packets(bytes: &[u8]) -> ArrayVec<ReportedPacket, MOST_TOLD>
+    ensures { DescribesNeverUsed bytes.now result.items }
 {
-    let told = told_packets(bytes, Mode::FullSupervision, None);
-    let mut kept: ArrayVec<ToldPacket, MOST_TOLD> = ArrayVec::new();
-    keep(told.as_slice(), &mut kept);
+    let reported = reported_packets(bytes, Mode::FullSupervision, None);
+    let mut kept: ArrayVec<ReportedPacket, MOST_TOLD> = ArrayVec::new();
+    keep(reported.as_slice(), &mut kept);
     kept
 }

@@ -2,13 +2,13 @@
 ghost use Rattle.std.specs.Prelude.{◌≡◌};
 ghost use Rattle.text_output.specs.Pieces.{text_of, texts};
 ghost use Rattle.text_output.specs.declared.piece.Form.{Form as a_form};
-ghost use Rattle.packet_uses.specs.Words.{name_told, number_text, place_text, why_text};
+ghost use Rattle.packet_uses.specs.Words.{name_reported, number_text, place_text, why_text};
 
 use crate::fate::Fate;
 use text_output::Piece;
 use track_packets::kind_of;
 
-/// The number of a packet, up to its name: for people behind these words, as JSON behind a comma where it is a later one
+/// The number of a packet, up to its name: for people after these words, as JSON after a comma where it is a later one
 /// of a list.
 pub fn number_pieces(words: &'static str, later: bool, number: u8) -> [Piece; 3]
     ensures { (form : a_form) → texts form result ≡ number_text form words.now later number }
@@ -27,7 +27,7 @@ pub fn number_pieces(words: &'static str, later: bool, number: u8) -> [Piece; 3]
 
 /// The name of a packet by its number; as JSON null where it has none.
 pub fn name_pieces(number: u8) -> [Piece; 3]
-    ensures { (form : a_form) → texts form result ≡ name_told form number }
+    ensures { (form : a_form) → texts form result ≡ name_reported form number }
 {
     match kind_of(number) {
         Some(kind) => [

@@ -4,8 +4,8 @@ pub mod FirstFits
 pub mod PacketShown
 pub mod StaticFitting
 pub mod StaticSteps
-mod Told
-mod ToldElements
-mod ToldOthers
-mod ToldPackets
-mod ToldSteps
+mod Reported
+mod ReportedElements
+mod ReportedOthers
+mod ReportedPackets
+mod ReportedSteps

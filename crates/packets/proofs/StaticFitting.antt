@@ -10,7 +10,7 @@ use Rattle.bits.specs.Writing.{value}
 use Rattle.bits.proofs.Fitting.{each_take, each_drop}
 use Rattle.vars.proofs.Numbers.{n_iter_has, l_packet_has}
 use Rattle.packets.specs.Elements.{difference}
-use Rattle.packets.specs.Layouts.{step_at, differences_to, static_step, static_speeds_telling}
+use Rattle.packets.specs.Layouts.{step_at, differences_to, static_step, static_speeds_description}
 use Rattle.packets.specs.StaticSteps.{StepFits, SpeedsFit}
 use Rattle.packets.specs.declared.static_speeds.Difference.{Difference}
 use Rattle.packets.specs.declared.static_speeds.StaticSpeeds.{StaticSpeeds}
@@ -20,8 +20,8 @@ use Rattle.packets.proofs.StaticSteps.{counted, own_of, counted_more, here, next
 abbrev DifferenceFits : Difference → Type 0
 DifferenceFits d = Fits difference d × (value difference d ≡ Some d)
 
--- what is left of a profile p behind s, which is its front
-record Behind (p s : StaticSpeeds) (xs : List StaticStep) : Type 0 where
+-- what is left of a profile p after s, which is its front
+record Afterwards (p s : StaticSpeeds) (xs : List StaticStep) : Type 0 where
   direction : s.direction ≡ p.direction
   scale : s.scale ≡ p.scale
   steps : s.steps.items ≡ take (length s.steps.items) p.steps.items
@@ -30,7 +30,7 @@ record Behind (p s : StaticSpeeds) (xs : List StaticStep) : Type 0 where
   fits : Each StepFits xs
   count : counted (take (length s.steps.items) p.steps.items) + counted xs ≡ length p.differences.items
 
-one_step_fits : (p s : StaticSpeeds) (x : StaticStep) (xs : List StaticStep) → Behind p s (x ∷ xs) → length p.differences.items ≤ 70 → Each DifferenceFits p.differences.items → Fits (static_step s) p
+one_step_fits : (p s : StaticSpeeds) (x : StaticStep) (xs : List StaticStep) → Afterwards p s (x ∷ xs) → length p.differences.items ≤ 70 → Each DifferenceFits p.differences.items → Fits (static_step s) p
 unfolding static_step
 one_step_fits p s x xs b few each =
     let i : ℕ = length s.steps.items in
@@ -54,8 +54,8 @@ one_step_fits p s x xs b few each =
     (fits.0, (fits.1, (fits.2, (fits.3, (room, ((front, count, each_own), tt))))))
 
 -- a step further
-behind_next : (p s : StaticSpeeds) (x : StaticStep) (xs : List StaticStep) → Behind p s (x ∷ xs) → Behind p (after_step p s) xs
-behind_next p s x xs b =
+after_next : (p s : StaticSpeeds) (x : StaticStep) (xs : List StaticStep) → Afterwards p s (x ∷ xs) → Afterwards p (after_step p s) xs
+after_next p s x xs b =
     let i : ℕ = length s.steps.items in
     let long : length (after_step p s).steps.items ≡ i + 1 = length-append s.steps.items _ in
     let more : counted (take (i + 1) p.steps.items) ≡ counted (take i p.steps.items) + x.differences = counted_more i p.steps.items x xs b.left in
@@ -76,7 +76,7 @@ behind_next p s x xs b =
     }
 
 -- nothing is left
-whole_profile : (p s : StaticSpeeds) → Behind p s [] → s ≡ p
+whole_profile : (p s : StaticSpeeds) → Afterwards p s [] → s ≡ p
 whole_profile p s b =
     let steps : s.steps.items ≡ p.steps.items =
     b.steps ∙ sym (append-nil (take (length s.steps.items) p.steps.items)) ∙ ap (λ (t : List StaticStep). take (length s.steps.items) p.steps.items ++ t) (sym b.left)
@@ -84,24 +84,24 @@ whole_profile p s b =
     let differences : s.differences.items ≡ p.differences.items = b.differences ∙ take_all (counted (take (length s.steps.items) p.steps.items)) p.differences.items (omega (arith, b.count)) in
     (λ i. record { direction = b.direction i; scale = b.scale i; steps = record { items = steps i }; differences = record { items = differences i } })
 
-steps_fit : (p : StaticSpeeds) (xs : List StaticStep) (s : StaticSpeeds) → Behind p s xs → length p.differences.items ≤ 70 → Each DifferenceFits p.differences.items
+steps_fit : (p : StaticSpeeds) (xs : List StaticStep) (s : StaticSpeeds) → Afterwards p s xs → length p.differences.items ≤ 70 → Each DifferenceFits p.differences.items
     → Fits (folded static_step (length xs) s) p × (value (folded static_step (length xs) s) p ≡ Some p)
 unfolding folded static_step
 steps_fit p [] s b few each = (tt, ap Some (whole_profile p s b))
 steps_fit p (x ∷ xs) s b few each =
-    let others = steps_fit p xs (after_step p s) (behind_next p s x xs b) few each in
+    let others = steps_fit p xs (after_step p s) (after_next p s x xs b) few each in
     ((one_step_fits p s x xs b few each, others.0), others.1)
 
 first_of : (xs : List StaticStep) → 0 < length xs → (x : StaticStep) × (ys : List StaticStep) × (xs ≡ x ∷ ys)
 first_of [] some = absurd (omega arith)
 first_of (x ∷ xs) some = (x, xs, refl)
 
-pub speeds_fit : (p : StaticSpeeds) (t : ℕ) → t < 2 ^ 13 → SpeedsFit p → Fits (static_speeds_telling (λ _. t)) p × (value (static_speeds_telling (λ _. t)) p ≡ Some (t, p))
-unfolding static_speeds_telling folded static_step
+pub speeds_fit : (p : StaticSpeeds) (t : ℕ) → t < 2 ^ 13 → SpeedsFit p → Fits (static_speeds_description (λ _. t)) p × (value (static_speeds_description (λ _. t)) p ≡ Some (t, p))
+unfolding static_speeds_description folded static_step
 speeds_fit p t small h =
     let split = first_of p.steps.items h.2 in
     let start : StaticSpeeds = no_steps_yet p in
-    let b : Behind p start (split.0 ∷ split.1) = record {
+    let b : Afterwards p start (split.0 ∷ split.1) = record {
       direction = refl;
       scale = refl;
       steps = refl;
@@ -110,7 +110,7 @@ speeds_fit p t small h =
       fits = subst (λ (xs : List StaticStep). Each StepFits xs) split.2 h.5;
       count = zero-add (counted (split.0 ∷ split.1)) ∙ ap counted (sym split.2) ∙ h.7;
     } in
-    let f = steps_fit p split.1 (after_step p start) (behind_next p start split.0 split.1 b) h.4 h.6 in
+    let f = steps_fit p split.1 (after_step p start) (after_next p start split.0 split.1 b) h.4 h.6 in
     let others : length split.1 ≡ length p.steps.items - 1 = omega (arith, ap length split.2) in
     let g : Fits (folded static_step (length p.steps.items - 1) (after_step p start)) p × (value (folded static_step (length p.steps.items - 1) (after_step p start)) p ≡ Some p) =
     subst (λ (n : ℕ). Fits (folded static_step n (after_step p start)) p × (value (folded static_step n (after_step p start)) p ≡ Some p)) others f in

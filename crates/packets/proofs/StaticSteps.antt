@@ -12,7 +12,7 @@ use Rattle.bits.proofs.Numbers.{length-number_bits}
 use Rattle.bits.proofs.WritingLaws.{length-appended, length-each}
 use Rattle.vars.specs.Values.{direction_number, scale_number, static_number, delay_number}
 use Rattle.packets.specs.Elements.{difference}
-use Rattle.packets.specs.Layouts.{no_step, step_at, differences_to, static_step, static_speeds_telling}
+use Rattle.packets.specs.Layouts.{no_step, step_at, differences_to, static_step, static_speeds_description}
 use Rattle.packets.specs.Parts.{head_taken}
 use Rattle.packets.specs.StaticSteps.{step_taken, steps_taken, step_size, steps_size, profile_taken, profile_size}
 use Rattle.packets.specs.declared.static_speeds.Difference.{Difference}
@@ -32,7 +32,7 @@ take_none : (n : ℕ) → take n no_difference ≡ no_difference
 take_none zero = refl
 take_none (suc n) = refl
 
--- the own ones are those behind all before
+-- the own ones are those after all before
 pub own_of : (n k : ℕ) (ds : List Difference) → drop (length (take n ds)) (take (n + k) ds) ≡ take k (drop n ds)
 own_of zero k ds = let e : 0 + k ≡ k = omega arith in rw e refl
 own_of (suc n) k [] = take_none (suc n + k) ∙ sym (take_none k)
@@ -81,7 +81,7 @@ folded_none : {S : Type 0} (t : S → Shown → S) (p s : StaticSpeeds) (left : 
 unfolding folded
 folded_none t p s left = refl
 
--- a step more, as the list tells it
+-- a step more, as the list says it
 step_more : {S : Type 0} (t : S → Shown → S) (p s : StaticSpeeds) (x : StaticStep) (xs : List StaticStep) (left : S)
     → drop (length s.steps.items) p.steps.items ≡ x ∷ xs → s.differences.items ≡ take (counted (take (length s.steps.items) p.steps.items)) p.differences.items
     → taken t (static_step s) p left ≡ step_taken t x (take x.differences (drop (counted (take (length s.steps.items) p.steps.items)) p.differences.items)) left
@@ -117,31 +117,31 @@ steps_folded t p (x ∷ xs) s left e behind =
 abbrev pub no_steps_yet : StaticSpeeds → StaticSpeeds
 no_steps_yet p = record { direction = p.direction; scale = p.scale; steps = record { items = [] }; differences = record { items = [] } }
 
--- what is told last takes no field
-all_told : {A S : Type 0} (o : Option A) (s : S) → option_map_or (λ x. s) o s ≡ s
-all_told None s = refl
-all_told (Some x) s = refl
+-- what is reported last takes no field
+all_reported : {A S : Type 0} (o : Option A) (s : S) → option_map_or (λ x. s) o s ≡ s
+all_reported None s = refl
+all_reported (Some x) s = refl
 
 -- the first step and the other steps
-first_taken : {S : Type 0} (t : S → Shown → S) (p : StaticSpeeds) (told : ℕ) (s : S)
-    → taken t (static_speeds_telling (λ _. told)) p s
-    ≡ taken t (folded static_step (length p.steps.items - 1) (after_step p (no_steps_yet p))) p (t (taken t (static_step (no_steps_yet p)) p (head_taken t p.direction told p.scale s)) (named names.NIter 5 (length p.steps.items - 1)))
-unfolding static_speeds_telling static_step
-first_taken t p told s = all_told (value (folded static_step (length p.steps.items - 1) (after_step p (no_steps_yet p))) p) _
+first_taken : {S : Type 0} (t : S → Shown → S) (p : StaticSpeeds) (reported : ℕ) (s : S)
+    → taken t (static_speeds_description (λ _. reported)) p s
+    ≡ taken t (folded static_step (length p.steps.items - 1) (after_step p (no_steps_yet p))) p (t (taken t (static_step (no_steps_yet p)) p (head_taken t p.direction reported p.scale s)) (named names.NIter 5 (length p.steps.items - 1)))
+unfolding static_speeds_description static_step
+first_taken t p reported s = all_reported (value (folded static_step (length p.steps.items - 1) (after_step p (no_steps_yet p))) p) _
 
 counted_first : (steps : List StaticStep) → counted (take 1 steps) ≡ (slice_index_or steps 0 no_step).differences
 counted_first [] = refl
 counted_first (x ∷ xs) = omega arith
 
-pub speeds_taken : {S : Type 0} (t : S → Shown → S) (p : StaticSpeeds) (told : ℕ) (s : S)
-    → taken t (static_speeds_telling (λ _. told)) p s ≡ profile_taken t p.steps.items p.differences.items (head_taken t p.direction told p.scale s)
-speeds_taken t p told s =
-    let start : _ = head_taken t p.direction told p.scale s in
+pub speeds_taken : {S : Type 0} (t : S → Shown → S) (p : StaticSpeeds) (reported : ℕ) (s : S)
+    → taken t (static_speeds_description (λ _. reported)) p s ≡ profile_taken t p.steps.items p.differences.items (head_taken t p.direction reported p.scale s)
+speeds_taken t p reported s =
+    let start : _ = head_taken t p.direction reported p.scale s in
     let count : counted (take 1 p.steps.items) ≡ (step_at 0 p).differences = counted_first p.steps.items in
     let one : taken t (static_step (no_steps_yet p)) p start ≡ step_taken t (step_at 0 p) (take (step_at 0 p).differences p.differences.items) start =
     one_step t p (no_steps_yet p) start ∙ ap (λ (n : ℕ). step_taken t (step_at 0 p) (take n p.differences.items) start) count in
     let last : _ = t (step_taken t (step_at 0 p) (take (step_at 0 p).differences p.differences.items) start) (named names.NIter 5 (length p.steps.items - 1)) in
-    first_taken t p told s
+    first_taken t p reported s
     ∙ ap (λ (y : _). taken t (folded static_step (length p.steps.items - 1) (after_step p (no_steps_yet p))) p (t y (named names.NIter 5 (length p.steps.items - 1)))) one
     ∙ ap (λ (n : ℕ). taken t (folded static_step n (after_step p (no_steps_yet p))) p last) (sym (length-drop 1 p.steps.items))
     ∙ steps_folded t p (drop 1 p.steps.items) (after_step p (no_steps_yet p)) last refl refl
@@ -185,14 +185,14 @@ long_steps [] ds front = omega arith
 long_steps (x ∷ xs) ds front =
     omega (arith, long_steps xs (drop x.differences ds) (step_taken with_bits x (take x.differences ds) front), long_step x (take x.differences ds) front)
 
-pub speeds_size : (p : StaticSpeeds) → size (static_speeds_telling (λ _. 0)) p ≡ 17 + profile_size p.steps.items p.differences.items
+pub speeds_size : (p : StaticSpeeds) → size (static_speeds_description (λ _. 0)) p ≡ 17 + profile_size p.steps.items p.differences.items
 speeds_size p =
     let start : List Bool = head_taken with_bits p.direction 0 p.scale [] in
     let first : List Bool = step_taken with_bits (step_at 0 p) (take (step_at 0 p).differences p.differences.items) start in
     let n : ℕ = length p.steps.items - 1 in
     omega (
       arith,
-      length-appended (static_speeds_telling (λ _. 0)) p [],
+      length-appended (static_speeds_description (λ _. 0)) p [],
       ap length (speeds_taken with_bits p 0 []),
       long_steps (drop 1 p.steps.items) (drop (step_at 0 p).differences p.differences.items) (first ++ number_bits 5 n),
       length-append first (number_bits 5 n),
@@ -210,7 +210,7 @@ unfolding steps_size
 profile_bits [] ds = omega arith
 profile_bits (x ∷ xs) ds = omega (arith, own_size (take x.differences ds), length-take x.differences ds, steps_bits xs (drop x.differences ds), length-drop x.differences ds)
 
-pub speeds_bits : (p : StaticSpeeds) → size (static_speeds_telling (λ _. 0)) p ≡ 22 + 28 * max 1 (length p.steps.items) + 11 * min (counted p.steps.items) (length p.differences.items)
+pub speeds_bits : (p : StaticSpeeds) → size (static_speeds_description (λ _. 0)) p ≡ 22 + 28 * max 1 (length p.steps.items) + 11 * min (counted p.steps.items) (length p.differences.items)
 speeds_bits p = omega (arith, speeds_size p, profile_bits p.steps.items p.differences.items)
 
 -- ---- a loop over steps

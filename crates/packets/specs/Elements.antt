@@ -1,4 +1,4 @@
--- The layouts of what packets have in lists, or behind a qualifier (SUBSET-026, 7.4.2; those of packets 3, 5, 12, 41
+-- The layouts of what packets have in lists, or after a qualifier (SUBSET-026, 7.4.2; those of packets 3, 5, 12, 41
 -- and 80 are this project's profile). Widths are bits.
 use Rattle.std.specs.Prelude.{ℕ, Bool, true, false}
 use Rattle.bits.specs.Layout.{Layout, done, part, ◌>>=◌}

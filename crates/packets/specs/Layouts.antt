@@ -1,5 +1,5 @@
 -- The layouts of packets (SUBSET-026, 7.4.2; the orders and widths of packets 3, 5, 12, 41 and 80 are this project's
--- profile). A layout follows the number of its packet, and hands the L_PACKET that was read on beside the packet.
+-- profile). A layout follows the number of its packet, and hands the L_PACKET that was read on along with the packet.
 -- Widths and L_PACKET are bits.
 use Rattle.std.specs.Prelude.{ℕ, ◌+◌, ◌-◌, nat_lt, List, [], ◌∷◌, ◌++◌, length, take, slice_index_or}
 use Rattle.bits.specs.Layout.{Layout, done, unless, run, inner, more, ◌>>=◌, folded}
@@ -10,7 +10,7 @@ use Rattle.vars.specs.declared.packet_head.ValidityDirection.{ValidityDirection}
 use Rattle.vars.specs.declared.restriction.TrainLengthDelay.TheVariants as delays
 use Rattle.vars.specs.declared.scale.Scale.{Scale}
 use Rattle.vars.specs.declared.special_speed.StaticSpeed.TheVariants as static_speeds_of
-use Rattle.packets.specs.Parts.{variable, qualified, telling, head_of, from_first}
+use Rattle.packets.specs.Parts.{variable, qualified, description, head_of, from_first}
 use Rattle.packets.specs.declared.fault.PacketFault.{PacketFault}
 use Rattle.packets.specs.declared.fault.PacketFault.TheVariants.{Truncated, WrongLength, OutOfRange}
 use Rattle.packets.specs.declared.authority.MovementAuthority.{MovementAuthority}
@@ -52,9 +52,9 @@ override_values = do
   done (record { allowed = allowed; speed = v; distance = d; time = time })
 
 -- Packet 3 (this project's own order).
-unfoldable pub national_values_telling : (NationalValues → ℕ) → Layout PacketFault NationalValues (ℕ × NationalValues)
-national_values_telling told_of = do
-  head ← head_of (λ p. p.direction) told_of (λ p. p.scale)
+unfoldable pub national_values_description : (NationalValues → ℕ) → Layout PacketFault NationalValues (ℕ × NationalValues)
+national_values_description description_of = do
+  head ← head_of (λ p. p.direction) description_of (λ p. p.scale)
   start ← variable names.DValidnv start_place (λ p. p.start)
   count ← variable names.NIter n_iter (λ p. length p.countries.items)
   countries ← more count country [] (λ p. p.countries.items)
@@ -65,19 +65,19 @@ national_values_telling told_of = do
   done (head.1, record { direction = head.0; scale = head.2; start = start; countries = record { items = countries }; shunting = speeds.shunting; staff_responsible = speeds.staff_responsible; on_sight = speeds.on_sight; unfitted = speeds.unfitted; release = speeds.release; roll = roll; override_allowed = changed.allowed; override_speed = changed.speed; override_distance = changed.distance; override_time = changed.time; staff_responsible_distance = staff_responsible_distance })
 
 abbrev pub national_values : Layout PacketFault NationalValues (ℕ × NationalValues)
-national_values = telling national_values_telling
+national_values = description national_values_description
 
 -- ---- packet 5
 
 -- Packet 5.
-unfoldable pub linking_telling : (Linking → ℕ) → Layout PacketFault Linking (ℕ × Linking)
-linking_telling told_of = do
-  head ← head_of (λ p. p.direction) told_of (λ p. p.scale)
+unfoldable pub linking_description : (Linking → ℕ) → Layout PacketFault Linking (ℕ × Linking)
+linking_description description_of = do
+  head ← head_of (λ p. p.direction) description_of (λ p. p.scale)
   all ← from_first link (λ p. p.links.items)
   done (head.1, record { direction = head.0; scale = head.2; links = record { items = all } })
 
 abbrev pub linking : Layout PacketFault Linking (ℕ × Linking)
-linking = telling linking_telling
+linking = description linking_description
 
 -- ---- packet 12
 
@@ -91,9 +91,9 @@ authority_end = do
   done (record { end_section = end_section; end_timer = the_timer; danger_point = point; overlap = behind })
 
 -- Packet 12.
-unfoldable pub movement_authority_telling : (MovementAuthority → ℕ) → Layout PacketFault MovementAuthority (ℕ × MovementAuthority)
-movement_authority_telling told_of = do
-  head ← head_of (λ p. p.direction) told_of (λ p. p.scale)
+unfoldable pub movement_authority_description : (MovementAuthority → ℕ) → Layout PacketFault MovementAuthority (ℕ × MovementAuthority)
+movement_authority_description description_of = do
+  head ← head_of (λ p. p.direction) description_of (λ p. p.scale)
   main ← variable names.VMain speed (λ p. p.speed)
   end_speed ← variable names.VLoa speed (λ p. p.end_speed)
   end_time ← variable names.TLoa timer (λ p. p.end_time)
@@ -103,19 +103,19 @@ movement_authority_telling told_of = do
   done (head.1, record { direction = head.0; scale = head.2; speed = main; end_speed = end_speed; end_time = end_time; sections = record { items = sections }; end_section = ending.end_section; end_timer = ending.end_timer; danger_point = ending.danger_point; overlap = ending.overlap })
 
 abbrev pub movement_authority : Layout PacketFault MovementAuthority (ℕ × MovementAuthority)
-movement_authority = telling movement_authority_telling
+movement_authority = description movement_authority_description
 
 -- ---- packet 21
 
 -- Packet 21.
-unfoldable pub gradients_telling : (Gradients → ℕ) → Layout PacketFault Gradients (ℕ × Gradients)
-gradients_telling told_of = do
-  head ← head_of (λ p. p.direction) told_of (λ p. p.scale)
+unfoldable pub gradients_description : (Gradients → ℕ) → Layout PacketFault Gradients (ℕ × Gradients)
+gradients_description description_of = do
+  head ← head_of (λ p. p.direction) description_of (λ p. p.scale)
   all ← from_first gradient (λ p. p.gradients.items)
   done (head.1, record { direction = head.0; scale = head.2; gradients = record { items = all } })
 
 abbrev pub gradients : Layout PacketFault Gradients (ℕ × Gradients)
-gradients = telling gradients_telling
+gradients = description gradients_description
 
 -- ---- packet 27
 
@@ -146,36 +146,36 @@ abbrev pub no_speeds : ValidityDirection → Scale → StaticSpeeds
 no_speeds direction scale = record { direction = direction; scale = scale; steps = record { items = [] }; differences = record { items = [] } }
 
 -- Packet 27.
-unfoldable pub static_speeds_telling : (StaticSpeeds → ℕ) → Layout PacketFault StaticSpeeds (ℕ × StaticSpeeds)
-static_speeds_telling told_of = do
-  head ← head_of (λ p. p.direction) told_of (λ p. p.scale)
+unfoldable pub static_speeds_description : (StaticSpeeds → ℕ) → Layout PacketFault StaticSpeeds (ℕ × StaticSpeeds)
+static_speeds_description description_of = do
+  head ← head_of (λ p. p.direction) description_of (λ p. p.scale)
   first ← static_step (no_speeds head.0 head.2)
   count ← variable names.NIter n_iter (λ p. length p.steps.items - 1)
   all ← folded static_step count first
   done (head.1, all)
 
 abbrev pub static_speeds : Layout PacketFault StaticSpeeds (ℕ × StaticSpeeds)
-static_speeds = telling static_speeds_telling
+static_speeds = description static_speeds_description
 
 -- ---- packet 41
 
 -- Packet 41.
-unfoldable pub level_transition_telling : (LevelTransition → ℕ) → Layout PacketFault LevelTransition (ℕ × LevelTransition)
-level_transition_telling told_of = do
-  head ← head_of (λ p. p.direction) told_of (λ p. p.scale)
+unfoldable pub level_transition_description : (LevelTransition → ℕ) → Layout PacketFault LevelTransition (ℕ × LevelTransition)
+level_transition_description description_of = do
+  head ← head_of (λ p. p.direction) description_of (λ p. p.scale)
   start ← variable names.DLeveltr start_place (λ p. p.start)
   all ← from_first level_order (λ p. p.orders.items)
   done (head.1, record { direction = head.0; scale = head.2; start = start; orders = record { items = all } })
 
 abbrev pub level_transition : Layout PacketFault LevelTransition (ℕ × LevelTransition)
-level_transition = telling level_transition_telling
+level_transition = description level_transition_description
 
 -- ---- packets 65 and 66
 
 -- Packet 65.
-unfoldable pub speed_restriction_telling : (SpeedRestriction → ℕ) → Layout PacketFault SpeedRestriction (ℕ × SpeedRestriction)
-speed_restriction_telling told_of = do
-  head ← head_of (λ p. p.direction) told_of (λ p. p.scale)
+unfoldable pub speed_restriction_description : (SpeedRestriction → ℕ) → Layout PacketFault SpeedRestriction (ℕ × SpeedRestriction)
+speed_restriction_description description_of = do
+  head ← head_of (λ p. p.direction) description_of (λ p. p.scale)
   number ← variable names.NidTsr nid_tsr (λ p. p.number)
   start ← variable names.DTsr distance (λ p. p.start)
   length ← variable names.LTsr distance (λ p. p.length)
@@ -184,41 +184,41 @@ speed_restriction_telling told_of = do
   done (head.1, record { direction = head.0; scale = head.2; number = number; start = start; length = length; delay = delay; speed = v })
 
 abbrev pub speed_restriction : Layout PacketFault SpeedRestriction (ℕ × SpeedRestriction)
-speed_restriction = telling speed_restriction_telling
+speed_restriction = description speed_restriction_description
 
 -- Packet 66.
-unfoldable pub restriction_revocation_telling : (RestrictionRevocation → ℕ) → Layout PacketFault RestrictionRevocation (ℕ × RestrictionRevocation)
-restriction_revocation_telling told_of = do
+unfoldable pub restriction_revocation_description : (RestrictionRevocation → ℕ) → Layout PacketFault RestrictionRevocation (ℕ × RestrictionRevocation)
+restriction_revocation_description description_of = do
   direction ← variable names.QDir q_dir (λ p. p.direction)
-  told ← variable names.LPacket l_packet told_of
+  reported ← variable names.LPacket l_packet description_of
   number ← variable names.NidTsr nid_tsr (λ p. p.number)
-  done (told, record { direction = direction; number = number })
+  done (reported, record { direction = direction; number = number })
 
 abbrev pub restriction_revocation : Layout PacketFault RestrictionRevocation (ℕ × RestrictionRevocation)
-restriction_revocation = telling restriction_revocation_telling
+restriction_revocation = description restriction_revocation_description
 
 -- ---- packet 80
 
 -- Packet 80.
-unfoldable pub mode_profile_telling : (ModeProfile → ℕ) → Layout PacketFault ModeProfile (ℕ × ModeProfile)
-mode_profile_telling told_of = do
-  head ← head_of (λ p. p.direction) told_of (λ p. p.scale)
+unfoldable pub mode_profile_description : (ModeProfile → ℕ) → Layout PacketFault ModeProfile (ℕ × ModeProfile)
+mode_profile_description description_of = do
+  head ← head_of (λ p. p.direction) description_of (λ p. p.scale)
   all ← from_first mode_area (λ p. p.areas.items)
   done (head.1, record { direction = head.0; scale = head.2; areas = record { items = all } })
 
 abbrev pub mode_profile : Layout PacketFault ModeProfile (ℕ × ModeProfile)
-mode_profile = telling mode_profile_telling
+mode_profile = description mode_profile_description
 
 -- ---- other packets
 
 -- A packet that is skipped by its length, which isn't below that of its head.
-unfoldable pub skipped_telling : ℕ → (Other → ℕ) → Layout PacketFault Other (ℕ × Other)
-skipped_telling number told_of = do
+unfoldable pub skipped_description : ℕ → (Other → ℕ) → Layout PacketFault Other (ℕ × Other)
+skipped_description number description_of = do
   direction ← variable names.QDir untested_direction (λ p. p.direction)
-  told ← variable names.LPacket l_packet told_of
-  _ ← unless (nat_lt told 23) WrongLength
-  body ← run (told - 23) Truncated (λ p. p.body)
-  done (told, record { number = number; direction = direction; body = body })
+  reported ← variable names.LPacket l_packet description_of
+  _ ← unless (nat_lt reported 23) WrongLength
+  body ← run (reported - 23) Truncated (λ p. p.body)
+  done (reported, record { number = number; direction = direction; body = body })
 
 abbrev pub skipped : ℕ → Layout PacketFault Other (ℕ × Other)
-skipped number = telling (skipped_telling number)
+skipped number = description (skipped_description number)

@@ -19,7 +19,7 @@ use Rattle.packets.specs.declared.restrictions.RestrictionRevocation.{Restrictio
 use Rattle.packets.specs.declared.packet.Other.{Other}
 use Rattle.packets.specs.declared.packet.Packet.{Packet}
 use Rattle.packets.specs.declared.packet.Packet.TheVariants as packets
-use Rattle.packets.specs.Layouts.{national_values_telling, national_values, linking_telling, linking, movement_authority_telling, movement_authority, gradients_telling, gradients, static_speeds_telling, static_speeds, level_transition_telling, level_transition, speed_restriction_telling, speed_restriction, restriction_revocation_telling, restriction_revocation, mode_profile_telling, mode_profile, skipped_telling, skipped}
+use Rattle.packets.specs.Layouts.{national_values_description, national_values, linking_description, linking, movement_authority_description, movement_authority, gradients_description, gradients, static_speeds_description, static_speeds, level_transition_description, level_transition, speed_restriction_description, speed_restriction, restriction_revocation_description, restriction_revocation, mode_profile_description, mode_profile, skipped_description, skipped}
 
 -- NID_PACKET
 abbrev pub number_of : Packet → ℕ
@@ -36,7 +36,7 @@ number_of (packets.Other p) = p.number
 
 -- ---- any packet
 
--- a kind of packet, beside its L_PACKET
+-- a kind of packet, along with its L_PACKET
 abbrev pub as_packet : {A : Type 0} → (A → Packet) → (ℕ × A) → (ℕ × Packet)
 as_packet make p = (p.0, make p.1)
 
@@ -111,26 +111,26 @@ packet = do
 
 -- what a packet's own layout gives, where L_PACKET is what another function says
 abbrev pub by_layout : {R : Type 0} → ((C : Type 0) → ((C → ℕ) → Layout PacketFault C (ℕ × C)) → C → R) → Packet → R
-by_layout f (packets.NationalValues p) = f NationalValues national_values_telling p
-by_layout f (packets.Linking p) = f Linking linking_telling p
-by_layout f (packets.MovementAuthority p) = f MovementAuthority movement_authority_telling p
-by_layout f (packets.Gradients p) = f Gradients gradients_telling p
-by_layout f (packets.StaticSpeeds p) = f StaticSpeeds static_speeds_telling p
-by_layout f (packets.LevelTransition p) = f LevelTransition level_transition_telling p
-by_layout f (packets.SpeedRestriction p) = f SpeedRestriction speed_restriction_telling p
-by_layout f (packets.RestrictionRevocation p) = f RestrictionRevocation restriction_revocation_telling p
-by_layout f (packets.ModeProfile p) = f ModeProfile mode_profile_telling p
-by_layout f (packets.Other p) = f Other (skipped_telling p.number) p
+by_layout f (packets.NationalValues p) = f NationalValues national_values_description p
+by_layout f (packets.Linking p) = f Linking linking_description p
+by_layout f (packets.MovementAuthority p) = f MovementAuthority movement_authority_description p
+by_layout f (packets.Gradients p) = f Gradients gradients_description p
+by_layout f (packets.StaticSpeeds p) = f StaticSpeeds static_speeds_description p
+by_layout f (packets.LevelTransition p) = f LevelTransition level_transition_description p
+by_layout f (packets.SpeedRestriction p) = f SpeedRestriction speed_restriction_description p
+by_layout f (packets.RestrictionRevocation p) = f RestrictionRevocation restriction_revocation_description p
+by_layout f (packets.ModeProfile p) = f ModeProfile mode_profile_description p
+by_layout f (packets.Other p) = f Other (skipped_description p.number) p
 
 -- The number of bits of a packet, which is its L_PACKET.
 abbrev pub length_of : Packet → ℕ
 length_of p = by_layout (λ C m c. 8 + size (m (λ _. 0)) c) p
 
--- What becomes of s when it takes the fields of a packet behind its number, one after another, L_PACKET telling so
+-- What becomes of s when it takes the fields of a packet after its number, one after another, L_PACKET reporting so
 -- much.
 abbrev pub packet_taken : {S : Type 0} → (S → Shown → S) → ℕ → Packet → S → S
-packet_taken t told p s = by_layout (λ C m c. taken t (m (λ _. told)) c s) p
+packet_taken t reported p s = by_layout (λ C m c. taken t (m (λ _. reported)) c s) p
 
--- The fields of a packet behind its number, L_PACKET telling so much.
+-- The fields of a packet after its number, L_PACKET reporting so much.
 abbrev pub packet_shown : ℕ → Packet → List Shown
-packet_shown told p = by_layout (λ C m c. shown (m (λ _. told)) c) p
+packet_shown reported p = by_layout (λ C m c. shown (m (λ _. reported)) c) p

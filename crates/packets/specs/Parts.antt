@@ -28,8 +28,8 @@ qualified name m get = variable name flag (λ c. is_some (get c)) >>= (λ given.
 
 -- what follows the number of a packet with distances: Q_DIR, L_PACKET and Q_SCALE
 abbrev pub head_of : {C : Type 0} → (C → ValidityDirection) → (C → ℕ) → (C → Scale) → Layout PacketFault C (ValidityDirection × ℕ × Scale)
-head_of direction told scale =
-    variable names.QDir q_dir direction >>= (λ d. variable names.LPacket l_packet told >>= (λ t. variable names.QScale q_scale scale >>= (λ s. done (d, t, s))))
+head_of direction reported scale =
+    variable names.QDir q_dir direction >>= (λ d. variable names.LPacket l_packet reported >>= (λ t. variable names.QScale q_scale scale >>= (λ s. done (d, t, s))))
 
 -- a list of at least one element: the first, N_ITER and the other elements
 abbrev pub from_first : {C D : Type 0} → Layout PacketFault D D → (C → List D) → Layout PacketFault C (List D)
@@ -37,14 +37,14 @@ from_first m get =
     more 1 m [] (λ c. take 1 (get c)) >>= (λ first. variable names.NIter n_iter (λ c. length (get c) - 1) >>= (λ count. more count m first get))
 
 -- a packet with the count of its own bits, those of its number included
-abbrev pub telling : {C A : Type 0} → ((C → ℕ) → Layout PacketFault C A) → Layout PacketFault C A
-telling m = m (λ c. 8 + size (m (λ _. 0)) c)
+abbrev pub description : {C A : Type 0} → ((C → ℕ) → Layout PacketFault C A) → Layout PacketFault C A
+description m = m (λ c. 8 + size (m (λ _. 0)) c)
 
 -- ---- what becomes of a sink, and how many bits there are
 
 -- a head with its L_PACKET
 abbrev pub head_taken : {S : Type 0} → (S → Shown → S) → ValidityDirection → ℕ → Scale → S → S
-head_taken t direction told scale s = t (t (t s (named names.QDir 2 (direction_number direction))) (named names.LPacket 13 told)) (named names.QScale 2 (scale_number scale))
+head_taken t direction reported scale s = t (t (t s (named names.QDir 2 (direction_number direction))) (named names.LPacket 13 reported)) (named names.QScale 2 (scale_number scale))
 
 -- a first element, N_ITER, and the other elements
 abbrev pub from_first_taken : {D S : Type 0} → (S → Shown → S) → Layout PacketFault D D → List D → S → S
@@ -56,7 +56,7 @@ from_first_size m xs = total (λ x. size m x) (take 1 xs) + (5 + total (λ x. si
 
 -- a qualifier, and its part
 abbrev pub qualified_taken : {D S : Type 0} → (S → Shown → S) → Layout PacketFault D D → VariableName → Option D → S → S
-qualified_taken t m name o s = let told = t s (named name 1 (from_bool (is_some o))) in option_map_or (λ d. taken t m d told) o told
+qualified_taken t m name o s = let reported = t s (named name 1 (from_bool (is_some o))) in option_map_or (λ d. taken t m d reported) o reported
 
 abbrev pub qualified_size : {D : Type 0} → Layout PacketFault D D → Option D → ℕ
 qualified_size m o = 1 + option_map_or (λ d. size m d) o 0

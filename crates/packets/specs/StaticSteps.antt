@@ -1,4 +1,4 @@
--- A static speed profile step by step: each step has its own of the differences, behind those of the steps before (this
+-- A static speed profile step by step: each step has its own of the differences, after those of the steps before (this
 -- project's profile).
 use Rattle.std.specs.Prelude.{◌≡◌, ℕ, ◌+◌, ◌-◌, ◌<◌, ◌≤◌, List, [], ◌∷◌, length, take, drop, slice_index_or, Some}
 use Rattle.std.specs.List.{AllByRecursion as Each}

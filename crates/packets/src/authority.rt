@@ -3,7 +3,7 @@ ghost use Rattle.std.specs.Prelude.{◌≡◌, ◌+◌, ◌<◌, ◌≤◌, ◌^
 ghost use Rattle.bits.specs.Fitting.{Fits};
 ghost use Rattle.bits.specs.Layout.{Gives, kind, read};
 ghost use Rattle.bits.specs.Writing.{size, taken};
-ghost use Rattle.packets.specs.Layouts.{movement_authority, movement_authority_telling};
+ghost use Rattle.packets.specs.Layouts.{movement_authority, movement_authority_description};
 ghost use Rattle.packets.specs.Packets.{as_packet, as_movement_authority};
 ghost use Rattle.packets.specs.declared.packet.Packet.TheVariants as packets;
 
@@ -63,7 +63,7 @@ pub struct EndTimer {
     pub start: Distance,
 }
 
-/// The danger point behind the end (SUBSET-026, 7.4.2; its layout: this project's profile).
+/// The danger point beyond the end (SUBSET-026, 7.4.2; its layout: this project's profile).
 #[derive(Clone, Copy)]
 pub struct DangerPoint {
     /// D_DP: from the end.
@@ -72,7 +72,7 @@ pub struct DangerPoint {
     pub release: ReleaseSpeed,
 }
 
-/// The overlap behind the end (SUBSET-026, 7.4.2; its layout: this project's profile).
+/// The overlap beyond the end (SUBSET-026, 7.4.2; its layout: this project's profile).
 #[derive(Clone, Copy)]
 pub struct Overlap {
     /// D_STARTOL: from the end back to where its timer starts.
@@ -110,16 +110,16 @@ pub struct MovementAuthority {
     pub overlap: Option<Overlap>,
 }
 
-/// Reads packet 12 behind its number, into the place of another packet; answers its L_PACKET, in bits. The error is the
+/// Reads packet 12 after its number, into the place of another packet; answers its L_PACKET, in bits. The error is the
 /// first fault in the order of the bits.
-#[tactic(auto, unfolding(crate::specs::Layouts::movement_authority_telling))]
+#[tactic(auto, unfolding(crate::specs::Layouts::movement_authority_description))]
 pub fn read_movement_authority<'a>(
     reader: &mut BitReader<'a>,
     out: &mut Packet<'a>,
 ) -> Result<PacketLength, PacketFault>
-    ensures { Gives (λ told. (told, out.new)) result reader.new (read (kind (as_packet packets.MovementAuthority) as_movement_authority movement_authority) reader.old) }
+    ensures { Gives (λ reported. (reported, out.new)) result reader.new (read (kind (as_packet packets.MovementAuthority) as_movement_authority movement_authority) reader.old) }
 {
-    let (direction, told, scale) = ok!(read_head(reader));
+    let (direction, reported, scale) = ok!(read_head(reader));
     let speed = ok!(field(reader));
     let end_speed = ok!(field(reader));
     let end_time = ok!(field(reader));
@@ -139,23 +139,23 @@ pub fn read_movement_authority<'a>(
         danger_point: end.danger_point,
         overlap: end.overlap,
     });
-    Ok(told)
+    Ok(reported)
 }
 
 impl MovementAuthority {
     /// The number of bits, those of NID_PACKET included.
-    #[tactic(auto, unfolding(crate::specs::Layouts::movement_authority_telling, crate::specs::Layouts::authority_end))]
+    #[tactic(auto, unfolding(crate::specs::Layouts::movement_authority_description, crate::specs::Layouts::authority_end))]
     pub(crate) fn bits(&self) -> u64
-        ensures value { result ≡ 8 + size (movement_authority_telling (λ _. 0)) self.now }
+        ensures value { result ≡ 8 + size (movement_authority_description (λ _. 0)) self.now }
         ensures bound { result < 2 ^ 13 }
     {
         54 + bits_of_all(self.sections.as_slice()) + self.end_bits()
     }
 
     /// Whether it is as its layout wants it, but for its L_PACKET.
-    #[tactic(auto, unfolding(crate::specs::Layouts::movement_authority_telling, crate::specs::Layouts::authority_end), using(vars::proofs::Numbers::n_iter_has))]
+    #[tactic(auto, unfolding(crate::specs::Layouts::movement_authority_description, crate::specs::Layouts::authority_end), using(vars::proofs::Numbers::n_iter_has))]
     pub(crate) fn fits(&self) -> bool
-        ensures { IsTrue result ↔ Fits (movement_authority_telling (λ _. 0)) self.now }
+        ensures { IsTrue result ↔ Fits (movement_authority_description (λ _. 0)) self.now }
     {
         head_fits(&self.direction, &self.scale)
             && has_number(&self.speed)
@@ -165,14 +165,14 @@ impl MovementAuthority {
             && self.end_fits()
     }
 
-    /// Hands the fields behind NID_PACKET to a sink, with its L_PACKET.
-    #[tactic(auto, unfolding(crate::specs::Layouts::movement_authority_telling, crate::specs::Layouts::authority_end))]
-    pub(crate) fn fields<S: FieldSink>(&self, told: u64, sink: &mut S) -> Result<(), S::Error>
-        requires told { told < 2 ^ 13 }
-        requires room { S.held sink.old + size (movement_authority_telling (λ _. 0)) self.now ≤ S.most }
-        ensures { OnOk result (S.seen sink.new ≡ taken S.took (movement_authority_telling (λ _. told)) self.now (S.seen sink.old)) }
+    /// Hands the fields after NID_PACKET to a sink, with its L_PACKET.
+    #[tactic(auto, unfolding(crate::specs::Layouts::movement_authority_description, crate::specs::Layouts::authority_end))]
+    pub(crate) fn fields<S: FieldSink>(&self, reported: u64, sink: &mut S) -> Result<(), S::Error>
+        requires reported { reported < 2 ^ 13 }
+        requires room { S.held sink.old + size (movement_authority_description (λ _. 0)) self.now ≤ S.most }
+        ensures { OnOk result (S.seen sink.new ≡ taken S.took (movement_authority_description (λ _. reported)) self.now (S.seen sink.old)) }
     {
-        ok!(put_head(sink, &self.direction, told, &self.scale));
+        ok!(put_head(sink, &self.direction, reported, &self.scale));
         ok!(put(sink, VariableName::VMain, &self.speed));
         ok!(put(sink, VariableName::VLoa, &self.end_speed));
         ok!(put(sink, VariableName::TLoa, &self.end_time));

@@ -38,7 +38,7 @@ pub(crate) fn part_fits<T: Element>(given: bool, part: &Option<T>) -> bool
     }
 }
 
-/// Whether the part behind a qualifier is as its layout wants it, where it is there.
+/// Whether the part after a qualifier is as its layout wants it, where it is there.
 #[tactic(auto, using(vars::proofs::Numbers::flag_has))]
 pub(crate) fn qualified_fits<T: Element>(part: &Option<T>) -> bool
     ensures { IsTrue result ↔ QualifiedFits T.layout part.now }

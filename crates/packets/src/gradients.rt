@@ -3,7 +3,7 @@ ghost use Rattle.std.specs.Prelude.{◌≡◌, ◌+◌, ◌<◌, ◌≤◌, ◌^
 ghost use Rattle.bits.specs.Fitting.{Fits};
 ghost use Rattle.bits.specs.Layout.{Gives, kind, read};
 ghost use Rattle.bits.specs.Writing.{size, taken};
-ghost use Rattle.packets.specs.Layouts.{gradients as gradients_layout, gradients_telling};
+ghost use Rattle.packets.specs.Layouts.{gradients as gradients_layout, gradients_description};
 ghost use Rattle.packets.specs.Packets.{as_packet, as_gradients};
 ghost use Rattle.packets.specs.declared.packet.Packet.TheVariants as packets;
 
@@ -90,16 +90,16 @@ pub struct Gradients {
     pub gradients: ArrayVec<Gradient, 32>,
 }
 
-/// Reads packet 21 behind its number, into the place of another packet; answers its L_PACKET, in bits. The error is the
+/// Reads packet 21 after its number, into the place of another packet; answers its L_PACKET, in bits. The error is the
 /// first fault in the order of the bits.
-#[tactic(auto, unfolding(crate::specs::Layouts::gradients_telling))]
+#[tactic(auto, unfolding(crate::specs::Layouts::gradients_description))]
 pub fn read_gradients<'a>(
     reader: &mut BitReader<'a>,
     out: &mut Packet<'a>,
 ) -> Result<PacketLength, PacketFault>
-    ensures { Gives (λ told. (told, out.new)) result reader.new (read (kind (as_packet packets.Gradients) as_gradients gradients_layout) reader.old) }
+    ensures { Gives (λ reported. (reported, out.new)) result reader.new (read (kind (as_packet packets.Gradients) as_gradients gradients_layout) reader.old) }
 {
-    let (direction, told, scale) = ok!(read_head(reader));
+    let (direction, reported, scale) = ok!(read_head(reader));
     *out = Packet::Gradients(Gradients {
         direction,
         scale,
@@ -109,35 +109,35 @@ pub fn read_gradients<'a>(
         return Err(PacketFault::OutOfRange);
     };
     ok!(read_from_first(reader, gradients));
-    Ok(told)
+    Ok(reported)
 }
 
 impl Gradients {
     /// The number of bits, those of NID_PACKET included.
-    #[tactic(auto, unfolding(crate::specs::Layouts::gradients_telling))]
+    #[tactic(auto, unfolding(crate::specs::Layouts::gradients_description))]
     pub(crate) fn bits(&self) -> u64
-        ensures value { result ≡ 8 + size (gradients_telling (λ _. 0)) self.now }
+        ensures value { result ≡ 8 + size (gradients_description (λ _. 0)) self.now }
         ensures bound { result < 2 ^ 13 }
     {
         25 + from_first_bits(self.gradients.as_slice())
     }
 
     /// Whether it is as its layout wants it, but for its L_PACKET.
-    #[tactic(auto, unfolding(crate::specs::Layouts::gradients_telling))]
+    #[tactic(auto, unfolding(crate::specs::Layouts::gradients_description))]
     pub(crate) fn fits(&self) -> bool
-        ensures { IsTrue result ↔ Fits (gradients_telling (λ _. 0)) self.now }
+        ensures { IsTrue result ↔ Fits (gradients_description (λ _. 0)) self.now }
     {
         head_fits(&self.direction, &self.scale) && from_first_fits(self.gradients.as_slice())
     }
 
-    /// Hands the fields behind NID_PACKET to a sink, with its L_PACKET.
-    #[tactic(auto, unfolding(crate::specs::Layouts::gradients_telling))]
-    pub(crate) fn fields<S: FieldSink>(&self, told: u64, sink: &mut S) -> Result<(), S::Error>
-        requires told { told < 2 ^ 13 }
-        requires room { S.held sink.old + size (gradients_telling (λ _. 0)) self.now ≤ S.most }
-        ensures { OnOk result (S.seen sink.new ≡ taken S.took (gradients_telling (λ _. told)) self.now (S.seen sink.old)) }
+    /// Hands the fields after NID_PACKET to a sink, with its L_PACKET.
+    #[tactic(auto, unfolding(crate::specs::Layouts::gradients_description))]
+    pub(crate) fn fields<S: FieldSink>(&self, reported: u64, sink: &mut S) -> Result<(), S::Error>
+        requires reported { reported < 2 ^ 13 }
+        requires room { S.held sink.old + size (gradients_description (λ _. 0)) self.now ≤ S.most }
+        ensures { OnOk result (S.seen sink.new ≡ taken S.took (gradients_description (λ _. reported)) self.now (S.seen sink.old)) }
     {
-        ok!(put_head(sink, &self.direction, told, &self.scale));
+        ok!(put_head(sink, &self.direction, reported, &self.scale));
         from_first(self.gradients.as_slice(), sink)
     }
 }

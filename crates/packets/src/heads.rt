@@ -17,9 +17,9 @@ pub(crate) fn read_head(
     ensures { Gives (λ head. head) result reader.new (head_read reader.old) }
 {
     let direction = ok!(field(reader));
-    let told = ok!(field(reader));
+    let reported = ok!(field(reader));
     let scale = ok!(field(reader));
-    Ok((direction, told, scale))
+    Ok((direction, reported, scale))
 }
 
 /// Hands a head with its L_PACKET to a sink.
@@ -27,16 +27,16 @@ pub(crate) fn read_head(
 pub(crate) fn put_head<S: FieldSink>(
     sink: &mut S,
     direction: &ValidityDirection,
-    told: u64,
+    reported: u64,
     scale: &Scale,
 ) -> Result<(), S::Error>
-    requires told { told < 2 ^ 13 }
+    requires reported { reported < 2 ^ 13 }
     requires room { S.held sink.old + 17 ≤ S.most }
-    ensures value { OnOk result (S.seen sink.new ≡ head_taken S.took direction.now told scale.now (S.seen sink.old)) }
+    ensures value { OnOk result (S.seen sink.new ≡ head_taken S.took direction.now reported scale.now (S.seen sink.old)) }
     ensures held { OnOk result (S.held sink.new ≤ S.held sink.old + 17) }
 {
     ok!(put(sink, VariableName::QDir, direction));
-    ok!(sink.field(VariableName::LPacket, 13, told));
+    ok!(sink.field(VariableName::LPacket, 13, reported));
     put(sink, VariableName::QScale, scale)
 }
 

@@ -10,5 +10,5 @@ use crate::sink::FieldSink;
 /// name of each variable, the number of its bits and the number that they spell.
 #[tactic(auto, using(crate::proofs::PacketShown::packet_is_shown))]
 pub fn sinks_take_packet_fields<S: FieldSink>()
-    ensures { (told : ℕ) (p : Packet) (s : S.Seen) → packet_taken S.took told p s ≡ each_field S.took (packet_shown told p) s }
+    ensures { (reported : ℕ) (p : Packet) (s : S.Seen) → packet_taken S.took reported p s ≡ each_field S.took (packet_shown reported p) s }
 {}

@@ -4,7 +4,7 @@ ghost use Rattle.bits.specs.Fitting.{Fits};
 ghost use Rattle.bits.specs.Layout.{Gives, kind, read};
 ghost use Rattle.bits.specs.Writing.{size, taken};
 ghost use Rattle.packets.specs.Elements.{has_stm as has_stm_of};
-ghost use Rattle.packets.specs.Layouts.{level_transition, level_transition_telling};
+ghost use Rattle.packets.specs.Layouts.{level_transition, level_transition_description};
 ghost use Rattle.packets.specs.Packets.{as_packet, as_level_transition};
 ghost use Rattle.packets.specs.declared.packet.Packet.TheVariants as packets;
 
@@ -137,16 +137,16 @@ pub struct LevelTransition {
     pub orders: ArrayVec<LevelOrder, 32>,
 }
 
-/// Reads packet 41 behind its number, into the place of another packet; answers its L_PACKET, in bits. The error is the
+/// Reads packet 41 after its number, into the place of another packet; answers its L_PACKET, in bits. The error is the
 /// first fault in the order of the bits.
-#[tactic(auto, unfolding(crate::specs::Layouts::level_transition_telling))]
+#[tactic(auto, unfolding(crate::specs::Layouts::level_transition_description))]
 pub fn read_level_transition<'a>(
     reader: &mut BitReader<'a>,
     out: &mut Packet<'a>,
 ) -> Result<PacketLength, PacketFault>
-    ensures { Gives (λ told. (told, out.new)) result reader.new (read (kind (as_packet packets.LevelTransition) as_level_transition level_transition) reader.old) }
+    ensures { Gives (λ reported. (reported, out.new)) result reader.new (read (kind (as_packet packets.LevelTransition) as_level_transition level_transition) reader.old) }
 {
-    let (direction, told, scale) = ok!(read_head(reader));
+    let (direction, reported, scale) = ok!(read_head(reader));
     let start = ok!(field(reader));
     *out = Packet::LevelTransition(LevelTransition {
         direction,
@@ -158,37 +158,37 @@ pub fn read_level_transition<'a>(
         return Err(PacketFault::OutOfRange);
     };
     ok!(read_from_first(reader, orders));
-    Ok(told)
+    Ok(reported)
 }
 
 impl LevelTransition {
     /// The number of bits, those of NID_PACKET included.
-    #[tactic(auto, unfolding(crate::specs::Layouts::level_transition_telling))]
+    #[tactic(auto, unfolding(crate::specs::Layouts::level_transition_description))]
     pub(crate) fn bits(&self) -> u64
-        ensures value { result ≡ 8 + size (level_transition_telling (λ _. 0)) self.now }
+        ensures value { result ≡ 8 + size (level_transition_description (λ _. 0)) self.now }
         ensures bound { result < 2 ^ 13 }
     {
         40 + from_first_bits(self.orders.as_slice())
     }
 
     /// Whether it is as its layout wants it, but for its L_PACKET.
-    #[tactic(auto, unfolding(crate::specs::Layouts::level_transition_telling))]
+    #[tactic(auto, unfolding(crate::specs::Layouts::level_transition_description))]
     pub(crate) fn fits(&self) -> bool
-        ensures { IsTrue result ↔ Fits (level_transition_telling (λ _. 0)) self.now }
+        ensures { IsTrue result ↔ Fits (level_transition_description (λ _. 0)) self.now }
     {
         head_fits(&self.direction, &self.scale)
             && has_number(&self.start)
             && from_first_fits(self.orders.as_slice())
     }
 
-    /// Hands the fields behind NID_PACKET to a sink, with its L_PACKET.
-    #[tactic(auto, unfolding(crate::specs::Layouts::level_transition_telling))]
-    pub(crate) fn fields<S: FieldSink>(&self, told: u64, sink: &mut S) -> Result<(), S::Error>
-        requires told { told < 2 ^ 13 }
-        requires room { S.held sink.old + size (level_transition_telling (λ _. 0)) self.now ≤ S.most }
-        ensures { OnOk result (S.seen sink.new ≡ taken S.took (level_transition_telling (λ _. told)) self.now (S.seen sink.old)) }
+    /// Hands the fields after NID_PACKET to a sink, with its L_PACKET.
+    #[tactic(auto, unfolding(crate::specs::Layouts::level_transition_description))]
+    pub(crate) fn fields<S: FieldSink>(&self, reported: u64, sink: &mut S) -> Result<(), S::Error>
+        requires reported { reported < 2 ^ 13 }
+        requires room { S.held sink.old + size (level_transition_description (λ _. 0)) self.now ≤ S.most }
+        ensures { OnOk result (S.seen sink.new ≡ taken S.took (level_transition_description (λ _. reported)) self.now (S.seen sink.old)) }
     {
-        ok!(put_head(sink, &self.direction, told, &self.scale));
+        ok!(put_head(sink, &self.direction, reported, &self.scale));
         ok!(put(sink, VariableName::DLeveltr, &self.start));
         from_first(self.orders.as_slice(), sink)
     }

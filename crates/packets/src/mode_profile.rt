@@ -3,7 +3,7 @@ ghost use Rattle.std.specs.Prelude.{◌≡◌, ◌+◌, ◌<◌, ◌≤◌, ◌^
 ghost use Rattle.bits.specs.Fitting.{Fits};
 ghost use Rattle.bits.specs.Layout.{Gives, kind, read};
 ghost use Rattle.bits.specs.Writing.{size, taken};
-ghost use Rattle.packets.specs.Layouts.{mode_profile, mode_profile_telling};
+ghost use Rattle.packets.specs.Layouts.{mode_profile, mode_profile_description};
 ghost use Rattle.packets.specs.Packets.{as_packet, as_mode_profile};
 ghost use Rattle.packets.specs.declared.packet.Packet.TheVariants as packets;
 
@@ -107,16 +107,16 @@ pub struct ModeProfile {
     pub areas: ArrayVec<ModeArea, 32>,
 }
 
-/// Reads packet 80 behind its number, into the place of another packet; answers its L_PACKET, in bits. The error is the
+/// Reads packet 80 after its number, into the place of another packet; answers its L_PACKET, in bits. The error is the
 /// first fault in the order of the bits.
-#[tactic(auto, unfolding(crate::specs::Layouts::mode_profile_telling))]
+#[tactic(auto, unfolding(crate::specs::Layouts::mode_profile_description))]
 pub fn read_mode_profile<'a>(
     reader: &mut BitReader<'a>,
     out: &mut Packet<'a>,
 ) -> Result<PacketLength, PacketFault>
-    ensures { Gives (λ told. (told, out.new)) result reader.new (read (kind (as_packet packets.ModeProfile) as_mode_profile mode_profile) reader.old) }
+    ensures { Gives (λ reported. (reported, out.new)) result reader.new (read (kind (as_packet packets.ModeProfile) as_mode_profile mode_profile) reader.old) }
 {
-    let (direction, told, scale) = ok!(read_head(reader));
+    let (direction, reported, scale) = ok!(read_head(reader));
     *out = Packet::ModeProfile(ModeProfile {
         direction,
         scale,
@@ -126,35 +126,35 @@ pub fn read_mode_profile<'a>(
         return Err(PacketFault::OutOfRange);
     };
     ok!(read_from_first(reader, areas));
-    Ok(told)
+    Ok(reported)
 }
 
 impl ModeProfile {
     /// The number of bits, those of NID_PACKET included.
-    #[tactic(auto, unfolding(crate::specs::Layouts::mode_profile_telling))]
+    #[tactic(auto, unfolding(crate::specs::Layouts::mode_profile_description))]
     pub(crate) fn bits(&self) -> u64
-        ensures value { result ≡ 8 + size (mode_profile_telling (λ _. 0)) self.now }
+        ensures value { result ≡ 8 + size (mode_profile_description (λ _. 0)) self.now }
         ensures bound { result < 2 ^ 13 }
     {
         25 + from_first_bits(self.areas.as_slice())
     }
 
     /// Whether it is as its layout wants it, but for its L_PACKET.
-    #[tactic(auto, unfolding(crate::specs::Layouts::mode_profile_telling))]
+    #[tactic(auto, unfolding(crate::specs::Layouts::mode_profile_description))]
     pub(crate) fn fits(&self) -> bool
-        ensures { IsTrue result ↔ Fits (mode_profile_telling (λ _. 0)) self.now }
+        ensures { IsTrue result ↔ Fits (mode_profile_description (λ _. 0)) self.now }
     {
         head_fits(&self.direction, &self.scale) && from_first_fits(self.areas.as_slice())
     }
 
-    /// Hands the fields behind NID_PACKET to a sink, with its L_PACKET.
-    #[tactic(auto, unfolding(crate::specs::Layouts::mode_profile_telling))]
-    pub(crate) fn fields<S: FieldSink>(&self, told: u64, sink: &mut S) -> Result<(), S::Error>
-        requires told { told < 2 ^ 13 }
-        requires room { S.held sink.old + size (mode_profile_telling (λ _. 0)) self.now ≤ S.most }
-        ensures { OnOk result (S.seen sink.new ≡ taken S.took (mode_profile_telling (λ _. told)) self.now (S.seen sink.old)) }
+    /// Hands the fields after NID_PACKET to a sink, with its L_PACKET.
+    #[tactic(auto, unfolding(crate::specs::Layouts::mode_profile_description))]
+    pub(crate) fn fields<S: FieldSink>(&self, reported: u64, sink: &mut S) -> Result<(), S::Error>
+        requires reported { reported < 2 ^ 13 }
+        requires room { S.held sink.old + size (mode_profile_description (λ _. 0)) self.now ≤ S.most }
+        ensures { OnOk result (S.seen sink.new ≡ taken S.took (mode_profile_description (λ _. reported)) self.now (S.seen sink.old)) }
     {
-        ok!(put_head(sink, &self.direction, told, &self.scale));
+        ok!(put_head(sink, &self.direction, reported, &self.scale));
         from_first(self.areas.as_slice(), sink)
     }
 }

@@ -3,7 +3,7 @@ ghost use Rattle.std.specs.Prelude.{◌≡◌, ◌+◌, ◌<◌, ◌≤◌, ◌^
 ghost use Rattle.bits.specs.Fitting.{Fits};
 ghost use Rattle.bits.specs.Layout.{Gives, kind, read};
 ghost use Rattle.bits.specs.Writing.{size, taken};
-ghost use Rattle.packets.specs.Layouts.{national_values, national_values_telling};
+ghost use Rattle.packets.specs.Layouts.{national_values, national_values_description};
 ghost use Rattle.packets.specs.Packets.{as_packet, as_national_values};
 ghost use Rattle.packets.specs.declared.packet.Packet.TheVariants as packets;
 
@@ -61,7 +61,7 @@ pub struct NationalValues {
     pub scale: Scale,
     /// D_VALIDNV.
     pub start: StartPlace,
-    /// The countries beside that of the group, at most 31.
+    /// The countries besides that of the group, at most 31.
     pub countries: ArrayVec<Country, 31>,
     /// V_NVSHUNT.
     pub shunting: SpeedStep,
@@ -87,16 +87,16 @@ pub struct NationalValues {
     pub staff_responsible_distance: OpenLength,
 }
 
-/// Reads packet 3 behind its number, into the place of another packet; answers its L_PACKET, in bits. The error is the
+/// Reads packet 3 after its number, into the place of another packet; answers its L_PACKET, in bits. The error is the
 /// first fault in the order of the bits.
-#[tactic(auto, unfolding(crate::specs::Layouts::national_values_telling))]
+#[tactic(auto, unfolding(crate::specs::Layouts::national_values_description))]
 pub fn read_national_values<'a>(
     reader: &mut BitReader<'a>,
     out: &mut Packet<'a>,
 ) -> Result<PacketLength, PacketFault>
-    ensures { Gives (λ told. (told, out.new)) result reader.new (read (kind (as_packet packets.NationalValues) as_national_values national_values) reader.old) }
+    ensures { Gives (λ reported. (reported, out.new)) result reader.new (read (kind (as_packet packets.NationalValues) as_national_values national_values) reader.old) }
 {
-    let (direction, told, scale) = ok!(read_head(reader));
+    let (direction, reported, scale) = ok!(read_head(reader));
     let start = ok!(field(reader));
     let count: Iterations = ok!(field(reader));
     let mut countries: ArrayVec<Country, 31> = ArrayVec::new();
@@ -122,23 +122,23 @@ pub fn read_national_values<'a>(
         override_time: changed.time,
         staff_responsible_distance,
     });
-    Ok(told)
+    Ok(reported)
 }
 
 impl NationalValues {
     /// The number of bits, those of NID_PACKET included.
-    #[tactic(auto, unfolding(crate::specs::Layouts::national_values_telling, crate::specs::Layouts::mode_speeds, crate::specs::Layouts::override_values))]
+    #[tactic(auto, unfolding(crate::specs::Layouts::national_values_description, crate::specs::Layouts::mode_speeds, crate::specs::Layouts::override_values))]
     pub(crate) fn bits(&self) -> u64
-        ensures value { result ≡ 8 + size (national_values_telling (λ _. 0)) self.now }
+        ensures value { result ≡ 8 + size (national_values_description (λ _. 0)) self.now }
         ensures bound { result < 2 ^ 13 }
     {
         147 + bits_of_all(self.countries.as_slice())
     }
 
     /// Whether it is as its layout wants it, but for its L_PACKET.
-    #[tactic(auto, unfolding(crate::specs::Layouts::national_values_telling, crate::specs::Layouts::mode_speeds, crate::specs::Layouts::override_values), using(vars::proofs::Numbers::n_iter_has))]
+    #[tactic(auto, unfolding(crate::specs::Layouts::national_values_description, crate::specs::Layouts::mode_speeds, crate::specs::Layouts::override_values), using(vars::proofs::Numbers::n_iter_has))]
     pub(crate) fn fits(&self) -> bool
-        ensures { IsTrue result ↔ Fits (national_values_telling (λ _. 0)) self.now }
+        ensures { IsTrue result ↔ Fits (national_values_description (λ _. 0)) self.now }
     {
         head_fits(&self.direction, &self.scale)
             && has_number(&self.start)
@@ -149,14 +149,14 @@ impl NationalValues {
             && has_number(&self.staff_responsible_distance)
     }
 
-    /// Hands the fields behind NID_PACKET to a sink, with its L_PACKET.
-    #[tactic(auto, unfolding(crate::specs::Layouts::national_values_telling, crate::specs::Layouts::mode_speeds, crate::specs::Layouts::override_values))]
-    pub(crate) fn fields<S: FieldSink>(&self, told: u64, sink: &mut S) -> Result<(), S::Error>
-        requires told { told < 2 ^ 13 }
-        requires room { S.held sink.old + size (national_values_telling (λ _. 0)) self.now ≤ S.most }
-        ensures { OnOk result (S.seen sink.new ≡ taken S.took (national_values_telling (λ _. told)) self.now (S.seen sink.old)) }
+    /// Hands the fields after NID_PACKET to a sink, with its L_PACKET.
+    #[tactic(auto, unfolding(crate::specs::Layouts::national_values_description, crate::specs::Layouts::mode_speeds, crate::specs::Layouts::override_values))]
+    pub(crate) fn fields<S: FieldSink>(&self, reported: u64, sink: &mut S) -> Result<(), S::Error>
+        requires reported { reported < 2 ^ 13 }
+        requires room { S.held sink.old + size (national_values_description (λ _. 0)) self.now ≤ S.most }
+        ensures { OnOk result (S.seen sink.new ≡ taken S.took (national_values_description (λ _. reported)) self.now (S.seen sink.old)) }
     {
-        ok!(put_head(sink, &self.direction, told, &self.scale));
+        ok!(put_head(sink, &self.direction, reported, &self.scale));
         ok!(put(sink, VariableName::DValidnv, &self.start));
         ok!(sink.field(VariableName::NIter, 5, self.countries.len() as u64));
         ok!(all(&self.countries, sink));

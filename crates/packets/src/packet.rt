@@ -3,7 +3,7 @@ ghost use Rattle.std.specs.Prelude.{◌≡◌, ◌↔◌, ◌+◌, ◌<◌, ◌�
 ghost use Rattle.bits.specs.Fitting.{HasNumber};
 ghost use Rattle.bits.specs.Layout.{Spells};
 ghost use Rattle.bits.specs.Writing.{size, taken};
-ghost use Rattle.packets.specs.Layouts.{skipped_telling};
+ghost use Rattle.packets.specs.Layouts.{skipped_description};
 ghost use Rattle.packets.specs.Packets.{length_of, packet_taken};
 ghost use Rattle.packets.specs.Spelling.{IsSkipped, PacketFits};
 ghost use Rattle.vars.specs.Variables.{nid_packet, untested_direction};
@@ -62,7 +62,7 @@ pub enum Packet<'a> {
 const MOST_BITS: u64 = 8191;
 
 /// The L_PACKET of a length: of one that it can't hold its lowest bits.
-fn told_length(length: u64) -> u64
+fn reported_length(length: u64) -> u64
     ensures bound { result < 2 ^ 13 }
     ensures same { length < 2 ^ 13 → result ≡ length }
 {
@@ -89,23 +89,23 @@ impl<'a> Other<'a> {
     }
 
     /// The number of bits, those of NID_PACKET included.
-    #[tactic(auto, unfolding(crate::specs::Layouts::skipped_telling))]
+    #[tactic(auto, unfolding(crate::specs::Layouts::skipped_description))]
     fn bits(&self) -> u64
-        ensures value { result ≡ 8 + size (skipped_telling self.now.number (λ _. 0)) self.now }
+        ensures value { result ≡ 8 + size (skipped_description self.now.number (λ _. 0)) self.now }
         ensures bound { result < 2 ^ 33 }
     {
         23 + u64::from(self.body.len())
     }
 
-    /// Hands the fields behind NID_PACKET to a sink, with its L_PACKET.
-    #[tactic(auto, unfolding(crate::specs::Layouts::skipped_telling))]
-    fn fields<S: FieldSink>(&self, told: u64, sink: &mut S) -> Result<(), S::Error>
-        requires told { told < 2 ^ 13 }
-        requires room { S.held sink.old + size (skipped_telling self.now.number (λ _. 0)) self.now ≤ S.most }
-        ensures { OnOk result (S.seen sink.new ≡ taken S.took (skipped_telling self.now.number (λ _. told)) self.now (S.seen sink.old)) }
+    /// Hands the fields after NID_PACKET to a sink, with its L_PACKET.
+    #[tactic(auto, unfolding(crate::specs::Layouts::skipped_description))]
+    fn fields<S: FieldSink>(&self, reported: u64, sink: &mut S) -> Result<(), S::Error>
+        requires reported { reported < 2 ^ 13 }
+        requires room { S.held sink.old + size (skipped_description self.now.number (λ _. 0)) self.now ≤ S.most }
+        ensures { OnOk result (S.seen sink.new ≡ taken S.took (skipped_description self.now.number (λ _. reported)) self.now (S.seen sink.old)) }
     {
         ok!(put(sink, VariableName::QDir, &self.direction));
-        ok!(sink.field(VariableName::LPacket, 13, told));
+        ok!(sink.field(VariableName::LPacket, 13, reported));
         sink.run(&self.body)
     }
 }
@@ -190,27 +190,27 @@ impl<'a> Packet<'a> {
         self.bits() <= MOST_BITS && self.fits()
     }
 
-    /// Hands the fields behind NID_PACKET to a sink, with its L_PACKET.
-    fn fields_telling<S: FieldSink>(&self, told: u64, sink: &mut S) -> Result<(), S::Error>
-        requires told { told < 2 ^ 13 }
+    /// Hands the fields after NID_PACKET to a sink, with its L_PACKET.
+    fn fields_description<S: FieldSink>(&self, reported: u64, sink: &mut S) -> Result<(), S::Error>
+        requires reported { reported < 2 ^ 13 }
         requires room { S.held sink.old + length_of self.now ≤ S.most + 8 }
-        ensures { OnOk result (S.seen sink.new ≡ packet_taken S.took told self.now (S.seen sink.old)) }
+        ensures { OnOk result (S.seen sink.new ≡ packet_taken S.took reported self.now (S.seen sink.old)) }
     {
         match self {
-            Packet::NationalValues(packet) => packet.fields(told, sink),
-            Packet::Linking(packet) => packet.fields(told, sink),
-            Packet::MovementAuthority(packet) => packet.fields(told, sink),
-            Packet::Gradients(packet) => packet.fields(told, sink),
-            Packet::StaticSpeeds(packet) => packet.fields(told, sink),
-            Packet::LevelTransition(packet) => packet.fields(told, sink),
-            Packet::SpeedRestriction(packet) => packet.fields(told, sink),
-            Packet::RestrictionRevocation(packet) => packet.fields(told, sink),
-            Packet::ModeProfile(packet) => packet.fields(told, sink),
-            Packet::Other(packet) => packet.fields(told, sink),
+            Packet::NationalValues(packet) => packet.fields(reported, sink),
+            Packet::Linking(packet) => packet.fields(reported, sink),
+            Packet::MovementAuthority(packet) => packet.fields(reported, sink),
+            Packet::Gradients(packet) => packet.fields(reported, sink),
+            Packet::StaticSpeeds(packet) => packet.fields(reported, sink),
+            Packet::LevelTransition(packet) => packet.fields(reported, sink),
+            Packet::SpeedRestriction(packet) => packet.fields(reported, sink),
+            Packet::RestrictionRevocation(packet) => packet.fields(reported, sink),
+            Packet::ModeProfile(packet) => packet.fields(reported, sink),
+            Packet::Other(packet) => packet.fields(reported, sink),
         }
     }
 
-    /// Hands the fields behind NID_PACKET to the sink, and then the bits that are skipped; stops with the sink's error
+    /// Hands the fields after NID_PACKET to the sink, and then the bits that are skipped; stops with the sink's error
     /// where it takes no more. The caller owes the packet's own length in bits (`length`), and room in the sink. Where
     /// L_PACKET can't hold the length, the packet has no spelling, and nothing is said of what the sink takes.
     pub fn fields<S: FieldSink>(&self, length: u64, sink: &mut S) -> Result<(), S::Error>
@@ -218,7 +218,7 @@ impl<'a> Packet<'a> {
         requires room { S.held sink.old + length ≤ S.most + 8 }
         ensures { length < 2 ^ 13 → OnOk result (S.seen sink.new ≡ packet_taken S.took length self.now (S.seen sink.old)) }
     {
-        self.fields_telling(told_length(length), sink)
+        self.fields_description(reported_length(length), sink)
     }
 }
 

@@ -32,7 +32,7 @@ pub trait FieldSink {
         ensures value { OnOk result (seen self.new ≡ took (seen self.old) (named name width number)) }
         ensures held { OnOk result (held self.new ≤ held self.old + width) };
 
-    /// Takes the bits behind the fields as they are.
+    /// Takes the bits after the fields as they are.
     fn run(&mut self, bits: &Run<'_>) -> Result<(), Self::Error>
         requires room { held self.old + length bits.now ≤ most }
         ensures value { OnOk result (seen self.new ≡ took (seen self.old) (raw bits.now)) }

@@ -2,7 +2,7 @@
 ghost use Rattle.std.specs.Prelude.{◌≡◌, ◌+◌, ◌≤◌, ◌<◌, ◌^◌, length, min, OnOk, ◌↔◌, IsTrue};
 ghost use Rattle.bits.specs.Sums.{total};
 ghost use Rattle.bits.specs.Writing.{size, taken};
-ghost use Rattle.packets.specs.Layouts.{static_speeds_telling};
+ghost use Rattle.packets.specs.Layouts.{static_speeds_description};
 ghost use Rattle.packets.specs.StaticSteps.{StepFits, SpeedsFit};
 ghost use Rattle.std.specs.List.{AllByRecursion as Each};
 
@@ -81,7 +81,7 @@ pub struct StaticStep {
     pub speed: StaticSpeed,
     /// Q_FRONT.
     pub delay: TrainLengthDelay,
-    /// N_ITER: how many of the packet's differences are its own, behind those of the elements before it.
+    /// N_ITER: how many of the packet's differences are its own, after those of the elements before it.
     pub differences: Iterations,
 }
 
@@ -185,7 +185,7 @@ impl StaticSpeeds {
 
     /// The number of bits, those of NID_PACKET included.
     pub(crate) fn bits(&self) -> u64
-        ensures value { result ≡ 8 + size (static_speeds_telling (λ _. 0)) self.now }
+        ensures value { result ≡ 8 + size (static_speeds_description (λ _. 0)) self.now }
         ensures bound { result < 2 ^ 13 }
     {
         let steps = self.steps.as_slice();
@@ -193,14 +193,14 @@ impl StaticSpeeds {
             + 11 * owned_differences(steps, self.differences.len())
     }
 
-    /// Hands the fields behind NID_PACKET to a sink, with its L_PACKET.
+    /// Hands the fields after NID_PACKET to a sink, with its L_PACKET.
     #[tactic(auto, using(crate::proofs::StaticSteps::speeds_size))]
-    pub(crate) fn fields<S: FieldSink>(&self, told: u64, sink: &mut S) -> Result<(), S::Error>
-        requires told { told < 2 ^ 13 }
-        requires room { S.held sink.old + size (static_speeds_telling (λ _. 0)) self.now ≤ S.most }
-        ensures { OnOk result (S.seen sink.new ≡ taken S.took (static_speeds_telling (λ _. told)) self.now (S.seen sink.old)) }
+    pub(crate) fn fields<S: FieldSink>(&self, reported: u64, sink: &mut S) -> Result<(), S::Error>
+        requires reported { reported < 2 ^ 13 }
+        requires room { S.held sink.old + size (static_speeds_description (λ _. 0)) self.now ≤ S.most }
+        ensures { OnOk result (S.seen sink.new ≡ taken S.took (static_speeds_description (λ _. reported)) self.now (S.seen sink.old)) }
     {
-        ok!(put_head(sink, &self.direction, told, &self.scale));
+        ok!(put_head(sink, &self.direction, reported, &self.scale));
         ok!(profile_fields(self.steps.as_slice(), self.differences.as_slice(), sink));
         Ok(())
     }

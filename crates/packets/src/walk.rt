@@ -22,7 +22,7 @@ pub(crate) fn bits_of_all<T: Element>(elements: &[T]) -> u64
     total
 }
 
-/// The bits of a list of at least one element, with N_ITER behind the first.
+/// The bits of a list of at least one element, with N_ITER after the first.
 #[tactic(auto, using(bits::proofs::WritingLaws::first_and_others))]
 pub(crate) fn from_first_bits<T: Element>(elements: &[T]) -> u64
     requires { length elements.now ≤ 32 }

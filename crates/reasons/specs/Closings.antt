@@ -12,7 +12,7 @@ use Rattle.mode_table.specs.declared.mode.Mode.{Mode}
 use Rattle.mode_table.specs.declared.mode.Mode.TheVariants.{StandBy}
 use Rattle.track_picture.specs.declared.closings.Closing.{Closing}
 use Rattle.track_picture.specs.Closings.{all_of}
-use Rattle.reasons.specs.declared.closings.GroupsTold.{GroupsTold}
+use Rattle.reasons.specs.declared.closings.GroupsReport.{GroupsReport}
 
 -- the mode before an event of a life; a power-up closes no group, and its life begins in Stand By
 abbrev pub mode_before : Past → Event → Mode
@@ -34,10 +34,10 @@ judged_in story = mode_from story.kept story.events
 abbrev pub closings_of : Story → List Closing
 closings_of story = closings_from story.kept story.events
 
--- what is told of groups
-pub record AreTold (mode : Mode) (closings : List Closing) (told : GroupsTold) : Type 0 where
-  pub mode_is : told.mode ≡ mode
-  pub closings_are : all_of told.closings ≡ closings
+-- what is reported of groups
+pub record AreReported (mode : Mode) (closings : List Closing) (reported : GroupsReport) : Type 0 where
+  pub mode_is : reported.mode ≡ mode
+  pub closings_are : all_of reported.closings ≡ closings
 
-abbrev pub AreGroups : Story → GroupsTold → Type 0
-AreGroups story told = AreTold (judged_in story) (closings_of story) told
+abbrev pub AreGroups : Story → GroupsReport → Type 0
+AreGroups story reported = AreReported (judged_in story) (closings_of story) reported

@@ -18,11 +18,11 @@ use Rattle.vars.specs.declared.linking.LinkOrientation.{LinkOrientation}
 use Rattle.vars.specs.declared.linking.LinkOrientation.TheVariants as orientation
 use Rattle.reasons.specs.declared.group_words.GroupKind.{GroupKind}
 use Rattle.reasons.specs.declared.group_words.GroupKind.TheVariants as kind
-use Rattle.reasons.specs.declared.group_words.GroupTold.{GroupTold}
+use Rattle.reasons.specs.declared.group_words.GroupReport.{GroupReport}
 
 -- ---- a whole group, by the announcement that is meant, if there is one, and what linking asks for because of it
 
-abbrev pub whole_as : Message → GroupKind → Option LinkOrientation → Option Announcement → LinkReaction → GroupTold
+abbrev pub whole_as : Message → GroupKind → Option LinkOrientation → Option Announcement → LinkReaction → GroupReport
 whole_as message what direction announced asks_for = record {
   kind = what;
   group = message.group;
@@ -38,12 +38,12 @@ accepted_kind linked None = if linked then kind.LinkingUnused else kind.NotLinke
 
 -- the direction of an accepted group is that by which its packets are valid; the wrong direction asks for a trip
 -- (3.16.2.3)
-abbrev pub whole_told : Message → MessageOutcome → GroupTold
-whole_told message (outcome.Accepted announced) =
+abbrev pub whole_reported : Message → MessageOutcome → GroupReport
+whole_reported message (outcome.Accepted announced) =
     whole_as message (accepted_kind message.linked announced) (direction_of message announced) announced reaction.NoReaction
-whole_told message outcome.NotAnnounced = whole_as message kind.NotAnnounced message.direction None reaction.NoReaction
-whole_told message (outcome.WrongWay a) = whole_as message kind.WrongWay message.direction (Some a) reaction.Trip
-whole_told message (outcome.TooEarly a) = whole_as message kind.TooEarly message.direction (Some a) a.reaction
+whole_reported message outcome.NotAnnounced = whole_as message kind.NotAnnounced message.direction None reaction.NoReaction
+whole_reported message (outcome.WrongWay a) = whole_as message kind.WrongWay message.direction (Some a) reaction.Trip
+whole_reported message (outcome.TooEarly a) = whole_as message kind.TooEarly message.direction (Some a) a.reaction
 
 -- ---- a broken group: one that isn't linked asks for the service brake, an announced one for its own reaction (3.16.2)
 
@@ -56,8 +56,8 @@ abbrev pub broken_reaction : Bool → Option Announcement → LinkReaction
 broken_reaction linked announced =
     if linked then option_map_or (λ a. a.reaction) announced reaction.NoReaction else reaction.ServiceBrake
 
-abbrev pub broken_told : Broken → Option Announcement → GroupTold
-broken_told b announced = record {
+abbrev pub broken_reported : Broken → Option Announcement → GroupReport
+broken_reported b announced = record {
   kind = broken_kind b.cause;
   group = b.group;
   direction = None;
@@ -65,9 +65,9 @@ broken_told b announced = record {
   reaction = broken_reaction b.linked announced;
 }
 
-abbrev pub group_told : Closing → GroupTold
-group_told (closing.Whole message outcome) = whole_told message outcome
-group_told (closing.Broken b announced) = broken_told b announced
+abbrev pub group_reported : Closing → GroupReport
+group_reported (closing.Whole message outcome) = whole_reported message outcome
+group_reported (closing.Broken b announced) = broken_reported b announced
 
 -- ---- the words: as JSON has it, in a sentence, and the section of SUBSET-026
 

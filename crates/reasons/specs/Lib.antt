@@ -1,6 +1,6 @@
 pub mod Runs
 pub mod Closings
-pub mod Told
+pub mod Reported
 pub mod Words
 pub mod LimitWords
 pub mod GroupWords

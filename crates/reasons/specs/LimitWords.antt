@@ -1,5 +1,5 @@
 -- What decides a limit, as a kind with its words, a place, a speed and a number (this project's profile; docs/explain/brakes.md
--- tells each kind at length). Places are centimetres, speeds metres per hour.
+-- reports each kind at length). Places are centimetres, speeds metres per hour.
 use Rattle.std.specs.Prelude.{ℕ, ℤ, Option, Some, None, List, codes}
 use Rattle.authority.specs.declared.answers.Release.{Release}
 use Rattle.authority.specs.declared.answers.Release.TheVariants as release
@@ -17,19 +17,19 @@ use Rattle.speed_supervision.specs.declared.cause.TargetKind.TheVariants as targ
 use Rattle.restriction.specs.declared.restriction.Restriction.{Restriction}
 use Rattle.reasons.specs.declared.limit_words.LimitKind.{LimitKind}
 use Rattle.reasons.specs.declared.limit_words.LimitKind.TheVariants as kind
-use Rattle.reasons.specs.declared.limit_words.LimitTold.{LimitTold}
+use Rattle.reasons.specs.declared.limit_words.LimitReport.{LimitReport}
 
-abbrev pub told_as : LimitKind → ℕ → Option ℤ → Option ℕ → LimitTold
-told_as what speed place number = record { kind = what; speed = speed; place = place; number = number }
+abbrev pub reported_as : LimitKind → ℕ → Option ℤ → Option ℕ → LimitReport
+reported_as what speed place number = record { kind = what; speed = speed; place = place; number = number }
 
-abbrev pub plain : LimitKind → ℕ → LimitTold
-plain what speed = told_as what speed None None
+abbrev pub plain : LimitKind → ℕ → LimitReport
+plain what speed = reported_as what speed None None
 
-abbrev pub placed : LimitKind → ℕ → ℤ → LimitTold
-placed what speed place = told_as what speed (Some place) None
+abbrev pub placed : LimitKind → ℕ → ℤ → LimitReport
+placed what speed place = reported_as what speed (Some place) None
 
-abbrev pub restriction_told : LimitKind → ℕ → ℤ → Restriction → LimitTold
-restriction_told what speed place restriction = told_as what speed (Some place) (Some restriction.number)
+abbrev pub restriction_reported : LimitKind → ℕ → ℤ → Restriction → LimitReport
+restriction_reported what speed place restriction = reported_as what speed (Some place) (Some restriction.number)
 
 abbrev pub national_kind : NationalValue → LimitKind
 national_kind national.StaffResponsible = kind.StaffResponsible
@@ -39,40 +39,40 @@ national_kind national.Unfitted = kind.Unfitted
 
 -- what lies over the train has the speed of the limit; its place is its first centimetre, of a static speed the first
 -- one that the train may cover
-abbrev pub over_told : ℕ → OverTrain → LimitTold
-over_told limit over.Maximum = plain kind.Maximum limit
-over_told limit over.Main = plain kind.Main limit
-over_told limit over.End = plain kind.End limit
-over_told limit (over.StaticSpeed place) = placed kind.StaticSpeed limit place
-over_told limit (over.Restriction it) = restriction_told kind.Restriction limit it.start it
-over_told limit (over.Area area) = placed kind.Area limit area.start
+abbrev pub over_reported : ℕ → OverTrain → LimitReport
+over_reported limit over.Maximum = plain kind.Maximum limit
+over_reported limit over.Main = plain kind.Main limit
+over_reported limit over.End = plain kind.End limit
+over_reported limit (over.StaticSpeed place) = placed kind.StaticSpeed limit place
+over_reported limit (over.Restriction it) = restriction_reported kind.Restriction limit it.start it
+over_reported limit (over.Area area) = placed kind.Area limit area.start
 
 -- what lies ahead has the speed that it asks for at its place
-abbrev pub target_told : ℤ → ℕ → TargetKind → LimitTold
-target_told place speed target.StaticSpeed = placed kind.StaticSpeedAhead speed place
-target_told place speed target.UnknownSpeed = placed kind.UnknownSpeedAhead speed place
-target_told place speed (target.Restriction it) = restriction_told kind.RestrictionAhead speed place it
-target_told place speed (target.Area area) = placed kind.AreaAhead speed place
-target_told place speed target.EndOfAuthority = placed kind.EndOfAuthority speed place
-target_told place speed target.SupervisedLocation = placed kind.SupervisedLocation speed place
+abbrev pub target_reported : ℤ → ℕ → TargetKind → LimitReport
+target_reported place speed target.StaticSpeed = placed kind.StaticSpeedAhead speed place
+target_reported place speed target.UnknownSpeed = placed kind.UnknownSpeedAhead speed place
+target_reported place speed (target.Restriction it) = restriction_reported kind.RestrictionAhead speed place it
+target_reported place speed (target.Area area) = placed kind.AreaAhead speed place
+target_reported place speed target.EndOfAuthority = placed kind.EndOfAuthority speed place
+target_reported place speed target.SupervisedLocation = placed kind.SupervisedLocation speed place
 
-abbrev pub ahead_told : TargetAhead → LimitTold
-ahead_told ahead = target_told ahead.target.place ahead.target.speed ahead.kind
+abbrev pub ahead_reported : TargetAhead → LimitReport
+ahead_reported ahead = target_reported ahead.target.place ahead.target.speed ahead.kind
 
 abbrev pub release_kind : Release → LimitKind
 release_kind (release.Speed its) = kind.Release
 release_kind release.National = kind.NationalRelease
 
-abbrev pub speed_told : ℕ → SpeedCause → LimitTold
-speed_told limit (speed.OverTrain over) = over_told limit over
-speed_told limit (speed.Ahead ahead) = ahead_told ahead
-speed_told limit (speed.Release release) = plain (release_kind release) limit
+abbrev pub speed_reported : ℕ → SpeedCause → LimitReport
+speed_reported limit (speed.OverTrain over) = over_reported limit over
+speed_reported limit (speed.Ahead ahead) = ahead_reported ahead
+speed_reported limit (speed.Release release) = plain (release_kind release) limit
 
-abbrev pub limit_told : ℕ → LimitCause → LimitTold
-limit_told limit cause.NoSpeed = plain kind.NoSpeed limit
-limit_told limit cause.NoTrainData = plain kind.NoTrainData limit
-limit_told limit (cause.National value) = plain (national_kind value) limit
-limit_told limit (cause.Speed decides) = speed_told limit decides
+abbrev pub limit_reported : ℕ → LimitCause → LimitReport
+limit_reported limit cause.NoSpeed = plain kind.NoSpeed limit
+limit_reported limit cause.NoTrainData = plain kind.NoTrainData limit
+limit_reported limit (cause.National value) = plain (national_kind value) limit
+limit_reported limit (cause.Speed decides) = speed_reported limit decides
 
 -- ---- the words of each kind: as JSON has it, in a sentence, and the sections that it is from
 

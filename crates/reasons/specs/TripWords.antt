@@ -1,4 +1,4 @@
--- The words of why Trip was entered (this project's profile; docs/explain/brakes.md tells them at length): as JSON has it, in a
+-- The words of why Trip was entered (this project's profile; docs/explain/brakes.md reports them at length): as JSON has it, in a
 -- sentence, and the sections of SUBSET-026.
 use Rattle.std.specs.Prelude.{ℕ, List, codes}
 use Rattle.mode_control.specs.declared.tripping.TripCause.{TripCause}

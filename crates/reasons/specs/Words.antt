@@ -1,4 +1,4 @@
--- The words of each cause of a brake (this project's profile; docs/explain/brakes.md tells them at length): as JSON has it, in
+-- The words of each cause of a brake (this project's profile; docs/explain/brakes.md reports them at length): as JSON has it, in
 -- a sentence, and how it ends.
 use Rattle.std.specs.Prelude.{ℕ, List, codes}
 use Rattle.kernel.specs.declared.causes.BrakeCause.{BrakeCause}
@@ -11,7 +11,7 @@ word_of cause.InSystemFailure = codes "in_system_failure"
 word_of cause.OwesTrip = codes "owes_trip"
 word_of cause.FarTooFast = codes "far_too_fast"
 word_of cause.RolledTooFar = codes "rolled_too_far"
-word_of cause.AskedForService = codes "asked_for_service"
+word_of cause.ServiceBrakeRequested = codes "service_brake_requested"
 word_of cause.TooFast = codes "too_fast"
 word_of cause.MustStand = codes "must_stand"
 word_of cause.OwesTooLong = codes "owes_too_long"
@@ -24,7 +24,7 @@ sentence_of cause.OwesTrip = codes "a trip is not acknowledged"
 sentence_of cause.FarTooFast =
     codes "the speed was above the limit by more than 10000 m/h, and the train has not stood since"
 sentence_of cause.RolledTooFar = codes "the train rolled backward too far since it stood"
-sentence_of cause.AskedForService =
+sentence_of cause.ServiceBrakeRequested =
     codes "linking or a balise group asked for the service brake, and the train has not stood since"
 sentence_of cause.TooFast = codes "the speed was above the limit by more than 5000 m/h, and not within it since"
 sentence_of cause.MustStand = codes "the train moves where it must stand"
@@ -37,7 +37,7 @@ ending_of cause.InSystemFailure = codes "ends at a power-up alone"
 ending_of cause.OwesTrip = codes "ends when the driver acknowledges the trip at standstill"
 ending_of cause.FarTooFast = codes "ends when the train stands"
 ending_of cause.RolledTooFar = codes "ends when the train stands, or a greater D_NVROLL comes into force"
-ending_of cause.AskedForService = codes "ends when the train stands"
+ending_of cause.ServiceBrakeRequested = codes "ends when the train stands"
 ending_of cause.TooFast = codes "ends when the speed is within the limit"
 ending_of cause.MustStand = codes "ends when the train stands, or in another mode"
 ending_of cause.OwesTooLong =

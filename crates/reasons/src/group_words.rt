@@ -1,7 +1,7 @@
 //! What became of a balise group, as a kind with its words, a direction, an announcement and a reaction.
 ghost use Rattle.std.specs.Prelude.{◌≡◌};
 ghost use Rattle.std.specs.Option.{option_map};
-ghost use Rattle.reasons.specs.GroupWords.{accepted_kind, whole_as, whole_told, broken_kind, broken_reaction, broken_told, group_told, group_word_of, group_sentence_of, group_section_of, is_accepted};
+ghost use Rattle.reasons.specs.GroupWords.{accepted_kind, whole_as, whole_reported, broken_kind, broken_reaction, broken_reported, group_reported, group_word_of, group_sentence_of, group_section_of, is_accepted};
 
 use balise_groups::{Broken, Cause, Message};
 use linking::Announcement;
@@ -31,9 +31,9 @@ pub enum GroupKind {
     Mixed,
 }
 
-/// What became of a balise group, as it is told.
+/// What became of a balise group, as it is reported.
 #[derive(Clone, Copy)]
-pub struct GroupTold {
+pub struct GroupReport {
     /// What it is.
     pub kind: GroupKind,
     /// Which group it is.
@@ -42,7 +42,7 @@ pub struct GroupTold {
     pub direction: Option<LinkOrientation>,
     /// The number of its announcement in its list, from 0, where one is meant.
     pub announcement: Option<u8>,
-    /// What linking asks for because of it, beside what it asks for groups that were missed.
+    /// What linking asks for because of it, along with what it asks for groups that were missed.
     pub reaction: LinkReaction,
 }
 
@@ -61,10 +61,10 @@ fn whole_as(
     direction: Option<LinkOrientation>,
     announced: &Option<Announcement>,
     reaction: LinkReaction,
-) -> GroupTold
+) -> GroupReport
     ensures { result ≡ whole_as message.now kind direction announced.now reaction }
 {
-    GroupTold {
+    GroupReport {
         kind,
         group: message.group,
         direction,
@@ -83,8 +83,8 @@ fn accepted_kind(linked: bool, announced: &Option<Announcement>) -> GroupKind
     }
 }
 
-fn whole_told(message: &Message, outcome: &MessageOutcome) -> GroupTold
-    ensures { result ≡ whole_told message.now outcome.now }
+fn whole_reported(message: &Message, outcome: &MessageOutcome) -> GroupReport
+    ensures { result ≡ whole_reported message.now outcome.now }
 {
     let passed = message.direction;
     let nothing = LinkReaction::NoReaction;
@@ -142,10 +142,10 @@ fn broken_reaction(linked: bool, announced: &Option<Announcement>) -> LinkReacti
     }
 }
 
-fn broken_told(broken: &Broken, announced: &Option<Announcement>) -> GroupTold
-    ensures { result ≡ broken_told broken.now announced.now }
+fn broken_reported(broken: &Broken, announced: &Option<Announcement>) -> GroupReport
+    ensures { result ≡ broken_reported broken.now announced.now }
 {
-    GroupTold {
+    GroupReport {
         kind: broken_kind(broken.cause),
         group: broken.group,
         direction: None,
@@ -154,13 +154,13 @@ fn broken_told(broken: &Broken, announced: &Option<Announcement>) -> GroupTold
     }
 }
 
-/// What became of a group that closed, as it is told.
-pub fn group_told(closing: &Closing) -> GroupTold
-    ensures { result ≡ group_told closing.now }
+/// What became of a group that closed, as it is reported.
+pub fn group_reported(closing: &Closing) -> GroupReport
+    ensures { result ≡ group_reported closing.now }
 {
     match closing {
-        Closing::Whole(message, outcome) => whole_told(message, outcome),
-        Closing::Broken(broken, announced) => broken_told(broken, announced),
+        Closing::Whole(message, outcome) => whole_reported(message, outcome),
+        Closing::Broken(broken, announced) => broken_reported(broken, announced),
     }
 }
 

@@ -1,6 +1,6 @@
 //! What decides a limit, as a kind with its words, a place, a speed and a number.
 ghost use Rattle.std.specs.Prelude.{◌≡◌};
-ghost use Rattle.reasons.specs.LimitWords.{plain, restriction_told, placed, over_told, ahead_told, limit_told, limit_word_of, limit_sentence_of, limit_section_of};
+ghost use Rattle.reasons.specs.LimitWords.{plain, restriction_reported, placed, over_reported, ahead_reported, limit_reported, limit_word_of, limit_sentence_of, limit_section_of};
 
 use authority::Release;
 use speed_supervision::{
@@ -10,7 +10,7 @@ use track_store::Restriction;
 use units::{Cm, Mph};
 use vars::Variable;
 
-/// A kind of what decides a limit (this project's profile; docs/explain/brakes.md tells each).
+/// A kind of what decides a limit (this project's profile; docs/explain/brakes.md reports each).
 #[derive(Clone, Copy)]
 pub enum LimitKind {
     /// The mode lets no train run.
@@ -55,9 +55,9 @@ pub enum LimitKind {
     NationalRelease,
 }
 
-/// What decides a limit, as it is told.
+/// What decides a limit, as it is reported.
 #[derive(Clone, Copy)]
-pub struct LimitTold {
+pub struct LimitReport {
     /// What it is.
     pub kind: LimitKind,
     /// Its speed, in metres per hour: that at the place, where one is ahead; else the limit.
@@ -69,10 +69,10 @@ pub struct LimitTold {
 }
 
 // The same without a place and a number.
-fn plain(kind: LimitKind, speed: Mph) -> LimitTold
+fn plain(kind: LimitKind, speed: Mph) -> LimitReport
     ensures { result ≡ plain kind speed }
 {
-    LimitTold {
+    LimitReport {
         kind,
         speed,
         place: None,
@@ -80,10 +80,15 @@ fn plain(kind: LimitKind, speed: Mph) -> LimitTold
     }
 }
 
-fn restriction_told(kind: LimitKind, speed: Mph, place: Cm, restriction: &Restriction) -> LimitTold
-    ensures { result ≡ restriction_told kind speed place restriction.now }
+fn restriction_reported(
+    kind: LimitKind,
+    speed: Mph,
+    place: Cm,
+    restriction: &Restriction,
+) -> LimitReport
+    ensures { result ≡ restriction_reported kind speed place restriction.now }
 {
-    LimitTold {
+    LimitReport {
         kind,
         speed,
         place: Some(place.get()),
@@ -91,10 +96,10 @@ fn restriction_told(kind: LimitKind, speed: Mph, place: Cm, restriction: &Restri
     }
 }
 
-fn placed(kind: LimitKind, speed: Mph, place: Cm) -> LimitTold
+fn placed(kind: LimitKind, speed: Mph, place: Cm) -> LimitReport
     ensures { result ≡ placed kind speed place }
 {
-    LimitTold {
+    LimitReport {
         kind,
         speed,
         place: Some(place.get()),
@@ -102,21 +107,26 @@ fn placed(kind: LimitKind, speed: Mph, place: Cm) -> LimitTold
     }
 }
 
-fn over_told(limit: Mph, over: &OverTrain) -> LimitTold
-    ensures { result ≡ over_told limit over.now }
+fn over_reported(limit: Mph, over: &OverTrain) -> LimitReport
+    ensures { result ≡ over_reported limit over.now }
 {
     match over {
         OverTrain::Maximum => plain(LimitKind::Maximum, limit),
         OverTrain::Main => plain(LimitKind::Main, limit),
         OverTrain::End => plain(LimitKind::End, limit),
         OverTrain::StaticSpeed(place) => placed(LimitKind::StaticSpeed, limit, *place),
-        OverTrain::Restriction(it) => restriction_told(LimitKind::Restriction, limit, it.start, it),
+        OverTrain::Restriction(it) => restriction_reported(
+            LimitKind::Restriction,
+            limit,
+            it.start,
+            it,
+        ),
         OverTrain::Area(area) => placed(LimitKind::Area, limit, area.start),
     }
 }
 
-fn ahead_told(ahead: &TargetAhead) -> LimitTold
-    ensures { result ≡ ahead_told ahead.now }
+fn ahead_reported(ahead: &TargetAhead) -> LimitReport
+    ensures { result ≡ ahead_reported ahead.now }
 {
     let place = ahead.target.place;
     let speed = ahead.target.speed;
@@ -124,7 +134,7 @@ fn ahead_told(ahead: &TargetAhead) -> LimitTold
         TargetKind::StaticSpeed => placed(LimitKind::StaticSpeedAhead, speed, place),
         TargetKind::UnknownSpeed => placed(LimitKind::UnknownSpeedAhead, speed, place),
         TargetKind::Restriction(it) => {
-            restriction_told(LimitKind::RestrictionAhead, speed, place, it)
+            restriction_reported(LimitKind::RestrictionAhead, speed, place, it)
         }
         TargetKind::Area(_) => placed(LimitKind::AreaAhead, speed, place),
         TargetKind::EndOfAuthority => placed(LimitKind::EndOfAuthority, speed, place),
@@ -132,9 +142,9 @@ fn ahead_told(ahead: &TargetAhead) -> LimitTold
     }
 }
 
-/// What decides a limit, in metres per hour, as it is told.
-pub fn limit_told(limit: Mph, cause: &LimitCause) -> LimitTold
-    ensures { result ≡ limit_told limit cause.now }
+/// What decides a limit, in metres per hour, as it is reported.
+pub fn limit_reported(limit: Mph, cause: &LimitCause) -> LimitReport
+    ensures { result ≡ limit_reported limit cause.now }
 {
     match cause {
         LimitCause::NoSpeed => plain(LimitKind::NoSpeed, limit),
@@ -145,8 +155,8 @@ pub fn limit_told(limit: Mph, cause: &LimitCause) -> LimitTold
         LimitCause::National(NationalValue::Override) => plain(LimitKind::Override, limit),
         LimitCause::National(NationalValue::Shunting) => plain(LimitKind::Shunting, limit),
         LimitCause::National(NationalValue::Unfitted) => plain(LimitKind::Unfitted, limit),
-        LimitCause::Speed(SpeedCause::OverTrain(over)) => over_told(limit, over),
-        LimitCause::Speed(SpeedCause::Ahead(ahead)) => ahead_told(ahead),
+        LimitCause::Speed(SpeedCause::OverTrain(over)) => over_reported(limit, over),
+        LimitCause::Speed(SpeedCause::Ahead(ahead)) => ahead_reported(ahead),
         LimitCause::Speed(SpeedCause::Release(Release::Speed(_))) => {
             plain(LimitKind::Release, limit)
         }

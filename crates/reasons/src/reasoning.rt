@@ -7,17 +7,17 @@ ghost use Rattle.kernel.specs.Closings.{closings_after};
 ghost use Rattle.kernel.specs.Lives.{Story, onward, past_at, left_by};
 ghost use Rattle.kernel.specs.Output.{output_at};
 ghost use Rattle.kernel.specs.StandsFor.{StandsForLife};
-ghost use Rattle.kernel.specs.Trips.{trip_behind};
+ghost use Rattle.kernel.specs.Trips.{later_trip};
 ghost use Rattle.mode_control.specs.Life.{Life};
 ghost use Rattle.speed_supervision.specs.Causes.{IsLimitCause};
 ghost use Rattle.track_picture.specs.Stores.{segment_stores};
-ghost use Rattle.reasons.specs.Closings.{AreTold, AreGroups, mode_before};
-ghost use Rattle.reasons.specs.Runs.{runs_of, causes_behind};
+ghost use Rattle.reasons.specs.Closings.{AreReported, AreGroups, mode_before};
+ghost use Rattle.reasons.specs.Runs.{runs_of, later_causes};
 ghost use Rattle.reasons.specs.Trips.{trip_of};
 
-use crate::closings::GroupsTold;
+use crate::closings::GroupsReport;
 use crate::runs::Runs;
-use crate::trips::{TripTold, trip_before, trip_held};
+use crate::trips::{TripReport, trip_before, trip_held};
 use events::{Event, Kept, Output};
 use kernel::{BrakeCause, BrakeCauses, State, TripCause};
 use mode_table::Cold;
@@ -27,19 +27,19 @@ use std::marker::Model;
 use units::NoMemory;
 
 /// A life that is run again from its power-up on, with the causes of each brake. It stores no history: what it says is
-/// said of every story that it stands behind.
+/// said of every story that it comes after.
 #[derive(Drop)]
 pub struct Reasoning {
     state: State,
     // The number of the next event, up to the greatest number of 64 bits.
     next: u64,
     runs: Runs,
-    trip: Option<TripTold>,
-    groups: GroupsTold,
+    trip: Option<TripReport>,
+    groups: GroupsReport,
 }
 
 impl Model for Reasoning {
-    ghost use Rattle.reasons.specs.Told.{Reasoned};
+    ghost use Rattle.reasons.specs.Reported.{Reasoned};
 
     ghost Value = { Reasoned };
 
@@ -54,9 +54,9 @@ fn causes_in(state: &State) -> BrakeCauses
 }
 
 impl Reasoning {
-    ghost use Rattle.reasons.specs.Told.{Reasons};
+    ghost use Rattle.reasons.specs.Reported.{Reasons};
 
-    /// Begins a life behind what was kept, and answers its power-up. It takes no memory.
+    /// Begins a life after what was kept, and answers its power-up. It takes no memory.
     pub fn begin(alloc: Global, kept: &Kept, word: Cold) -> (Reasoning, Output)
         ensures stands { (story : Story) → left_by word kept.now ≡ left_by word (past_at story).kept
             → Reasons (onward story (PowerUp word)) result.0 }
@@ -72,7 +72,7 @@ impl Reasoning {
             next: number.saturating_add(1),
             runs,
             trip: None,
-            groups: GroupsTold::NONE,
+            groups: GroupsReport::NONE,
         };
         (reasoning, output)
     }
@@ -80,7 +80,7 @@ impl Reasoning {
     // Why an event enters Trip, as the next one.
     fn trip_by(&self, alloc: Global, event: &Event) -> Result<Option<TripCause>, NoMemory>
         ensures { IfOk result (λ cause. (story : Story) → Reasons story self.now
-            → cause ≡ trip_behind (past_at story) event.now) }
+            → cause ≡ later_trip (past_at story) event.now) }
     {
         match event {
             Event::PowerUp(_) => Ok(None),
@@ -89,13 +89,13 @@ impl Reasoning {
     }
 
     // The groups that an event closes, as the next one.
-    fn groups_by(&self, alloc: Global, event: &Event) -> Result<GroupsTold, NoMemory>
-        ensures { IfOk result (λ told. (story : Story) → Reasons story self.now
-            → AreTold (mode_before (past_at story) event.now) (closings_after (past_at story) event.now) told) }
+    fn groups_by(&self, alloc: Global, event: &Event) -> Result<GroupsReport, NoMemory>
+        ensures { IfOk result (λ reported. (story : Story) → Reasons story self.now
+            → AreReported (mode_before (past_at story) event.now) (closings_after (past_at story) event.now) reported) }
     {
         match event {
-            Event::PowerUp(_) => Ok(GroupsTold::NONE),
-            Event::Input(_) => Ok(GroupsTold {
+            Event::PowerUp(_) => Ok(GroupsReport::NONE),
+            Event::Input(_) => Ok(GroupsReport {
                 mode: self.output().mode,
                 closings: self.state.closings_by(alloc, event)?,
             }),
@@ -136,9 +136,9 @@ impl Reasoning {
         self.state.output()
     }
 
-    /// The causes that hold behind the last event.
+    /// The causes that hold after the last event.
     pub fn causes(&self) -> BrakeCauses
-        ensures { (story : Story) → Reasons story self.now → marked result ≡ causes_behind story }
+        ensures { (story : Story) → Reasons story self.now → marked result ≡ later_causes story }
     {
         causes_in(&self.state)
     }
@@ -151,14 +151,14 @@ impl Reasoning {
     }
 
     /// The trip that is owed, where it was entered in this life.
-    pub fn trip(&self) -> Option<TripTold>
+    pub fn trip(&self) -> Option<TripReport>
         ensures { (story : Story) → Reasons story self.now → result ≡ trip_of story }
     {
         self.trip
     }
 
     /// The groups that the last event closed, and what became of each.
-    pub fn groups(&self) -> &GroupsTold
+    pub fn groups(&self) -> &GroupsReport
         ensures { (story : Story) → Reasons story self.now → AreGroups story result.now }
     {
         &self.groups
@@ -172,7 +172,7 @@ impl Reasoning {
         self.state.limit_cause()
     }
 
-    /// What the kernel knows behind the last event.
+    /// What the kernel knows after the last event.
     pub fn state(&self) -> &State
         ensures { result.now ≡ self.now.state }
     {

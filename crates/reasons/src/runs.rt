@@ -4,12 +4,12 @@ ghost use Rattle.events.specs.declared.input.Event.TheVariants.{PowerUp};
 ghost use Rattle.mode_table.specs.declared.statuses.Cold.{Cold};
 ghost use Rattle.kernel.specs.Causes.{marked};
 ghost use Rattle.kernel.specs.Lives.{Story, onward};
-ghost use Rattle.reasons.specs.Runs.{number_behind, causes_behind, gone_on, run_of, runs_of, first_in, run_held, runs_held};
+ghost use Rattle.reasons.specs.Runs.{number_after, later_causes, gone_on, run_of, runs_of, first_in, run_held, runs_held};
 
 use events::Event;
 use kernel::{BrakeCause, BrakeCauses};
 
-/// For each cause of a brake that holds, the number of the first event of the unbroken run of events of this life behind
+/// For each cause of a brake that holds, the number of the first event of the unbroken run of events of this life after
 /// which it has held; None for a cause that doesn't hold (this project's profile).
 #[derive(Clone, Copy)]
 pub struct Runs {
@@ -32,14 +32,14 @@ impl Runs {
     /// No cause holds.
     pub const NONE: Runs = Runs { firsts: [None; 10] };
 
-    // The run of one cause behind a further event, of this number, behind which these causes hold.
+    // The run of one cause after a further event, of this number, after which these causes hold.
     fn run_held(&self, cause: BrakeCause, causes: &BrakeCauses, number: u64) -> Option<u64>
         ensures { result ≡ run_held cause self.now (marked causes.now) number }
     {
         gone_on(causes.holds(cause), self.first(cause), number)
     }
 
-    // Behind a further event, of this number, behind which these causes hold.
+    // After a further event, of this number, after which these causes hold.
     fn held(&self, causes: &BrakeCauses, number: u64) -> Runs
         ensures { result ≡ runs_held self.now (marked causes.now) number }
     {
@@ -52,7 +52,7 @@ impl Runs {
                 run(BrakeCause::OwesTrip),
                 run(BrakeCause::FarTooFast),
                 run(BrakeCause::RolledTooFar),
-                run(BrakeCause::AskedForService),
+                run(BrakeCause::ServiceBrakeRequested),
                 run(BrakeCause::TooFast),
                 run(BrakeCause::MustStand),
                 run(BrakeCause::OwesTooLong),
@@ -60,18 +60,18 @@ impl Runs {
         }
     }
 
-    /// Behind a power-up of this number, behind which these causes hold.
+    /// After a power-up of this number, after which these causes hold.
     pub fn begun(causes: &BrakeCauses, number: u64) -> Runs
-        ensures { (story : Story) (word : Cold) → marked causes.now ≡ causes_behind (onward story (PowerUp word))
-            → number ≡ number_behind story → result ≡ runs_of (onward story (PowerUp word)) }
+        ensures { (story : Story) (word : Cold) → marked causes.now ≡ later_causes (onward story (PowerUp word))
+            → number ≡ number_after story → result ≡ runs_of (onward story (PowerUp word)) }
     {
         Runs::NONE.held(causes, number)
     }
 
-    /// Behind a further event, of this number, behind which these causes hold. A power-up begins all anew.
+    /// After a further event, of this number, after which these causes hold. A power-up begins all anew.
     pub fn after(&self, event: &Event, causes: &BrakeCauses, number: u64) -> Runs
-        ensures { (story : Story) → self.now ≡ runs_of story → marked causes.now ≡ causes_behind (onward story event.now)
-            → number ≡ number_behind story → result ≡ runs_of (onward story event.now) }
+        ensures { (story : Story) → self.now ≡ runs_of story → marked causes.now ≡ later_causes (onward story event.now)
+            → number ≡ number_after story → result ≡ runs_of (onward story event.now) }
     {
         match event {
             Event::PowerUp(_) => Runs::begun(causes, number),

@@ -9,7 +9,7 @@ use kernel::TripCause;
 
 /// A trip that is owed: by which event of this life it was entered, and why (SUBSET-026, 4.6, 5.11).
 #[derive(Clone, Copy)]
-pub struct TripTold {
+pub struct TripReport {
     /// The number of the event, from 0 on, over all lives.
     pub event: u64,
     /// Why.
@@ -17,7 +17,7 @@ pub struct TripTold {
 }
 
 /// What an event leaves of the trip before it: nothing where it begins a life.
-pub(crate) fn trip_before(event: &Event, before: Option<TripTold>) -> Option<TripTold>
+pub(crate) fn trip_before(event: &Event, before: Option<TripReport>) -> Option<TripReport>
     ensures { result ≡ in_this_life event.now before }
 {
     match event {
@@ -26,17 +26,17 @@ pub(crate) fn trip_before(event: &Event, before: Option<TripTold>) -> Option<Tri
     }
 }
 
-/// The trip behind an event of this number, which entered Trip for this cause, or didn't.
+/// The trip after an event of this number, which entered Trip for this cause, or didn't.
 pub(crate) fn trip_held(
     owes: bool,
     entered: Option<TripCause>,
-    before: Option<TripTold>,
+    before: Option<TripReport>,
     number: u64,
-) -> Option<TripTold>
+) -> Option<TripReport>
     ensures { result ≡ trip_held owes entered before number }
 {
     match entered {
-        Some(cause) => Some(TripTold {
+        Some(cause) => Some(TripReport {
             event: number,
             cause,
         }),

@@ -15,7 +15,7 @@ pub fn word(cause: BrakeCause) -> &'static str
         BrakeCause::OwesTrip => "owes_trip",
         BrakeCause::FarTooFast => "far_too_fast",
         BrakeCause::RolledTooFar => "rolled_too_far",
-        BrakeCause::AskedForService => "asked_for_service",
+        BrakeCause::ServiceBrakeRequested => "service_brake_requested",
         BrakeCause::TooFast => "too_fast",
         BrakeCause::MustStand => "must_stand",
         BrakeCause::OwesTooLong => "owes_too_long",
@@ -34,7 +34,7 @@ pub fn sentence(cause: BrakeCause) -> &'static str
         BrakeCause::FarTooFast =>
             "the speed was above the limit by more than 10000 m/h, and the train has not stood since",
         BrakeCause::RolledTooFar => "the train rolled backward too far since it stood",
-        BrakeCause::AskedForService =>
+        BrakeCause::ServiceBrakeRequested =>
             "linking or a balise group asked for the service brake, and the train has not stood since",
         BrakeCause::TooFast =>
             "the speed was above the limit by more than 5000 m/h, and not within it since",
@@ -55,7 +55,7 @@ pub fn ending(cause: BrakeCause) -> &'static str
         BrakeCause::FarTooFast => "ends when the train stands",
         BrakeCause::RolledTooFar =>
             "ends when the train stands, or a greater D_NVROLL comes into force",
-        BrakeCause::AskedForService => "ends when the train stands",
+        BrakeCause::ServiceBrakeRequested => "ends when the train stands",
         BrakeCause::TooFast => "ends when the speed is within the limit",
         BrakeCause::MustStand => "ends when the train stands, or in another mode",
         BrakeCause::OwesTooLong =>

@@ -63,6 +63,6 @@ pub record IsGoing (medium : List ℕ) (o : Opening) : Type 0 where
 
 -- it wants this sector: one that the medium has, and that isn't known
 pub record IsWanted (o : Opening) (s : ℕ) : Type 0 where
-  pub told : o.disk.wanted ≡ Some s
+  pub reported : o.disk.wanted ≡ Some s
   pub below : s < o.disk.sectors
   pub unknown : knows s o.disk ≡ false

@@ -16,8 +16,8 @@ use Rattle.relayed_unit.specs.declared.errors.ReleaseError.TheVariants as a_rele
 use Rattle.relayed_unit.specs.declared.moored.Moored.{Moored}
 use Rattle.ring.specs.Slots.{gate_at, next_is_closed}
 
--- The unit beside the disk that hands out its requests, the outputs that are held back, how many requests are done, and whether the
--- medium failed. There is always a unit, behind each call.
+-- The unit along with the disk that hands out its requests, the outputs that are held back, how many requests are done, and whether the
+-- medium failed. There is always a unit, after each call.
 pub record Relayed : Type 0 where
   pub moored : Option Moored
   pub outputs : List Release
@@ -30,7 +30,7 @@ abbrev pub list_of : Option Moored → List Call
 list_of None = []
 list_of (Some moored) = moored.reading.disk.requests
 
--- the bytes that the requests write, one behind the other
+-- the bytes that the requests write, one after the other
 abbrev pub written_of : Option Moored → List ℕ
 written_of None = []
 written_of (Some moored) = moored.reading.disk.written
@@ -50,7 +50,7 @@ AllDone u = requests_of u.moored ≤ u.done
 
 -- ---- what a call leaves
 
--- a call turns the unit beside its disk into one to which it stands so
+-- a call turns the unit along with its disk into one to which it stands so
 abbrev pub Turns : Option Moored → Option Moored → (Moored → Moored → Type 0) → Type 0
 Turns None after So = Unit {0}
 Turns (Some before) None So = ⊥
@@ -120,7 +120,7 @@ release_refusal u =
     else if ends_in_sync (list_of u.moored) then None
     else Some a_release.Failed
 
--- ---- what may be told of the newest event
+-- ---- what may be reported of the newest event
 
 -- it isn't released yet: it is pending, or its requests are still in the list
 abbrev pub is_unreleased : Moored → Bool

@@ -33,6 +33,6 @@ same_record field one differs = same_situation field one.situation differs.2
 equal_records : (field : RecordField) (one other : BlockRecord) → one ≡ other → DiffersIn field one other → ⊥
 equal_records field one other same differs = same_record field one (subst (λ (r : BlockRecord). DiffersIn field one r) (sym same) differs)
 
-pub excluded : (format : Format) (at : Story) (told : BlockRecord) (replay : ReplayState) (found : Found)
-    → told ≡ answer_to format at told.event → IsVerdict format at told replay (Some found) → ⊥
-excluded format at told replay found is differs = equal_records found.field told found.answer (is ∙ sym differs.0) differs.1
+pub excluded : (format : Format) (at : Story) (reported : BlockRecord) (replay : ReplayState) (found : Found)
+    → reported ≡ answer_to format at reported.event → IsVerdict format at reported replay (Some found) → ⊥
+excluded format at reported replay found is differs = equal_records found.field reported found.answer (is ∙ sym differs.0) differs.1

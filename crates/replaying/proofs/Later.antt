@@ -1,4 +1,4 @@
--- A field that differs first, behind fields that are the same.
+-- A field that differs first, after fields that are the same.
 use Rattle.std.proofs.Common.{◌≡◌, Option, Some, None, MatchOption}
 use Rattle.blocks.specs.declared.records.BlockRecord.{BlockRecord}
 use Rattle.events.specs.declared.kept.Kept.{Kept}
@@ -15,7 +15,7 @@ situation_later a_field.Uncertainty one other event commands differs = (event, c
 situation_later a_field.Limit one other event commands differs = (event, commands, differs)
 situation_later _ one other event commands differs = absurd differs
 
--- the first field behind the same event and the same commands, or none
+-- the first field after the same event and the same commands, or none
 pub by_situation : (one other : BlockRecord) (found : Option RecordField) → SameEvent one other → SameCommands one other
     → MatchOption found (one.situation ≡ other.situation) (λ field. SituationDiffers field one.situation other.situation)
     → MatchOption found (one ≡ other) (λ field. DiffersIn field one other)
@@ -44,7 +44,7 @@ found_later kept_field.NationalValues one other counts entered differs = (counts
 found_later kept_field.Countries one other counts entered differs = (counts, entered, differs)
 found_later _ one other counts entered differs = absurd differs
 
--- the first field behind the same counts and the same of what the driver entered, or none
+-- the first field after the same counts and the same of what the driver entered, or none
 pub by_found : (one other : Kept) (found : Option KeptField) → SameCounts one other → SameEntered one other
     → MatchOption found ((one.level ≡ other.level) × (one.position ≡ other.position) × (one.national ≡ other.national)) (λ field. FoundDiffers field one other)
     → MatchOption found (one ≡ other) (λ field. KeptDiffersIn field one other)

@@ -14,19 +14,19 @@ use Rattle.replaying.specs.declared.differences.RecordField.TheVariants as a_fie
 abbrev pub shown_of : Indications → List Bool
 shown_of a = a.on_sight ∷ a.shunting ∷ a.level_0 ∷ a.trip ∷ a.overridden ∷ a.not_revalidated ∷ a.overspeed ∷ []
 
--- both are told, and differ so
-abbrev pub BothTold : (Situation → Situation → Type 0) → Option Situation → Option Situation → Type 0
-BothTold So (Some one) (Some other) = So one other
-BothTold So _ _ = ⊥
+-- both are reported, and differ so
+abbrev pub BothReported : (Situation → Situation → Type 0) → Option Situation → Option Situation → Type 0
+BothReported So (Some one) (Some other) = So one other
+BothReported So _ _ = ⊥
 
--- place and limit differ first in a field: one tells them and the other doesn't, or both do
+-- place and limit differ first in a field: one reports them and the other doesn't, or both do
 abbrev pub SituationDiffers : RecordField → Option Situation → Option Situation → Type 0
 SituationDiffers a_field.Situation one other = is_some one ≢ is_some other
-SituationDiffers a_field.Estimate one other = BothTold (λ a b. a.estimate ≢ b.estimate) one other
+SituationDiffers a_field.Estimate one other = BothReported (λ a b. a.estimate ≢ b.estimate) one other
 SituationDiffers a_field.Uncertainty one other =
-    BothTold (λ a b. (a.estimate ≡ b.estimate) × (a.uncertainty ≢ b.uncertainty)) one other
+    BothReported (λ a b. (a.estimate ≡ b.estimate) × (a.uncertainty ≢ b.uncertainty)) one other
 SituationDiffers a_field.Limit one other =
-    BothTold (λ a b. (a.estimate ≡ b.estimate) × (a.uncertainty ≡ b.uncertainty) × (a.limit ≢ b.limit)) one other
+    BothReported (λ a b. (a.estimate ≡ b.estimate) × (a.uncertainty ≡ b.uncertainty) × (a.limit ≢ b.limit)) one other
 SituationDiffers _ one other = ⊥
 
 -- the same event at the same moment

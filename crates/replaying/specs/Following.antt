@@ -1,8 +1,8 @@
--- What the kernel answers to the events that blocks tell (this project's profile). Records of a block have the oldest
--- first. It is said of each story that may stand before them, of this unit's own events or not: whatever a head tells,
--- there is one behind which just that is kept (`story_by`).
+-- What the kernel answers to the events that blocks say (this project's profile). Records of a block have the oldest
+-- first. It is said of each story that may stand before them, of this unit's own events or not: whatever a head says,
+-- there is one after which just that is kept (`story_by`).
 use Rattle.std.specs.Prelude.{◌≡◌, List, [], ◌∷◌}
-use Rattle.blocks.specs.Blocks.{record_told, kept_told}
+use Rattle.blocks.specs.Blocks.{record_reported, kept_reported}
 use Rattle.blocks.specs.declared.format.Format.{Format}
 use Rattle.blocks.specs.declared.records.BlockRecord.{BlockRecord}
 use Rattle.events.specs.declared.input.Event.{Event}
@@ -11,20 +11,20 @@ use Rattle.kernel.specs.Lives.{Story, onward, past_at, number_at, left_by}
 use Rattle.mode_table.specs.declared.statuses.Cold.{Cold}
 use Rattle.unit_start.specs.Events.{record_at}
 
--- what a format tells of the kernel's answer to an event
+-- what a format says about the kernel's answer to an event
 abbrev pub answer_to : Format → Story → Event → BlockRecord
-answer_to format at event = record_told format (record_at at event)
+answer_to format at event = record_reported format (record_at at event)
 
--- each record is the kernel's answer, behind this story and the records before it
+-- each record is the kernel's answer, after this story and the records before it
 abbrev pub AreAnswers : Format → Story → List BlockRecord → Type 0
 AreAnswers format at [] = Unit {0}
-AreAnswers format at (told ∷ rest) = (told ≡ answer_to format at told.event) × AreAnswers format (onward at told.event) rest
+AreAnswers format at (reported ∷ rest) = (reported ≡ answer_to format at reported.event) × AreAnswers format (onward at reported.event) rest
 
--- Behind this the same is kept, as far as a power-up by this word leaves it.
-pub record IsBehind (kept : Kept) (word : Cold) (at : Story) : Type 0 where
+-- After this the same is kept, as far as a power-up by this word leaves it.
+pub record IsAfter (kept : Kept) (word : Cold) (at : Story) : Type 0 where
   pub left : left_by word kept ≡ left_by word (past_at at).kept
   pub counted : kept.events ≡ number_at at
 
--- what a format tells of what is kept behind a story
-abbrev pub head_behind : Format → Story → Kept
-head_behind format at = kept_told format (past_at at).kept
+-- what a format says about what is kept after a story
+abbrev pub head_after : Format → Story → Kept
+head_after format at = kept_reported format (past_at at).kept

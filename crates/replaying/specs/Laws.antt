@@ -1,4 +1,4 @@
--- What is true of every list of events, and of what blocks tell of it (this project's profile).
+-- What is true of every list of events, and of what blocks say about it (this project's profile).
 use Rattle.std.specs.Prelude.{◌≡◌, ℕ, List, Some}
 use Rattle.blocks.specs.declared.block.Block.{Block}
 use Rattle.blocks.specs.declared.format.Format.{Format}
@@ -9,22 +9,22 @@ use Rattle.events.specs.declared.kept.Kept.{Kept}
 use Rattle.mode_table.specs.declared.statuses.Cold.{Cold}
 use Rattle.kernel.specs.Lives.{Story, story_of, story_by}
 use Rattle.unit_start.specs.Events.{account_of}
-use Rattle.ring.specs.Account.{Tells}
-use Rattle.replaying.specs.Following.{AreAnswers, IsBehind, answer_to}
+use Rattle.ring.specs.Account.{Describes}
+use Rattle.replaying.specs.Following.{AreAnswers, IsAfter, answer_to}
 use Rattle.replaying.specs.Judgements.{IsVerdict}
 use Rattle.replaying.specs.ReplayState.{ReplayState}
 use Rattle.replaying.specs.declared.following.Found.{Found}
 
--- whatever a head tells, and by each word: there is a story behind which that is kept, so that no verdict on what
--- comes behind a head is one about nothing
+-- whatever a head says, and by each word: there is a story after which that is kept, so that no verdict on what
+-- comes after a head is one about nothing
 abbrev pub EachHeadIsLed : Type 0
-EachHeadIsLed = (kept : Kept) (word : Cold) → IsBehind kept word (story_by kept)
+EachHeadIsLed = (kept : Kept) (word : Cold) → IsAfter kept word (story_by kept)
 
--- what a block of format 3 tells of the events of a unit are the kernel's answers, behind some of these events
+-- what a block of format 3 says about the events of a unit are the kernel's answers, after some of these events
 abbrev pub UnitsAgree : Type 0
-UnitsAgree = (whole_from : ℕ) (events : List Event) (block : Block) → Tells (account_of whole_from events) block → block.format ≡ Three → (s : List Event) × AreAnswers block.format (story_of s) block.records.items
+UnitsAgree = (whole_from : ℕ) (events : List Event) (block : Block) → Describes (account_of whole_from events) block → block.format ≡ Three → (s : List Event) × AreAnswers block.format (story_of s) block.records.items
 
--- of a record that is the kernel's answer no verdict tells that it differs
+-- of a record that is the kernel's answer no verdict says that it differs
 abbrev pub VerdictsExclude : Type 0
-VerdictsExclude = (format : Format) (at : Story) (told : BlockRecord) (replay : ReplayState) (found : Found)
-    → told ≡ answer_to format at told.event → IsVerdict format at told replay (Some found) → ⊥
+VerdictsExclude = (format : Format) (at : Story) (reported : BlockRecord) (replay : ReplayState) (found : Found)
+    → reported ≡ answer_to format at reported.event → IsVerdict format at reported replay (Some found) → ⊥

@@ -1,6 +1,6 @@
-//! What a block tells of an event, beside what the kernel answers to it.
+//! What a block says about an event, along with what the kernel answers to it.
 ghost use Rattle.std.specs.Prelude.{◌≡◌, ◌↔◌, IsTrue, MatchOption};
-ghost use Rattle.blocks.specs.Blocks.{event_told};
+ghost use Rattle.blocks.specs.Blocks.{event_reported};
 ghost use Rattle.replaying.specs.Comparing.{shown_of, DiffersIn, SituationDiffers};
 
 use crate::differences::RecordField;
@@ -78,9 +78,9 @@ fn situation_differs(one: Option<Situation>, other: Option<Situation>) -> Option
     }
 }
 
-// Whether a format tells the event as it is.
-fn is_told(format: Format, event: &Event) -> bool
-    ensures { IsTrue result ↔ event.now ≡ event_told format event.now }
+// Whether a format says the event as it is.
+fn is_reported(format: Format, event: &Event) -> bool
+    ensures { IsTrue result ↔ event.now ≡ event_reported format event.now }
 {
     match (format, event) {
         (Format::One | Format::Two, Event::PowerUp(Cold::Moved | Cold::NotMoved)) => false,
@@ -88,36 +88,36 @@ fn is_told(format: Format, event: &Event) -> bool
     }
 }
 
-/// The first field in which a record differs from what its format tells of the kernel's answer to the same event; None
+/// The first field in which a record differs from what its format says about the kernel's answer to the same event; None
 /// exactly where it is that. The caller owes the same event.
 pub(crate) fn differs(
     format: Format,
-    told: &BlockRecord,
+    reported: &BlockRecord,
     answer: &BlockRecord,
 ) -> Option<RecordField>
-    requires { answer.now.event ≡ event_told format told.now.event }
-    ensures { MatchOption result (told.now ≡ answer.now) (λ field. DiffersIn field told.now answer.now) }
+    requires { answer.now.event ≡ event_reported format reported.now.event }
+    ensures { MatchOption result (reported.now ≡ answer.now) (λ field. DiffersIn field reported.now answer.now) }
 {
-    if told.number != answer.number {
+    if reported.number != answer.number {
         return Some(RecordField::Number);
     }
-    if !is_told(format, &told.event) {
+    if !is_reported(format, &reported.event) {
         return Some(RecordField::Word);
     }
-    if told.moment != answer.moment {
+    if reported.moment != answer.moment {
         return Some(RecordField::Moment);
     }
-    if !same_mode(told.mode, answer.mode) {
+    if !same_mode(reported.mode, answer.mode) {
         return Some(RecordField::Mode);
     }
-    if !same_level(told.level, answer.level) {
+    if !same_level(reported.level, answer.level) {
         return Some(RecordField::Level);
     }
-    if !same_brake(told.brake, answer.brake) {
+    if !same_brake(reported.brake, answer.brake) {
         return Some(RecordField::Brake);
     }
-    if !same_shown(&told.indications, &answer.indications) {
+    if !same_shown(&reported.indications, &answer.indications) {
         return Some(RecordField::Indications);
     }
-    situation_differs(told.situation, answer.situation)
+    situation_differs(reported.situation, answer.situation)
 }

@@ -1,11 +1,11 @@
 //! What of a record or of a head may differ from what the kernel answers.
 
-/// What a block tells of an event beside the event itself, in the order in which it is compared.
+/// What a block says about an event along with the event itself, in the order in which it is compared.
 #[derive(Clone, Copy)]
 pub enum RecordField {
     /// The number of the event.
     Number,
-    /// The word of a power-up, in a format that doesn't tell it.
+    /// The word of a power-up, in a format that doesn't say it.
     Word,
     /// The moment, in milliseconds.
     Moment,
@@ -17,7 +17,7 @@ pub enum RecordField {
     Brake,
     /// What the driver was shown.
     Indications,
-    /// Place and limit, which one of the two tells and the other doesn't.
+    /// Place and limit, which one of the two reports and the other doesn't.
     Situation,
     /// The estimated place, in centimetres.
     Estimate,
@@ -27,7 +27,7 @@ pub enum RecordField {
     Limit,
 }
 
-/// What a head tells of what is kept, in the order in which it is compared.
+/// What a head says about what is kept, in the order in which it is compared.
 #[derive(Clone, Copy)]
 pub enum KeptField {
     /// How many events there were.

@@ -1,14 +1,14 @@
-//! What the head of a block tells, beside what the kernel keeps behind its events.
+//! What the head of a block says, along with what the kernel keeps after its events.
 ghost use Rattle.std.specs.Prelude.{◌≡◌, MatchOption};
 ghost use Rattle.kernel.specs.Lives.{Story};
 ghost use Rattle.replaying.specs.Comparing.{KeptDiffersIn};
-ghost use Rattle.replaying.specs.Following.{head_behind};
-ghost use Rattle.replaying.specs.ReplayState.{StandsBehind};
+ghost use Rattle.replaying.specs.Following.{head_after};
+ghost use Rattle.replaying.specs.ReplayState.{StandsAfter};
 
+use crate::description::kept_in;
 use crate::differences::KeptField;
 use crate::keeping::kept_differs;
 use crate::replay::Replay;
-use crate::telling::kept_in;
 use blocks::Block;
 use events::Kept;
 
@@ -17,16 +17,16 @@ use events::Kept;
 pub struct HeadFound {
     /// The first field in which it differs.
     pub field: KeptField,
-    /// What the kernel keeps, as the block's format tells it.
+    /// What the kernel keeps, as the block's format says it.
     pub kept: Kept,
 }
 
-/// What differs in the head of a block from what the kernel keeps behind the events that were replayed; None exactly
-/// where it tells just that (SUBSET-026, 4.10; this project's profile).
+/// What differs in the head of a block from what the kernel keeps after the events that were replayed; None exactly
+/// where it says just that (SUBSET-026, 4.10; this project's profile).
 pub fn compare_head(replay: &Replay, block: &Block) -> Option<HeadFound>
-    ensures { (at : Story) → StandsBehind at replay.now →
-        MatchOption result (block.now.kept ≡ head_behind block.now.format at)
-        (λ found. (found.kept ≡ head_behind block.now.format at) × KeptDiffersIn found.field block.now.kept found.kept) }
+    ensures { (at : Story) → StandsAfter at replay.now →
+        MatchOption result (block.now.kept ≡ head_after block.now.format at)
+        (λ found. (found.kept ≡ head_after block.now.format at) × KeptDiffersIn found.field block.now.kept found.kept) }
 {
     let kept = kept_in(block.format, replay.kept());
     match kept_differs(&block.kept, &kept) {

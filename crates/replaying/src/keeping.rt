@@ -1,4 +1,4 @@
-//! What a head tells of what is kept, beside what the kernel keeps.
+//! What a head says about what is kept, along with what the kernel keeps.
 ghost use Rattle.std.specs.Prelude.{◌≡◌, ◌↔◌, IsTrue, MatchOption};
 ghost use Rattle.replaying.specs.Comparing.{SameEntered, EnteredDiffers, FoundDiffers, KeptDiffersIn};
 
@@ -100,56 +100,56 @@ fn same_countries(one: &[Country], other: &[Country]) -> bool
 }
 
 // Of driver and train.
-fn entered_differs(told: &Kept, kept: &Kept) -> Option<KeptField>
-    ensures { MatchOption result (SameEntered told.now kept.now) (λ field. EnteredDiffers field told.now kept.now) }
+fn entered_differs(reported: &Kept, kept: &Kept) -> Option<KeptField>
+    ensures { MatchOption result (SameEntered reported.now kept.now) (λ field. EnteredDiffers field reported.now kept.now) }
 {
-    if !same_identity(&told.identity, &kept.identity) {
+    if !same_identity(&reported.identity, &kept.identity) {
         return Some(KeptField::Identity);
     }
-    if !same_running_number(told.running_number, kept.running_number) {
+    if !same_running_number(reported.running_number, kept.running_number) {
         return Some(KeptField::RunningNumber);
     }
-    if !same_train_data(&told.train_data, &kept.train_data) {
+    if !same_train_data(&reported.train_data, &kept.train_data) {
         return Some(KeptField::TrainData);
     }
     None
 }
 
 // Of the track.
-fn found_differs(told: &Kept, kept: &Kept) -> Option<KeptField>
-    ensures { MatchOption result ((told.now.level ≡ kept.now.level) × (told.now.position ≡ kept.now.position) × (told.now.national ≡ kept.now.national))
-        (λ field. FoundDiffers field told.now kept.now) }
+fn found_differs(reported: &Kept, kept: &Kept) -> Option<KeptField>
+    ensures { MatchOption result ((reported.now.level ≡ kept.now.level) × (reported.now.position ≡ kept.now.position) × (reported.now.national ≡ kept.now.national))
+        (λ field. FoundDiffers field reported.now kept.now) }
 {
-    if !same_level_item(told.level, kept.level) {
+    if !same_level_item(reported.level, kept.level) {
         return Some(KeptField::Level);
     }
-    if !same_position_item(told.position, kept.position) {
+    if !same_position_item(reported.position, kept.position) {
         return Some(KeptField::Position);
     }
-    if !same_values(told.national.values(), kept.national.values()) {
+    if !same_values(reported.national.values(), kept.national.values()) {
         return Some(KeptField::NationalValues);
     }
-    if !same_countries(told.national.countries(), kept.national.countries()) {
+    if !same_countries(reported.national.countries(), kept.national.countries()) {
         return Some(KeptField::Countries);
     }
     None
 }
 
-/// The first field in which what a head tells differs from what is kept; None exactly where it is that.
-pub(crate) fn kept_differs(told: &Kept, kept: &Kept) -> Option<KeptField>
-    ensures { MatchOption result (told.now ≡ kept.now) (λ field. KeptDiffersIn field told.now kept.now) }
+/// The first field in which what a head says differs from what is kept; None exactly where it is that.
+pub(crate) fn kept_differs(reported: &Kept, kept: &Kept) -> Option<KeptField>
+    ensures { MatchOption result (reported.now ≡ kept.now) (λ field. KeptDiffersIn field reported.now kept.now) }
 {
-    if told.events != kept.events {
+    if reported.events != kept.events {
         return Some(KeptField::Events);
     }
-    if told.lives != kept.lives {
+    if reported.lives != kept.lives {
         return Some(KeptField::Lives);
     }
-    if told.trip_outstanding != kept.trip_outstanding {
+    if reported.trip_outstanding != kept.trip_outstanding {
         return Some(KeptField::Trip);
     }
-    if let Some(field) = entered_differs(told, kept) {
+    if let Some(field) = entered_differs(reported, kept) {
         return Some(field);
     }
-    found_differs(told, kept)
+    found_differs(reported, kept)
 }

@@ -1,9 +1,10 @@
-//! Replay: the events of a journal are run through the kernel again, and what the blocks tell of each is compared with
+//! Replay: the events of a journal are run through the kernel again, and what the blocks say about each is compared with
 //! what the kernel answers (this project's profile). Moments are milliseconds, places centimetres, speeds metres per
 //! hour; events are numbered from 0, blocks from 1.
 #![tactic(auto)]
 
 mod comparing;
+mod description;
 mod differences;
 mod following;
 mod heads;
@@ -11,7 +12,6 @@ mod judging;
 mod keeping;
 mod laws;
 mod replay;
-mod telling;
 
 pub use differences::{KeptField, RecordField};
 pub use following::Found;

@@ -11,8 +11,8 @@ use Rattle.disk.specs.Record.{IsWithin, bytes_at, trace_of}
 use Rattle.disk.specs.declared.record.Call.{Call}
 use Rattle.disk.specs.declared.record.Span.{Span}
 use Rattle.disk.specs.declared.record.Call.TheVariants.{Quiet, Synced, Written, Torn}
-use Rattle.request_disk.specs.Requests.{has_sector, found_next, found_in, told_at}
-use Rattle.request_disk.proofs.Copied.{put_sectors, carried_next as told_next}
+use Rattle.request_disk.specs.Requests.{has_sector, found_next, found_in, reported_at}
+use Rattle.request_disk.proofs.Copied.{put_sectors, carried_next as reported_next}
 use Rattle.request_disk.proofs.Found.{bytes_now}
 use Rattle.request_disk.specs.Medium.{with_sectors, carried_next, carried}
 
@@ -40,7 +40,7 @@ next_size sectors start written (Written span) within size =
 
 -- one request
 next_sector : (sectors : ℕ) (start written : List ℕ) (call : Call) (s : ℕ) → IsWithin sectors (length written) call → length start ≡ 512 * sectors
-    → sector_of (carried_next written start call) s ≡ told_at start written s (found_next s None call)
+    → sector_of (carried_next written start call) s ≡ reported_at start written s (found_next s None call)
 next_sector sectors start written Quiet s within size = refl
 next_sector sectors start written Synced s within size = refl
 next_sector sectors start written (Torn span) s within size = refl
@@ -49,12 +49,12 @@ next_sector sectors start written (Written span) s within size =
     (omega (arith, size, within.below)) within.bytes refl s
 
 all_sectors : (sectors : ℕ) (start0 start written : List ℕ) (at : Option ℕ) (calls : List Call) (s : ℕ) → AllByRecursion (IsWithin sectors (length written)) calls
-    → length start ≡ 512 * sectors → sector_of start s ≡ told_at start0 written s at
-    → sector_of (fold (carried_next written) start calls) s ≡ told_at start0 written s (fold (found_next s) at calls)
+    → length start ≡ 512 * sectors → sector_of start s ≡ reported_at start0 written s at
+    → sector_of (fold (carried_next written) start calls) s ≡ reported_at start0 written s (fold (found_next s) at calls)
 all_sectors sectors start0 start written at [] s within size so = so
 all_sectors sectors start0 start written at (call ∷ calls) s within size so =
     all_sectors sectors start0 (carried_next written start call) written (found_next s at call) calls s within.1 (next_size sectors start written call within.0 size)
-    (next_sector sectors start written call s within.0 size ∙ told_next s start0 start written at call so)
+    (next_sector sectors start written call s within.0 size ∙ reported_next s start0 start written at call so)
 
 all_size : (sectors : ℕ) (start written : List ℕ) (calls : List Call) → AllByRecursion (IsWithin sectors (length written)) calls
     → length start ≡ 512 * sectors → length (fold (carried_next written) start calls) ≡ 512 * sectors
@@ -66,12 +66,12 @@ module _ (sectors : ℕ) (start written : List ℕ) (calls : List Call) (within 
   pub carried_size : length (carried written start calls) ≡ 512 * sectors
   carried_size = all_size sectors start written calls (recursion_from_All (IsWithin sectors (length written)) calls within) size
 
-  -- what a read told of a sector, the medium holds
-  pub carried_told : (s : ℕ) → sector_of (carried written start calls) s ≡ told_at start written s (found_in s calls)
-  carried_told s = all_sectors sectors start start written None calls s (recursion_from_All (IsWithin sectors (length written)) calls within) size refl
+  -- what a read reported of a sector, the medium holds
+  pub carried_reported : (s : ℕ) → sector_of (carried written start calls) s ≡ reported_at start written s (found_in s calls)
+  carried_reported s = all_sectors sectors start start written None calls s (recursion_from_All (IsWithin sectors (length written)) calls within) size refl
 
   pub carried_now : (s : ℕ) → sector_of (carried written start calls) s ≡ bytes_at start written s (trace_of s (take (length calls) calls)).last
-  carried_now s = carried_told s ∙ bytes_now start written s calls
+  carried_now s = carried_reported s ∙ bytes_now start written s calls
 
 -- one sector's bytes are put in
 module _ (sectors : ℕ) (medium bytes : List ℕ) (s : ℕ) (below : s < sectors) (one : length bytes ≡ 512) (size : length medium ≡ 512 * sectors) where
@@ -88,7 +88,7 @@ module _ (sectors : ℕ) (medium bytes : List ℕ) (s : ℕ) (below : s < sector
   put_other t other =
       let outside : has_sector span t ≡ false = grind (arith, nat_tests, other) in
       next_sector sectors medium bytes (Written span) t within_one size
-      ∙ ap (λ (b : Bool). told_at medium bytes t (if b then Some (0 + 512 * (t - s)) else None)) outside
+      ∙ ap (λ (b : Bool). reported_at medium bytes t (if b then Some (0 + 512 * (t - s)) else None)) outside
 
   whole : take 512 bytes ≡ bytes
   whole = take_all 512 bytes (omega (arith, one))
@@ -98,7 +98,7 @@ module _ (sectors : ℕ) (medium bytes : List ℕ) (s : ℕ) (below : s < sector
       let inside : has_sector span s ≡ true = grind (arith, nat_tests) in
       let start : 0 + 512 * (s - s) ≡ 0 = omega arith in
       next_sector sectors medium bytes (Written span) s within_one size
-      ∙ ap (λ (b : Bool). told_at medium bytes s (if b then Some (0 + 512 * (s - s)) else None)) inside
+      ∙ ap (λ (b : Bool). reported_at medium bytes s (if b then Some (0 + 512 * (s - s)) else None)) inside
       ∙ ap (λ (n : ℕ). take 512 (drop n bytes)) start
       ∙ whole
 
@@ -106,7 +106,7 @@ module _ (sectors : ℕ) (medium bytes : List ℕ) (s : ℕ) (below : s < sector
   pub put_same_bytes : bytes ≡ sector_of medium s → with_sectors bytes medium span ≡ medium
   put_same_bytes is = ap (λ (ys : List ℕ). put_mid (512 * s) 512 medium ys) (whole ∙ is) ∙ put_same (512 * s) 512 medium
 
--- what is told of another sector stays
-pub told_other : (medium medium' written : List ℕ) (t : ℕ) (at : Option ℕ) → sector_of medium' t ≡ sector_of medium t → told_at medium' written t at ≡ told_at medium written t at
-told_other medium medium' written t None is = is
-told_other medium medium' written t (Some at) is = refl
+-- what is reported of another sector stays
+pub reported_other : (medium medium' written : List ℕ) (t : ℕ) (at : Option ℕ) → sector_of medium' t ≡ sector_of medium t → reported_at medium' written t at ≡ reported_at medium written t at
+reported_other medium medium' written t None is = is
+reported_other medium medium' written t (Some at) is = refl

@@ -12,7 +12,7 @@ use Rattle.disk.specs.State.{sector_of}
 use Rattle.disk.specs.declared.record.Call.{Call}
 use Rattle.disk.specs.declared.record.Call.TheVariants.{Quiet, Synced, Written, Torn}
 use Rattle.disk.specs.declared.record.Span.{Span}
-use Rattle.request_disk.specs.Requests.{has_sector, found_next, found_in, told_at}
+use Rattle.request_disk.specs.Requests.{has_sector, found_next, found_in, reported_at}
 
 outside : (span : Span) (s : ℕ) → (s < span.first) → has_sector span s ≡ false
 outside span s below = grind (arith, nat_tests)
@@ -27,11 +27,11 @@ inside span s from below = grind (arith, nat_tests)
 pub put_sectors : (start written ys : List ℕ) (span : Span) (to k : ℕ) → to ≡ 512 * span.first → k ≡ 512 * span.sectors
     → 512 * span.first + 512 * span.sectors ≤ length start → span.from + 512 * span.sectors ≤ length written
     → ys ≡ take k (drop span.from written) → (s : ℕ)
-    → sector_of (put_mid to k start ys) s ≡ told_at start written s (found_next s None (Written span))
+    → sector_of (put_mid to k start ys) s ≡ reported_at start written s (found_next s None (Written span))
 put_sectors start written ys span to k here wide room there is s =
     let size : length ys ≡ k = ap length is ∙ length-take-le k (drop span.from written) (omega (arith, length-drop span.from written)) in
     let next : List ℕ = put_mid to k start ys in
-    let T : Bool → List ℕ = λ b. told_at start written s (if b then Some (span.from + 512 * (s - span.first)) else None) in
+    let T : Bool → List ℕ = λ b. reported_at start written s (if b then Some (span.from + 512 * (s - span.first)) else None) in
     ⊎_elim
     (λ (lt : s < span.first).
     sym (drop-take (512 * s) 512 next)
@@ -61,13 +61,13 @@ put_sectors start written ys span to k here wide room there is s =
     (cases_lt s span.first)
 
 -- one request more is carried out
-one_more : (b : Bool) (x s : ℕ) (start0 start written : List ℕ) (at : Option ℕ) → sector_of start s ≡ told_at start0 written s at
-    → told_at start written s (if b then Some x else None) ≡ told_at start0 written s (if b then Some x else at)
+one_more : (b : Bool) (x s : ℕ) (start0 start written : List ℕ) (at : Option ℕ) → sector_of start s ≡ reported_at start0 written s at
+    → reported_at start written s (if b then Some x else None) ≡ reported_at start0 written s (if b then Some x else at)
 one_more true x s start0 start written at so = refl
 one_more false x s start0 start written at so = so
 
-pub carried_next : (s : ℕ) (start0 start written : List ℕ) (at : Option ℕ) (call : Call) → sector_of start s ≡ told_at start0 written s at
-    → told_at start written s (found_next s None call) ≡ told_at start0 written s (found_next s at call)
+pub carried_next : (s : ℕ) (start0 start written : List ℕ) (at : Option ℕ) (call : Call) → sector_of start s ≡ reported_at start0 written s at
+    → reported_at start written s (found_next s None call) ≡ reported_at start0 written s (found_next s at call)
 carried_next s start0 start written at Quiet so = so
 carried_next s start0 start written at Synced so = so
 carried_next s start0 start written at (Written span) so = one_more (has_sector span s) (span.from + 512 * (s - span.first)) s start0 start written at so

@@ -1,4 +1,4 @@
--- Where the bytes of a sector are found, as the record of a disk tells it, and the request at a place.
+-- Where the bytes of a sector are found, as the record of a disk says it, and the request at a place.
 use Rattle.std.proofs.Common.{◌≡◌, ℕ, ◌+◌, ◌-◌, ◌*◌, ◌<◌, ◌≤◌, Bool, true, false, List, [], ◌∷◌, ◌++◌, length, take, get_or, refl, sym, ◌∙◌, ap, subst, arith, Option, Some, None}
 use Rattle.std.specs.Prelude.{fold, All, IfSome, if◌then◌else◌}
 use Rattle.std.proofs.Math.Seq.{get_or-append_seam}
@@ -11,55 +11,55 @@ use Rattle.disk.specs.declared.record.Place.{Place}
 use Rattle.disk.specs.declared.record.Place.TheVariants.{Start, Record}
 use Rattle.disk.specs.declared.record.Trace.{Trace}
 use Rattle.disk.proofs.RecordLemmas.{placed}
-use Rattle.request_disk.specs.Requests.{has_sector, found_next, found_in, told_at}
+use Rattle.request_disk.specs.Requests.{has_sector, found_next, found_in, reported_at}
 
 -- as a place of the record
-abbrev pub place_told : Option ℕ → Place
-place_told None = Start
-place_told (Some at) = Record at
+abbrev pub place_reported : Option ℕ → Place
+place_reported None = Start
+place_reported (Some at) = Record at
 
-written_told : (b : Bool) (x : ℕ) (t : Trace) (at : Option ℕ) → t.last ≡ place_told at
-    → (trace_written t (if b then Some (Record x) else None)).last ≡ place_told (if b then Some x else at)
-written_told true x t at so = refl
-written_told false x t at so = so
+written_reported : (b : Bool) (x : ℕ) (t : Trace) (at : Option ℕ) → t.last ≡ place_reported at
+    → (trace_written t (if b then Some (Record x) else None)).last ≡ place_reported (if b then Some x else at)
+written_reported true x t at so = refl
+written_reported false x t at so = so
 
-torn_told : (t : Trace) (o : Option Place) → (trace_torn t o).last ≡ t.last
-torn_told t None = refl
-torn_told t (Some place) = refl
+torn_reported : (t : Trace) (o : Option Place) → (trace_torn t o).last ≡ t.last
+torn_reported t None = refl
+torn_reported t (Some place) = refl
 
-next_told : (s : ℕ) (t : Trace) (at : Option ℕ) (call : Call) → t.last ≡ place_told at → (trace_next s t call).last ≡ place_told (found_next s at call)
-next_told s t at Quiet so = so
-next_told s t at Synced so = so
-next_told s t at (Written span) so = written_told (has_sector span s) (span.from + 512 * (s - span.first)) t at so
-next_told s t at (Torn span) so = torn_told t (place_in span s) ∙ so
+next_reported : (s : ℕ) (t : Trace) (at : Option ℕ) (call : Call) → t.last ≡ place_reported at → (trace_next s t call).last ≡ place_reported (found_next s at call)
+next_reported s t at Quiet so = so
+next_reported s t at Synced so = so
+next_reported s t at (Written span) so = written_reported (has_sector span s) (span.from + 512 * (s - span.first)) t at so
+next_reported s t at (Torn span) so = torn_reported t (place_in span s) ∙ so
 
-all_told : (s : ℕ) (t : Trace) (at : Option ℕ) (calls : List Call) → t.last ≡ place_told at → (fold (trace_next s) t calls).last ≡ place_told (fold (found_next s) at calls)
-all_told s t at [] so = so
-all_told s t at (call ∷ calls) so = all_told s (trace_next s t call) (found_next s at call) calls (next_told s t at call so)
+all_reported : (s : ℕ) (t : Trace) (at : Option ℕ) (calls : List Call) → t.last ≡ place_reported at → (fold (trace_next s) t calls).last ≡ place_reported (fold (found_next s) at calls)
+all_reported s t at [] so = so
+all_reported s t at (call ∷ calls) so = all_reported s (trace_next s t call) (found_next s at call) calls (next_reported s t at call so)
 
 -- where a read finds a sector
-pub last_told : (s : ℕ) (calls : List Call) → (trace_of s calls).last ≡ place_told (found_in s calls)
-last_told s calls = all_told s trace_start None calls refl
+pub last_reported : (s : ℕ) (calls : List Call) → (trace_of s calls).last ≡ place_reported (found_in s calls)
+last_reported s calls = all_reported s trace_start None calls refl
 
-told_same : (start written : List ℕ) (s : ℕ) (at : Option ℕ) → told_at start written s at ≡ bytes_at start written s (place_told at)
-told_same start written s None = refl
-told_same start written s (Some at) = refl
+reported_same : (start written : List ℕ) (s : ℕ) (at : Option ℕ) → reported_at start written s at ≡ bytes_at start written s (place_reported at)
+reported_same start written s None = refl
+reported_same start written s (Some at) = refl
 
 -- its bytes
-pub bytes_told : (start written : List ℕ) (s : ℕ) (calls : List Call) → told_at start written s (found_in s calls) ≡ bytes_at start written s (trace_of s calls).last
-bytes_told start written s calls = told_same start written s (found_in s calls) ∙ ap (λ (p : Place). bytes_at start written s p) (sym (last_told s calls))
+pub bytes_reported : (start written : List ℕ) (s : ℕ) (calls : List Call) → reported_at start written s (found_in s calls) ≡ bytes_at start written s (trace_of s calls).last
+bytes_reported start written s calls = reported_same start written s (found_in s calls) ∙ ap (λ (p : Place). bytes_at start written s p) (sym (last_reported s calls))
 
--- its bytes now, behind all calls
+-- its bytes now, after all calls
 pub bytes_now : (start written : List ℕ) (s : ℕ) (calls : List Call)
-    → told_at start written s (found_in s calls) ≡ bytes_at start written s (trace_of s (take (length calls) calls)).last
-bytes_now start written s calls = bytes_told start written s calls ∙ ap (λ (l : List Call). bytes_at start written s (trace_of s l).last) (sym (take_all (length calls) calls (omega arith)))
+    → reported_at start written s (found_in s calls) ≡ bytes_at start written s (trace_of s (take (length calls) calls)).last
+bytes_now start written s calls = bytes_reported start written s calls ∙ ap (λ (l : List Call). bytes_at start written s (trace_of s l).last) (sym (take_all (length calls) calls (omega arith)))
 
 -- where bytes are found a whole sector stands
 IfFound : ℕ → Option ℕ → Type 0
 IfFound written None = Unit {0}
 IfFound written (Some at) = at + 512 ≤ written
 
-if_found : (written : ℕ) (at : Option ℕ) → IsPlaced written (place_told at) → IfFound written at
+if_found : (written : ℕ) (at : Option ℕ) → IsPlaced written (place_reported at) → IfFound written at
 unfolding IfFound
 if_found written None here = tt
 if_found written (Some at) here = here
@@ -73,7 +73,7 @@ there_if written (Some at) here = here
 pub found_there : (sectors written s : ℕ) (calls : List Call) → All (IsWithin sectors written) calls → IfSome (found_in s calls) (λ n. n + 512 ≤ written)
 found_there sectors written s calls within =
     let P : Place → Type 0 = λ p. IsPlaced written p in
-    there_if written (found_in s calls) (if_found written (found_in s calls) (subst P (last_told s calls) (placed sectors written s calls within).last))
+    there_if written (found_in s calls) (if_found written (found_in s calls) (subst P (last_reported s calls) (placed sectors written s calls within).last))
 
 -- what is so of each request is so of the one at a place
 pub at_place : (P : Call → Type 0) (calls : List Call) (i : ℕ) (call : Call) → i < length calls → take (i + 1) calls ≡ take i calls ++ call ∷ [] → All P calls → P call

@@ -9,16 +9,16 @@ use Rattle.std.proofs.lemmas.List.Quantifiers.{position-Some}
 use Rattle.disk.specs.State.{sector_of, contents_of}
 use Rattle.disk.specs.Record.{IsWithin, bytes_at, trace_of}
 use Rattle.disk.specs.declared.record.Call.{Call}
-use Rattle.request_disk.specs.Requests.{found_in, told_at}
+use Rattle.request_disk.specs.Requests.{found_in, reported_at}
 use Rattle.request_disk.specs.Held.{is_held, with_number, AreHeld, IsWhole}
 use Rattle.request_disk.specs.declared.held.Held.{Held}
 use Rattle.request_disk.specs.declared.held.Held.TheVariants.{Whole, Few}
 use Rattle.request_disk.proofs.Found.{bytes_now}
 use Rattle.request_disk.specs.declared.known.Known.{Known}
-use Rattle.request_disk.specs.Known.{numbers_of, has_number, with_room, IsHeld, told_or, renewed}
+use Rattle.request_disk.specs.Known.{numbers_of, has_number, with_room, IsHeld, reported_or, renewed}
 use Rattle.request_disk.specs.Medium.{with_sectors, carried}
 use Rattle.request_disk.specs.Requesting.{Requesting, knows, request_state}
-use Rattle.request_disk.proofs.Carried.{carried_told, put_one, put_other, put_same_bytes, told_other}
+use Rattle.request_disk.proofs.Carried.{carried_reported, put_one, put_other, put_same_bytes, reported_other}
 
 -- where a sector is held, its number is among the numbers
 length_same : {X Y : Type 0} (p : Y → Bool) (f : X → Y) (xs : List X) → position_or_len p (map f xs) ≡ position_or_len (λ x. p (f x)) xs
@@ -46,9 +46,9 @@ numbers_renewed written calls [] = refl
 numbers_renewed written calls (k ∷ known) = ap (λ (ns : List ℕ). k.sector ∷ ns) (numbers_renewed written calls known)
 
 -- and each sector holds what the medium holds then
-told_held : (medium written bytes : List ℕ) (s : ℕ) (at : Option ℕ) → bytes ≡ sector_of medium s → told_or bytes written at ≡ told_at medium written s at
-told_held medium written bytes s None is = is
-told_held medium written bytes s (Some at) is = refl
+reported_held : (medium written bytes : List ℕ) (s : ℕ) (at : Option ℕ) → bytes ≡ sector_of medium s → reported_or bytes written at ≡ reported_at medium written s at
+reported_held medium written bytes s None is = is
+reported_held medium written bytes s (Some at) is = refl
 
 pub held_renewed : (sectors : ℕ) (medium written : List ℕ) (calls : List Call) (known : List Known) → All (IsWithin sectors (length written)) calls
     → length medium ≡ 512 * sectors → All (IsHeld sectors medium) known → All (IsHeld sectors (carried written medium calls)) (map (renewed written calls) known)
@@ -56,7 +56,7 @@ held_renewed sectors medium written calls known within size all =
     All-map (IsHeld sectors (carried written medium calls)) (renewed written calls) known
     (All-weaker (IsHeld sectors medium) (λ k. IsHeld sectors (carried written medium calls) (renewed written calls k)) (λ k held. record {
       below = held.below;
-      bytes = told_held medium written k.bytes k.sector (found_in k.sector calls) held.bytes ∙ sym (carried_told sectors medium written calls within size k.sector);
+      bytes = reported_held medium written k.bytes k.sector (found_in k.sector calls) held.bytes ∙ sym (carried_reported sectors medium written calls within size k.sector);
     }) known all)
 
 -- a sector is known that a request writes, or that is held
@@ -93,7 +93,7 @@ none_if (Some at) b is = search (rules, is)
 pub unknown_contents : (s : ℕ) (w : Requesting) → knows s w ≡ false → contents_of (request_state w) s ≡ sector_of w.medium s
 unknown_contents s w is =
     sym (bytes_now w.medium w.written s w.requests)
-    ∙ ap (λ (o : Option ℕ). told_at w.medium w.written s o) (none_if (found_in s w.requests) (is_held s w.known) is)
+    ∙ ap (λ (o : Option ℕ). reported_at w.medium w.written s o) (none_if (found_in s w.requests) (is_held s w.known) is)
 
 -- a number that was added is there
 last_there : (s : ℕ) (xs : List ℕ) → position_or_len (λ n. n == s) (xs ++ s ∷ []) < length (xs ++ s ∷ [])
@@ -158,16 +158,16 @@ module _ (w : Requesting) (s : ℕ) (bytes : List ℕ) (below : s < w.sectors) (
   abbrev next : List ℕ
   next = with_sectors bytes w.medium (record { first = s; sectors = 1; from = 0 })
 
-  pub told_put : bytes_at next w.written s (trace_of s (take (length w.requests) w.requests)).last ≡ bytes
-  told_put =
+  pub reported_put : bytes_at next w.written s (trace_of s (take (length w.requests) w.requests)).last ≡ bytes
+  reported_put =
       sym (bytes_now next w.written s w.requests)
-      ∙ ap (λ (o : Option ℕ). told_at next w.written s o) (unknown_found s w unknown)
+      ∙ ap (λ (o : Option ℕ). reported_at next w.written s o) (unknown_found s w unknown)
       ∙ put_one w.sectors w.medium bytes s below one size
 
-  pub told_others : (t : ℕ) → (t == s) ≡ false → bytes_at next w.written t (trace_of t (take (length w.requests) w.requests)).last ≡ contents_of (request_state w) t
-  told_others t other =
+  pub reported_others : (t : ℕ) → (t == s) ≡ false → bytes_at next w.written t (trace_of t (take (length w.requests) w.requests)).last ≡ contents_of (request_state w) t
+  reported_others t other =
       sym (bytes_now next w.written t w.requests)
-      ∙ told_other w.medium next w.written t (found_in t w.requests) (put_other w.sectors w.medium bytes s below one size t other)
+      ∙ reported_other w.medium next w.written t (found_in t w.requests) (put_other w.sectors w.medium bytes s below one size t other)
       ∙ bytes_now w.medium w.written t w.requests
 
   pub same_medium : bytes ≡ contents_of (request_state w) s → next ≡ w.medium

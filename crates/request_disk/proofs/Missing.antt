@@ -6,9 +6,9 @@ use Rattle.std.proofs.lemmas.Bool.Decides.{nat_tests}
 use Rattle.disk.specs.State.{Platter, Counted, Touches}
 use Rattle.disk.proofs.Moments.{quiet_synced}
 use Rattle.request_disk.specs.Requesting.{Requesting, knows}
-use Rattle.request_disk.specs.Lent.{Lent, lent_of, lent_state, lent_at, lent_clock, mark_of, WantsMissing, TellsMissing}
+use Rattle.request_disk.specs.Lent.{Lent, lent_of, lent_state, lent_at, lent_clock, mark_of, WantsMissing, DescribesMissing}
 
--- a mark tells what it is of
+-- a mark says what it is of
 marks : (a b : Bool) → mark_of a ≡ mark_of b → a ≡ b
 marks true true is = refl
 marks true false is = absurd cc
@@ -30,10 +30,10 @@ same_missing old new None size known is = is
 same_missing old new (Some s) size known is = record { below = subst (λ (n : ℕ). s < n) size is.below; unknown = sym (known s) ∙ is.unknown }
 
 -- where calls that only read failed since a disk was lent, a sector is wanted that it has, and that isn't known
-pub missing_there : (d : Requesting) (r : Lent) → TellsMissing r → Counted true (lent_state (lent_of d)) (lent_state r) → Touches 0 0 (lent_state (lent_of d)) (lent_state r) → WantsMissing d r.wanted
-missing_there d r tells counted quiet =
+pub missing_there : (d : Requesting) (r : Lent) → DescribesMissing r → Counted true (lent_state (lent_of d)) (lent_state r) → Touches 0 0 (lent_state (lent_of d)) (lent_state r) → WantsMissing d r.wanted
+missing_there d r describes counted quiet =
     let shut : (s : ℕ) → (lent_at r.disk r.tried (lent_clock r.tried)).is_open s ≡ false = quiet_synced (lent_state (lent_of d)) (lent_state r) quiet (λ s. refl) in
     let first : lent_at r.disk r.tried 0 ≡ lent_at d None 0 = quiet.kept 0 (omega arith) in
     let known : (s : ℕ) → knows s r.disk ≡ knows s d = λ s. marks (knows s r.disk) (knows s d) (ap (λ (p : Platter). p.contents s) first) in
     let one : r.faults ≡ 1 = counted.faults in
-    same_missing d r.disk r.wanted counted.sectors known (tells (none_tried r.disk r.tried shut) (omega (arith, one)))
+    same_missing d r.disk r.wanted counted.sectors known (describes (none_tried r.disk r.tried shut) (omega (arith, one)))

@@ -1,4 +1,4 @@
--- Behind a sync no sector is open.
+-- After a sync no sector is open.
 use Rattle.std.proofs.Common.{◌≡◌, ℕ, Bool, true, false, List, [], ◌∷◌, length, take, refl, ◌∙◌, ap, rules, arith}
 use Rattle.std.specs.Prelude.{fold}
 use Rattle.std.proofs.lemmas.List.{take_all}

@@ -27,10 +27,10 @@ pub record IsHeld (sectors : ℕ) (medium : List ℕ) (k : Known) : Type 0 where
   pub bytes : k.bytes ≡ sector_of medium k.sector
 
 -- the bytes that stand there among those that are written, and where none was written these
-abbrev pub told_or : List ℕ → List ℕ → Option ℕ → List ℕ
-told_or bytes written None = bytes
-told_or bytes written (Some at) = take 512 (drop at written)
+abbrev pub reported_or : List ℕ → List ℕ → Option ℕ → List ℕ
+reported_or bytes written None = bytes
+reported_or bytes written (Some at) = take 512 (drop at written)
 
 -- the sector after these requests
 abbrev pub renewed : List ℕ → List Call → Known → Known
-renewed written requests k = record k { bytes = told_or k.bytes written (found_in k.sector requests) }
+renewed written requests k = record k { bytes = reported_or k.bytes written (found_in k.sector requests) }

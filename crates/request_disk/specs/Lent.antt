@@ -26,8 +26,8 @@ WantsMissing d None = ⊥
 WantsMissing d (Some s) = IsMissing d s
 
 -- where no write was tried a call that failed was a read, and a sector is wanted that is missing
-abbrev pub TellsMissing : Lent → Type 0
-TellsMissing r = r.tried ≡ None → 0 < r.faults → WantsMissing r.disk r.wanted
+abbrev pub DescribesMissing : Lent → Type 0
+DescribesMissing r = r.tried ≡ None → 0 < r.faults → WantsMissing r.disk r.wanted
 
 -- ---- as a disk
 

@@ -29,9 +29,9 @@ abbrev pub found_in : ℕ → List Call → Option ℕ
 found_in s requests = fold (found_next s) None requests
 
 -- the bytes of sector s that stand there, and where none was written those that the medium began with
-abbrev pub told_at : List ℕ → List ℕ → ℕ → Option ℕ → List ℕ
-told_at start written s None = sector_of start s
-told_at start written s (Some at) = take 512 (drop at written)
+abbrev pub reported_at : List ℕ → List ℕ → ℕ → Option ℕ → List ℕ
+reported_at start written s None = sector_of start s
+reported_at start written s (Some at) = take 512 (drop at written)
 
 -- whether a request is a sync
 abbrev pub is_sync : Call → Bool

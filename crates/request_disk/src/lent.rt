@@ -20,13 +20,13 @@ pub struct LentDisk<'a> {
 }
 
 impl<'a> Model for LentDisk<'a> {
-    ghost use Rattle.request_disk.specs.Lent.{Lent, TellsMissing};
+    ghost use Rattle.request_disk.specs.Lent.{Lent, DescribesMissing};
 
     ghost Value = { Lent };
 
     ghost view = { λ r. record { disk = r.disk.now; faults = r.faults; wanted = r.wanted; tried = r.tried } };
 
-    ghost invariant = { λ r. TellsMissing (record { disk = r.disk.now; faults = r.faults; wanted = r.wanted; tried = r.tried }) };
+    ghost invariant = { λ r. DescribesMissing (record { disk = r.disk.now; faults = r.faults; wanted = r.wanted; tried = r.tried }) };
 }
 
 impl<'a> LentDisk<'a> {

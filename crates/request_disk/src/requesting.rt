@@ -20,7 +20,7 @@ pub const MOST_REQUESTS: usize = 16;
 pub const MOST_BYTES: usize = 8192;
 
 /// A disk that notes each write and each sync as a request. It holds all of its medium or only some sectors, takes all
-/// its memory where it is made, and tells which sector is wanted. A call beyond its room answers DiskFault and changes
+/// its memory where it is made, and says which sector is wanted. A call beyond its room answers DiskFault and changes
 /// nothing else.
 #[derive(Drop)]
 pub struct RequestDisk {
@@ -142,7 +142,7 @@ impl RequestDisk {
         // Where the bytes are what the medium holds, the disk is what it was.
         ensures same { bytes.now ≡ contents_of (request_state self.old) sector →
             request_state self.new ≡ request_state self.old }
-        ensures told { knows sector self.old ≡ false → contents_of (request_state self.new) sector ≡ bytes.now }
+        ensures reported { knows sector self.old ≡ false → contents_of (request_state self.new) sector ≡ bytes.now }
         ensures others { (s : ℕ) → (s == sector) ≡ false →
             contents_of (request_state self.new) s ≡ contents_of (request_state self.old) s }
 
@@ -187,7 +187,7 @@ impl RequestDisk {
     }
 
     /// A request by its place in the list, from 0 on: a sync, or a write of sectors that the medium has, whose bytes
-    /// `bytes_of` tells.
+    /// `bytes_of` reports.
     pub fn request(&self, index: usize) -> Option<Call>
         ensures none { result ≡ None → length self.now.requests ≤ index }
         ensures some { (call : Call) → result ≡ Some call →
@@ -225,7 +225,7 @@ impl RequestDisk {
 
     /// Empties the list, after a medium that carried it out: the disk holds what it held. Sectors that were handed in
     /// stay known, and hold what was written; of others that were written the bytes are forgotten. The caller owes that
-    /// no sector is open, as `is_synced` tells.
+    /// no sector is open, as `is_synced` reports.
     pub fn empty(&mut self)
         requires { IsSynced (request_state self.old) }
         ensures exact { self.new ≡ with_carried self.old }

@@ -10,7 +10,7 @@ use Rattle.restriction.specs.declared.restriction.Restriction.{Restriction}
 abbrev pub is_ended_by : ℕ → Restriction → Bool
 is_ended_by number restriction = (number == restriction.number) && not (restriction.number == 255)
 
--- the first centimetre behind it
+-- the first centimetre after it
 abbrev pub end_of : Restriction → ℤ
 end_of restriction = restriction.start +ℤ pos restriction.length
 

@@ -24,7 +24,7 @@ impl Restriction {
     ghost use Rattle.restriction.specs.Covering.{end_of, is_ended_by, reaches_past};
     ghost use Rattle.restriction.specs.Meeting.{meets};
 
-    // The first centimetre behind it.
+    // The first centimetre after it.
     fn end(&self) -> i64
         ensures value { result ≡ end_of self.now }
         ensures near { unsigned_abs result ≤ 2 ^ 43 }

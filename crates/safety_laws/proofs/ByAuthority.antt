@@ -23,10 +23,10 @@ use Rattle.track_picture.proofs.SameParts.{same_accepted}
 use Rattle.mode_control.specs.Conditions.{is_full_to}
 use Rattle.mode_control.specs.History.{tracks, mode_of}
 use Rattle.mode_control.specs.Life.{Life, grown}
-use Rattle.mode_control.specs.Sentences.{told, entry_of}
+use Rattle.mode_control.specs.Sentences.{reported, entry_of}
 use Rattle.kernel.specs.Lives.{life_of}
 use Rattle.safety_laws.specs.Running.{modes_by_authority}
-use Rattle.safety_laws.proofs.AuthorityTold.{authorities, after_clock, after_told, after_train, after_entered, by_event}
+use Rattle.safety_laws.proofs.AuthorityReport.{authorities, after_clock, after_reported, after_train, after_entered, by_event}
 use Rattle.safety_laws.proofs.Events.{past_turn, event_seen, train, found}
 
 abbrev runs : Mode → Bool
@@ -52,10 +52,10 @@ past_facts [] entries h = h
 past_facts (fact ∷ facts) entries h =
     past_facts facts (after_authority fact entries) (by_packet (as_movement_authority fact.packet) fact entries h)
 
-past_groups : (outcomes : List Outcome) (entries : List authority.AuthorityEntry) → stored entries → stored (after_told outcomes entries)
+past_groups : (outcomes : List Outcome) (entries : List authority.AuthorityEntry) → stored entries → stored (after_reported outcomes entries)
 past_groups [] entries h = h
 past_groups (outcome ∷ outcomes) entries h =
-    past_facts (facts_in outcome) (after_told outcomes entries) (past_groups outcomes entries h)
+    past_facts (facts_in outcome) (after_reported outcomes entries) (past_groups outcomes entries h)
 
 past_mode : (mode : Mode) (entries : List authority.AuthorityEntry) → runs mode ≡ true → stored entries →
     stored (after_entered (Some mode) entries)
@@ -122,8 +122,8 @@ full_stored (Some fact) end test h = refl
 module _ (life : Life) (input : Input) where
   abbrev seen : List authority.AuthorityEntry
   seen =
-      let event = told life input in
-      after_train (Some (train life input)) (after_told event.used.groups (after_clock event.begun.clock (authorities (tracks life.entries))))
+      let event = reported life input in
+      after_train (Some (train life input)) (after_reported event.used.groups (after_clock event.begun.clock (authorities (tracks life.entries))))
 
   -- as it is read off the facts that count
   abbrev read : List authority.AuthorityEntry
@@ -136,7 +136,7 @@ module _ (life : Life) (input : Input) where
       let old : Mode = mode_of life.entries in
       let new : Mode = next_mode old c in
       let was : List authority.AuthorityEntry = authorities (tracks life.entries) in
-      let event = told life input in
+      let event = reported life input in
       let still : stored was → stored seen = λ s. past_groups event.used.groups (after_clock event.begun.clock was) (past_clock event.begun.clock was s) in
       subst stored (sym (by_event (entry_of life input).track (tracks life.entries)))
       (past_turn runs (λ (entered : Option Mode). stored (after_entered entered seen)) (is_mode old new) old new now (λ h. still (before h))

@@ -13,8 +13,8 @@ use Rattle.driver.specs.Data.{is_valid}
 use Rattle.driver.specs.Entries.{DriverEntry}
 use Rattle.driver.specs.Entries.DriverEntry.{Did, ModeEntered}
 use Rattle.driver.specs.Limits.{Train}
-use Rattle.driver.specs.Telling.{ItemTold, after_told, datum_after, train_data_told, ends}
-use Rattle.driver.specs.Telling.ItemTold.{Confirms, Leaves, Nothing}
+use Rattle.driver.specs.Description.{ItemReport, after_reported, datum_after, train_data_reported, ends}
+use Rattle.driver.specs.Description.ItemReport.{Confirms, Leaves, Nothing}
 use Rattle.events.specs.declared.input.Event.{Event}
 use Rattle.events.specs.declared.input.Event.TheVariants as an_event
 use Rattle.events.specs.declared.input.Input.{Input}
@@ -40,36 +40,36 @@ runs mode = is_one_of modes_by_data mode
 
 -- ---- what an entry leaves valid
 
-told_keeps : (told : ItemTold Train) (before : Datum Train) → ends told ≡ false → is_valid before ≡ true → is_valid (after_told told before) ≡ true
-told_keeps Confirms Unknown e h = h
-told_keeps (Leaves K) before e h = h
-told_keeps (Leaves fate) before e h = absurd (let no : true ≡ false = e in cc)
-told_keeps Nothing before e h = h
-told_keeps told before e h = refl
+reported_keeps : (reported : ItemReport Train) (before : Datum Train) → ends reported ≡ false → is_valid before ≡ true → is_valid (after_reported reported before) ≡ true
+reported_keeps Confirms Unknown e h = h
+reported_keeps (Leaves K) before e h = h
+reported_keeps (Leaves fate) before e h = absurd (let no : true ≡ false = e in cc)
+reported_keeps Nothing before e h = h
+reported_keeps reported before e h = refl
 
-by_action : (action : Action) (occasion : Occasion) → ends (train_data_told (Did action occasion)) ≡ false
+by_action : (action : Action) (occasion : Occasion) → ends (train_data_reported (Did action occasion)) ≡ false
 by_action (Confirm confirm.TrainData) occasion = refl
 by_action action occasion = refl
 
-by_mode : (mode : Mode) → runs mode ≡ true → ends (train_data_told (ModeEntered mode)) ≡ false
+by_mode : (mode : Mode) → runs mode ≡ true → ends (train_data_reported (ModeEntered mode)) ≡ false
 by_mode Shunting h = absurd (let no : false ≡ true = h in cc)
 by_mode StandBy h = absurd (let no : false ≡ true = h in cc)
 by_mode mode h = refl
 
 module _ (kept : Datum Train) where
   abbrev is_so : List DriverEntry → Type 0
-  is_so entries = is_valid (datum_after train_data_told kept entries) ≡ true
+  is_so entries = is_valid (datum_after train_data_reported kept entries) ≡ true
 
   past_deed : (deed : Option Deed) (rest : List DriverEntry) → is_so rest → is_so (after_deed deed rest)
   past_deed None rest h = h
-  past_deed (Some deed) rest h = told_keeps (train_data_told (Did deed.action deed.occasion)) (datum_after train_data_told kept rest) (by_action deed.action deed.occasion) h
+  past_deed (Some deed) rest h = reported_keeps (train_data_reported (Did deed.action deed.occasion)) (datum_after train_data_reported kept rest) (by_action deed.action deed.occasion) h
 
   past_level : (level : Option TrainLevel) (rest : List DriverEntry) → is_so rest → is_so (after_level level rest)
   past_level None rest h = h
   past_level (Some level) rest h = h
 
   past_mode : (mode : Mode) (rest : List DriverEntry) → runs mode ≡ true → is_so rest → is_so (ModeEntered mode ∷ rest)
-  past_mode mode rest runs h = told_keeps (train_data_told (ModeEntered mode)) (datum_after train_data_told kept rest) (by_mode mode runs) h
+  past_mode mode rest runs h = reported_keeps (train_data_reported (ModeEntered mode)) (datum_after train_data_reported kept rest) (by_mode mode runs) h
 
 -- ---- who enters such a mode from another one has started
 

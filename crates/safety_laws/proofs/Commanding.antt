@@ -1,4 +1,4 @@
--- The brake table: the rows before one that holds, and what is so behind the last event.
+-- The brake table: the rows before one that holds, and what is so after the last event.
 use Rattle.std.proofs.Common.{◌≡◌, ℕ, ◌+◌, ◌<◌, Bool, true, false, List, [], ◌∷◌, cond, refl, ap, sym, ◌∙◌, inl, inr, arith}
 use Rattle.std.specs.List.{list_any}
 use Rattle.std.proofs.lemmas.Bool.{lt-ltb, or_left, or_right}

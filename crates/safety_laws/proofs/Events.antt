@@ -10,9 +10,9 @@ use Rattle.mode_control.specs.Conditions.{conditions}
 use Rattle.mode_control.specs.Entry.{SupervisionEntry, begun}
 use Rattle.mode_control.specs.History.{mode_of}
 use Rattle.mode_control.specs.Life.{Life, grown}
-use Rattle.mode_control.specs.Sentences.{changed, deed_of, told, span_of, the_train_is_seen, entry_of}
+use Rattle.mode_control.specs.Sentences.{changed, deed_of, reported, span_of, the_train_is_seen, entry_of}
 
--- the mode behind an event, by the one before it and the conditions
+-- the mode after an event, by the one before it and the conditions
 abbrev pub turned : Mode → Conditions → Mode
 turned old c = unwrap_or (changed old (next_mode old c)) old
 
@@ -24,7 +24,7 @@ past_turn runs P false old new h before entering = entering h
 
 module _ (life : Life) (input : Input) where
   abbrev pub event_begun : SupervisionEntry
-  event_begun = begun (told life input) (deed_of life input)
+  event_begun = begun (reported life input) (deed_of life input)
 
   abbrev pub train : Span
   train = span_of (grown life event_begun)

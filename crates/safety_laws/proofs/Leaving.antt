@@ -162,10 +162,10 @@ module _ (life : Life) where
   is_tripping : (overridden beyond asked stopped : Bool) → overridden ≡ false → beyond ≡ true → (not overridden && (beyond || asked || stopped)) ≡ true
   is_tripping overridden beyond asked stopped free is = rw (free, is) refl
 
-  is_past : (place : ℤ) (end : Option End) (told : End) → end ≡ Some told → told.speed ≡ 0 → told.place <ℤ place →
+  is_past : (place : ℤ) (end : Option End) (reported : End) → end ≡ Some reported → reported.speed ≡ 0 → reported.place <ℤ place →
       option_map_or (is_beyond place) end false ≡ true
-  is_past place (Some end) told is no_speed past = grind (arith, nat_tests)
-  is_past place None told is no_speed past = absurd (let no : None ≡ Some told = is in cc)
+  is_past place (Some end) reported is no_speed past = grind (arith, nat_tests)
+  is_past place None reported is no_speed past = absurd (let no : None ≡ Some reported = is in cc)
 
   pub trips_past_end : (input : Input) → is_one_of modes_to_end (mode_of life.entries) ≡ true → HasPassedEnd life input →
       is_overridden (seen life input) ≡ false →

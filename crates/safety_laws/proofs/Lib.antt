@@ -5,7 +5,7 @@ mod ByAuthority
 mod Leaving
 mod Courses
 mod Meeting
-mod AuthorityTold
+mod AuthorityReport
 mod AuthorityLater
 mod Lessening
 mod Passing

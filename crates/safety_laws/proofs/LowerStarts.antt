@@ -17,10 +17,10 @@ use Rattle.speed_profile.proofs.Asking.{covered_ask, nothing_more, through, join
 use Rattle.speed_profile.proofs.Farther.{IsNoNearer}
 use Rattle.speed_profile.proofs.Members.{one_passed, in_either}
 use Rattle.speed_profile.proofs.Reaching.{restriction_asks, no_restriction_asks, area_asks, no_area_asks}
-use Rattle.speed_profile.proofs.Together.{told_ask}
+use Rattle.speed_profile.proofs.Together.{reported_ask}
 use Rattle.speed_profile.specs.Ahead.{greatest_place, over_ahead, targets_ahead, targets_at, static_target, static_targets, unknown_target, restriction_targets, area_targets, is_inside, permitted_by, permitted_ahead}
 use Rattle.speed_profile.specs.declared.limit.Bounds.{Bounds}
-use Rattle.speed_profile.specs.declared.told.CategorySpeeds.{CategorySpeeds}
+use Rattle.speed_profile.specs.declared.reported.CategorySpeeds.{CategorySpeeds}
 use Rattle.speed_profile.specs.Starts.{first_target, first_in_area}
 use Rattle.speed_profile.specs.Targets.{AskTheSame}
 use Rattle.speed_profile.specs.Track.{TrackSpeeds}
@@ -195,18 +195,18 @@ of_any bounds track c t there =
 
 -- ---- kind by kind
 
-each_told : {A : Type 0} (first : A → Option Target) (ahead : List A → List Target) →
+each_reported : {A : Type 0} (first : A → Option Target) (ahead : List A → List Target) →
     ((a : A) (rest : List A) → AskTheSame (ahead (a ∷ rest)) (listed (first a) ++ ahead rest)) → AskTheSame (ahead []) [] →
     (all : List A) → AskTheSame (ahead all) (filter_map first all)
-each_told first ahead one none [] = none
-each_told first ahead one none (a ∷ rest) =
-    let later = each_told first ahead one none rest in
-    let told = listed (first a) in
+each_reported first ahead one none [] = none
+each_reported first ahead one none (a ∷ rest) =
+    let later = each_reported first ahead one none rest in
+    let reported = listed (first a) in
     let put : (o : Option Target) → listed o ++ filter_map first rest ≡ cons_option o (filter_map first rest) = elim [ None ↦ refl | Some t ↦ refl ] in
-    through (ahead (a ∷ rest)) (told ++ ahead rest) (filter_map first (a ∷ rest)) (one a rest)
-    (through (told ++ ahead rest) (told ++ filter_map first rest) (filter_map first (a ∷ rest))
-    (joined told (ahead rest) told (filter_map first rest) (same told) later)
-    (equal (told ++ filter_map first rest) (filter_map first (a ∷ rest)) (put (first a))))
+    through (ahead (a ∷ rest)) (reported ++ ahead rest) (filter_map first (a ∷ rest)) (one a rest)
+    (through (reported ++ ahead rest) (reported ++ filter_map first rest) (filter_map first (a ∷ rest))
+    (joined reported (ahead rest) reported (filter_map first rest) (same reported) later)
+    (equal (reported ++ filter_map first rest) (filter_map first (a ∷ rest)) (put (first a))))
 
 module _ (front : ℤ) (bounds : Bounds) (track : TrackSpeeds) where
   abbrev static : ℤ → List Target
@@ -227,11 +227,11 @@ module _ (front : ℤ) (bounds : Bounds) (track : TrackSpeeds) where
   abbrev of_areas : List Area → List Target
   of_areas all = over_ahead front (area_targets track.national all)
 
-  abbrev told_restrictions : List Target
-  told_restrictions = filter_map first_of track.restrictions.restrictions
+  abbrev reported_restrictions : List Target
+  reported_restrictions = filter_map first_of track.restrictions.restrictions
 
-  abbrev told_areas : List Target
-  told_areas = filter_map first_inside track.areas
+  abbrev reported_areas : List Target
+  reported_areas = filter_map first_inside track.areas
 
   kinds_ask : (last : Option Target) → AskTheSame (targets_ahead front bounds track ++ listed last) (starts_by_kind front bounds track ++ listed last)
   kinds_ask last =
@@ -241,18 +241,18 @@ module _ (front : ℤ) (bounds : Bounds) (track : TrackSpeeds) where
       let inside = of_areas track.areas in
       let starts = lower_starts front static in
       let by_kind = speeds_ahead ++ (restricted ++ (inside ++ ends)) in
-      let told = starts ++ (told_restrictions ++ (told_areas ++ ends)) in
+      let reported = starts ++ (reported_restrictions ++ (reported_areas ++ ends)) in
       through (targets_ahead front bounds track ++ ends) by_kind (starts_by_kind front bounds track ++ ends)
-      (back by_kind (targets_ahead front bounds track ++ ends) (told_ask front bounds track last))
-      (through by_kind told (starts_by_kind front bounds track ++ ends)
-      (joined speeds_ahead (restricted ++ (inside ++ ends)) starts (told_restrictions ++ (told_areas ++ ends))
+      (back by_kind (targets_ahead front bounds track ++ ends) (reported_ask front bounds track last))
+      (through by_kind reported (starts_by_kind front bounds track ++ ends)
+      (joined speeds_ahead (restricted ++ (inside ++ ends)) starts (reported_restrictions ++ (reported_areas ++ ends))
       (starts_ask front static (λ c t there. of_static bounds c t (track.static c) there))
-      (joined restricted (inside ++ ends) told_restrictions (told_areas ++ ends)
-      (each_told first_of of_restrictions (restriction_asks front mark) (no_restriction_asks front mark) track.restrictions.restrictions)
-      (joined inside ends told_areas ends
-      (each_told first_inside of_areas (area_asks front track.national) (no_area_asks front track.national) track.areas)
+      (joined restricted (inside ++ ends) reported_restrictions (reported_areas ++ ends)
+      (each_reported first_of of_restrictions (restriction_asks front mark) (no_restriction_asks front mark) track.restrictions.restrictions)
+      (joined inside ends reported_areas ends
+      (each_reported first_inside of_areas (area_asks front track.national) (no_area_asks front track.national) track.areas)
       (same ends))))
-      (equal told (starts_by_kind front bounds track ++ ends) (in_turn starts told_restrictions told_areas ends)))
+      (equal reported (starts_by_kind front bounds track ++ ends) (in_turn starts reported_restrictions reported_areas ends)))
     where
       in_turn : (a b c d : List Target) → a ++ (b ++ (c ++ d)) ≡ ((a ++ b) ++ c) ++ d
       in_turn a b c d = sym (append_assoc (a ++ b) c d ∙ append_assoc a b (c ++ d))

@@ -9,7 +9,7 @@ use Rattle.areas.specs.Areas.{speed_in}
 use Rattle.authority.specs.Authority.{end_of, end_now, end_by, taken_back, overlap_in_force, overlap_has_run_out, overlap_point_of, danger_point_of, bare_end}
 use Rattle.authority.specs.Entries.{AuthorityEntry, Fact, Sight, accepted, now_of, sights}
 use Rattle.authority.specs.Laws.{IsAmong}
-use Rattle.authority.specs.Track.{told_end}
+use Rattle.authority.specs.Track.{reported_end}
 use Rattle.authority.specs.declared.answers.End.{End}
 use Rattle.brakes.specs.declared.brakes.Brakes.{Brakes}
 use Rattle.braking.specs.declared.target.Target.{Target}
@@ -24,8 +24,8 @@ use Rattle.speed_profile.proofs.Farther.{IsNoNearer, farther_fits}
 use Rattle.speed_profile.proofs.Members.{in_left, in_right, passes}
 use Rattle.speed_profile.specs.Ahead.{targets_ahead, targets_at, static_targets, static_target, unknown_target, restriction_targets, area_targets, is_inside, greatest_place}
 use Rattle.speed_profile.specs.declared.limit.Bounds.{Bounds}
-use Rattle.speed_profile.specs.declared.told.CategorySpeeds.{CategorySpeeds}
-use Rattle.speed_profile.specs.Told.{speed_of}
+use Rattle.speed_profile.specs.declared.reported.CategorySpeeds.{CategorySpeeds}
+use Rattle.speed_profile.specs.Reported.{speed_of}
 use Rattle.speed_profile.specs.Track.{TrackSpeeds}
 use Rattle.track_store.specs.Profiles.{listed}
 use Rattle.driver.specs.Limits.{Train}
@@ -79,7 +79,7 @@ within end scale now seen (Some overlap) danger =
     cases (overlap_has_run_out end scale now seen overlap)
 
 by_place : (fact : Fact) (now : ℕ) (seen : List Sight) (taken : Option ℤ) → (end_by fact now seen taken).place ≤ℤ (end_by fact now seen taken).location
-by_place fact now seen None = within (told_end fact) fact.packet.scale now seen fact.packet.overlap fact.packet.danger_point
+by_place fact now seen None = within (reported_end fact) fact.packet.scale now seen fact.packet.overlap fact.packet.danger_point
 by_place fact now seen (Some place) = omega (arith, ints)
 
 abbrev located : Option End → Type 0

@@ -18,7 +18,7 @@ use Rattle.mode_control.specs.History.{tracks, deeds, acknowledgement}
 use Rattle.mode_control.specs.Life.{Life, left_at_power_up}
 use Rattle.mode_control.specs.Sentences.{values_of}
 use Rattle.speed_supervision.specs.Limit.{limit}
-use Rattle.kernel.specs.Brake.{Snapshot, snapshots, since, train_stood, asked_for_service, rolled_backward}
+use Rattle.kernel.specs.Brake.{Snapshot, snapshots, since, train_stood, service_brake_requested, rolled_backward}
 use Rattle.kernel.specs.Laws.{all_deeds}
 use Rattle.kernel.specs.Lives.{life_of}
 use Rattle.kernel.specs.Output.{output_after}
@@ -27,7 +27,7 @@ use Rattle.kernel.specs.Output.{output_after}
 abbrev pub since_standstill : Life → List Snapshot
 since_standstill life = since train_stood (snapshots life)
 
--- the speed of the last reading behind an event, and the limit that the event answered
+-- the speed of the last reading after an event, and the limit that the event answered
 abbrev pub speed_at : Snapshot → ℕ
 speed_at snapshot = speed_of (tracks snapshot.life.entries)
 
@@ -42,7 +42,7 @@ pub record IsFree (events : List Event) : Type 0 where
   pub rolled_little : rolled_backward (life_of events) ≤ (values_of (life_of events)).roll
   pub owes_not_long : (kind : Kind) (from : ℕ) → acknowledgement kind (life_of events).entries ≡ Owed from →
       moment_of (tracks (life_of events).entries) < from + 5_000
-  pub asked_nothing : (snapshot : Snapshot) → IsAmong snapshot (since_standstill (life_of events)) → asked_for_service snapshot ≡ false
+  pub asked_nothing : (snapshot : Snapshot) → IsAmong snapshot (since_standstill (life_of events)) → service_brake_requested snapshot ≡ false
 
 abbrev pub NoBrakeOnlyWhere : Type 0
 NoBrakeOnlyWhere = (events : List Event) → (output_after events).brake ≡ brake.None → IsFree events

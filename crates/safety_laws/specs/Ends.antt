@@ -1,4 +1,4 @@
--- That the end of the authority stays where it was told, or comes nearer (SUBSET-026, 3.8; when timers run out: this
+-- That the end of the authority stays where it was reported, or comes nearer (SUBSET-026, 3.8; when timers run out: this
 -- project's profile). Places are centimetres, moments milliseconds. Lists of events have the newest first; a life begins
 -- at each power-up.
 --
@@ -18,22 +18,22 @@ use Rattle.mode_control.specs.History.{tracks}
 use Rattle.mode_control.specs.Sentences.{entry_of}
 use Rattle.kernel.specs.Lives.{life_of}
 
--- the end of the authority behind some events, and the moment
+-- the end of the authority after some events, and the moment
 abbrev pub end_after : List Event → Option End
 end_after events = end_of (authorities (tracks (life_of events).entries))
 
 abbrev pub moment_after : List Event → ℕ
 moment_after events = moment_of (tracks (life_of events).entries)
 
--- one of the packets that the groups of an event told, and that were used, is an authority (packet 12)
+-- one of the packets that the groups of an event reported, and that were used, is an authority (packet 12)
 abbrev pub is_authority : Fact → Bool
 is_authority fact = is_some (as_movement_authority fact.packet)
 
-abbrev pub tells_authority : Outcome → Bool
-tells_authority outcome = list_any is_authority (facts_in outcome)
+abbrev pub describes_authority : Outcome → Bool
+describes_authority outcome = list_any is_authority (facts_in outcome)
 
 abbrev pub uses_authority : List Event → Input → Bool
-uses_authority events input = list_any tells_authority (entry_of (life_of events) input).track.used.groups
+uses_authority events input = list_any describes_authority (entry_of (life_of events) input).track.used.groups
 
 -- where an input uses none and no moment falls, an end that is known was known before, and it isn't farther
 abbrev pub EndNeverMovesForward : Type 0

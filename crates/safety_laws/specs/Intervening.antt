@@ -56,7 +56,7 @@ PassingEndTrips = (events : List Event) (input : Input) → IsTrue (is_one_of mo
 
 -- ---- the emergency brake
 
--- it is commanded where the train was more than 10,000 above the limit behind an event since standstill, the last event
+-- it is commanded where the train was more than 10,000 above the limit after an event since standstill, the last event
 -- included
 abbrev pub FarTooFastBrakes : Type 0
 FarTooFastBrakes = (events : List Event) (snapshot : Snapshot) → IsAmong snapshot (since_standstill (life_of events)) →

@@ -7,7 +7,7 @@ use Rattle.std.specs.Prelude.{◌≡◌, List, [], ◌∷◌}
 use Rattle.driver.specs.declared.datum.Datum.{Datum}
 use Rattle.driver.specs.declared.datum.Datum.TheVariants.{Unknown}
 use Rattle.driver.specs.Data.{met_by}
-use Rattle.driver.specs.Telling.{datum_after, level_told}
+use Rattle.driver.specs.Description.{datum_after, level_reported}
 use Rattle.events.specs.declared.input.Event.{Event}
 use Rattle.events.specs.declared.input.Event.TheVariants.{PowerUp, Input}
 use Rattle.events.specs.Kept.{PositionFrom}
@@ -26,7 +26,7 @@ use Rattle.kernel.specs.Position.{position_by}
 abbrev pub level_over : List Event → Datum TrainLevel
 level_over [] = Unknown
 level_over (PowerUp cold ∷ events) = met_by (power_up_status item.Level cold) (level_over events)
-level_over (Input input ∷ events) = datum_after level_told (level_over events) (deeds (entry_of (life_of events) input ∷ []))
+level_over (Input input ∷ events) = datum_after level_reported (level_over events) (deeds (entry_of (life_of events) input ∷ []))
 
 abbrev pub LevelOverAll : Type 0
 LevelOverAll = (events : List Event) → (kept_by events).level ≡ level_over events
@@ -36,7 +36,7 @@ LevelOverAll = (events : List Event) → (kept_by events).level ≡ level_over e
 
 abbrev pub position_from : Datum PositionFrom → List Event → Datum PositionFrom
 position_from left events =
-    let told = tracks (life_of events).entries in position_by (group_of_fix told) left (place_of told)
+    let reported = tracks (life_of events).entries in position_by (group_of_fix reported) left (place_of reported)
 
 abbrev pub position_left : List Event → Datum PositionFrom
 position_left [] = Unknown

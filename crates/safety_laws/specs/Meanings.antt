@@ -2,7 +2,7 @@
 -- makes one of these sentences false (this project's profile). Lists of events have the newest first; lists of steps, of
 -- releases and of lives have the oldest first.
 use Rattle.std.specs.Prelude.{◌≡◌, ◌⊎◌, ℕ, ◌<◌, ◌≤◌, Bool, true, false, List, [], ◌∷◌, ◌++◌, length, take}
-use Rattle.blocks.specs.Blocks.{word_told}
+use Rattle.blocks.specs.Blocks.{word_reported}
 use Rattle.blocks.specs.FirstSector.{sectors_of}
 use Rattle.blocks.specs.declared.block.Block.{Block}
 use Rattle.disk.specs.State.{Platter, State, now, contents_of, IsImage, IsSynced, AtEachMoment}
@@ -68,7 +68,7 @@ abbrev pub WordIsOfFormat : Type 0
 WordIsOfFormat = (slots : ℕ) (image : ℕ → List ℕ) (cold word : Cold) → IsWord (sectors_of slots) image cold word
     → (IsNewest slots (valid_at slots image) 0 → word ≡ cold)
     × ((newest : ℕ) (block : Block) → 0 < newest → IsNewest slots (valid_at slots image) newest → IsBlockAt slots (valid_at slots image) newest block
-    → word ≡ word_told block.format cold)
+    → word ≡ word_reported block.format cold)
 
 -- Wherever power is lost in a life, what is left represents one of the two lists that the disk was ready for, or what it
 -- found with the power-up, alone or with what was accepted before a flush. The caller has what it released, after what

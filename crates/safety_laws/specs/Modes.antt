@@ -25,14 +25,14 @@ use Rattle.mode_control.specs.Sentences.{situation}
 use Rattle.kernel.specs.Lives.{life_of}
 use Rattle.kernel.specs.Output.{output_after}
 
--- the mode behind some events, and behind one input more
+-- the mode after some events, and after one input more
 abbrev pub mode_after : List Event → Mode
 mode_after events = (output_after events).mode
 
 abbrev pub mode_behind : List Event → Input → Mode
 mode_behind events input = mode_after (an_event.Input input ∷ events)
 
--- the odometer tells a movement for which there is no room: it leads beyond the farthest path or place
+-- the odometer reports a movement for which there is no room: it leads beyond the farthest path or place
 pub record IsOverrun (life : Life) (input : Input) : Type 0 where
   pub reading : Reading
   pub is : input ≡ Odometer reading

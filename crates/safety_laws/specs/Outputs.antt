@@ -3,7 +3,7 @@
 --
 -- They take for granted that the true front isn't beyond the maximum safe front, that the brakes do what the train data
 -- say, and that the gradients are those of the track. They speak of a train that begins to brake at the released limit
--- or below, where its front is behind the event, and not of one that is faster or that brakes later.
+-- or below, where its front is after the event, and not of one that is faster or that brakes later.
 use Rattle.std.specs.Prelude.{ℕ, ◌≡◌, ◌≤◌, List, ◌∷◌, ◌++◌, length}
 use Rattle.authority.specs.declared.answers.End.{End}
 use Rattle.driver.specs.Limits.{Train}
@@ -18,7 +18,7 @@ use Rattle.whole_lives.specs.Chains.{StandsIn}
 use Rattle.unit_start.specs.Events.{pairs_of}
 use Rattle.safety_laws.specs.Stopping.{IsSupervised, IsBraking, front_of, gradient_along, square_at}
 
--- a pair of a number and an output was released of an event: that of its number, behind those before it
+-- a pair of a number and an output was released of an event: that of its number, after those before it
 pub record IsOf (pair : Released) (events : List Event) : Type 0 where
   pub later : List Event
   pub event : Event

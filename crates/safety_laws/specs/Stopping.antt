@@ -4,7 +4,7 @@
 --
 -- They speak of a train that begins to brake at the answered limit or below. Between the limit and the margins of the
 -- brake table nothing brakes, and they say nothing of a train that is faster. They take for granted that the true front
--- isn't beyond the maximum safe front, and that brakes and gradients are those that were entered and told.
+-- isn't beyond the maximum safe front, and that brakes and gradients are those that were entered and reported.
 use Rattle.std.specs.Prelude.{ℕ, suc, ◌≡◌, ◌≤◌, ◌<◌, ◌+◌, ◌-◌, ◌*◌, ℤ, pos, ◌+ℤ◌, ◌-ℤ◌, ◌<ℤ◌, ◌≤ℤ◌, Option, Some, None, IsTrue}
 use Rattle.areas.specs.declared.area.Area.{Area}
 use Rattle.areas.specs.Areas.{speed_in}
@@ -20,8 +20,8 @@ use Rattle.mode_table.specs.Modes.{is_one_of}
 use Rattle.restriction.specs.declared.restriction.Restriction.{Restriction}
 use Rattle.restriction.specs.Covering.{covers}
 use Rattle.speed_profile.specs.Ahead.{greatest_place, is_inside}
-use Rattle.speed_profile.specs.declared.told.CategorySpeeds.{CategorySpeeds}
-use Rattle.speed_profile.specs.Told.{speed_of}
+use Rattle.speed_profile.specs.declared.reported.CategorySpeeds.{CategorySpeeds}
+use Rattle.speed_profile.specs.Reported.{speed_of}
 use Rattle.units.specs.Stretches.{natural}
 use Rattle.track_picture.specs.History.{authorities, gradients_of}
 use Rattle.mode_control.specs.History.{tracks, mode_of}
@@ -45,7 +45,7 @@ abbrev pub gradient_along : Life → ℤ → Option ℤ
 gradient_along life = (gradients_of (tracks life.entries)).value
 
 -- ---- a course of a train that brakes: the square of its speed at each centimetre from its greatest front on, where the
--- brake is ordered at a speed. It doesn't rise, and behind the way of the reaction each centimetre takes off what the
+-- brake is ordered at a speed. It doesn't rise, and after the way of the reaction each centimetre takes off what the
 -- brakes are known to, or all
 
 pub record IsBraking (front : ℤ) (gradient : ℤ → Option ℤ) (brakes : Brakes) (speed : ℕ) (square : ℕ → ℕ) : Type 0 where

@@ -48,7 +48,7 @@ pub(crate) struct LocatedAdvice {
     pub(crate) place: Place,
 }
 
-// Tells of a telegram that is refused, or of its packets that are skipped.
+// Reports of a telegram that is refused, or of its packets that are skipped.
 fn of_bytes(
     bytes: &[u8],
     place: Place,
@@ -118,7 +118,7 @@ fn spots_of(
     }
 }
 
-// Tells of the telegrams of a group, which stands here.
+// Reports of the telegrams of a group, which stands here.
 fn of_group(
     alloc: Global,
     outline: &Outline,
@@ -153,7 +153,7 @@ fn in_step(outline: &Outline, step: Spot, key: &str) -> Place {
     Place::Value(outline.member(step, key).unwrap_or(step))
 }
 
-// Tells of the telegrams of the steps, which stand here, and of the actions that aren't accepted.
+// Reports of the telegrams of the steps, which stand here, and of the actions that aren't accepted.
 fn of_steps(
     alloc: Global,
     outline: &Outline,

@@ -1,4 +1,4 @@
-//! What there is to tell of a scenario before it is played: its faults, each at its place, and what is probably not
+//! What there is to say about a scenario before it is played: its faults, each at its place, and what is probably not
 //! meant (this project's profile).
 #![tactic(auto)]
 

@@ -1,4 +1,4 @@
-//! What there is to tell of a scenario, in lines for people or as JSON Lines.
+//! What there is to say about a scenario, in lines for people or as JSON Lines.
 
 use crate::accepting::refusals;
 use crate::advice::{LocatedAdvice, advice_on};
@@ -13,7 +13,7 @@ use std::io;
 use std::io::Write;
 use text_output::Form;
 
-/// Why nothing can be told.
+/// Why nothing can be reported.
 #[derive(Clone, Copy)]
 pub enum LintError {
     /// Memory was refused.
@@ -112,7 +112,7 @@ fn write_repeat<W: Write>(
     write_place(outline, place, form, out)?;
     match form {
         Form::People => {
-            write!(out, "told again")?;
+            write!(out, "repeated")?;
             write_position(outline.position(place), form, out)?;
             if let Some(first) = first {
                 write!(out, ", first at {first}")?;
@@ -190,7 +190,7 @@ fn repeats_in(alloc: Global, outline: &Outline, text: &[u8]) -> Result<Vec<Repea
 }
 
 /// Writes a line for each fault of a scenario, for each name that comes again in an object, and for a scenario that has
-/// no fault what is probably not meant. Answers whether there was nothing to tell. Where memory is refused nothing is
+/// no fault what is probably not meant. Answers whether there was nothing to report. Where memory is refused nothing is
 /// written.
 pub fn lint<W: Write>(
     alloc: Global,

@@ -1,6 +1,6 @@
 //! The faults of a scenario, each at its place. What is a fault is asked of the reader of scenarios, part by part.
 ghost use Rattle.std.specs.Prelude.{◌≡◌, ◌⊎◌, IfOk, IfErr};
-ghost use Rattle.simulator.specs.Scenarios.{Tells, FaultOf};
+ghost use Rattle.simulator.specs.Scenarios.{Describes, FaultOf};
 
 use crate::wanted;
 use events::Step;
@@ -314,7 +314,7 @@ pub fn faults_of(
     scenario: &Scenario,
     outline: &Outline,
 ) -> Result<(Cold, Vec<Step>), Faults>
-    ensures ok { IfOk result (λ life. Tells scenario.now.bytes.items life.0 life.1.items) }
+    ensures ok { IfOk result (λ life. Describes scenario.now.bytes.items life.0 life.1.items) }
     ensures err { IfErr result (λ faults. (faults.first.fault ≡ ScenarioFault.NoMemory) ⊎ FaultOf scenario.now.bytes.items faults.first.fault) }
 {
     match events_of(alloc, scenario) {

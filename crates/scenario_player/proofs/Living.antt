@@ -15,7 +15,7 @@ use Rattle.unit_start.specs.Events.{account_of, pairs_of}
 use Rattle.unit_start.specs.Lives.{IsReady, IsWord, IsBlank, IsNextNumber}
 use Rattle.unit_start.specs.Releases.{Release}
 use Rattle.whole_lives.specs.Runs.{Lives, durable_by, NothingReleased}
-use Rattle.whole_lives.specs.Stops.{AllStand, Stopped, LifeEnds, OnlyOpens, IsUnopened, AreBehind, IsDone}
+use Rattle.whole_lives.specs.Stops.{AllStand, Stopped, LifeEnds, OnlyOpens, IsUnopened, AreAfter, IsDone}
 use Rattle.whole_lives.specs.Written.{LeavesLast}
 use Rattle.whole_lives.specs.declared.errors.LiveError.{LiveError}
 use Rattle.whole_lives.specs.declared.errors.LiveError.TheVariants as a_live
@@ -70,7 +70,7 @@ module _ (slots : ℕ) (two : 2 ≤ slots) (disk : State) (empty : IsEmpty slots
 
 -- after steps that were carried out
 behind : (cold word : Cold) (done : List Step) (durable accepted : List Event) (released out : List Release) → out ≡ released
-    → (word ≡ cold) ⊎ (released ≡ []) → AreBehind (begun word) done durable accepted released
+    → (word ≡ cold) ⊎ (released ≡ []) → AreAfter (begun word) done durable accepted released
     → pairs_of (durable_by (begun cold) done) ≡ pairs_of (begun cold) ++ out
 behind cold word done durable accepted released out same word_is so =
     let at_word : pairs_of (durable_by (begun word) done) ≡ pairs_of (begun word) ++ released = ap pairs_of (sym so.0) ∙ so.2 in

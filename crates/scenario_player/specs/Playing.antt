@@ -15,9 +15,9 @@ use Rattle.onboard.specs.Progress.{begun_with}
 use Rattle.onboard.specs.declared.errors.AcceptError.TheVariants as an_accept
 use Rattle.onboard.specs.declared.errors.FlushError.TheVariants as a_flush
 use Rattle.onboard.specs.declared.released.Released.{Released}
-use Rattle.ring.specs.Account.{Account, TellsNothing}
+use Rattle.ring.specs.Account.{Account, DescribesNothing}
 use Rattle.ring.specs.Slots.{IsAtRest}
-use Rattle.simulator.specs.Scenarios.{Tells}
+use Rattle.simulator.specs.Scenarios.{Describes}
 use Rattle.unit_start.specs.Events.{pairs_of}
 use Rattle.whole_lives.specs.Runs.{Lives, durable_by}
 use Rattle.whole_lives.specs.Stops.{AllStand, Stopped, OnlyOpens, IsDone, step_of}
@@ -30,7 +30,7 @@ pub record IsEmpty (slots : ℕ) (disk : State) : Type 0 where
   -- the first sector is the one for so many slots, and the gates hold zeros
   pub emptied : IsEmptied slots (contents_of disk)
   -- no sector is open, and no block is there
-  pub rest : (account : Account) → TellsNothing account → IsAtRest slots 0 account disk
+  pub rest : (account : Account) → DescribesNothing account → IsAtRest slots 0 account disk
 
 -- the bytes are those of the disk's sectors, one after the other
 abbrev pub AreBytesOf : State → List ℕ → Type 0
@@ -104,4 +104,4 @@ cold_by (Some given) own_cold = given
 -- the life that the bytes of the scenario describe was played
 abbrev pub PlaysOne : {T : Type 0} → List ℕ → Option Cold → ℕ → Result T LiveError → List Released → List ℕ → Type 0
 PlaysOne bytes given slots ended released image =
-    (own_cold : Cold) × (steps : List Step) × Tells bytes own_cold steps × IsPlayed slots (cold_by given own_cold) steps ended released image
+    (own_cold : Cold) × (steps : List Step) × Describes bytes own_cold steps × IsPlayed slots (cold_by given own_cold) steps ended released image

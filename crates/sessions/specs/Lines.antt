@@ -12,6 +12,6 @@ abbrev pub lines_of : List Released → List ℕ
 lines_of pairs = flat_map line_of pairs
 
 -- These were printed, unless a write failed: where all writes succeeded until now, they did before, and just these
--- lines came behind the text.
+-- lines came after the text.
 abbrev pub Printed : Bool → Option (List ℕ) → List Released → Bool → Option (List ℕ) → Type 0
 Printed were before pairs are after = IsTrue are → IsTrue were × Appends before after (lines_of pairs)

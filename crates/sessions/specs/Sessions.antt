@@ -25,13 +25,13 @@ use Rattle.reader.specs.Listings.{AddsListing, IsListingRefusal}
 use Rattle.reader.specs.declared.errors.ListingError.{ListingError}
 use Rattle.simulator.specs.declared.fault.ScenarioFault.{ScenarioFault}
 use Rattle.simulator.specs.declared.fault.ScenarioFault.TheVariants.{NoMemory}
-use Rattle.simulator.specs.Scenarios.{Tells, FaultOf}
+use Rattle.simulator.specs.Scenarios.{Describes, FaultOf}
 use Rattle.sessions.specs.declared.images.Image.{Image}
 use Rattle.sessions.specs.declared.images.Image.TheVariants.{Unopened, Missing, Opened}
 use Rattle.sessions.specs.Lines.{lines_of}
 use Rattle.sessions.specs.Reasons.{ending_of, status_of, format_reason, listing_reason, listing_status, fault_reason, refusal_of}
 
--- where the write succeeded, just this text came behind what was written, and the status is this one
+-- where the write succeeded, just this text came after what was written, and the status is this one
 abbrev pub Says : {E : Type 0} → Status → List ℕ → Option (List ℕ) → Option (List ℕ) → Result Status E → Type 0
 Says wanted text before after answer = IfOk answer (λ status. (status ≡ wanted) × Appends before after text)
 
@@ -43,7 +43,7 @@ is_device Device = true
 
 -- ---- a life
 
--- a line a release, in their order, and behind them the line of the end, if the life stopped
+-- a line a release, in their order, and after them the line of the end, if the life stopped
 abbrev pub report_of : {T : Type 0} → List Released → Result T LiveError → List ℕ
 report_of released ended = lines_of released ++ ending_of ended
 
@@ -68,28 +68,28 @@ pub record Session {E : Type 0} (whole_from : ℕ) (durable accepted : List Even
   pub last : LeavesLast found power_up_word steps ended new
   -- where it stopped, that is at the first step that isn't carried out, for its cause
   pub stopped : LifeEnds old steps ended
-  -- where all writes succeeded, just the report of what was released came behind the text, with the status of the end
-  pub told : Says (status_of ended) (report_of released ended) before after answer
+  -- where all writes succeeded, just the report of what was released came after the text, with the status of the end
+  pub reported : Says (status_of ended) (report_of released ended) before after answer
   -- and there was room for each release
   pub roomy : IfOk answer (λ status. IfErr ended (λ e. is_full e ≡ false))
 
 -- ---- from the bytes of a scenario to what is written
 
--- the bytes tell this life, of a word and steps
-abbrev pub TellsOne : List ℕ → (Cold → List Step → Type 0) → Type 0
-TellsOne bytes P = (cold : Cold) × (steps : List Step) × Tells bytes cold steps × P cold steps
+-- the bytes say this life, of a word and steps
+abbrev pub DescribesOne : List ℕ → (Cold → List Step → Type 0) → Type 0
+DescribesOne bytes P = (cold : Cold) × (steps : List Step) × Describes bytes cold steps × P cold steps
 
 -- A scenario and an image, end to end: by what became of the image. It was not opened, for the scenario has a fault, or
 -- memory was refused; it is missing; or it was opened, and on an honest disk the session is that of the life which the
--- scenario tells. Whatever the disk does, the status is that of a device exactly where the device failed. The image is
+-- scenario reports. Whatever the disk does, the status is that of a device exactly where the device failed. The image is
 -- opened by a call, which `gives` relates to its answers, and `state` is how contracts see a disk.
 abbrev pub Plays : {D O E : Type 0} → (D → State) → (O → Option D → Type 0) → List ℕ → O → Image D O → Option (List ℕ) → Option (List ℕ) → Result Status E → Type 0
 Plays state gives bytes opener (Unopened same) before after answer =
     (same ≡ opener) × (fault : ScenarioFault) × ((fault ≡ NoMemory) ⊎ FaultOf bytes fault) × Says Refused (refusal_of (fault_reason fault)) before after answer
 Plays state gives bytes opener Missing before after answer =
-    TellsOne bytes (λ cold steps. gives opener None × Says Device (codes "device\n") before after answer)
+    DescribesOne bytes (λ cold steps. gives opener None × Says Device (codes "device\n") before after answer)
 Plays {D} state gives bytes opener (Opened new) before after answer =
-    TellsOne bytes (λ cold steps. (old : D) × gives opener (Some old)
+    DescribesOne bytes (λ cold steps. (old : D) × gives opener (Some old)
     × IfOk answer (λ status. Counted (is_device status) (state old) (state new))
     × ((whole_from : ℕ) (durable accepted : List Event) → IsTrue (state old).honest → IsReady whole_from durable accepted (state old) → Session whole_from durable accepted cold steps (state old) (state new) before after answer))
 

@@ -6,7 +6,7 @@ ghost use Rattle.unit_start.specs.Lives.{IsReady};
 ghost use Rattle.sessions.specs.Sessions.{is_device, Session};
 
 use crate::printer::Printer;
-use crate::stops::tell_end;
+use crate::stops::describe_end;
 use disk::Disk;
 use mode_table::Cold;
 use std::alloc::Global;
@@ -33,12 +33,15 @@ pub fn run_life<D: Disk, W: Write>(
         Session whole_from durable accepted cold steps.now (D.state disk) (D.state result.0) (W.contents out)
         (W.contents result.1) result.2 }
 {
-    let mut printer = Printer { out, told: Ok(()) };
+    let mut printer = Printer {
+        out,
+        reported: Ok(()),
+    };
     let (disk, ended) = live_into(alloc, disk, cold, steps, &mut printer);
-    let Printer { mut out, told } = printer;
-    match told {
+    let Printer { mut out, reported } = printer;
+    match reported {
         Ok(()) => {
-            let status = tell_end(ended, &mut out);
+            let status = describe_end(ended, &mut out);
             (disk, out, status)
         }
         Err(error) => (disk, out, Err(error)),

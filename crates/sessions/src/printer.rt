@@ -33,7 +33,7 @@ pub(crate) struct Printer<W> {
     /// What the lines are written to.
     pub out: W,
     /// What became of the writes so far.
-    pub told: io::Result<()>,
+    pub reported: io::Result<()>,
 }
 
 impl<W: Write> ReleaseSink for Printer<W> {
@@ -42,24 +42,24 @@ impl<W: Write> ReleaseSink for Printer<W> {
     ghost use Rattle.sessions.specs.Lines.{Printed};
     ghost use Rattle.sessions.specs.Printing.{printed_none, printed_more};
 
-    ghost Gave = { λ old pairs new. Printed (is_ok old.told) (W.contents old.out) pairs (is_ok new.told) (W.contents new.out) };
+    ghost Gave = { λ old pairs new. Printed (is_ok old.reported) (W.contents old.out) pairs (is_ok new.reported) (W.contents new.out) };
 
-    ghost room = { λ s. if is_ok s.told then most_pending else 0 };
+    ghost room = { λ s. if is_ok s.reported then most_pending else 0 };
 
-    ghost none = { λ s. printed_none (is_ok s.told) (W.contents s.out) };
+    ghost none = { λ s. printed_none (is_ok s.reported) (W.contents s.out) };
 
-    ghost more = { λ s t u first rest. printed_more (is_ok s.told) (is_ok t.told) (is_ok u.told) (W.contents s.out) (W.contents t.out) (W.contents u.out) first rest };
+    ghost more = { λ s t u first rest. printed_more (is_ok s.reported) (is_ok t.reported) (is_ok u.reported) (W.contents s.out) (W.contents t.out) (W.contents u.out) first rest };
 
     fn make_room(&mut self) -> Result<(), NoMemory> {
-        if self.told.is_err() {
+        if self.reported.is_err() {
             return Err(NoMemory);
         }
         Ok(())
     }
 
     fn give(&mut self, pairs: &[Released]) {
-        if self.told.is_ok() {
-            self.told = print(pairs, &mut self.out);
+        if self.reported.is_ok() {
+            self.reported = print(pairs, &mut self.out);
         }
     }
 }

@@ -1,4 +1,4 @@
-//! Refusals, as the program tells them. The errors are those of the writes.
+//! Refusals, as the program reports them. The errors are those of the writes.
 ghost use Rattle.std.specs.Prelude.{◌≡◌, IfOk, OnOk};
 ghost use Rattle.std.specs.Io.KnownBytes.{Appends};
 ghost use Rattle.sessions.specs.Reasons.{format_reason, format_status, listing_reason, listing_status, fault_reason, refusal_of};
@@ -11,7 +11,7 @@ use std::io;
 use std::io::Write;
 use text_output::Status;
 
-/// Tells why no image was made.
+/// Reports why no image was made.
 pub(crate) fn refuse_format<W: Write>(error: FormatError, out: &mut W) -> io::Result<Status>
     ensures status { IfOk result (λ status. status ≡ format_status error) }
     ensures line { OnOk result (Appends (W.contents out.old) (W.contents out.new) (refusal_of (format_reason error))) }
@@ -23,7 +23,7 @@ pub(crate) fn refuse_format<W: Write>(error: FormatError, out: &mut W) -> io::Re
     })
 }
 
-/// Tells why a journal was not listed to its end.
+/// Reports why a journal was not listed to its end.
 pub(crate) fn refuse_listing<W: Write>(error: ListingError, out: &mut W) -> io::Result<Status>
     ensures status { IfOk result (λ status. status ≡ listing_status error) }
     ensures line { OnOk result (Appends (W.contents out.old) (W.contents out.new) (refusal_of (listing_reason error))) }
@@ -35,7 +35,7 @@ pub(crate) fn refuse_listing<W: Write>(error: ListingError, out: &mut W) -> io::
     })
 }
 
-/// Tells the fault of a scenario.
+/// Reports the fault of a scenario.
 pub(crate) fn refuse_scenario<W: Write>(fault: ScenarioFault, out: &mut W) -> io::Result<Status>
     ensures status { IfOk result (λ status. status ≡ Status.Refused) }
     ensures line { OnOk result (Appends (W.contents out.old) (W.contents out.new) (refusal_of (fault_reason fault))) }

@@ -12,9 +12,9 @@ use std::fs::File;
 use std::io::Write;
 use std::rt::Files;
 use std::{fs, io};
-use text_output::{Status, tell};
+use text_output::{Status, describe};
 
-/// One life, by the steps that the bytes of a scenario tell, on the image that a call opens. The scenario is judged
+/// One life, by the steps that the bytes of a scenario report, on the image that a call opens. The scenario is judged
 /// before the image is opened. It hands on what became of the image, and the writer back, and answers the status that
 /// the program ends with: where the scenario has a fault or memory is refused, the fault's line is written and the
 /// image not opened; where it can't be opened, `device` is written; else the lines of `run_life`. The error is that of
@@ -26,7 +26,7 @@ pub fn play<D: Disk, O: FnOnce() -> Option<D>, W: Write>(
     out: W,
 ) -> (Image<D, O>, W, io::Result<Status>)
     requires { O.pre opener }
-    ensures told { Plays D.state O.post scenario.now.bytes.items opener result.0 (W.contents out) (W.contents result.1)
+    ensures reported { Plays D.state O.post scenario.now.bytes.items opener result.0 (W.contents out) (W.contents result.1)
         result.2 }
 {
     let mut out = out;
@@ -38,7 +38,7 @@ pub fn play<D: Disk, O: FnOnce() -> Option<D>, W: Write>(
         }
     };
     let Some(disk) = opener() else {
-        let status = tell(&mut out, "device", Status::Device);
+        let status = describe(&mut out, "device", Status::Device);
         return (Image::Missing, out, status);
     };
     let (disk, out, status) = run_life(alloc, disk, cold, steps.as_slice(), out);
@@ -59,7 +59,7 @@ pub fn run_scenario<R: Files<File = File> + AllocGlobal, W: Write>(
         Err(error) if error.kind() == io::ErrorKind::OutOfMemory => {
             return refuse_scenario(ScenarioFault::NoMemory, out);
         }
-        Err(_) => return tell(out, "device", Status::Device),
+        Err(_) => return describe(out, "device", Status::Device),
     };
     let opener = || FileDisk::open(rt, image).ok();
     let (_, _, status) = play(rt.alloc(), &Scenario { bytes }, opener, out);

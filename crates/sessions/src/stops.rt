@@ -1,4 +1,4 @@
-//! Why a life stopped, as the program tells it.
+//! Why a life stopped, as the program says it.
 ghost use Rattle.std.specs.Prelude.{◌≡◌, IfOk, OnOk};
 ghost use Rattle.std.specs.Io.KnownBytes.{Appends};
 ghost use Rattle.sessions.specs.Reasons.{stop_status, status_of, ending_of};
@@ -23,7 +23,10 @@ fn status_of_stop(error: LiveError) -> Status
 
 /// Writes why a life stopped, if it did, and answers the status that the program ends with. The error is that of the
 /// write.
-pub(crate) fn tell_end<W: Write>(ended: Result<(), LiveError>, out: &mut W) -> io::Result<Status>
+pub(crate) fn describe_end<W: Write>(
+    ended: Result<(), LiveError>,
+    out: &mut W,
+) -> io::Result<Status>
     ensures status { IfOk result (λ status. status ≡ status_of ended) }
     ensures line { OnOk result (Appends (W.contents out.old) (W.contents out.new) (ending_of ended)) }
 {

@@ -16,12 +16,12 @@ passes : (text : List ℕ) → AllByRecursion IsPrintable text → list_all is_p
 passes [] h = refl
 passes (x ∷ xs) h = and_from _ (list_all is_printable xs) (and_from (nat_le 0x20 x) (nat_le x 0x7E) (le-leb 0x20 x h.0.0) (le-leb x 0x7E h.0.1)) (passes xs h.1)
 
-told : (text : List ℕ) → list_all is_printable text ≡ true → AllByRecursion IsPrintable text
-told [] e = tt
-told (x ∷ xs) e =
+reported : (text : List ℕ) → list_all is_printable text ≡ true → AllByRecursion IsPrintable text
+reported [] e = tt
+reported (x ∷ xs) e =
     let both = and_parts (is_printable x) (list_all is_printable xs) e in
     let here = and_parts (nat_le 0x20 x) (nat_le x 0x7E) both.0 in
-    ((leb-true 0x20 x here.0, leb-true x 0x7E here.1), told xs both.1)
+    ((leb-true 0x20 x here.0, leb-true x 0x7E here.1), reported xs both.1)
 
 pub identity-true : (text : List ℕ) → IsIdentity text → is_identity text ≡ true
 identity-true text is =
@@ -29,12 +29,12 @@ identity-true text is =
     (and_from (nat_le 1 (length text)) (nat_le (length text) 16) (le-leb 1 (length text) is.0) (le-leb (length text) 16 is.1))
     (passes text (recursion_from_All IsPrintable text is.2))
 
-none_told : (b : Bool) (text : List ℕ) → is_identity text ≡ b → (IsIdentity text → ⊥) → b ≡ false
-none_told true text e never =
+none_reported : (b : Bool) (text : List ℕ) → is_identity text ≡ b → (IsIdentity text → ⊥) → b ≡ false
+none_reported true text e never =
     let both = and_parts (nat_le 1 (length text) && nat_le (length text) 16) (list_all is_printable text) e in
     let long = and_parts (nat_le 1 (length text)) (nat_le (length text) 16) both.0 in
-    absurd (never (leb-true 1 (length text) long.0, leb-true (length text) 16 long.1, All-from_recursion IsPrintable text (told text both.1)))
-none_told false text e never = refl
+    absurd (never (leb-true 1 (length text) long.0, leb-true (length text) 16 long.1, All-from_recursion IsPrintable text (reported text both.1)))
+none_reported false text e never = refl
 
 pub identity-false : (text : List ℕ) → (IsIdentity text → ⊥) → is_identity text ≡ false
-identity-false text never = none_told (is_identity text) text refl never
+identity-false text never = none_reported (is_identity text) text refl never

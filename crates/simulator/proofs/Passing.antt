@@ -22,8 +22,8 @@ nothing_ahead from at = grind (arith, ints)
 pub one_more_ahead : (from : ℤ) (n at : ℕ) → is_ahead from (suc n) at ≡ (is_ahead from n at || int_eq (pos at) (from +ℤ pos (suc n)))
 one_more_ahead from n at = grind (arith, ints, Decides-int_eq)
 
-pub behind_the_last : (from : ℤ) (n a b : ℕ) → int_eq (pos a) (from +ℤ pos (suc n)) ≡ true → a ≤ b → is_ahead from n b ≡ false
-behind_the_last from n a b h le = grind (arith, ints, Decides-int_eq)
+pub after_the_last : (from : ℤ) (n a b : ℕ) → int_eq (pos a) (from +ℤ pos (suc n)) ≡ true → a ≤ b → is_ahead from n b ≡ false
+after_the_last from n a b h le = grind (arith, ints, Decides-int_eq)
 
 -- in order: what is passed is what lies on the way
 pub passed-in_order : (bs : List Balise) (from : ℤ) (n : ℕ) → IsNonDecreasingBy (λ b. b.at) bs → passed bs from n ≡ filter (λ b. is_ahead from n b.at) bs
@@ -32,7 +32,7 @@ passed-in_order bs from zero up = sym (none (λ b. is_ahead from 0 b.at) bs (λ 
 passed-in_order bs from (suc n) up =
     rw (passed-in_order bs from n up)
     (joined (λ b. b.at) (λ b. is_ahead from n b.at) (lies_at (from +ℤ pos (suc n))) (λ b. is_ahead from (suc n) b.at) bs up
-    (λ x y h le. behind_the_last from n x.at y.at h le) (λ x. one_more_ahead from n x.at))
+    (λ x y h le. after_the_last from n x.at y.at h le) (λ x. one_more_ahead from n x.at))
 
 -- ---- sorted, those of one place in the order that they had
 
@@ -83,10 +83,10 @@ passed-between {bs} {p} {q} {i} {j} from n first end starts ends up =
 abbrev pub IsAhead : ℤ → ℕ → Balise → Type 0
 IsAhead from n b = (from <ℤ pos b.at) × (pos b.at ≤ℤ (from +ℤ pos n))
 
-told_ahead : (from : ℤ) (n : ℕ) (b : Balise) → is_ahead from n b.at ≡ true → IsAhead from n b
-told_ahead from n b h = (grind (arith, ints), grind (arith, ints))
+reported_ahead : (from : ℤ) (n : ℕ) (b : Balise) → is_ahead from n b.at ≡ true → IsAhead from n b
+reported_ahead from n b h = (grind (arith, ints), grind (arith, ints))
 
 pub all_ahead : (bs : List Balise) (from : ℤ) (n : ℕ) → IsNonDecreasingBy (λ b. b.at) bs → All (IsAhead from n) (passed bs from n)
 all_ahead bs from n up =
     rw (passed-in_order bs from n up)
-    (All-weaker (λ b. is_ahead from n b.at ≡ true) (IsAhead from n) (told_ahead from n) (filter (λ b. is_ahead from n b.at) bs) (filter_passes (λ b. is_ahead from n b.at) bs))
+    (All-weaker (λ b. is_ahead from n b.at ≡ true) (IsAhead from n) (reported_ahead from n) (filter (λ b. is_ahead from n b.at) bs) (filter_passes (λ b. is_ahead from n b.at) bs))

@@ -28,7 +28,7 @@ between p (x ∷ xs) (suc i) n before inside behind =
     let here : p x ≡ false = before 0 x (omega arith) (omega arith) in
     rw here (between p xs i n (λ k d a l. before (suc k) d (omega (arith, a)) (omega (arith, l))) (λ k d a b l. inside (suc k) d (omega (arith, a)) (omega (arith, b)) (omega (arith, l))) (λ k d a l. behind (suc k) d (omega (arith, a)) (omega (arith, l))))
 
--- one element more, where one that passes q has none behind it that passes p
+-- one element more, where one that passes q has none after it that passes p
 joined_one : {X : Type 0} (p q r : X → Bool) (x : X) (xs : List X) (a b : Bool) → p x ≡ a → q x ≡ b → r x ≡ (a || b)
     → (b ≡ true → (a ≡ false) × (filter p xs ≡ []))
     → filter p xs ++ filter q xs ≡ filter r xs
@@ -41,7 +41,7 @@ joined_one p q r x xs false true ep eq er alone rest =
     rw (ep, eq, er, empty) (ap (λ l. x ∷ l) last)
 joined_one p q r x xs true true ep eq er alone rest = absurd (false≢true (sym (alone refl).0))
 
--- what passes p, and then what passes q, is what passes either, where nothing that passes p lies behind what passes q
+-- what passes p, and then what passes q, is what passes either, where nothing that passes p lies beyond what passes q
 pub joined : {X : Type 0} (n : X → ℕ) (p q r : X → Bool) (xs : List X) → IsNonDecreasingBy n xs
     → ((x y : X) → q x ≡ true → n x ≤ n y → p y ≡ false)
     → ((x : X) → r x ≡ (p x || q x))

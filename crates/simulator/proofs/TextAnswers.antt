@@ -12,8 +12,8 @@ use Rattle.simulator.specs.Lives.{life_in}
 use Rattle.simulator.specs.declared.fault.ScenarioFault.{ScenarioFault}
 use Rattle.simulator.specs.declared.fault.ScenarioFault.TheVariants.{NotJson}
 use Rattle.simulator.proofs.ValueFaults.{Fits, of_life}
-use Rattle.simulator.specs.Scenarios.{IsReading, Tells, FaultOf}
-use Rattle.simulator.specs.Laws.{TellsALife, HasAFault}
+use Rattle.simulator.specs.Scenarios.{IsReading, Describes, FaultOf}
+use Rattle.simulator.specs.Laws.{DescribesALife, HasAFault}
 
 same_value : (bytes : List ℕ) (d e : Data) → IsReading bytes d → IsReading bytes e → d ≡ e
 same_value bytes d e one other = ap (λ o. unwrap_or o d) (sym one.1 ∙ other.1)
@@ -41,32 +41,32 @@ no_value bytes (inr value) = λ e other. value_fits value.0 value.2
 
 -- ---- a life or a fault
 
-of_life_in : (bytes : List ℕ) (d : Data) → IsReading bytes d → (r : Result (Cold × List Step) ScenarioFault) → life_in d ≡ r → TellsALife bytes ⊎ HasAFault bytes
+of_life_in : (bytes : List ℕ) (d : Data) → IsReading bytes d → (r : Result (Cold × List Step) ScenarioFault) → life_in d ≡ r → DescribesALife bytes ⊎ HasAFault bytes
 of_life_in bytes d reading (Ok life) is = inl (life.0, life.1, (d, reading, is))
 of_life_in bytes d reading (Err fault) is = inr (fault, inr (d, reading, is))
 
-of_read : (bytes : List ℕ) → IsUtf8 bytes → (o : Option Data) → read bytes ≡ o → TellsALife bytes ⊎ HasAFault bytes
+of_read : (bytes : List ℕ) → IsUtf8 bytes → (o : Option Data) → read bytes ≡ o → DescribesALife bytes ⊎ HasAFault bytes
 of_read bytes text None is = inr (NotJson, inl (refl, λ d reading. false≢true (ap is_some (sym is ∙ reading.1))))
 of_read bytes text (Some d) is = of_life_in bytes d (text, is) (life_in d) refl
 
-of_text : (bytes : List ℕ) (b : Bool) → is_utf8 bytes ≡ b → TellsALife bytes ⊎ HasAFault bytes
+of_text : (bytes : List ℕ) (b : Bool) → is_utf8 bytes ≡ b → DescribesALife bytes ⊎ HasAFault bytes
 of_text bytes false is = inr (NotJson, inl (refl, λ d reading. false≢true (sym is ∙ is_utf8-from_IsUtf8 bytes reading.0)))
 of_text bytes true is = of_read bytes (IsUtf8-from_is_utf8 bytes is) (read bytes) refl
 
-pub life_or_fault : (bytes : List ℕ) → TellsALife bytes ⊎ HasAFault bytes
+pub life_or_fault : (bytes : List ℕ) → DescribesALife bytes ⊎ HasAFault bytes
 life_or_fault bytes = of_text bytes (is_utf8 bytes) refl
 
 -- ---- one of them
 
-told_both : (bytes : List ℕ) (c : Cold) (s : List Step) (f : ScenarioFault) → Tells bytes c s → FaultOf bytes f → ⊥
-told_both bytes c s f life (inl none) = none.1 life.0 life.1
-told_both bytes c s f life (inr value) =
+reported_both : (bytes : List ℕ) (c : Cold) (s : List Step) (f : ScenarioFault) → Describes bytes c s → FaultOf bytes f → ⊥
+reported_both bytes c s f life (inl none) = none.1 life.0 life.1
+reported_both bytes c s f life (inr value) =
     false≢true (sym (ap is_ok (same_life life.0 value.0 (Ok (c, s)) (Err f) (same_value bytes life.0 value.0 life.1 value.1) life.2 value.2)))
 
-pub not_both : (bytes : List ℕ) → TellsALife bytes → HasAFault bytes → ⊥
-not_both bytes life fault = told_both bytes life.0 life.1 fault.0 life.2 fault.1
+pub not_both : (bytes : List ℕ) → DescribesALife bytes → HasAFault bytes → ⊥
+not_both bytes life fault = reported_both bytes life.0 life.1 fault.0 life.2 fault.1
 
-pub one_life : (bytes : List ℕ) (c e : Cold) (s t : List Step) → Tells bytes c s → Tells bytes e t → (c ≡ e) × (s ≡ t)
+pub one_life : (bytes : List ℕ) (c e : Cold) (s t : List Step) → Describes bytes c s → Describes bytes e t → (c ≡ e) × (s ≡ t)
 unfolding life_or
 one_life bytes c e s t one other =
     let same = same_life one.0 other.0 (Ok (c, s)) (Ok (e, t)) (same_value bytes one.0 other.0 one.1 other.1) one.2 other.2 in

@@ -30,7 +30,7 @@ confirmed z = numbered item_by z
 abbrev pub acknowledged : ℤ → Result Acknowledged ScenarioFault
 acknowledged z = numbered reason_by z
 
--- ---- actions with values behind their code
+-- ---- actions with values after their code
 
 abbrev pub identity : List ℕ → Result Action ScenarioFault
 identity text = if is_identity text then Ok (EnterIdentity text) else Err OutOfRange
@@ -109,9 +109,9 @@ abbrev pub or_shape : {A : Type 0} → Result A ScenarioFault → Result A Scena
 or_shape (Ok x) = Ok x
 or_shape (Err fault) = Err Shape
 
--- the kind that a code tells
-abbrev pub kind_told : ℤ → Result ActionKind ScenarioFault
-kind_told code = or_shape (numbered action_by code)
+-- the kind that a code reports
+abbrev pub kind_reported : ℤ → Result ActionKind ScenarioFault
+kind_reported code = or_shape (numbered action_by code)
 
 unfoldable pub by_kind : ActionKind → List Data → Result Action ScenarioFault
 by_kind a_kind.EnterIdentity ds = entered_identity ds
@@ -129,5 +129,5 @@ by_kind a_kind.CloseDesk ds = bare CloseDesk ds
 unfoldable pub action : List Data → Result Action ScenarioFault
 action ds = do
   code ← whole_item ds 0
-  kind ← kind_told code
+  kind ← kind_reported code
   by_kind kind ds

@@ -85,7 +85,7 @@ driven ahead cm speed r =
 
 -- ---- a life
 
--- what becomes of a step that is asked for, where `ahead` tells the balises that a way leads over
+-- what becomes of a step that is asked for, where `ahead` reports the balises that a way leads over
 abbrev pub taken : (ℤ → ℕ → List Balise) → Asked → Run → Run
 taken ahead (an_asked.Drive cm speed) r = driven ahead cm speed r
 taken ahead (an_asked.Happens i) r = accepted i r

@@ -1,4 +1,4 @@
--- The numbers and the names by which refusals are told (this project's profile).
+-- The numbers and the names by which refusals are reported (this project's profile).
 use Rattle.std.specs.Prelude.{ℕ, List, codes}
 use Rattle.simulator.specs.declared.fault.ScenarioFault.{ScenarioFault}
 use Rattle.simulator.specs.declared.fault.ScenarioFault.TheVariants as a_fault

@@ -20,19 +20,19 @@ abbrev pub are_texts : List Data → Bool
 are_texts [] = true
 are_texts (d ∷ ds) = is_some (as_str d) && are_texts ds
 
--- behind those before it, a balise at a place
+-- after those before it, a balise at a place
 unfoldable pub laid_one : ℕ → Data → List Balise → Result (List Balise) ScenarioFault
 laid_one at d bs = do
   text ← shaped (as_str d)
   bytes ← bytes_in text
   Ok (bs ++ record { at = at; bytes = bytes } ∷ [])
 
--- behind those before them, balises so far apart, the first of them at a place
+-- after those before them, balises so far apart, the first of them at a place
 abbrev pub laid : ℕ → ℕ → List Data → List Balise → Result (List Balise) ScenarioFault
 laid at spacing [] bs = Ok bs
 laid at spacing (d ∷ ds) bs = laid_one at d bs >>= laid (at + spacing) spacing ds
 
--- behind those before it, a group of 1 to 8 balises
+-- after those before it, a group of 1 to 8 balises
 unfoldable pub group : Data → List Balise → Result (List Balise) ScenarioFault
 group d bs = do
   _ ← given (has_members 3 d) Shape

@@ -5,24 +5,24 @@ use Rattle.mode_table.specs.declared.statuses.Cold.{Cold}
 use Rattle.events.specs.declared.step.Step.{Step}
 use Rattle.simulator.specs.declared.fault.ScenarioFault.{ScenarioFault}
 use Rattle.simulator.specs.declared.fault.ScenarioFault.TheVariants.{NotJson}
-use Rattle.simulator.specs.Scenarios.{IsReading, Tells, FaultOf}
+use Rattle.simulator.specs.Scenarios.{IsReading, Describes, FaultOf}
 
 -- NotJson comes exactly where a text has no reading as a JSON value.
 abbrev pub NotJsonAlone : Type 0
 NotJsonAlone = (bytes : List ℕ) → FaultOf bytes NotJson ↔ ((d : Data) → ¬ IsReading bytes d)
 
-abbrev pub TellsALife : List ℕ → Type 0
-TellsALife bytes = (cold : Cold) × (steps : List Step) × Tells bytes cold steps
+abbrev pub DescribesALife : List ℕ → Type 0
+DescribesALife bytes = (cold : Cold) × (steps : List Step) × Describes bytes cold steps
 
 abbrev pub HasAFault : List ℕ → Type 0
 HasAFault bytes = (fault : ScenarioFault) × FaultOf bytes fault
 
--- Each text tells a life, or has a first fault.
-abbrev pub TellsOrFails : Type 0
-TellsOrFails = (bytes : List ℕ) → TellsALife bytes ⊎ HasAFault bytes
+-- Each text reports a life, or has a first fault.
+abbrev pub DescribesOrFails : Type 0
+DescribesOrFails = (bytes : List ℕ) → DescribesALife bytes ⊎ HasAFault bytes
 
 -- No text has both, and none has two of either.
 pub record OneAnswer : Type 0 where
-  pub either : (bytes : List ℕ) → TellsALife bytes → HasAFault bytes → ⊥
-  pub life : (bytes : List ℕ) (c e : Cold) (s t : List Step) → Tells bytes c s → Tells bytes e t → (c ≡ e) × (s ≡ t)
+  pub either : (bytes : List ℕ) → DescribesALife bytes → HasAFault bytes → ⊥
+  pub life : (bytes : List ℕ) (c e : Cold) (s t : List Step) → Describes bytes c s → Describes bytes e t → (c ≡ e) × (s ≡ t)
   pub fault : (bytes : List ℕ) (f g : ScenarioFault) → FaultOf bytes f → FaultOf bytes g → f ≡ g

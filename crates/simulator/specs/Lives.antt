@@ -60,7 +60,7 @@ life_in d = do
 
 -- ---- which steps of the life come from which step of the scenario
 
--- behind each step of the scenario, how many steps the life has so far
+-- after each step of the scenario, how many steps the life has so far
 abbrev pub ends_by : (ℤ → ℕ → List Balise) → List Data → Run → List ℕ → Result (List ℕ) ScenarioFault
 ends_by ahead [] r ends = Ok ends
 ends_by ahead (d ∷ ds) r ends = do

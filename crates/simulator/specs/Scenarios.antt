@@ -13,21 +13,21 @@ use Rattle.simulator.specs.declared.fault.ScenarioFault.TheVariants.{NotJson}
 abbrev pub IsReading : List ℕ → Data → Type 0
 IsReading bytes d = IsUtf8 bytes × (read bytes ≡ Some d)
 
--- The bytes tell such a life.
-abbrev pub Tells : List ℕ → Cold → List Step → Type 0
-Tells bytes cold steps = (d : Data) × IsReading bytes d × (life_in d ≡ Ok (cold, steps))
+-- The bytes say such a life.
+abbrev pub Describes : List ℕ → Cold → List Step → Type 0
+Describes bytes cold steps = (d : Data) × IsReading bytes d × (life_in d ≡ Ok (cold, steps))
 
--- Why they tell none: they are no JSON value, or their value has this first fault.
+-- Why they say none: they are no JSON value, or their value has this first fault.
 abbrev pub FaultOf : List ℕ → ScenarioFault → Type 0
 FaultOf bytes fault =
     ((fault ≡ NotJson) × ((d : Data) → ¬ IsReading bytes d))
     ⊎ ((d : Data) × IsReading bytes d × (life_in d ≡ Err fault))
 
 -- Of each step of the scenario, how many steps its life has up to the end of it.
-abbrev pub TellsEnds : List ℕ → List ℕ → Type 0
-TellsEnds bytes ends = (d : Data) × IsReading bytes d × (ends_in d ≡ Ok ends)
+abbrev pub DescribesEnds : List ℕ → List ℕ → Type 0
+DescribesEnds bytes ends = (d : Data) × IsReading bytes d × (ends_in d ≡ Ok ends)
 
--- Why they tell none: they are no JSON value, or their value has this first fault among its groups and steps.
+-- Why they say none: they are no JSON value, or their value has this first fault among its groups and steps.
 abbrev pub EndsFault : List ℕ → ScenarioFault → Type 0
 EndsFault bytes fault =
     ((fault ≡ NotJson) × ((d : Data) → ¬ IsReading bytes d))

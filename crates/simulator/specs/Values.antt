@@ -49,7 +49,7 @@ abbrev pub known : {A : Type 0} → Option A → Result A ScenarioFault
 known (Some x) = Ok x
 known None = Err OutOfRange
 
--- the value that a number of one byte tells
+-- the value that a number of one byte reports
 abbrev pub numbered : {A : Type 0} → (ℕ → Option A) → ℤ → Result A ScenarioFault
 numbered value z = within 0 255 z >>= λ n. known (value n)
 

@@ -2,7 +2,7 @@
 ghost use Rattle.std.specs.Prelude.{◌≡◌, ◌≤◌, IfOk};
 ghost use Rattle.json_values.specs.Looking.{listed};
 ghost use Rattle.simulator.specs.Values.{within};
-ghost use Rattle.simulator.specs.Actions.{level, confirmed, acknowledged, lone_value, identity, entered_identity, entered_number, brakes, train, entered_train, chosen_level, confirmed_item, acknowledged_kind, bare, kind_told, by_kind, action};
+ghost use Rattle.simulator.specs.Actions.{level, confirmed, acknowledged, lone_value, identity, entered_identity, entered_number, brakes, train, entered_train, chosen_level, confirmed_item, acknowledged_kind, bare, kind_reported, by_kind, action};
 
 use crate::ScenarioFault;
 use crate::values::{byte_of, whole_item, within};
@@ -55,7 +55,7 @@ fn entered_identity(items: &JsonList) -> Result<Action, ScenarioFault>
     }
 }
 
-// The one whole number behind the code.
+// The one whole number after the code.
 #[tactic(auto, unfolding(crate::specs::Actions::lone_value))]
 fn lone_value(items: &JsonList) -> Result<i64, ScenarioFault>
     ensures { result ≡ lone_value (listed items.now) }
@@ -188,9 +188,9 @@ fn bare(action: Action, items: &JsonList) -> Result<Action, ScenarioFault>
     }
 }
 
-// The kind that a code tells; Shape where it tells none.
+// The kind that a code reports; Shape where it says none.
 fn kind_of(code: i64) -> Result<ActionKind, ScenarioFault>
-    ensures { result ≡ kind_told code }
+    ensures { result ≡ kind_reported code }
 {
     match byte_of(code) {
         Ok(number) => ActionKind::of_number(number).ok_or(ScenarioFault::Shape),
@@ -217,7 +217,7 @@ fn by_kind(kind: ActionKind, items: &JsonList) -> Result<Action, ScenarioFault>
     }
 }
 
-/// The action that a code and its values tell.
+/// The action that a code and its values report.
 #[tactic(auto, unfolding(crate::specs::Actions::action))]
 pub(crate) fn action_of(items: &JsonList) -> Result<Action, ScenarioFault>
     ensures { result ≡ action (listed items.now) }

@@ -1,6 +1,6 @@
 //! What a step of a scenario asks for.
 ghost use Rattle.std.specs.Prelude.{◌≡◌, ◌⊎◌, IfOk, IfErr};
-ghost use Rattle.json_values.specs.Looking.{told};
+ghost use Rattle.json_values.specs.Looking.{reported};
 ghost use Rattle.json_values.specs.Shapes.{object_of_one};
 ghost use Rattle.simulator.specs.Steps.{drive, telegram, clock, driver, flush, by_key, asked};
 
@@ -17,7 +17,7 @@ use units::{LONGEST_LIFE, Mph, Ms};
 
 #[tactic(auto, unfolding(crate::specs::Steps::drive))]
 fn drive_of(value: JsonValue) -> Result<Asked, ScenarioFault>
-    ensures { result ≡ drive (told value.entry) }
+    ensures { result ≡ drive (reported value.entry) }
 {
     let Some(items) = value.into_list() else {
         return Err(ScenarioFault::Shape);
@@ -34,8 +34,8 @@ fn drive_of(value: JsonValue) -> Result<Asked, ScenarioFault>
 
 #[tactic(auto, unfolding(crate::specs::Steps::telegram))]
 fn telegram_of(alloc: Global, value: &JsonValue) -> Result<Asked, ScenarioFault>
-    ensures ok { IfOk result (λ step. telegram (told value.now) ≡ Ok step) }
-    ensures err { IfErr result (λ fault. (fault ≡ ScenarioFault.NoMemory) ⊎ (telegram (told value.now) ≡ Err fault)) }
+    ensures ok { IfOk result (λ step. telegram (reported value.now) ≡ Ok step) }
+    ensures err { IfErr result (λ fault. (fault ≡ ScenarioFault.NoMemory) ⊎ (telegram (reported value.now) ≡ Err fault)) }
 {
     let text = value.as_str().ok_or(ScenarioFault::Shape)?;
     let bytes = bytes_of(alloc, text)?;
@@ -44,7 +44,7 @@ fn telegram_of(alloc: Global, value: &JsonValue) -> Result<Asked, ScenarioFault>
 
 #[tactic(auto, unfolding(crate::specs::Steps::clock))]
 fn clock_of(value: &JsonValue) -> Result<Asked, ScenarioFault>
-    ensures { result ≡ clock (told value.now) }
+    ensures { result ≡ clock (reported value.now) }
 {
     let number = value.as_i64().ok_or(ScenarioFault::Shape)?;
     let ms = within(0, LONGEST_LIFE - 1, number)?;
@@ -54,7 +54,7 @@ fn clock_of(value: &JsonValue) -> Result<Asked, ScenarioFault>
 
 #[tactic(auto, unfolding(crate::specs::Steps::driver))]
 fn driver_of(value: JsonValue) -> Result<Asked, ScenarioFault>
-    ensures { result ≡ driver (told value.entry) }
+    ensures { result ≡ driver (reported value.entry) }
 {
     let Some(items) = value.into_list() else {
         return Err(ScenarioFault::Shape);
@@ -65,7 +65,7 @@ fn driver_of(value: JsonValue) -> Result<Asked, ScenarioFault>
 
 #[tactic(auto, unfolding(crate::specs::Steps::flush))]
 fn flush_of(value: &JsonValue) -> Result<Asked, ScenarioFault>
-    ensures { result ≡ flush (told value.now) }
+    ensures { result ≡ flush (reported value.now) }
 {
     match value.as_bool() {
         Some(true) => Ok(Asked::Flush),
@@ -76,9 +76,9 @@ fn flush_of(value: &JsonValue) -> Result<Asked, ScenarioFault>
 /// What the one member of an object asks for.
 #[tactic(auto, unfolding(crate::specs::Steps::by_key))]
 fn by_key(alloc: Global, name: &str, value: JsonValue) -> Result<Asked, ScenarioFault>
-    ensures ok { IfOk result (λ step. by_key (object_of_one name.now (told value.entry)) ≡ Ok step) }
+    ensures ok { IfOk result (λ step. by_key (object_of_one name.now (reported value.entry)) ≡ Ok step) }
     ensures err { IfErr result
-        (λ fault. (fault ≡ ScenarioFault.NoMemory) ⊎ (by_key (object_of_one name.now (told value.entry)) ≡ Err fault)) }
+        (λ fault. (fault ≡ ScenarioFault.NoMemory) ⊎ (by_key (object_of_one name.now (reported value.entry)) ≡ Err fault)) }
 {
     if name == "drive" {
         drive_of(value)
@@ -98,8 +98,8 @@ fn by_key(alloc: Global, name: &str, value: JsonValue) -> Result<Asked, Scenario
 /// What an item of the steps asks for.
 #[tactic(auto, unfolding(crate::specs::Steps::asked))]
 pub(crate) fn asked_of(alloc: Global, value: &JsonValue) -> Result<Asked, ScenarioFault>
-    ensures ok { IfOk result (λ step. asked (told value.now) ≡ Ok step) }
-    ensures err { IfErr result (λ fault. (fault ≡ ScenarioFault.NoMemory) ⊎ (asked (told value.now) ≡ Err fault)) }
+    ensures ok { IfOk result (λ step. asked (reported value.now) ≡ Ok step) }
+    ensures err { IfErr result (λ fault. (fault ≡ ScenarioFault.NoMemory) ⊎ (asked (reported value.now) ≡ Err fault)) }
 {
     match value.only_member() {
         Some((name, member)) => by_key(alloc, name, member),

@@ -73,7 +73,7 @@ impl Course {
         Ok(())
     }
 
-    // One more event, behind a flush where there is no room for it.
+    // One more event, after a flush where there is no room for it.
     fn accept(&mut self, input: Input) -> Result<(), NoMemory>
         ensures ok { OnOk result (run_of self.new ≡ accepted input (run_of self.old)) }
     {

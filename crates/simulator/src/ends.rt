@@ -1,6 +1,6 @@
 //! Which steps of a life come from which step of a scenario.
 ghost use Rattle.std.specs.Prelude.{◌≡◌, ◌⊎◌, [], ◌∷◌, ◌++◌, length, codes, pos, IfOk, IfErr, OnOk, Ok, Err};
-ghost use Rattle.json_values.specs.Looking.{told, listed};
+ghost use Rattle.json_values.specs.Looking.{reported, listed};
 ghost use Rattle.simulator.specs.Course.{run_of, start};
 ghost use Rattle.simulator.specs.Passing.{passed};
 ghost use Rattle.simulator.specs.Lives.{ends_by, ends_in};
@@ -22,7 +22,7 @@ fn note(course: &Course, ends: &mut Vec<usize>) -> Result<(), ScenarioFault>
     Ok(())
 }
 
-// Takes all steps, and counts behind each those that the life has so far.
+// Takes all steps, and counts after each those that the life has so far.
 fn count(
     alloc: Global,
     track: &Track,
@@ -65,12 +65,12 @@ fn ends_by(alloc: Global, track: &Track, items: &JsonList) -> Result<Vec<usize>,
 }
 
 /// Of each step of a scenario, how many steps of the life that `life_of` answers there are up to its end: so the step at
-/// a place of that life comes from the first step of the scenario whose end is behind the place; a last flush comes from
+/// a place of that life comes from the first step of the scenario whose end is beyond the place; a last flush comes from
 /// none. An error is the first fault of the groups and the steps; NoMemory may come in the place of any.
 #[tactic(auto, unfolding(crate::specs::Lives::ends_in))]
 pub(crate) fn ends_of(alloc: Global, value: &JsonValue) -> Result<Vec<usize>, ScenarioFault>
-    ensures ok { IfOk result (λ ends. ends_in (told value.now) ≡ Ok ends.items) }
-    ensures err { IfErr result (λ fault. (fault ≡ ScenarioFault.NoMemory) ⊎ (ends_in (told value.now) ≡ Err fault)) }
+    ensures ok { IfOk result (λ ends. ends_in (reported value.now) ≡ Ok ends.items) }
+    ensures err { IfErr result (λ fault. (fault ≡ ScenarioFault.NoMemory) ⊎ (ends_in (reported value.now) ≡ Err fault)) }
 {
     let groups = items_at(value, "groups")?;
     let track = track_of(alloc, &groups)?;

@@ -23,14 +23,14 @@ pub enum ScenarioFault {
 }
 
 impl ScenarioFault {
-    /// The number by which the refusal is told.
+    /// The number by which the refusal is reported.
     pub fn number(self) -> u8
         ensures { result ≡ fault_number self }
     {
         self as u8
     }
 
-    /// The name by which the refusal is told.
+    /// The name by which the refusal is reported.
     pub fn name(self) -> &'static str
         ensures { result.now ≡ fault_name self }
     {

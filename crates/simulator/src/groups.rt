@@ -1,6 +1,6 @@
 //! The groups of a scenario.
 ghost use Rattle.std.specs.Prelude.{◌≡◌, ◌⊎◌, ◌≤◌, ◌&&◌, nat_le, length, option_map, OnOk, IfErr};
-ghost use Rattle.json_values.specs.Looking.{told, listed};
+ghost use Rattle.json_values.specs.Looking.{reported, listed};
 ghost use Rattle.simulator.specs.Groups.{are_texts, laid_one, laid, group, groups, whole_at, list_at};
 
 use crate::ScenarioFault;
@@ -11,7 +11,7 @@ use json_values::{JsonList, JsonValue};
 use std::alloc::Global;
 
 fn whole_at(value: &JsonValue, key: &str) -> Option<i64>
-    ensures { result ≡ whole_at key.now (told value.now) }
+    ensures { result ≡ whole_at key.now (reported value.now) }
 {
     match value.get(key) {
         Some(value) => value.as_i64(),
@@ -20,7 +20,7 @@ fn whole_at(value: &JsonValue, key: &str) -> Option<i64>
 }
 
 fn list_at<'t, 'a>(value: &JsonValue<'t, 'a>, key: &str) -> Option<JsonList<'t, 'a>>
-    ensures { option_map listed result ≡ list_at key.now (told value.now) }
+    ensures { option_map listed result ≡ list_at key.now (reported value.now) }
 {
     match value.get(key) {
         Some(list) => list.into_list(),
@@ -56,9 +56,9 @@ pub(crate) fn lay_one(
     item: &JsonValue,
     balises: &mut Vec<Balise>,
 ) -> Result<(), ScenarioFault>
-    ensures ok { OnOk result (laid_one at (told item.now) balises.old.items ≡ Ok balises.new.items) }
+    ensures ok { OnOk result (laid_one at (reported item.now) balises.old.items ≡ Ok balises.new.items) }
     ensures err { IfErr result (λ fault. (fault ≡ ScenarioFault.NoMemory)
-        ⊎ (laid_one at (told item.now) balises.old.items ≡ Err fault)) }
+        ⊎ (laid_one at (reported item.now) balises.old.items ≡ Err fault)) }
 {
     let text = item.as_str().ok_or(ScenarioFault::Shape)?;
     let bytes = bytes_of(alloc, text)?;
@@ -98,9 +98,9 @@ pub(crate) fn lay_group(
     value: &JsonValue,
     balises: &mut Vec<Balise>,
 ) -> Result<(), ScenarioFault>
-    ensures ok { OnOk result (group (told value.now) balises.old.items ≡ Ok balises.new.items) }
+    ensures ok { OnOk result (group (reported value.now) balises.old.items ≡ Ok balises.new.items) }
     ensures err { IfErr result (λ fault. (fault ≡ ScenarioFault.NoMemory)
-        ⊎ (group (told value.now) balises.old.items ≡ Err fault)) }
+        ⊎ (group (reported value.now) balises.old.items ≡ Err fault)) }
 {
     if !value.has_members(3) {
         return Err(ScenarioFault::Shape);
@@ -118,7 +118,7 @@ pub(crate) fn lay_group(
     lay(alloc, first, apart, &items, balises)
 }
 
-/// Lays the balises of all groups, behind those before them.
+/// Lays the balises of all groups, after those before them.
 pub(crate) fn lay_all(
     alloc: Global,
     items: &JsonList,

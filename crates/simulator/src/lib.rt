@@ -25,7 +25,7 @@ pub use balise::Balise;
 pub use distance::Distance;
 pub use driving::Course;
 pub use fault::ScenarioFault;
-pub use laws::{not_json_alone, one_answer, tells_or_fails};
+pub use laws::{describes_or_fails, not_json_alone, one_answer};
 pub use lives::life_of;
 pub use parts::{
     fault_of_at, fault_of_balise, fault_of_cold, fault_of_group, fault_of_spacing, fault_of_step,

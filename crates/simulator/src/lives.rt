@@ -1,7 +1,7 @@
 //! From the value of a scenario to the steps of a life.
 ghost use Rattle.std.specs.Prelude.{◌≡◌, ◌⊎◌, [], codes, pos, Some, IfOk, IfErr, OnOk, Ok, Err};
 ghost use Rattle.serde_json.specs.View.{view};
-ghost use Rattle.json_values.specs.Looking.{told, listed};
+ghost use Rattle.json_values.specs.Looking.{reported, listed};
 ghost use Rattle.serde_json.specs.Find.{get};
 ghost use Rattle.simulator.specs.Course.{run_of};
 ghost use Rattle.simulator.specs.Passing.{passed};
@@ -22,7 +22,7 @@ use std::alloc::Global;
 
 #[tactic(auto, unfolding(crate::specs::Lives::has_keys))]
 fn has_keys(value: &JsonValue) -> bool
-    ensures { result ≡ has_keys (told value.now) }
+    ensures { result ≡ has_keys (reported value.now) }
 {
     let count = if value.get("cold").is_some() { 3 } else { 2 };
     value.has_members(count) && value.get("groups").is_some() && value.get("steps").is_some()
@@ -37,14 +37,14 @@ fn cold_word(number: i64) -> Result<Cold, ScenarioFault>
 /// What the value of `cold` says.
 #[tactic(auto, unfolding(crate::specs::Lives::cold_of))]
 pub(crate) fn cold_in(value: &JsonValue) -> Result<Cold, ScenarioFault>
-    ensures { result ≡ cold_of (Some (told value.now)) }
+    ensures { result ≡ cold_of (Some (reported value.now)) }
 {
     cold_word(value.as_i64().ok_or(ScenarioFault::Shape)?)
 }
 
 #[tactic(auto, unfolding(crate::specs::Lives::cold_of))]
 fn cold_of(value: &JsonValue) -> Result<Cold, ScenarioFault>
-    ensures { result ≡ cold_of (get (codes "cold") (told value.now)) }
+    ensures { result ≡ cold_of (get (codes "cold") (reported value.now)) }
 {
     match value.get("cold") {
         Some(cold) => cold_in(&cold),
@@ -58,8 +58,8 @@ pub(crate) fn items_at<'t, 'a>(
     value: &JsonValue<'t, 'a>,
     key: &str,
 ) -> Result<JsonList<'t, 'a>, ScenarioFault>
-    ensures ok { IfOk result (λ items. items_at key.now (told value.now) ≡ Ok (listed items)) }
-    ensures err { IfErr result (λ fault. items_at key.now (told value.now) ≡ Err fault) }
+    ensures ok { IfOk result (λ items. items_at key.now (reported value.now) ≡ Ok (listed items)) }
+    ensures err { IfErr result (λ fault. items_at key.now (reported value.now) ≡ Err fault) }
 {
     match value.get(key) {
         Some(list) => match list.into_list() {
@@ -125,8 +125,8 @@ fn steps_of(alloc: Global, track: &Track, items: &JsonList) -> Result<Vec<Step>,
 /// What `life_of` answers, of a value on a tape or in a tree.
 #[tactic(auto, unfolding(crate::specs::Lives::life_in))]
 pub(crate) fn life_in(alloc: Global, value: &JsonValue) -> Result<(Cold, Vec<Step>), ScenarioFault>
-    ensures ok { IfOk result (λ life. life_in (told value.now) ≡ Ok (life.0, life.1.items)) }
-    ensures err { IfErr result (λ fault. (fault ≡ ScenarioFault.NoMemory) ⊎ (life_in (told value.now) ≡ Err fault)) }
+    ensures ok { IfOk result (λ life. life_in (reported value.now) ≡ Ok (life.0, life.1.items)) }
+    ensures err { IfErr result (λ fault. (fault ≡ ScenarioFault.NoMemory) ⊎ (life_in (reported value.now) ≡ Err fault)) }
 {
     if !has_keys(value) {
         return Err(ScenarioFault::Shape);

@@ -1,6 +1,6 @@
 //! From the bytes of a file to the steps of a life.
 ghost use Rattle.std.specs.Prelude.{◌≡◌, ◌⊎◌, IfOk, IfErr};
-ghost use Rattle.simulator.specs.Scenarios.{Tells, FaultOf, TellsEnds, EndsFault};
+ghost use Rattle.simulator.specs.Scenarios.{Describes, FaultOf, DescribesEnds, EndsFault};
 
 use crate::fault::ScenarioFault;
 use crate::lives::life_in;
@@ -20,7 +20,7 @@ pub struct Scenario {
 /// fault. The faults come in this order: NotJson; the keys of the object; the value of `cold`; the groups; the steps;
 /// in each item its shape, and then its numbers and texts. NoMemory may come in the place of any of them.
 pub fn events_of(alloc: Global, scenario: &Scenario) -> Result<(Cold, Vec<Step>), ScenarioFault>
-    ensures ok { IfOk result (λ life. Tells scenario.now.bytes.items life.0 life.1.items) }
+    ensures ok { IfOk result (λ life. Describes scenario.now.bytes.items life.0 life.1.items) }
     ensures err { IfErr result (λ fault. (fault ≡ ScenarioFault.NoMemory) ⊎ FaultOf scenario.now.bytes.items fault) }
 {
     let mut scratch = Scratch::new(alloc);
@@ -33,10 +33,10 @@ pub fn events_of(alloc: Global, scenario: &Scenario) -> Result<(Cold, Vec<Step>)
 }
 
 /// Of each step of the scenario, how many steps of the life that `events_of` answers there are up to its end: so the step
-/// at a place of that life comes from the first step of the scenario whose end is behind the place; a last flush comes
+/// at a place of that life comes from the first step of the scenario whose end is beyond the place; a last flush comes
 /// from none. An error is NotJson, or the first fault of the groups and the steps; NoMemory may come in the place of any.
 pub fn ends_of(alloc: Global, scenario: &Scenario) -> Result<Vec<usize>, ScenarioFault>
-    ensures ok { IfOk result (λ ends. TellsEnds scenario.now.bytes.items ends.items) }
+    ensures ok { IfOk result (λ ends. DescribesEnds scenario.now.bytes.items ends.items) }
     ensures err { IfErr result (λ fault. (fault ≡ ScenarioFault.NoMemory) ⊎ EndsFault scenario.now.bytes.items fault) }
 {
     let mut scratch = Scratch::new(alloc);

@@ -14,7 +14,7 @@ use Rattle.braking.proofs.Approaching.{lowered_by_none, lowered_by_one, lowered_
 use Rattle.braking.proofs.Greatest.{greatest_is}
 use Rattle.braking.proofs.Slower.{slower_fits}
 use Rattle.speed_profile.specs.Ahead.{permitted_by}
-use Rattle.speed_profile.specs.Targets.{AskTheSame, AskTheSameOf, AskNothing, AskTheSameBeyond, Left, Tells}
+use Rattle.speed_profile.specs.Targets.{AskTheSame, AskTheSameOf, AskNothing, AskTheSameBeyond, Left, Describes}
 use Rattle.speed_profile.proofs.Farther.{IsNoNearer, farther_fits}
 use Rattle.speed_profile.proofs.Members.{in_left, in_right, in_either}
 
@@ -121,35 +121,35 @@ nothing_more targets front gradient brakes v =
 pub nothing_by : (targets others : List Target) → targets ≡ others → AskNothing others → AskNothing targets
 nothing_by targets others is none = through targets others [] (equal targets others is) none
 
-pub asked_at : (all all' others : List Target) (told told' : Option Target) → all ≡ all' → told ≡ told' →
-    AskTheSame all' (listed told' ++ others) → AskTheSame all (listed told ++ others)
-asked_at all all' others told told' a t h =
-    through all all' (listed told ++ others) (equal all all' a)
-    (through all' (listed told' ++ others) (listed told ++ others) h
-    (equal (listed told' ++ others) (listed told ++ others) (ap (λ (x : Option Target). listed x ++ others) (sym t))))
+pub asked_at : (all all' others : List Target) (reported reported' : Option Target) → all ≡ all' → reported ≡ reported' →
+    AskTheSame all' (listed reported' ++ others) → AskTheSame all (listed reported ++ others)
+asked_at all all' others reported reported' a t h =
+    through all all' (listed reported ++ others) (equal all all' a)
+    (through all' (listed reported' ++ others) (listed reported ++ others) h
+    (equal (listed reported' ++ others) (listed reported ++ others) (ap (λ (x : Option Target). listed x ++ others) (sym t))))
 
--- where all that is left asks what one and the others behind it do, that one is told or passed over
-pub one_told : (before after : Left) (all : List Target) (target : Option Target) → AskTheSame before.targets all →
-    AskTheSame all (listed target ++ after.targets) → is_some target ≡ true → Tells before target after
-one_told before after all None h k some = absurd (let no : false ≡ true = some in cc)
-one_told before after all (Some t) h k some = through before.targets all (t ∷ after.targets) h k
+-- where all that is left asks what one and the others after it do, that one is reported or passed over
+pub one_reported : (before after : Left) (all : List Target) (target : Option Target) → AskTheSame before.targets all →
+    AskTheSame all (listed target ++ after.targets) → is_some target ≡ true → Describes before target after
+one_reported before after all None h k some = absurd (let no : false ≡ true = some in cc)
+one_reported before after all (Some t) h k some = through before.targets all (t ∷ after.targets) h k
 
 pub passed_over : (before all after : List Target) (target : Option Target) → AskTheSame before all →
     AskTheSame all (listed target ++ after) → is_some target ≡ false → AskTheSame before after
 passed_over before all after None h k none = through before all after h k
 passed_over before all after (Some t) h k none = absurd (let no : true ≡ false = none in cc)
 
--- what is told up to the end asks what was left at first
-pub told_in_all : (left : Left) (told : List Target) → Drains Tells left told → AskTheSame told left.targets
-told_in_all left [] drains =
+-- what is reported up to the end asks what was left at first
+pub reported_in_all : (left : Left) (reported : List Target) → Drains Describes left reported → AskTheSame reported left.targets
+reported_in_all left [] drains =
     back left.targets [] (through left.targets drains.1.0.targets [] (equal left.targets drains.1.0.targets (ap (λ (l : Left). l.targets) drains.1.1)) drains.1.2.0)
-told_in_all left (t ∷ told) drains =
+reported_in_all left (t ∷ reported) drains =
     let turn = drains.1.1 in
     let after : Left = turn.0 in
-    let others = told_in_all after told (drains.0, (drains.1.0, turn.2, drains.1.2)) in
-    through (t ∷ told) (t ∷ after.targets) left.targets (one_more t told after.targets others) (back left.targets (t ∷ after.targets) turn.1)
+    let others = reported_in_all after reported (drains.0, (drains.1.0, turn.2, drains.1.2)) in
+    through (t ∷ reported) (t ∷ after.targets) left.targets (one_more t reported after.targets others) (back left.targets (t ∷ after.targets) turn.1)
 
--- ---- a train that is told of them
+-- ---- a train that is reported of them
 
 -- the same tests up to a number have the same greatest one
 greatest_same : (p q : ℕ → Bool) (n : ℕ) → ((v : ℕ) → v ≤ n → p v ≡ q v) → greatest p n ≡ greatest q n
@@ -197,7 +197,7 @@ module _ {G : Type 0} (value : G → ℤ → Option ℤ) where
       (λ v below. h course.front (value course.gradient) course.brakes v
       (slower_fits course.front (value course.gradient) course.brakes there course.speed v below stop)))
 
-  -- some, and others behind them
+  -- some, and others after them
   pub lowered_both : (some others : List Target) (old : Course G) →
       lowered_by (value old.gradient) others (lowered_by (value old.gradient) some old) ≡ lowered_by (value old.gradient) (some ++ others) old
   lowered_both [] others old = ap (λ (c : Course G). lowered_by (value old.gradient) others c) (lowered_by_none value old)
@@ -207,7 +207,7 @@ module _ {G : Type 0} (value : G → ℤ → Option ℤ) where
       ∙ lowered_both some others new
       ∙ lowered_by_more value x (some ++ others) old new refl
 
-  -- what is left makes of the speed so far what all makes of the first one: so it does with others behind
+  -- what is left makes of the speed so far what all makes of the first one: so it does with others after
   pub lowered_before : (left all others : List Target) (old new : Course G) →
       lowered_by (value new.gradient) left new ≡ lowered_by (value old.gradient) all old →
       lowered_by (value new.gradient) (left ++ others) new ≡ lowered_by (value old.gradient) (all ++ others) old
@@ -225,7 +225,7 @@ module _ {G : Type 0} (value : G → ℤ → Option ℤ) where
       ∙ sym (lowered_same (left ++ (t ∷ others)) (t ∷ (left ++ others)) middle (moved t left others))
       ∙ lowered_before left all (t ∷ others) old middle so_far
 
-  -- some, and one more behind them
+  -- some, and one more after them
   pub lowered_then : (targets : List Target) (t : Target) (old : Course G) →
       lowered (value old.gradient) t (lowered_by (value old.gradient) targets old) ≡ lowered_by (value old.gradient) (targets ++ (t ∷ [])) old
   lowered_then targets t old =

@@ -57,8 +57,8 @@ alone_asks known t is = with_known known [] t t (sym (ap listed is)) (same (t �
 pub known_asks : (known : Option Target) (k t : Target) → known ≡ Some k → IsNoNearer k t → AskTheSame (k ∷ []) (listed known ++ (t ∷ []))
 known_asks known k t is h = with_known known (k ∷ []) t k (sym (ap listed is)) (farther_asks k t h)
 
-pub told_asks : (known : Option Target) (k t : Target) → known ≡ Some k → IsNoNearer t k → AskTheSame (t ∷ []) (listed known ++ (t ∷ []))
-told_asks known k t is h = with_known known (k ∷ []) t t (sym (ap listed is)) (nearer_asks t k h)
+pub reported_asks : (known : Option Target) (k t : Target) → known ≡ Some k → IsNoNearer t k → AskTheSame (t ∷ []) (listed known ++ (t ∷ []))
+reported_asks known k t is h = with_known known (k ∷ []) t t (sym (ap listed is)) (nearer_asks t k h)
 
 -- ---- those that decide
 
@@ -120,13 +120,13 @@ held_from places i place within at =
     ap (λ (first : Option Target). listed first ++ held (drop (i + 1) places)) at ∙ ap held (sym (drop_more places i place within))
 
 module _ {G : Type 0} (value : G → ℤ → Option ℤ) where
-  -- what is held with one more, and others behind it
+  -- what is held with one more, and others after it
   pub lowered_held : (now old others : List Target) (t : Target) (course : Course G) → AskTheSame now (t ∷ old) →
       lowered_by (value course.gradient) (now ++ others) course ≡ lowered_by (value course.gradient) (t ∷ (old ++ others)) course
   lowered_held now old others t course h =
       lowered_same value (now ++ others) (t ∷ (old ++ others)) course (joined now others (t ∷ old) others h (same others))
 
-  -- one more behind what is held
+  -- one more after what is held
   pub lowered_behind : (old before after : List Target) (t : Target) (course : Course G) → AskTheSame before (t ∷ after) →
       lowered_by (value course.gradient) (t ∷ (old ++ after)) course ≡ lowered_by (value course.gradient) (old ++ before) course
   lowered_behind old before after t course h =
@@ -180,7 +180,7 @@ module _ {G : Type 0} (value : G → ℤ → Option ℤ) where
       of_through all (t ∷ behind) (t ∷ []) course h
       (of_more t behind [] course (of_through behind left [] course k (of_all left [] course none)))
 
-  -- some of those that come behind do for all of them
+  -- some of those that come after do for all of them
   pub lowered_ahead : (before all others : List Target) (course : Course G) → AskTheSameOf (value course.gradient) course all others →
       lowered_by (value course.gradient) (before ++ others) course ≡ lowered_by (value course.gradient) (before ++ all) course
   lowered_ahead before all others course h =

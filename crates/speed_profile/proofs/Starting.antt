@@ -9,9 +9,9 @@ use Rattle.track_store.proofs.Jumps.{none_over, fewer_left, natural_is}
 use Rattle.track_store.proofs.Lasting.{IsAhead}
 use Rattle.authority.specs.declared.answers.End.{End}
 use Rattle.braking.specs.declared.target.Target.{Target}
-use Rattle.speed_profile.specs.declared.told.CategorySpeeds.{CategorySpeeds}
+use Rattle.speed_profile.specs.declared.reported.CategorySpeeds.{CategorySpeeds}
 use Rattle.speed_profile.specs.declared.limit.Bounds.{Bounds}
-use Rattle.speed_profile.specs.Told.{speed_of}
+use Rattle.speed_profile.specs.Reported.{speed_of}
 use Rattle.speed_profile.specs.Ahead.{greatest_place, unknown_target, static_target, static_targets}
 use Rattle.speed_profile.specs.Starts.{rest, left}
 use Rattle.speed_profile.specs.Targets.{AskTheSame, AskTheSameBeyond}
@@ -72,7 +72,7 @@ pub lasts_ahead : (value : ℤ → Option CategorySpeeds) (place : ℤ) (next : 
 lasts_ahead value place None lasts = tt
 lasts_ahead value place (Some next) lasts = lasts.0
 
--- how often the nearest piece can be left behind
+-- how often the nearest piece can be left after
 abbrev pub turns_left : Option ℤ → ℕ → ℕ
 turns_left None most = 0
 turns_left (Some place) most = most + 1

@@ -64,10 +64,10 @@ module _ (front : ℤ) (bounds : Bounds) (track : TrackSpeeds) where
       (both_ask (λ c. static c ++ restrictions c) areas first greatest_place)
       (joined both inside (speeds ++ restricted) inside (both_ask static restrictions first greatest_place) (same inside))
 
-  -- as they are told
-  pub told_ask : (last : Option Target) →
+  -- as they are reported
+  pub reported_ask : (last : Option Target) →
       AskTheSame (speeds ++ (restricted ++ (inside ++ listed last))) (targets_ahead front bounds track ++ listed last)
-  told_ask last =
+  reported_ask last =
       let ends = listed last in
       let kinds = speeds ++ restricted ++ inside in
       through (speeds ++ (restricted ++ (inside ++ ends))) (kinds ++ ends) (targets_ahead front bounds track ++ ends)

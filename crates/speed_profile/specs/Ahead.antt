@@ -15,9 +15,9 @@ use Rattle.brakes.specs.declared.brakes.Brakes.{Brakes}
 use Rattle.braking.specs.declared.target.Target.{Target}
 use Rattle.braking.specs.Braking.{fits_all, greatest}
 use Rattle.braking.specs.Approaches.{Course}
-use Rattle.speed_profile.specs.declared.told.CategorySpeeds.{CategorySpeeds}
+use Rattle.speed_profile.specs.declared.reported.CategorySpeeds.{CategorySpeeds}
 use Rattle.speed_profile.specs.declared.limit.Bounds.{Bounds}
-use Rattle.speed_profile.specs.Told.{speed_of}
+use Rattle.speed_profile.specs.Reported.{speed_of}
 use Rattle.speed_profile.specs.Track.{TrackSpeeds}
 
 -- the greatest place that there is
@@ -60,7 +60,7 @@ targets_at bounds track place =
 -- Each centimetre ahead is a target. Only those decide where a value begins: a train that can brake for the first
 -- centimetre of a speed runs at that speed or below it from there on. So `Ahead::targets` goes through the starts of the
 -- static speeds and the first centimetre of each restriction and each area alone, and is proved to ask the same (clause
--- `told`). Worked, with brakes of 70 cm/s^2 that act at once, on flat track: a stop 100,000 cm ahead lets a train run at
+-- `reported`). Worked, with brakes of 70 cm/s^2 that act at once, on flat track: a stop 100,000 cm ahead lets a train run at
 -- 134,699 m/h, since 134,700 squared is above 2 * 70 * 100,000 * 36^2. With 5 per mille downhill on half of the way, where
 -- 5 cm/s^2 are lost, it is 132,272; on flat track with a reaction time of 1,000 ms, 3,673 cm at that speed, 132,202.
 

@@ -1,4 +1,4 @@
-pub mod Told
+pub mod Reported
 pub mod Track
 pub mod Limit
 pub mod Ahead

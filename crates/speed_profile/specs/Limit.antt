@@ -7,9 +7,9 @@ use Rattle.track_store.specs.Profiles.{listed, lesser}
 use Rattle.track_store.specs.Restrictions.{least_speed}
 use Rattle.authority.specs.declared.answers.End.{End}
 use Rattle.areas.specs.Areas.{least_speed as least_in_areas}
-use Rattle.speed_profile.specs.declared.told.CategorySpeeds.{CategorySpeeds}
+use Rattle.speed_profile.specs.declared.reported.CategorySpeeds.{CategorySpeeds}
 use Rattle.speed_profile.specs.declared.limit.Bounds.{Bounds}
-use Rattle.speed_profile.specs.Told.{speed_of}
+use Rattle.speed_profile.specs.Reported.{speed_of}
 use Rattle.speed_profile.specs.Track.{TrackSpeeds}
 
 -- a static speed counts at a centimetre: with the train length delay everywhere, without it from the minimum safe front

@@ -41,6 +41,6 @@ pub record Left : Type 0 where
   pub speeds_from : Option ℤ
 
 -- one comes, or none is left
-abbrev pub Tells : Left → Option Target → Left → Type 0
-Tells before None after = AskNothing before.targets × AskNothing after.targets × (after.most ≡ 0)
-Tells before (Some target) after = AskTheSame before.targets (target ∷ after.targets)
+abbrev pub Describes : Left → Option Target → Left → Type 0
+Describes before None after = AskNothing before.targets × AskNothing after.targets × (after.most ≡ 0)
+Describes before (Some target) after = AskTheSame before.targets (target ∷ after.targets)

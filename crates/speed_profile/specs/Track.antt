@@ -3,7 +3,7 @@ use Rattle.std.specs.Prelude.{ℤ, Option, List}
 use Rattle.track_store.specs.Restrictions.{InForce}
 use Rattle.areas.specs.declared.area.Area.{Area}
 use Rattle.areas.specs.declared.area.NationalSpeeds.{NationalSpeeds}
-use Rattle.speed_profile.specs.declared.told.CategorySpeeds.{CategorySpeeds}
+use Rattle.speed_profile.specs.declared.reported.CategorySpeeds.{CategorySpeeds}
 use Rattle.speed_profile.specs.declared.track.Track.{Track}
 
 -- the static speed of each centimetre, the temporary restrictions in force, the mode areas, and the national speeds of

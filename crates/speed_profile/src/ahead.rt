@@ -5,7 +5,7 @@ ghost use Rattle.track_store.specs.Profiles.{listed};
 ghost use Rattle.braking.specs.declared.target.Target.{Target as TargetAsked};
 ghost use Rattle.braking.specs.Approaches.{lowered_by};
 ghost use Rattle.speed_profile.specs.Ahead.{targets_ahead, permitted_ahead, setting_out};
-ghost use Rattle.speed_profile.specs.Targets.{AskTheSame, Tells};
+ghost use Rattle.speed_profile.specs.Targets.{AskTheSame, Describes};
 ghost use Rattle.speed_profile.specs.Track.{speeds_along};
 
 use crate::nearest::lower_by_all;
@@ -75,7 +75,7 @@ impl<'a, S: Profile<CategorySpeeds>, G: Profile<Permille>> Ahead<'a, S, G> {
     }
 
     // The same where one asks for all that the other one asks for: that one is gone to among those that lie ahead, and
-    // the one that asks for more behind all of them.
+    // the one that asks for more after all of them.
     fn permitted_at_one_place(&self, limit: Mph, near: Target, far: Target) -> (Mph, Mph)
         requires place { near.place ≤ℤ far.place }
         requires speed { near.speed ≤ far.speed }
@@ -107,7 +107,7 @@ impl<'a, S: Profile<CategorySpeeds>, G: Profile<Permille>> Ahead<'a, S, G> {
     pub fn targets(&self, last: Option<Target>) -> Targets<'a, S>
         ensures left { AskTheSame result.targets
             (targets_ahead self.now.front self.now.bounds.now (speeds_along S.value self.now.track.now) ++ listed last) }
-        ensures told { (told : List TargetAsked) → Drains Tells result told → AskTheSame told
+        ensures reported { (reported : List TargetAsked) → Drains Describes result reported → AskTheSame reported
             (targets_ahead self.now.front self.now.bounds.now (speeds_along S.value self.now.track.now) ++ listed last) }
     {
         Targets::new(self.front, self.bounds, self.track, last)

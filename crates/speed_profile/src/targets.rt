@@ -4,7 +4,7 @@ ghost use Rattle.std.specs.Iterator.{at_most};
 ghost use Rattle.track_store.specs.Profiles.{listed};
 ghost use Rattle.speed_profile.specs.Ahead.{over_ahead, static_targets, restriction_targets, area_targets};
 ghost use Rattle.speed_profile.specs.Track.{speeds_along};
-ghost use Rattle.speed_profile.specs.Targets.{Tells};
+ghost use Rattle.speed_profile.specs.Targets.{Describes};
 
 mod inside;
 mod others;
@@ -72,7 +72,7 @@ impl<'a, S: Profile<CategorySpeeds>> Targets<'a, S> {
 impl<'a, S: Profile<CategorySpeeds>> Iterator for Targets<'a, S> {
     type Item = Target;
 
-    ghost next_gives = { Tells };
+    ghost next_gives = { Describes };
 
     ghost remaining = { λ left. at_most left.most };
 

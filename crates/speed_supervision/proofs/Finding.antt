@@ -74,12 +74,12 @@ pub listed_in : {A : Type 0} (o : Option A) (x : A) → o ≡ Some x → IsIn x 
 listed_in None x h = absurd (let no : None ≡ Some x = h in cc)
 listed_in (Some y) x h = inl (sym (same_Some y x h))
 
--- what is told where something is found, and where nothing is
-pub some_told : {T : Type 0} (o : Option T) (A B : Type 0) (Q R : T → Type 0) → is_some o ≡ true → MatchOption o A Q →
+-- what is reported where something is found, and where nothing is
+pub some_reported : {T : Type 0} (o : Option T) (A B : Type 0) (Q R : T → Type 0) → is_some o ≡ true → MatchOption o A Q →
     ((x : T) → Q x → R x) → MatchOption o B R
-some_told None A B Q R some h f = absurd (let no : false ≡ true = some in cc)
-some_told (Some x) A B Q R some h f = f x h
+some_reported None A B Q R some h f = absurd (let no : false ≡ true = some in cc)
+some_reported (Some x) A B Q R some h f = f x h
 
-pub none_told : {T : Type 0} (o : Option T) (A : Type 0) (Q : T → Type 0) → is_some o ≡ false → MatchOption o A Q → A
-none_told None A Q none h = h
-none_told (Some x) A Q none h = absurd (let no : true ≡ false = none in cc)
+pub none_reported : {T : Type 0} (o : Option T) (A : Type 0) (Q : T → Type 0) → is_some o ≡ false → MatchOption o A Q → A
+none_reported None A Q none h = h
+none_reported (Some x) A Q none h = absurd (let no : true ≡ false = none in cc)

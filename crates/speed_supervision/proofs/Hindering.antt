@@ -13,8 +13,8 @@ use Rattle.areas.specs.declared.area.Area.{Area}
 use Rattle.areas.specs.Areas.{is_before, speed_in}
 use Rattle.authority.specs.declared.answers.End.{End}
 use Rattle.braking.specs.declared.target.Target.{Target}
-use Rattle.speed_profile.specs.declared.told.CategorySpeeds.{CategorySpeeds}
-use Rattle.speed_profile.specs.Told.{speed_of}
+use Rattle.speed_profile.specs.declared.reported.CategorySpeeds.{CategorySpeeds}
+use Rattle.speed_profile.specs.Reported.{speed_of}
 use Rattle.speed_profile.specs.Ahead.{greatest_place, over_ahead, static_targets, restriction_targets, area_targets, targets_at, is_inside, unknown_target, static_target}
 use Rattle.speed_profile.specs.Starts.{rest, first_covered, first_target, first_inside, first_in_area}
 use Rattle.speed_profile.specs.Targets.{AskTheSame}
@@ -22,7 +22,7 @@ use Rattle.speed_profile.proofs.Asking.{fit_both, nothing_more}
 use Rattle.speed_profile.proofs.Members.{in_left, in_right, passes}
 use Rattle.speed_profile.proofs.Reaching.{restriction_asks, no_restriction_asks, area_asks, no_area_asks}
 use Rattle.speed_profile.proofs.Starting.{piece_asks}
-use Rattle.speed_profile.proofs.Together.{told_ask}
+use Rattle.speed_profile.proofs.Together.{reported_ask}
 use Rattle.speed_supervision.specs.Targets.{Journey, IsAhead, IsOfKind, along_track, fits_all_on, static_kind}
 use Rattle.speed_supervision.proofs.Finding.{in_from_contains, contains_from_in, listed_in}
 
@@ -86,10 +86,10 @@ module _ (journey : Journey) (speed : ℕ) where
       let fit = λ (ts : List Target). fits_all_on journey ts speed in
       let both = λ (some others : List Target) (a : fit some ≡ true) (b : fit others ≡ true).
       fit_both front journey.gradient journey.brakes some others speed ∙ and_from (fit some) (fit others) a b in
-      let told : fit (static ++ (rs ++ (areas ++ []))) ≡ true = both static (rs ++ (areas ++ [])) s (both rs (areas ++ []) r (both areas [] i refl)) in
+      let reported : fit (static ++ (rs ++ (areas ++ []))) ≡ true = both static (rs ++ (areas ++ [])) s (both rs (areas ++ []) r (both areas [] i refl)) in
       sym (nothing_more all front journey.gradient journey.brakes speed)
-      ∙ sym (told_ask front journey.bounds journey.track None front journey.gradient journey.brakes speed)
-      ∙ told
+      ∙ sym (reported_ask front journey.bounds journey.track None front journey.gradient journey.brakes speed)
+      ∙ reported
 
   -- ---- of its kind
 

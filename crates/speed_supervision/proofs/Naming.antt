@@ -15,7 +15,7 @@ use Rattle.restriction.specs.Meeting.{meets}
 use Rattle.track_store.specs.Profiles.{Lasts}
 use Rattle.track_store.specs.Restrictions.{InForce, speeds_at, least_speed}
 use Rattle.track_store.proofs.Limiting.{limits_met, met_limits}
-use Rattle.speed_profile.specs.declared.told.CategorySpeeds.{CategorySpeeds}
+use Rattle.speed_profile.specs.declared.reported.CategorySpeeds.{CategorySpeeds}
 use Rattle.speed_profile.specs.Limit.{limiting_value, least_static}
 use Rattle.speed_profile.specs.Limit as static_limit
 use Rattle.speed_profile.proofs.Members.{one_passed}
@@ -89,12 +89,12 @@ module _ (track : InForce) (train : Span) (limit : ℕ) where
   none_restricts first (Some restriction) at is = tt
 
   -- whichever of both it is
-  pub restriction_told : (first : ℤ) (result : Option Restriction) → first ≡ int_max track.mark train.rear →
+  pub restriction_reported : (first : ℤ) (result : Option Restriction) → first ≡ int_max track.mark train.rear →
       result ≡ find (limits_so first) track.restrictions →
       MatchOption result ((speed : ℕ) → least_speed track train speed ≡ limit → speed ≡ limit) (IsRestrictionOver track train limit)
-  restriction_told first None at is =
+  restriction_reported first None at is =
       no_restriction (sym (is ∙ ap (λ (z : ℤ). find (limits_so z) track.restrictions) at))
-  restriction_told first (Some restriction) at is =
+  restriction_reported first (Some restriction) at is =
       restriction_named restriction (sym (is ∙ ap (λ (z : ℤ). find (limits_so z) track.restrictions) at))
 
 -- ---- static speeds

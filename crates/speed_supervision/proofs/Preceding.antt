@@ -9,8 +9,8 @@ use Rattle.restriction.specs.Covering.{covers}
 use Rattle.areas.specs.Areas.{speed_in}
 use Rattle.authority.specs.declared.answers.End.{End}
 use Rattle.braking.specs.declared.target.Target.{Target}
-use Rattle.speed_profile.specs.declared.told.CategorySpeeds.{CategorySpeeds}
-use Rattle.speed_profile.specs.Told.{speed_of}
+use Rattle.speed_profile.specs.declared.reported.CategorySpeeds.{CategorySpeeds}
+use Rattle.speed_profile.specs.Reported.{speed_of}
 use Rattle.speed_profile.specs.Ahead.{greatest_place, over_ahead, static_targets, restriction_targets, unknown_target, static_target}
 use Rattle.speed_profile.proofs.Members.{passes}
 use Rattle.speed_supervision.specs.declared.cause.TargetKind.{TargetKind}

@@ -9,7 +9,7 @@ use Rattle.areas.specs.Areas.{is_met, speed_in}
 use Rattle.restriction.specs.declared.restriction.Restriction.{Restriction}
 use Rattle.restriction.specs.Covering.{limits_at}
 use Rattle.track_store.specs.Restrictions.{InForce}
-use Rattle.speed_profile.specs.declared.told.CategorySpeeds.{CategorySpeeds}
+use Rattle.speed_profile.specs.declared.reported.CategorySpeeds.{CategorySpeeds}
 use Rattle.speed_profile.specs.declared.limit.Bounds.{Bounds}
 use Rattle.speed_profile.specs.Limit.{speed_at_end, limiting_value}
 use Rattle.speed_profile.specs.Track.{TrackSpeeds}

@@ -7,10 +7,10 @@ use Rattle.brakes.specs.declared.brakes.Brakes.{Brakes}
 use Rattle.braking.specs.declared.target.Target.{Target}
 use Rattle.braking.specs.Approaches.{Course}
 use Rattle.braking.specs.Braking.{fits, fits_all}
-use Rattle.speed_profile.specs.declared.told.CategorySpeeds.{CategorySpeeds}
+use Rattle.speed_profile.specs.declared.reported.CategorySpeeds.{CategorySpeeds}
 use Rattle.speed_profile.specs.declared.limit.Bounds.{Bounds}
 use Rattle.speed_profile.specs.declared.ahead.Ahead.{Ahead}
-use Rattle.speed_profile.specs.Told.{speed_of}
+use Rattle.speed_profile.specs.Reported.{speed_of}
 use Rattle.speed_profile.specs.Ahead.{greatest_place, targets_ahead, is_inside}
 use Rattle.speed_profile.specs.Track.{TrackSpeeds, speeds_along}
 use Rattle.speed_supervision.specs.declared.cause.TargetAhead.{TargetAhead}

@@ -4,7 +4,7 @@ use Rattle.std.proofs.lemmas.Bool.{eqb-true}
 use Rattle.std.proofs.lemmas.List.{append-nil}
 use Rattle.bits.specs.Bits.{number, number_bits}
 use Rattle.bits.specs.Fitting.{HasNumber}
-use Rattle.bits.specs.Layout.{Codes, Spells, Begins, choice, done, kind, told_as}
+use Rattle.bits.specs.Layout.{Codes, Spells, Begins, choice, done, kind, reported_as}
 use Rattle.bits.proofs.Found.{Back, Appends, element, length-spelled}
 use Rattle.bits.proofs.Numbers.{length-number_bits}
 use Rattle.bits.proofs.WritingLaws.{field_bits, number_below}
@@ -82,21 +82,21 @@ some_same x y e = cc
 none_or_some : {A : Type 0} (x : A) → Some x ≡ None → ⊥
 none_or_some x e = absurd cc
 
-behind_number : (b : Bool) (number : ℕ) (p : Packet) (bits : List Bool)
-    → Spells (choice b (done None) (kind Some (λ o. o) (told_as telegram_fault (packet_of number)))) (Some p) bits → Spells (packet_of number) p bits
-behind_number true number p bits s = absurd (none_or_some p s.0)
-behind_number false number p bits s = subst (λ (q : Packet). Spells (packet_of number) q bits) (sym (some_same p s.0 s.1)) s.2
+after_number : (b : Bool) (number : ℕ) (p : Packet) (bits : List Bool)
+    → Spells (choice b (done None) (kind Some (λ o. o) (reported_as telegram_fault (packet_of number)))) (Some p) bits → Spells (packet_of number) p bits
+after_number true number p bits s = absurd (none_or_some p s.0)
+after_number false number p bits s = subst (λ (q : Packet). Spells (packet_of number) q bits) (sym (some_same p s.0 s.1)) s.2
 
 pub next_is_packet : (p : Packet) (bits : List Bool) → Spells next_packet (Some p) bits → Spells packet p bits
 unfolding next_packet packet
-next_is_packet p bits s = (s.0, s.1, s.2, s.3, s.4, behind_number (s.0 == 255) s.0 p s.2 s.5)
+next_is_packet p bits s = (s.0, s.1, s.2, s.3, s.4, after_number (s.0 == 255) s.0 p s.2 s.5)
 
 pub length-next_packet : (p : Packet) (bits : List Bool) → Spells next_packet (Some p) bits → length bits ≡ length_of p
 length-next_packet p bits s = (spelled-packet p bits (next_is_packet p bits s)).length_is
 
 -- ---- the end mark
 
-end_number : (b : Bool) (n : ℕ) (bits : List Bool) → nat_eq n 255 ≡ b → Spells (choice b (done None) (kind Some (λ (o : Option Packet). o) (told_as telegram_fault (packet_of n)))) None bits → (n ≡ 255) × (bits ≡ [])
+end_number : (b : Bool) (n : ℕ) (bits : List Bool) → nat_eq n 255 ≡ b → Spells (choice b (done None) (kind Some (λ (o : Option Packet). o) (reported_as telegram_fault (packet_of n)))) None bits → (n ≡ 255) × (bits ≡ [])
 end_number true n bits e s = (eqb-true n 255 e, s.1)
 end_number false n bits e s = absurd (none_or_some s.0 (sym s.1))
 
@@ -111,7 +111,7 @@ length-end bits s = ap length (end_mark bits s) ∙ length-number_bits 8 255
 
 -- ---- what they take
 
--- a packet takes as many bits as its length tells
+-- a packet takes as many bits as its length reports
 pub packet_length : (p : Packet) (bits rest : List Bool) → Begins next_packet (Some p) bits rest → length rest + length_of p ≡ length bits
 packet_length p bits rest b =
     omega (arith, ap length b.parts, length-append b.front rest, length-next_packet p b.front b.spelled)

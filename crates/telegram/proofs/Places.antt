@@ -29,7 +29,7 @@ longer_front (x ∷ a) b (y ∷ c) d e le =
     let same = more.1 in
     (more.0, cc)
 
--- the bits behind a place: those of a part of the bytes that begins before it, and others
+-- the bits after a place: those of a part of the bytes that begins before it, and others
 in_part : (bytes : List ℕ) (start end : ℕ) → start ≤ 8 * end → end ≤ length bytes
     → drop start (bits_of bytes) ≡ drop (start % 8) (bits_of (slice_range bytes (start / 8) end)) ++ bits_of (drop end bytes)
 in_part bytes start end order within =
@@ -79,8 +79,8 @@ all_stand bytes start (p ∷ ps) bits rest here within b =
     (stands bytes start p b.1.front b.0 room (here ∙ b.1.parts) b.1.spelled)
     (all_stand bytes (start + length_of p) ps b.0 rest next room b.2)
 
--- behind a front of so many bits
-pub behind_front : (front rest bits : List Bool) (n : ℕ) → bits ≡ front ++ rest → length rest + n ≡ length bits → drop n bits ≡ rest
-behind_front front rest bits n parts long =
+-- after a front of so many bits
+pub after_front : (front rest bits : List Bool) (n : ℕ) → bits ≡ front ++ rest → length rest + n ≡ length bits → drop n bits ≡ rest
+after_front front rest bits n parts long =
     let fits : length front ≡ n = omega (arith, ap length parts, length-append front rest, long) in
     ap (drop n) parts ∙ drop_at front rest n fits

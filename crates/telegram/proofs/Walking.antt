@@ -13,7 +13,7 @@ use Rattle.telegram.specs.declared.header.Header.{Header}
 use Rattle.telegram.specs.declared.message.Telegram.{Telegram}
 use Rattle.telegram.proofs.Answering.{made, failed, ok_same, carried, carried_once, not_refused}
 use Rattle.telegram.proofs.Lengths.{packet_length, packets_take, header_takes}
-use Rattle.telegram.proofs.Places.{behind_front}
+use Rattle.telegram.proofs.Places.{after_front}
 use Rattle.telegram.specs.declared.fault.TelegramFault.{TelegramFault}
 
 -- packets that the bits begin with are read
@@ -65,7 +65,7 @@ walk_refused bytes d r w = (λ same. absurd cc, λ h. absurd (not_refused bytes 
 
 -- ---- a telegram that is kept in its bytes
 
--- what a walk tells
+-- what a walk reports
 pub located_packets : (bytes : List ℕ) (start : ℕ) (ps : List Packet) → packets_of (located_from bytes start ps) ≡ ps
 located_packets bytes start [] = refl
 located_packets bytes start (p ∷ ps) = ap (λ (qs : List Packet). p ∷ qs) (located_packets bytes (start + length_of p) ps)
@@ -75,17 +75,17 @@ pub located_count : (bytes : List ℕ) (start : ℕ) (ps : List Packet) → leng
 located_count bytes start [] = refl
 located_count bytes start (p ∷ ps) = let more = located_count bytes (start + length_of p) ps in omega (arith, more)
 
--- behind its header the packets of a telegram are read
-packets_behind : (bytes : List ℕ) (t : Telegram) → Carries bytes t → packets_in (length t.packets.items) (drop header_bits (bits_of bytes)) ≡ t.packets.items
-packets_behind bytes t c =
+-- after its header the packets of a telegram are read
+packets_after : (bytes : List ℕ) (t : Telegram) → Carries bytes t → packets_in (length t.packets.items) (drop header_bits (bits_of bytes)) ≡ t.packets.items
+packets_after bytes t c =
     let b = carried bytes t c in
     let long = header_takes t.header (bits_of bytes) b.behind b.header_first in
-    rw (behind_front b.header_first.front b.behind (bits_of bytes) header_bits b.header_first.parts long) (packets_in-begins t.packets.items b.behind c.rest b.packets_then)
+    rw (after_front b.header_first.front b.behind (bits_of bytes) header_bits b.header_first.parts long) (packets_in-begins t.packets.items b.behind c.rest b.packets_then)
 
-pub all_behind : (bytes : List ℕ) (t : Telegram) (n : ℕ) → Carries bytes t → n ≡ length t.packets.items → packets_in n (drop header_bits (bits_of bytes)) ≡ t.packets.items
-all_behind bytes t n c e = subst (λ (k : ℕ). packets_in k (drop header_bits (bits_of bytes)) ≡ t.packets.items) (sym e) (packets_behind bytes t c)
+pub all_after : (bytes : List ℕ) (t : Telegram) (n : ℕ) → Carries bytes t → n ≡ length t.packets.items → packets_in n (drop header_bits (bits_of bytes)) ≡ t.packets.items
+all_after bytes t n c e = subst (λ (k : ℕ). packets_in k (drop header_bits (bits_of bytes)) ≡ t.packets.items) (sym e) (packets_after bytes t c)
 
--- what has room behind the header and before the end mark
+-- what has room after the header and before the end mark
 pub few_packets : (bytes : List ℕ) (t : Telegram) → Carries bytes t → length t.packets.items ≤ 33
 few_packets bytes t c =
     let b = carried bytes t c in
@@ -99,7 +99,7 @@ held bytes t n c e =
       small = c.small;
       header_first = omega (arith, long, length-bits_of bytes);
       few = omega (arith, e, few_packets bytes t c);
-      counted = ap length (all_behind bytes t n c e) ∙ sym e;
+      counted = ap length (all_after bytes t n c e) ∙ sym e;
     }
 
 -- what is kept of the bytes of a walk: a copy of them, the header and the number of the packets
@@ -113,7 +113,7 @@ module _ (bytes copy : List ℕ) (w : Walk) (walk : IsWalkOf bytes w) (h : Heade
   pub received_same : received h n copy ≡ walk.0
   received_same =
       let header_is : h ≡ walk.0.header = h_is ∙ ap (λ (v : Walk). v.header) walk.2 in
-      (λ i. received (header_is i) n (copy_is i)) ∙ (λ i. record { header = walk.0.header; packets = record { items = all_behind bytes walk.0 n walk.1 count_is i } })
+      (λ i. received (header_is i) n (copy_is i)) ∙ (λ i. record { header = walk.0.header; packets = record { items = all_after bytes walk.0 n walk.1 count_is i } })
 
 pub received_found : (bytes : List ℕ) (t v : Telegram) → Carries bytes t → v ≡ t → (u : Telegram) → (made v ≡ made u) ↔ Carries bytes u
 received_found bytes t v c e u = (

@@ -2,7 +2,7 @@
 use Rattle.std.proofs.Common.{◌≡◌, ℕ, suc, ◌+◌, ◌*◌, ◌/◌, ◌-◌, ◌<◌, ◌≤◌, ◌==◌, Bool, false, List, [], ◌∷◌, ◌++◌, length, take, drop, replicate, get_or, Option, Some, None, refl, sym, ap, subst, ◌∙◌, arith, append_assoc, drop-cons, length-append, length-take}
 use Rattle.std.proofs.lemmas.List.{drop_all}
 use Rattle.bits.specs.Bits.{bits_of, number, number_bits}
-use Rattle.bits.specs.Layout.{Spells, choice, done, kind, told_as}
+use Rattle.bits.specs.Layout.{Spells, choice, done, kind, reported_as}
 use Rattle.bits.specs.Writing.{appended}
 use Rattle.packets.specs.Packets.{packet, packet_of}
 use Rattle.packets.specs.declared.packet.Packet.{Packet}
@@ -15,7 +15,7 @@ use Rattle.telegram.proofs.Lengths.{found-header, next_is_packet, end_mark}
 
 -- ---- packets in turn
 
--- the packet at a place, with what spells those behind it
+-- the packet at a place, with what spells those after it
 pub record Next (ps : List Packet) (i : ℕ) (p : Packet) (old all : List Bool) : Type 0 where
   pub front : List Bool
   pub rest : List Bool
@@ -30,7 +30,7 @@ next_of ps i p old all left lt e s parts =
     let t : SpellsPackets (p ∷ drop (i + 1) ps) left = subst (λ (qs : List Packet). SpellsPackets qs left) cut s in
     record { front = t.0; rest = t.1; spelled = next_is_packet p t.0 t.3; others = t.4; parts = ap (λ (u : List Bool). old ++ u) (sym t.2) ∙ parts }
 
--- behind the packets only the end mark is left
+-- after the packets only the end mark is left
 pub last_of : (ps : List Packet) (i : ℕ) (left : List Bool) → length ps ≤ i → SpellsPackets (drop i ps) left → left ≡ number_bits 8 255
 last_of ps i left le s = end_mark left (subst (λ (qs : List Packet). SpellsPackets qs left) (drop_all i ps le) s)
 
@@ -73,13 +73,13 @@ carried t old new n long e = record {
 
 -- ---- one more packet
 
-behind_other : (number : ℕ) (p : Packet) (bits : List Bool) → (number == 255) ≡ false → Spells (packet_of number) p bits
-    → Spells (choice (number == 255) (done None) (kind Some (λ (o : Option Packet). o) (told_as telegram_fault (packet_of number)))) (Some p) bits
-behind_other number p bits other s = rw other (p, refl, s)
+after_other : (number : ℕ) (p : Packet) (bits : List Bool) → (number == 255) ≡ false → Spells (packet_of number) p bits
+    → Spells (choice (number == 255) (done None) (kind Some (λ (o : Option Packet). o) (reported_as telegram_fault (packet_of number)))) (Some p) bits
+after_other number p bits other s = rw other (p, refl, s)
 
 pub next_packet_spelled : (p : Packet) (bits : List Bool) → Spells packet p bits → Spells next_packet (Some p) bits
 unfolding next_packet packet packet_of
-next_packet_spelled p bits s = (s.0, s.1, s.2, s.3, s.4, behind_other s.0 p s.2 (s.5.4.0) s.5)
+next_packet_spelled p bits s = (s.0, s.1, s.2, s.3, s.4, after_other s.0 p s.2 (s.5.4.0) s.5)
 
 pushed : (ps : List Packet) (p : Packet) (bits part : List Bool) → SpellsPackets ps bits → Spells packet p part → (all : List Bool) × SpellsPackets (ps ++ p ∷ []) all
 pushed [] p bits part s one = (part ++ bits, (part, bits, refl, next_packet_spelled p part one, s))

@@ -4,7 +4,7 @@ use Rattle.bits.specs.Bits.{bits_of}
 use Rattle.telegram.specs.Telegrams.{SpellsTelegram}
 use Rattle.telegram.specs.declared.message.Telegram.{Telegram}
 
--- The first n bytes spell the telegram and pad it with zero bits to a whole byte; the bytes behind them stayed.
+-- The first n bytes spell the telegram and pad it with zero bits to a whole byte; the bytes after them stayed.
 pub record Encoded (t : Telegram) (old new : List ℕ) (n : ℕ) : Type 0 where
   pub bits : List Bool
   pub spelled : SpellsTelegram t bits

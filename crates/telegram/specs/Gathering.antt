@@ -7,7 +7,7 @@ use Rattle.telegram.specs.declared.gathered.Extent.{Extent}
 use Rattle.telegram.specs.Telegrams.{header_bits}
 use Rattle.telegram.specs.Walks.{packets_in, HoldPackets}
 
--- the packets of each telegram, of which the extents tell how many bytes and packets it has
+-- the packets of each telegram, of which the extents say how many bytes and packets it has
 abbrev pub packets_of_each : List Extent → List ℕ → List (List Packet)
 packets_of_each [] bytes = []
 packets_of_each (extent ∷ extents) bytes =

@@ -3,7 +3,7 @@ use Rattle.std.specs.Prelude.{◌≡◌, ◌⊎◌, ◌<◌, ◌≤◌, ℕ, ◌
 use Rattle.bits.specs.Bits.{bits_of}
 use Rattle.bits.specs.declared.name.VariableName.{VariableName}
 use Rattle.bits.specs.declared.name.VariableName.TheVariants as names
-use Rattle.bits.specs.Layout.{Codes, Layout, done, unless, field, choice, kind, told_as, ◌>>=◌, Spells, Begins, Refuses}
+use Rattle.bits.specs.Layout.{Codes, Layout, done, unless, field, choice, kind, reported_as, ◌>>=◌, Spells, Begins, Refuses}
 use Rattle.vars.specs.declared.variable.NoValue.{NoValue}
 use Rattle.vars.specs.Variables.{position_in_group, m_dup, m_mcount, nid_c, nid_bg, flag, nid_packet}
 use Rattle.packets.specs.Limits.{telegram_bytes}
@@ -55,7 +55,7 @@ number_of_next (Some p) = number_of p
 unfoldable pub next_packet : Layout TelegramFault (Option Packet) (Option Packet)
 next_packet = do
   number ← field names.NidPacket NoEnd value_fault nid_packet number_of_next
-  choice (number == 255) (done None) (kind Some (λ o. o) (told_as telegram_fault (packet_of number)))
+  choice (number == 255) (done None) (kind Some (λ o. o) (reported_as telegram_fault (packet_of number)))
 
 -- The bits spell these packets, one after another, and then the end mark.
 abbrev pub SpellsPackets : List Packet → List Bool → Type 0
@@ -74,7 +74,7 @@ pub record Carries (bytes : List ℕ) (t : Telegram) : Type 0 where
   pub parts : bits_of bytes ≡ front ++ rest
   pub spelled : SpellsTelegram t front
 
--- Behind these packets the next one, or the end mark, has this first fault.
+-- After these packets the next one, or the end mark, has this first fault.
 abbrev pub RefusesPackets : TelegramFault → List Packet → List Bool → Type 0
 RefusesPackets e [] bits = Refuses next_packet e bits
 RefusesPackets e (p ∷ ps) bits = (rest : List Bool) × Begins next_packet (Some p) bits rest × RefusesPackets e ps rest
@@ -88,6 +88,6 @@ abbrev pub RefusesBytes : TelegramFault → List ℕ → Type 0
 RefusesBytes e bytes = ((telegram_bytes < length bytes) × (e ≡ TooLong)) ⊎ ((length bytes ≤ telegram_bytes) × RefusesTelegram e (bits_of bytes))
 
 -- what was written over a packet, where one was
-abbrev pub told : {A : Type 0} → A → Bool → Option A
-told x true = Some x
-told x false = None
+abbrev pub reported : {A : Type 0} → A → Bool → Option A
+reported x true = Some x
+reported x false = None

@@ -23,13 +23,13 @@ pub record Walk : Type 0 where
   pub header : Header
   pub items : List Located
 
--- Packets one after another where they lie in the bytes, the first of them behind so many bits.
+-- Packets one after another where they lie in the bytes, the first of them after so many bits.
 abbrev pub located_from : List ℕ → ℕ → List Packet → List Located
 located_from bytes start [] = []
 located_from bytes start (p ∷ ps) =
     record { packet = p; bytes = slice_range bytes (start / 8) ((start + length_of p + 7) / 8); offset = start % 8 } ∷ located_from bytes (start + length_of p) ps
 
--- The walk from the first packet of the telegram that the bytes carry, which stands behind its header.
+-- The walk from the first packet of the telegram that the bytes carry, which comes after its header.
 abbrev pub IsWalkOf : List ℕ → Walk → Type 0
 IsWalkOf bytes w = (t : Telegram) × Carries bytes t × (w ≡ record { header = t.header; items = located_from bytes header_bits t.packets.items })
 
@@ -37,7 +37,7 @@ IsWalkOf bytes w = (t : Telegram) × Carries bytes t × (w ≡ record { header =
 abbrev pub packets_of : List Located → List Packet
 packets_of items = map (λ item. item.packet) items
 
--- The packet is spelled in the bits of its bytes, behind as many of them as its offset says; the first and the last of
+-- The packet is spelled in the bits of its bytes, after as many of them as its offset says; the first and the last of
 -- the bytes hold bits of it.
 pub record StandsInPlace (item : Located) : Type 0 where
   pub rest : List Bool
@@ -45,7 +45,7 @@ pub record StandsInPlace (item : Located) : Type 0 where
   pub starts_in_first : item.offset < 8
   pub ends_in_last : length rest < 8
 
--- the packet that was read, if one was, and those of the bits behind it
+-- the packet that was read, if one was, and those of the bits after it
 abbrev pub before_those_of : Result (Option Packet × List Bool) TelegramFault → (List Bool → List Packet) → List Packet
 before_those_of (Ok (Some p, rest)) more = p ∷ more rest
 before_those_of (Ok (None, rest)) more = []
@@ -56,11 +56,11 @@ unfoldable pub packets_in : ℕ → List Bool → List Packet
 packets_in zero bits = []
 packets_in (suc n) bits = before_those_of (read next_packet bits) (packets_in n)
 
--- the telegram with this header and so many packets, which are spelled in these bytes behind the header
+-- the telegram with this header and so many packets, which are spelled in these bytes after the header
 abbrev pub received : Header → ℕ → List ℕ → Telegram
 received h count bytes = record { header = h; packets = record { items = packets_in count (drop header_bits (bits_of bytes)) } }
 
--- Behind a header so many packets can be read in the bytes, and no telegram has more than 33.
+-- After a header so many packets can be read in the bytes, and no telegram has more than 33.
 pub record HoldPackets (count : ℕ) (bytes : List ℕ) : Type 0 where
   pub small : length bytes ≤ telegram_bytes
   pub header_first : header_bits ≤ 8 * length bytes

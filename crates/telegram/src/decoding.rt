@@ -4,7 +4,7 @@ ghost use Rattle.bits.specs.Bits.{bits_of};
 ghost use Rattle.bits.specs.Layout.{Begins, Gives, read};
 ghost use Rattle.packets.specs.declared.packet.Packet.{Packet};
 ghost use Rattle.telegram.specs.Sequences.{BeginsPackets};
-ghost use Rattle.telegram.specs.Telegrams.{header, next_packet, told, Carries, SpellsTelegram, RefusesPackets, RefusesTelegram, RefusesBytes};
+ghost use Rattle.telegram.specs.Telegrams.{header, next_packet, reported, Carries, SpellsTelegram, RefusesPackets, RefusesTelegram, RefusesBytes};
 ghost use Rattle.telegram.specs.declared.fault.TelegramFault.{TelegramFault};
 ghost use Rattle.telegram.specs.declared.message.Telegram.{Telegram};
 
@@ -24,7 +24,7 @@ pub(crate) fn read_next<'a>(
     reader: &mut BitReader<'a>,
     out: &mut Packet<'a>,
 ) -> Result<bool, TelegramFault>
-    ensures { Gives (told out.new) result reader.new (read next_packet reader.old) }
+    ensures { Gives (reported out.new) result reader.new (read next_packet reader.old) }
 {
     let number: PacketNumber = field(reader, TelegramFault::NoEnd)?;
     if number.get() == 255 {
@@ -34,7 +34,7 @@ pub(crate) fn read_next<'a>(
     Ok(true)
 }
 
-/// Reads packets up to the end mark. Behind the header of at most `TELEGRAM_BYTES` there are at most 34 of them, and 34
+/// Reads packets up to the end mark. After the header of at most `TELEGRAM_BYTES` there are at most 34 of them, and 34
 /// leave no room for the end mark.
 fn read_packets<'a>(
     reader: &mut BitReader<'a>,

@@ -31,14 +31,14 @@ pub enum TelegramFault {
 }
 
 impl TelegramFault {
-    /// The number by which the fault is told, its discriminant.
+    /// The number by which the fault is reported, its discriminant.
     pub fn number(self) -> u8
         ensures { result ≡ number_of_fault self }
     {
         self as u8
     }
 
-    /// The name by which the fault is told.
+    /// The name by which the fault is reported.
     pub fn name(self) -> &'static str
         ensures { result.now ≡ name_of_fault self }
     {

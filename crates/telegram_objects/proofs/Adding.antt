@@ -7,7 +7,7 @@ use Rattle.std.specs.Option.{option_map_or}
 use Rattle.std.proofs.lemmas.Bool.{eqb-true}
 use Rattle.std.proofs.lemmas.List.{append-nil}
 use Rattle.bits.specs.Bits.{number_bits}
-use Rattle.bits.specs.Layout.{Layout, done, unless, field, run, choice, kind, part, inner, measured, more, told_as, then_, folded}
+use Rattle.bits.specs.Layout.{Layout, done, unless, field, run, choice, kind, part, inner, measured, more, reported_as, then_, folded}
 use Rattle.bits.specs.Writing.{value, each_taken, taken, with_bits}
 use Rattle.bits.specs.declared.name.VariableName.{VariableName}
 use Rattle.bits.proofs.Numbers.{number_bits-zero}
@@ -85,7 +85,7 @@ Plain W (part given m get) = Plain W m
 Plain W (inner m get) = Plain W m
 Plain W (measured f b m) = Plain W m
 Plain W (more n m b get) = Plain W m
-Plain W (told_as g m) = Plain W m
+Plain W (reported_as g m) = Plain W m
 Plain W (then_ {A = A} m f) = Plain W m × ((x : A) → Plain W (f x))
 
 pub adds : {F C A : Type 0} (W : Widths) (m : Layout F C A) → Plain W m → (c : C) → Adds W (λ s. taken with_field m c s) (λ s. taken with_bits m c s)
@@ -100,7 +100,7 @@ adds W (part given m get) p c = option W (λ d s. taken with_field m d s) (λ d 
 adds W (inner m get) p c = adds W m p (get c)
 adds W (measured f b m) p c = adds W m p c
 adds W (more n m b get) p c = each W (λ x s. taken with_field m x s) (λ x s. taken with_bits m x s) (drop (length b) (get c)) (λ x. adds W m p x)
-adds W (told_as g m) p c = adds W m p c
+adds W (reported_as g m) p c = adds W m p c
 adds W (then_ m f) p c =
     option W (λ x s. taken with_field (f x) c (taken with_field m c s)) (λ x s. taken with_bits (f x) c (taken with_bits m c s)) (λ s. taken with_field m c s) (λ s. taken with_bits m c s) (value m c) (adds W m p.0 c)
     (λ x.

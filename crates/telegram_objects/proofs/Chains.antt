@@ -8,7 +8,7 @@ use Rattle.bits.specs.Bits.{bits_of, number, number_bits}
 use Rattle.bits.proofs.Bytes.{length-bits_of}
 use Rattle.bits.proofs.Numbers.{length-number_bits, number_bits-low, number-of_bits}
 use Rattle.packets.specs.Packets.{length_of}
-use Rattle.packets.specs.Layouts.{skipped_telling}
+use Rattle.packets.specs.Layouts.{skipped_description}
 use Rattle.packets.specs.declared.packet.Other.{Other}
 use Rattle.packets.specs.declared.packet.Packet.{Packet}
 use Rattle.packets.specs.declared.packet.Packet.TheVariants as packets
@@ -19,10 +19,10 @@ use Rattle.serde_json.specs.declared.value.Value.{Value}
 use Rattle.telegram.specs.Telegrams.{SpellsPackets}
 use Rattle.telegram_objects.specs.Fields.{fields_bits, fields_size}
 use Rattle.telegram_objects.specs.Laying.{Lays, BeginWithOther, length_field}
-use Rattle.telegram_objects.specs.Telling.{pair_of, TellsBits, TellPackets}
+use Rattle.telegram_objects.specs.Description.{pair_of, DescribesBits, DescribePackets}
 use Rattle.decoding.specs.declared.fields.FieldValue.{FieldValue}
 use Rattle.telegram_objects.proofs.Laid.{length-fields_bits}
-use Rattle.telegram_objects.proofs.Puts.{last_told}
+use Rattle.telegram_objects.proofs.Puts.{last_reported}
 
 pub on_ok : {A E : Type 0} (r : Result A E) (P : Type 0) → is_ok r ≡ true → OnOk r P → P
 on_ok (Ok x) P ok h = h
@@ -42,15 +42,15 @@ same_byte x y a b e = sym (number-of_bits 8 x a) ∙ ap number e ∙ number-of_b
 
 -- ---- fields one after another
 
-pub put_next : (w0 w1 w2 : List Bool) (f : FieldValue) (fs told : List FieldValue) → w1 ≡ w0 ++ number_bits f.width f.number → w2 ≡ w1 ++ fields_bits fs → told ≡ f ∷ fs → w2 ≡ w0 ++ fields_bits told
-put_next w0 w1 w2 f fs told one two e =
+pub put_next : (w0 w1 w2 : List Bool) (f : FieldValue) (fs reported : List FieldValue) → w1 ≡ w0 ++ number_bits f.width f.number → w2 ≡ w1 ++ fields_bits fs → reported ≡ f ∷ fs → w2 ≡ w0 ++ fields_bits reported
+put_next w0 w1 w2 f fs reported one two e =
     two ∙ ap (λ (t : List Bool). t ++ fields_bits fs) one ∙ append_assoc w0 (number_bits f.width f.number) (fields_bits fs) ∙ ap (λ (l : List FieldValue). w0 ++ fields_bits l) (sym e)
 
-pub room_first : (w0 : List Bool) (f : FieldValue) (fs told : List FieldValue) → told ≡ f ∷ fs → length w0 + fields_size told ≤ 832 → length w0 + f.width ≤ 832
-room_first w0 f fs told e room = omega (arith, ap fields_size e)
+pub room_first : (w0 : List Bool) (f : FieldValue) (fs reported : List FieldValue) → reported ≡ f ∷ fs → length w0 + fields_size reported ≤ 832 → length w0 + f.width ≤ 832
+room_first w0 f fs reported e room = omega (arith, ap fields_size e)
 
-pub room_next : (w0 w1 : List Bool) (f : FieldValue) (fs told : List FieldValue) → told ≡ f ∷ fs → length w0 + fields_size told ≤ 832 → w1 ≡ w0 ++ number_bits f.width f.number → length w1 + fields_size fs ≤ 832
-room_next w0 w1 f fs told e room one = omega (arith, ap fields_size e, ap length one, length-append w0 (number_bits f.width f.number), length-number_bits f.width f.number)
+pub room_next : (w0 w1 : List Bool) (f : FieldValue) (fs reported : List FieldValue) → reported ≡ f ∷ fs → length w0 + fields_size reported ≤ 832 → w1 ≡ w0 ++ number_bits f.width f.number → length w1 + fields_size fs ≤ 832
+room_next w0 w1 f fs reported e room one = omega (arith, ap fields_size e, ap length one, length-append w0 (number_bits f.width f.number), length-number_bits f.width f.number)
 
 -- ---- the parts of a packet
 
@@ -72,15 +72,15 @@ all_put d bits w0 w1 w2 w3 l n same one two three =
     three ∙ ap (λ (t : List Bool). t ++ l.body) (two ∙ ap (λ (t : List Bool). t ++ fields_bits l.others) (one ∙ ap (λ (k : ℕ). ((w0 ++ a) ++ b) ++ number_bits 13 k) same)) ∙ joined
     ∙ ap (λ (t : List Bool). w0 ++ t) (sym l.spelled)
 
-pub body_put : (d : Data) (others : List FieldValue) (body w2 w3 : List Bool) (r : Bool) (count : ℕ) → (BeginWithOther others × (body ≡ [])) ⊎ ((others ≡ []) × TellsBits d body) → count ≡ length body
-    → length w2 + length body ≤ 832 → ((b : List Bool) → TellsBits d b → count ≡ length b → length w2 + length b ≤ 832 → (r ≡ true) × (w3 ≡ w2 ++ b)) → (count ≡ 0 → (r ≡ true) × (w3 ≡ w2))
+pub body_put : (d : Data) (others : List FieldValue) (body w2 w3 : List Bool) (r : Bool) (count : ℕ) → (BeginWithOther others × (body ≡ [])) ⊎ ((others ≡ []) × DescribesBits d body) → count ≡ length body
+    → length w2 + length body ≤ 832 → ((b : List Bool) → DescribesBits d b → count ≡ length b → length w2 + length b ≤ 832 → (r ≡ true) × (w3 ≡ w2 ++ b)) → (count ≡ 0 → (r ≡ true) × (w3 ≡ w2))
     → (r ≡ true) × (w3 ≡ w2 ++ body)
 body_put d others body w2 w3 r count (inl h) long room some none =
     let n = none (long ∙ ap length h.1) in
     (n.0, n.1 ∙ sym (append-nil w2) ∙ ap (λ (t : List Bool). w2 ++ t) (sym h.1))
 body_put d others body w2 w3 r count (inr h) long room some none = some body h.1 long room
 
-pub begins_or_none : (d : Data) (others : List FieldValue) (body : List Bool) → (BeginWithOther others × (body ≡ [])) ⊎ ((others ≡ []) × TellsBits d body) → BeginWithOther others ⊎ (others ≡ [])
+pub begins_or_none : (d : Data) (others : List FieldValue) (body : List Bool) → (BeginWithOther others × (body ≡ [])) ⊎ ((others ≡ []) × DescribesBits d body) → BeginWithOther others ⊎ (others ≡ [])
 begins_or_none d others body (inl h) = inl h.0
 begins_or_none d others body (inr h) = inr h.0
 
@@ -96,15 +96,15 @@ no_first [] f ps qs none (inl h) = absurd cc
 no_first [] f ps qs none (inr h) = absurd cc
 no_first (v ∷ vs) f ps qs none h = absurd (omega arith)
 
-pub told_lists : (d : Data) (bits : List Bool) (l : Lays d bits) (all : List Data) → ((ds : List Data) → get (codes "fields") d ≡ Some (array (items_of ds)) → all ≡ ds)
+pub reported_lists : (d : Data) (bits : List Bool) (l : Lays d bits) (all : List Data) → ((ds : List Data) → get (codes "fields") d ≡ Some (array (items_of ds)) → all ≡ ds)
     → (all ≡ map pair_of (l.first ∷ l.second ∷ length_field (length bits) ∷ l.others)) ⊎ (all ≡ map pair_of (l.first ∷ l.second ∷ l.others))
-told_lists d bits l all each = elim (l.told) [
+reported_lists d bits l all each = elim (l.reported) [
   | inl h ↦ inl (each (map pair_of (l.first ∷ l.second ∷ length_field (length bits) ∷ l.others)) h)
   | inr h ↦ inr (each (map pair_of (l.first ∷ l.second ∷ l.others)) h)
 ]
 
 pub no_lists : (d : Data) (bits : List Bool) (l : Lays d bits) → ((ds : List Data) → get (codes "fields") d ≡ Some (array (items_of ds)) → ⊥) → ⊥
-no_lists d bits l each = elim (l.told) [
+no_lists d bits l each = elim (l.reported) [
   | inl h ↦ each (map pair_of (l.first ∷ l.second ∷ length_field (length bits) ∷ l.others)) h
   | inr h ↦ each (map pair_of (l.first ∷ l.second ∷ l.others)) h
 ]
@@ -112,18 +112,18 @@ no_lists d bits l each = elim (l.told) [
 -- ---- packets
 
 pub other_short : (p : Other) → length_of (packets.Other p) ≤ 832 → length p.body ≤ 832
-unfolding skipped_telling
+unfolding skipped_description
 other_short p short = omega arith
 
-pub ended : (vs : List Value) (ps : List Packet) (bits : List Bool) → length vs ≡ 0 → SpellsPackets ps bits → TellPackets (map view vs) ps → bits ≡ number_bits 8 255
-ended [] ps bits none s t = last_told ps bits s t
+pub ended : (vs : List Value) (ps : List Packet) (bits : List Bool) → length vs ≡ 0 → SpellsPackets ps bits → DescribePackets (map view vs) ps → bits ≡ number_bits 8 255
+ended [] ps bits none s t = last_reported ps bits s t
 ended (v ∷ vs) ps bits none s t = absurd (omega arith)
 
 -- ---- bytes of bits
 
-pub held_told : (bytes held : List ℕ) (run written : List Bool) (count : ℕ) → bits_of bytes ≡ bits_of held → bits_of held ≡ written ++ replicate (8 * count - length written) false → written ≡ run
+pub held_reported : (bytes held : List ℕ) (run written : List Bool) (count : ℕ) → bits_of bytes ≡ bits_of held → bits_of held ≡ written ++ replicate (8 * count - length written) false → written ≡ run
     → count ≡ (length written + 7) / 8 → length held ≡ count → (length bytes ≡ (length run + 7) / 8) × (bits_of bytes ≡ run ++ replicate (8 * length bytes - length run) false)
-held_told bytes held run written count same parts w long held_long =
+held_reported bytes held run written count same parts w long held_long =
     let count_is : length bytes ≡ count = omega (arith, ap length same, length-bits_of bytes, length-bits_of held) in (
       count_is ∙ long ∙ ap (λ (l : List Bool). (length l + 7) / 8) w,
       same ∙ parts ∙ ap (λ (l : List Bool). l ++ replicate (8 * count - length l) false) w ∙ ap (λ (n : ℕ). run ++ replicate (8 * n - length run) false) (sym count_is),
@@ -131,9 +131,9 @@ held_told bytes held run written count same parts w long held_long =
 
 pub held_each : (bytes held : List ℕ) (run written : List Bool) (count : ℕ) → bits_of held ≡ written ++ replicate (8 * count - length written) false → written ≡ run → count ≡ (length written + 7) / 8
     → length bytes ≡ (length run + 7) / 8 → bits_of bytes ≡ run ++ replicate (8 * length bytes - length run) false → bits_of bytes ≡ bits_of held
-held_each bytes held run written count parts w long bytes_long told =
+held_each bytes held run written count parts w long bytes_long reported =
     let same : length bytes ≡ count = bytes_long ∙ ap (λ (l : List Bool). (length l + 7) / 8) (sym w) ∙ sym long in
-    told ∙ ap (λ (n : ℕ). run ++ replicate (8 * n - length run) false) same ∙ sym (parts ∙ ap (λ (l : List Bool). l ++ replicate (8 * count - length l) false) w)
+    reported ∙ ap (λ (n : ℕ). run ++ replicate (8 * n - length run) false) same ∙ sym (parts ∙ ap (λ (l : List Bool). l ++ replicate (8 * count - length l) false) w)
 
 pub tails_same : (a b xs ys : List Bool) (n : ℕ) → length a ≡ n → length b ≡ n → a ++ xs ≡ b ++ ys → xs ≡ ys
 tails_same a b xs ys n la lb e = sym (drop_at a xs n la) ∙ ap (drop n) e ∙ drop_at b ys n lb

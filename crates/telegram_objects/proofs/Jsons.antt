@@ -9,7 +9,7 @@ use Rattle.serde_json.specs.Find.{as_array, as_object}
 use Rattle.serde_json.specs.View.{view, items_of, items_view, members_view}
 use Rattle.serde_json.proofs.Views.{Entry, members_len-members_view}
 use Rattle.serde_json.specs.declared.value.Value.{Value}
-use Rattle.telegram_objects.specs.Telling.{pair_of, HasCount}
+use Rattle.telegram_objects.specs.Description.{pair_of, HasCount}
 use Rattle.decoding.specs.declared.fields.FieldValue.{FieldValue}
 
 pub items_same : (ds es : List Data) → items_of ds ≡ items_of es → ds ≡ es
@@ -40,9 +40,9 @@ next_pair x xs (f ∷ fields) e = record { first = f; others = fields; fields_ar
 
 -- ---- lists and objects of values
 
-pub list_told : (d : Data) (vs ws : List Value) (ds : List Data) → Some (items_view vs) ≡ as_array d → ws ≡ vs → d ≡ array (items_of ds) → map view ws ≡ ds
-list_told d vs ws ds e w told =
-    let both : Some (items_of (map view vs)) ≡ Some (items_of ds) = e ∙ ap as_array told in
+pub list_reported : (d : Data) (vs ws : List Value) (ds : List Data) → Some (items_view vs) ≡ as_array d → ws ≡ vs → d ≡ array (items_of ds) → map view ws ≡ ds
+list_reported d vs ws ds e w reported =
+    let both : Some (items_of (map view vs)) ≡ Some (items_of ds) = e ∙ ap as_array reported in
     let same : items_of (map view vs) ≡ items_of ds = cc in
     ap (map view) w ∙ items_same (map view vs) ds same
 

@@ -1,4 +1,4 @@
--- The value that tells a packet lays its bits.
+-- The value that says a packet lays its bits.
 use Rattle.std.proofs.Common.{◌≡◌, ℕ, Bool, List, [], ◌∷◌, length, refl, sym, ap, subst, ◌∙◌, arith, append_assoc, length-append}
 use Rattle.bits.specs.Bits.{number_bits}
 use Rattle.bits.specs.Layout.{Spells}
@@ -12,7 +12,7 @@ use Rattle.serde_json.specs.Data.{Data}
 use Rattle.decoding.specs.Fields.{with_field, packet_fields}
 use Rattle.telegram_objects.specs.Fields.{fields_bits, fields_size}
 use Rattle.telegram_objects.specs.Laying.{Lays, length_field}
-use Rattle.telegram_objects.specs.Telling.{TellsFields, TellsPacket}
+use Rattle.telegram_objects.specs.Description.{DescribesFields, DescribesPacket}
 use Rattle.decoding.specs.declared.fields.FieldValue.{FieldValue}
 use Rattle.telegram_objects.proofs.Shapes.{direction_field, shape}
 
@@ -23,7 +23,7 @@ length-fields_bits (f ∷ fields) = omega (arith, length-append (number_bits f.w
 abbrev number_field : ℕ → FieldValue
 number_field n = record { name = names.NidPacket; width = 8; number = n }
 
-pub laid : (d : Data) (p : Packet) (bits : List Bool) → Spells packet p bits → TellsPacket d p → Lays d bits
+pub laid : (d : Data) (p : Packet) (bits : List Bool) → Spells packet p bits → DescribesPacket d p → Lays d bits
 laid d p bits s t =
     let w = spelled-packet p bits s in
     let n : ℕ = length bits in
@@ -41,7 +41,7 @@ laid d p bits s t =
       second = second;
       others = sh.others;
       body = sh.body;
-      told = subst (λ (l : List FieldValue). TellsFields d l) fields t.fields;
+      reported = subst (λ (l : List FieldValue). DescribesFields d l) fields t.fields;
       first_width = refl;
       second_width = refl;
       head = refl;

@@ -9,7 +9,7 @@ pub mod Shapes
 mod BodyBytes
 mod HexDigits
 mod LineEnds
-mod LinesTell
+mod LinesDescribe
 mod PieceTexts
 mod PlainNames
 mod ReadAgain

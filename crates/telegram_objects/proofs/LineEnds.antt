@@ -1,4 +1,4 @@
--- The end of a line behind a text is no token.
+-- The end of a line after a text is no token.
 use Rattle.std.proofs.Common.{◌≡◌, ℕ, Bool, true, false, cond, ◌&&◌, List, [], ◌∷◌, ◌++◌, refl, sym, ap, ap₂, ◌∙◌, append_assoc, append-nil}
 use Rattle.json.specs.Token.{Token, key, string, number, boolean, null, bad}
 use Rattle.json.specs.Word.{ends_word, word}
@@ -30,7 +30,7 @@ token_first null r h ended = ap₂ (λ b l. token (cond b null bad) ∷ l) (ende
 token_first bad r h ended = absurd h
 token_first bracket r h ended = refl
 
--- behind a value stands a comma, a closing bracket or the end of the line
+-- after a value stands a comma, a closing bracket or the end of the line
 value_ends : (ts : List Token) (tail : List ℕ) → ends_word tail ≡ true → ends_word (print_from true ts ++ tail) ≡ true
 unfolding print_from
 value_ends [] tail e = e

@@ -12,8 +12,8 @@ use Rattle.telegram.specs.Sequences.{length_of_all}
 use Rattle.telegram.specs.Telegrams.{header_bits}
 use Rattle.telegram.specs.declared.message.Telegram.{Telegram}
 use Rattle.decoding.specs.Fields.{header_fields}
-use Rattle.telegram_objects.specs.Lines.{members_of, packet_object, text_behind_header, object_of}
-use Rattle.telegram_objects.specs.Telling.{pair_of, pairs_of}
+use Rattle.telegram_objects.specs.Lines.{members_of, packet_object, text_after_header, object_of}
+use Rattle.telegram_objects.specs.Description.{pair_of, pairs_of}
 use Rattle.decoding.specs.declared.fields.FieldValue.{FieldValue}
 use Rattle.telegram_objects.proofs.PlainNames.{plain_name}
 
@@ -62,7 +62,7 @@ object_parts : (m i d : List ℕ) → (codes "{\"header\":{" ++ m) ++ (codes ",\
     ≡ codes "{\"header\":{" ++ (m ++ (codes ",\"packets\":[" ++ (i ++ (codes ",\"bits\":" ++ (d ++ codes "}")))))
 object_parts m i d = append_assoc (codes "{\"header\":{") m (codes ",\"packets\":[" ++ (i ++ (codes ",\"bits\":" ++ (d ++ codes "}"))))
 
-pub object_text : (t : Telegram) → (codes "{\"header\":{" ++ members_text false (members_of (header_fields t.header))) ++ text_behind_header t ≡ object_of t
+pub object_text : (t : Telegram) → (codes "{\"header\":{" ++ members_text false (members_of (header_fields t.header))) ++ text_after_header t ≡ object_of t
 unfolding escape_byte
 object_text t =
     object_parts (members_text false (members_of (header_fields t.header))) (items_text false (items_of (map packet_object t.packets.items))) (decimal (header_bits + 8 + length_of_all t.packets.items))

@@ -1,4 +1,4 @@
--- The layouts of packets behind their heads have no run of bits, and each variable has its own width.
+-- The layouts of packets after their heads have no run of bits, and each variable has its own width.
 use Rattle.std.proofs.Common.{refl}
 use Rattle.bits.specs.declared.name.VariableName.{VariableName}
 use Rattle.bits.specs.declared.name.VariableName.TheVariants as names

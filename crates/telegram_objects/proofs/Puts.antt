@@ -14,7 +14,7 @@ use Rattle.telegram.proofs.Lengths.{found-header, next_is_packet, end_mark}
 use Rattle.decoding.specs.Fields.{header_fields}
 use Rattle.telegram_objects.specs.Fields.{fields_bits, fields_size}
 use Rattle.telegram_objects.specs.Laying.{Lays, SameVariables}
-use Rattle.telegram_objects.specs.Telling.{TellPackets, HasMembers}
+use Rattle.telegram_objects.specs.Description.{DescribePackets, HasMembers}
 use Rattle.decoding.specs.declared.fields.FieldValue.{FieldValue}
 use Rattle.telegram_objects.proofs.Adding.{Plain, adds}
 use Rattle.telegram_objects.proofs.Laid.{laid}
@@ -28,42 +28,42 @@ pub record NextPacket (d : Data) (ds : List Data) (bits : List Bool) : Type 0 wh
   pub lays : Lays d front
   pub others : List Packet
   pub spelled : SpellsPackets others rest
-  pub told : TellPackets ds others
+  pub reported : DescribePackets ds others
 
-pub next_told : (d : Data) (ds : List Data) (ps : List Packet) (bits : List Bool) → SpellsPackets ps bits → TellPackets (d ∷ ds) ps → NextPacket d ds bits
-next_told d ds [] bits s t = absurd t
-next_told d ds (p ∷ ps) bits s t = record {
+pub next_reported : (d : Data) (ds : List Data) (ps : List Packet) (bits : List Bool) → SpellsPackets ps bits → DescribePackets (d ∷ ds) ps → NextPacket d ds bits
+next_reported d ds [] bits s t = absurd t
+next_reported d ds (p ∷ ps) bits s t = record {
   front = s.0;
   rest = s.1;
   parts = s.2;
   lays = laid d p s.0 (next_is_packet p s.0 s.3) t.0;
   others = ps;
   spelled = s.4;
-  told = t.1;
+  reported = t.1;
 }
 
-pub last_told : (ps : List Packet) (bits : List Bool) → SpellsPackets ps bits → TellPackets [] ps → bits ≡ number_bits 8 255
-last_told [] bits s t = end_mark bits s
-last_told (p ∷ ps) bits s t = absurd t
+pub last_reported : (ps : List Packet) (bits : List Bool) → SpellsPackets ps bits → DescribePackets [] ps → bits ≡ number_bits 8 255
+last_reported [] bits s t = end_mark bits s
+last_reported (p ∷ ps) bits s t = absurd t
 
 -- ---- the header
 
-pub record NextMember (d : Data) (f : FieldValue) (fs told : List FieldValue) : Type 0 where
+pub record NextMember (d : Data) (f : FieldValue) (fs reported : List FieldValue) : Type 0 where
   pub first : FieldValue
   pub others : List FieldValue
-  pub told_are : told ≡ first ∷ others
+  pub reported_are : reported ≡ first ∷ others
   pub width_is : f.width ≡ first.width
   pub small : first.width < 64
   pub stands : get (name_text f.name) d ≡ Some (number (unsigned first.number))
   pub same : SameVariables fs others
   pub members : HasMembers d others
 
-pub next_member : (d : Data) (f : FieldValue) (fs told : List FieldValue) → SameVariables (f ∷ fs) told → HasMembers d told → NextMember d f fs told
+pub next_member : (d : Data) (f : FieldValue) (fs reported : List FieldValue) → SameVariables (f ∷ fs) reported → HasMembers d reported → NextMember d f fs reported
 next_member d f fs [] s h = absurd s
 next_member d f fs (g ∷ gs) s h = record {
   first = g;
   others = gs;
-  told_are = refl;
+  reported_are = refl;
   width_is = s.1;
   small = s.2;
   stands = rw s.0 h.0;

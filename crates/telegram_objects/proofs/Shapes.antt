@@ -1,4 +1,4 @@
--- The fields of each packet behind its number: Q_DIR, L_PACKET, and then other fields or the body of a packet that is
+-- The fields of each packet after its number: Q_DIR, L_PACKET, and then other fields or the body of a packet that is
 -- skipped; and its bits, which are those of the fields and of the body.
 use Rattle.std.proofs.Common.{◌≡◌, ◌⊎◌, inl, inr, ℕ, Bool, List, [], ◌∷◌, ◌++◌, refl, sym, ap, ◌∙◌, append_assoc}
 use Rattle.std.proofs.lemmas.List.{append-nil}
@@ -7,7 +7,7 @@ use Rattle.bits.specs.Layout.{Layout, ◌>>=◌}
 use Rattle.bits.specs.Writing.{taken, with_bits}
 use Rattle.bits.specs.declared.name.VariableName.TheVariants as names
 use Rattle.packets.specs.Parts.{head_of}
-use Rattle.packets.specs.Layouts.{static_step, national_values_telling, linking_telling, movement_authority_telling, gradients_telling, static_speeds_telling, level_transition_telling, speed_restriction_telling, restriction_revocation_telling, mode_profile_telling, skipped_telling}
+use Rattle.packets.specs.Layouts.{static_step, national_values_description, linking_description, movement_authority_description, gradients_description, static_speeds_description, level_transition_description, speed_restriction_description, restriction_revocation_description, mode_profile_description, skipped_description}
 use Rattle.packets.specs.Packets.{packet_taken}
 use Rattle.packets.specs.declared.fault.PacketFault.{PacketFault}
 use Rattle.packets.specs.declared.national.NationalValues.{NationalValues}
@@ -29,7 +29,7 @@ use Rattle.vars.specs.declared.scale.Scale.{Scale}
 use Rattle.decoding.specs.Fields.{with_field}
 use Rattle.telegram_objects.specs.Fields.{fields_bits}
 use Rattle.telegram_objects.specs.Laying.{HaveWidths, BeginWithOther, length_field}
-use Rattle.telegram_objects.specs.Telling.{TellsBits, TellsBody}
+use Rattle.telegram_objects.specs.Description.{DescribesBits, DescribesBody}
 use Rattle.telegram_objects.specs.Widths.{HasWidth}
 use Rattle.decoding.specs.declared.fields.FieldValue.{FieldValue}
 use Rattle.telegram_objects.proofs.Adding.{Plain, adds, plain-folded}
@@ -72,43 +72,43 @@ headed dir scale n f c p =
       bits = λ s. a.bits _ ∙ three-bits s _ _ _ (fields_bits a.added);
     }
 
-headed-national_values : (p : NationalValues) (n : ℕ) → Headed (national_values_telling (λ _. n)) p n
-unfolding national_values_telling
+headed-national_values : (p : NationalValues) (n : ℕ) → Headed (national_values_description (λ _. n)) p n
+unfolding national_values_description
 headed-national_values p n =
     headed _ _ n _ p (λ _. (refl, λ _. (refl, λ _. (plain-country, λ _. (plain-mode_speeds, λ _. (refl, λ _. (plain-override_values, λ _. (refl, λ _. tt))))))))
 
-headed-linking : (p : Linking) (n : ℕ) → Headed (linking_telling (λ _. n)) p n
-unfolding linking_telling
+headed-linking : (p : Linking) (n : ℕ) → Headed (linking_description (λ _. n)) p n
+unfolding linking_description
 headed-linking p n = headed _ _ n _ p (λ _. ((plain-link, λ _. (refl, λ _. plain-link)), λ _. tt))
 
-headed-movement_authority : (p : MovementAuthority) (n : ℕ) → Headed (movement_authority_telling (λ _. n)) p n
-unfolding movement_authority_telling
+headed-movement_authority : (p : MovementAuthority) (n : ℕ) → Headed (movement_authority_description (λ _. n)) p n
+unfolding movement_authority_description
 headed-movement_authority p n =
     headed _ _ n _ p (λ _. (refl, λ _. (refl, λ _. (refl, λ _. (refl, λ _. (plain-section names.LSection refl, λ _. (plain-authority_end, λ _. tt)))))))
 
-headed-gradients : (p : Gradients) (n : ℕ) → Headed (gradients_telling (λ _. n)) p n
-unfolding gradients_telling
+headed-gradients : (p : Gradients) (n : ℕ) → Headed (gradients_description (λ _. n)) p n
+unfolding gradients_description
 headed-gradients p n = headed _ _ n _ p (λ _. ((plain-gradient, λ _. (refl, λ _. plain-gradient)), λ _. tt))
 
-headed-static_speeds : (p : StaticSpeeds) (n : ℕ) → Headed (static_speeds_telling (λ _. n)) p n
-unfolding static_speeds_telling
+headed-static_speeds : (p : StaticSpeeds) (n : ℕ) → Headed (static_speeds_description (λ _. n)) p n
+unfolding static_speeds_description
 headed-static_speeds p n =
     headed _ _ n _ p (λ _. (plain-static_step _, λ first. (refl, λ count. (plain-folded HasWidth static_step plain-static_step count first, λ _. tt))))
 
-headed-level_transition : (p : LevelTransition) (n : ℕ) → Headed (level_transition_telling (λ _. n)) p n
-unfolding level_transition_telling
+headed-level_transition : (p : LevelTransition) (n : ℕ) → Headed (level_transition_description (λ _. n)) p n
+unfolding level_transition_description
 headed-level_transition p n = headed _ _ n _ p (λ _. (refl, λ _. ((plain-level_order, λ _. (refl, λ _. plain-level_order)), λ _. tt)))
 
-headed-speed_restriction : (p : SpeedRestriction) (n : ℕ) → Headed (speed_restriction_telling (λ _. n)) p n
-unfolding speed_restriction_telling
+headed-speed_restriction : (p : SpeedRestriction) (n : ℕ) → Headed (speed_restriction_description (λ _. n)) p n
+unfolding speed_restriction_description
 headed-speed_restriction p n = headed _ _ n _ p (λ _. (refl, λ _. (refl, λ _. (refl, λ _. (refl, λ _. (refl, λ _. tt))))))
 
-headed-mode_profile : (p : ModeProfile) (n : ℕ) → Headed (mode_profile_telling (λ _. n)) p n
-unfolding mode_profile_telling
+headed-mode_profile : (p : ModeProfile) (n : ℕ) → Headed (mode_profile_description (λ _. n)) p n
+unfolding mode_profile_description
 headed-mode_profile p n = headed _ _ n _ p (λ _. ((plain-mode_area, λ _. (refl, λ _. plain-mode_area)), λ _. tt))
 
-headed-restriction_revocation : (p : RestrictionRevocation) (n : ℕ) → Headed (restriction_revocation_telling (λ _. n)) p n
-unfolding restriction_revocation_telling
+headed-restriction_revocation : (p : RestrictionRevocation) (n : ℕ) → Headed (restriction_revocation_description (λ _. n)) p n
+unfolding restriction_revocation_description
 headed-restriction_revocation p n =
     let d : ℕ = direction_number p.direction in
     let more : FieldValue = record { name = names.NidTsr; width = 8; number = p.number } in
@@ -127,7 +127,7 @@ pub record Shape (p : Packet) (n : ℕ) : Type 0 where
   pub others : List FieldValue
   pub body : List Bool
   pub widths : HaveWidths others
-  pub behind : (d : Data) → TellsBody d p → (BeginWithOther others × (body ≡ [])) ⊎ ((others ≡ []) × TellsBits d body)
+  pub behind : (d : Data) → DescribesBody d p → (BeginWithOther others × (body ≡ [])) ⊎ ((others ≡ []) × DescribesBits d body)
   pub fields : (s : List FieldValue) → packet_taken with_field n p s ≡ s ++ direction_field direction ∷ length_field n ∷ others
   pub bits : (s : List Bool) → packet_taken with_bits n p s ≡ s ++ (fields_bits (direction_field direction ∷ length_field n ∷ others) ++ body)
 
@@ -150,7 +150,7 @@ two-bits : (s x y body : List Bool) → ((s ++ x) ++ y) ++ body ≡ s ++ ((x ++ 
 two-bits s x y body = simp (append_assoc, append-nil)
 
 other-shape : (p : Other) (n : ℕ) → Shape (packets.Other p) n
-unfolding skipped_telling
+unfolding skipped_description
 other-shape p n = record {
   direction = _;
   others = [];

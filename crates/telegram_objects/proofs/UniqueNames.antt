@@ -16,8 +16,8 @@ use Rattle.telegram.specs.Telegrams.{header}
 use Rattle.telegram.specs.declared.header.Header.{Header}
 use Rattle.telegram.specs.declared.message.Telegram.{Telegram}
 use Rattle.decoding.specs.Fields.{header_fields, packet_fields}
-use Rattle.telegram_objects.specs.Lines.{members_of, members_behind, packet_object, telegram_object}
-use Rattle.telegram_objects.specs.Telling.{pair_of, pairs_of}
+use Rattle.telegram_objects.specs.Lines.{members_of, members_after, packet_object, telegram_object}
+use Rattle.telegram_objects.specs.Description.{pair_of, pairs_of}
 use Rattle.decoding.specs.declared.fields.FieldValue.{FieldValue}
 
 -- ---- lists of names that are computed
@@ -61,13 +61,13 @@ header_unique : (h : Header) → HasUniqueKeys (outline (object (members_of (hea
 unfolding header differs distinct
 header_unique h = (are_distinct (keys (members_outline (members_of (header_fields h)))) refl, members_flat (header_fields h))
 
--- a packet with these members behind its fields
-abbrev pub with_behind : Packet → Members → Data
-with_behind p ms = object (member (codes "packet") (number (unsigned (number_of p))) (member (codes "fields") (pairs_of (packet_fields p)) ms))
+-- a packet with these members after its fields
+abbrev pub with_after : Packet → Members → Data
+with_after p ms = object (member (codes "packet") (number (unsigned (number_of p))) (member (codes "fields") (pairs_of (packet_fields p)) ms))
 
-bare_unique : (p : Packet) → members_behind p ≡ no_members → HasUniqueKeys (outline (packet_object p))
+bare_unique : (p : Packet) → members_after p ≡ no_members → HasUniqueKeys (outline (packet_object p))
 unfolding differs distinct
-bare_unique p none = subst (λ (ms : Members). HasUniqueKeys (outline (with_behind p ms))) (sym none) (are_distinct (codes "packet" ∷ codes "fields" ∷ []) refl, (tt, (pairs_flat (packet_fields p), tt)))
+bare_unique p none = subst (λ (ms : Members). HasUniqueKeys (outline (with_after p ms))) (sym none) (are_distinct (codes "packet" ∷ codes "fields" ∷ []) refl, (tt, (pairs_flat (packet_fields p), tt)))
 
 packet_unique : (p : Packet) → HasUniqueKeys (outline (packet_object p))
 unfolding differs distinct

@@ -1,4 +1,4 @@
--- How the bits of a packet lie in the value that tells it: field after field, each in the bits of its variable, and
+-- How the bits of a packet lie in the value that says it: field after field, each in the bits of its variable, and
 -- then the body (SUBSET-026, 7.4.2; this project's profile).
 use Rattle.std.specs.Prelude.{◌≡◌, ◌≢◌, ◌⊎◌, ◌+◌, ◌<◌, ℕ, List, [], ◌∷◌, ◌++◌, Bool, length, codes}
 use Rattle.std.specs.List.{AllByRecursion}
@@ -6,7 +6,7 @@ use Rattle.bits.specs.Names.{name_text}
 use Rattle.bits.specs.declared.name.VariableName.TheVariants as names
 use Rattle.serde_json.specs.Data.{Data}
 use Rattle.telegram_objects.specs.Fields.{fields_bits}
-use Rattle.telegram_objects.specs.Telling.{TellsFields, TellsBits}
+use Rattle.telegram_objects.specs.Description.{DescribesFields, DescribesBits}
 use Rattle.telegram_objects.specs.Widths.{HasWidth}
 use Rattle.decoding.specs.declared.fields.FieldValue.{FieldValue}
 
@@ -23,19 +23,19 @@ abbrev pub BeginWithOther : List FieldValue → Type 0
 BeginWithOther [] = ⊥
 BeginWithOther (f ∷ fields) = name_text f.name ≢ codes "L_PACKET"
 
--- The value tells a packet that is spelled by these bits: NID_PACKET, Q_DIR and L_PACKET, and then other fields or the
+-- The value reports a packet that is spelled by these bits: NID_PACKET, Q_DIR and L_PACKET, and then other fields or the
 -- body of a packet that is skipped.
 pub record Lays (d : Data) (bits : List Bool) : Type 0 where
   pub first : FieldValue
   pub second : FieldValue
   pub others : List FieldValue
   pub body : List Bool
-  pub told : TellsFields d (first ∷ second ∷ length_field (length bits) ∷ others)
+  pub reported : DescribesFields d (first ∷ second ∷ length_field (length bits) ∷ others)
   pub first_width : HasWidth first.name first.width
   pub second_width : HasWidth second.name second.width
   pub head : first.width + second.width ≡ 10
   pub widths : HaveWidths others
-  pub behind : (BeginWithOther others × (body ≡ [])) ⊎ ((others ≡ []) × TellsBits d body)
+  pub behind : (BeginWithOther others × (body ≡ [])) ⊎ ((others ≡ []) × DescribesBits d body)
   pub spelled : bits ≡ fields_bits (first ∷ second ∷ length_field (length bits) ∷ others) ++ body
 
 -- Fields of the same variables, one after another, each of fewer than 64 bits.

@@ -1,5 +1,5 @@
 pub mod Fields
 pub mod Laying
 pub mod Lines
-pub mod Telling
+pub mod Description
 pub mod Widths

@@ -1,4 +1,4 @@
--- The object that tells a telegram, in JSON with no space (RFC 8259), the members in this order; and its line
+-- The object that says a telegram, in JSON with no space (RFC 8259), the members in this order; and its line
 -- (SUBSET-026, 8.4.2; the object: this project's profile).
 use Rattle.std.specs.Prelude.{ℕ, zero, suc, ◌+◌, ◌-◌, ◌*◌, ◌/◌, ◌^◌, ◌<◌, List, [], ◌∷◌, ◌++◌, Bool, false, length, map, take, drop, replicate, codes, decimal}
 use Rattle.std.specs.List.{AllByRecursion}
@@ -17,7 +17,7 @@ use Rattle.telegram.specs.declared.fault.TelegramFault.{TelegramFault}
 use Rattle.telegram.specs.declared.message.Telegram.{Telegram}
 use Rattle.decoding.specs.Fields.{header_fields, packet_fields}
 use Rattle.telegram.specs.Faults.{number_of_fault, name_of_fault}
-use Rattle.telegram_objects.specs.Telling.{pairs_of}
+use Rattle.telegram_objects.specs.Description.{pairs_of}
 use Rattle.decoding.specs.declared.fields.FieldValue.{FieldValue}
 
 -- ---- the body of a packet that is skipped
@@ -27,7 +27,7 @@ abbrev pub bytes_in : ℕ → List Bool → List ℕ
 bytes_in zero bits = []
 bytes_in (suc n) bits = number_of_bits (take 8 bits) ∷ bytes_in n (drop 8 bits)
 
--- bits with zero bits behind them up to the next whole byte
+-- bits with zero bits after them up to the next whole byte
 abbrev pub padded : List Bool → List Bool
 padded bits = bits ++ replicate (8 * ((length bits + 7) / 8) - length bits) false
 
@@ -46,14 +46,14 @@ members_of (f ∷ fields) = member (name_text f.name) (number (unsigned f.number
 abbrev pub body_members : List Bool → Members
 body_members bits = member (codes "skipped_bits") (number (unsigned (length bits))) (member (codes "body") (string (encode_upper (body_bytes bits))) no_members)
 
--- what is told of a packet behind its fields
-abbrev pub members_behind : Packet → Members
-members_behind (packets.Other p) = body_members p.body
-members_behind _ = no_members
+-- what is reported of a packet after its fields
+abbrev pub members_after : Packet → Members
+members_after (packets.Other p) = body_members p.body
+members_after _ = no_members
 
 -- a packet: its number, its fields, and its body where it is skipped
 abbrev pub packet_object : Packet → Data
-packet_object p = object (member (codes "packet") (number (unsigned (number_of p))) (member (codes "fields") (pairs_of (packet_fields p)) (members_behind p)))
+packet_object p = object (member (codes "packet") (number (unsigned (number_of p))) (member (codes "fields") (pairs_of (packet_fields p)) (members_after p)))
 
 -- a telegram: its header, its packets, and how many bits it has up to and with the end mark
 abbrev pub telegram_object : Telegram → Data
@@ -61,9 +61,9 @@ telegram_object t =
     object (member (codes "header") (object (members_of (header_fields t.header)))
     (member (codes "packets") (array (items_of (map packet_object t.packets.items))) (member (codes "bits") (number (unsigned (header_bits + 8 + length_of_all t.packets.items))) no_members)))
 
--- the packets of a telegram and how many bits it has, as they stand behind its header
-abbrev pub text_behind_header : Telegram → List ℕ
-text_behind_header t =
+-- the packets of a telegram and how many bits it has, as they come after its header
+abbrev pub text_after_header : Telegram → List ℕ
+text_after_header t =
     codes ",\"packets\":[" ++ (items_text false (items_of (map packet_object t.packets.items)) ++ (codes ",\"bits\":" ++ (decimal (header_bits + 8 + length_of_all t.packets.items) ++ codes "}")))
 
 abbrev pub object_of : Telegram → List ℕ

@@ -1,5 +1,5 @@
 //! A packet that is put together field by field. Which variable comes next, and which numbers it may have, is asked of
-//! the reader of packets: it reads the fields so far with zero bits behind them, in the length that suits it.
+//! the reader of packets: it reads the fields so far with zero bits after them, in the length that suits it.
 
 use crate::faults::Ranges;
 use arrayvec::ArrayVec;
@@ -43,7 +43,7 @@ fn put_fields(
     Ok(())
 }
 
-// Writes what is missing of NID_PACKET, Q_DIR and L_PACKET behind so many fields.
+// Writes what is missing of NID_PACKET, Q_DIR and L_PACKET after so many fields.
 fn put_head(writer: &mut BitWriter<TELEGRAM_BYTES>, count: usize, length: u64) -> Result<(), Full> {
     if count < 1 {
         put(writer, PacketNumber::WIDTH, 0)?;
@@ -57,7 +57,7 @@ fn put_head(writer: &mut BitWriter<TELEGRAM_BYTES>, count: usize, length: u64) -
     Ok(())
 }
 
-// The bytes of fields with zero bits behind them.
+// The bytes of fields with zero bits after them.
 fn filled(fields: &[FieldValue], length: u64) -> Option<[u8; TELEGRAM_BYTES]> {
     let mut writer: BitWriter<TELEGRAM_BYTES> = BitWriter::new();
     put_fields(&mut writer, fields, length).ok()?;

@@ -1,4 +1,4 @@
-//! Why an object tells no telegram, and at which place.
+//! Why an object says no telegram, and at which place.
 
 use crate::repeated::RepeatedName;
 use arrayvec::ArrayVec;
@@ -74,7 +74,7 @@ impl fmt::Display for Place {
     }
 }
 
-/// Runs of numbers, each from its first to its last one; at most 16 runs are told.
+/// Runs of numbers, each from its first to its last one; at most 16 runs are reported.
 #[derive(Drop)]
 pub struct Ranges {
     runs: ArrayVec<(u64, u64), 16>,
@@ -126,7 +126,7 @@ impl fmt::Display for Ranges {
     }
 }
 
-/// Why an object tells no telegram.
+/// Why an object says no telegram.
 #[derive(Drop)]
 pub enum Reason {
     /// The bytes are no JSON value: line and column where that was seen.
@@ -164,7 +164,7 @@ impl fmt::Display for Reason {
     }
 }
 
-/// Why an object tells no telegram, and at which place.
+/// Why an object says no telegram, and at which place.
 #[derive(Drop)]
 pub struct ObjectFault {
     /// The first place that has a fault.

@@ -62,7 +62,7 @@ fn number_at(object: &Value, name: &'static str) -> Result<u64, ObjectFault> {
     }
 }
 
-/// Tests the header that an object tells.
+/// Tests the header that an object reports.
 pub(crate) fn test_header(object: &Value) -> Result<(), ObjectFault> {
     let template = Header {
         last_position: PositionInGroup::of_number(7).unwrap(),

@@ -1,4 +1,4 @@
-//! A telegram as a JSON object, and the bytes that an object tells: header and packets by the variables of SUBSET-026,
+//! A telegram as a JSON object, and the bytes that an object reports: header and packets by the variables of SUBSET-026,
 //! 7.5.1, in the order of their layouts.
 #![tactic(auto)]
 
@@ -7,7 +7,7 @@ mod drafts;
 mod faults;
 mod headers;
 mod matching;
-mod packets_told;
+mod packets_reported;
 mod putting;
 mod refusing;
 mod repeated;

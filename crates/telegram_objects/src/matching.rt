@@ -1,4 +1,4 @@
-//! Whether a JSON value tells a telegram.
+//! Whether a JSON value reports a telegram.
 ghost use Rattle.std.specs.Prelude.{◌≡◌, ◌↔◌, ◌+◌, ◌-◌, ◌*◌, ◌/◌, ◌≤◌, List, Bool, ◌++◌, false, length, map, replicate, IsTrue, IfSome, IsSomeAnd};
 ghost use Rattle.std.specs.Bool.{OnTrue};
 ghost use Rattle.bits.specs.Bits.{bits_of, number_bits};
@@ -8,7 +8,7 @@ ghost use Rattle.serde_json.specs.View.{view, items_of};
 ghost use Rattle.telegram.specs.Sequences.{length_of_all};
 ghost use Rattle.telegram.specs.Telegrams.{Carries};
 ghost use Rattle.telegram.specs.declared.message.Telegram.{Telegram};
-ghost use Rattle.telegram_objects.specs.Telling.{pair_of, pairs_of, without_length, TellsFields, TellsBits, TellsBody, TellsPacket, TellPackets, HasMembers, TellsHeader, TellsTelegram};
+ghost use Rattle.telegram_objects.specs.Description.{pair_of, pairs_of, without_length, DescribesFields, DescribesBits, DescribesBody, DescribesPacket, DescribePackets, HasMembers, DescribesHeader, DescribesTelegram};
 
 use crate::bodies::body_at;
 use crate::values::{
@@ -62,8 +62,8 @@ fn are_others(items: &[Value], fields: &[FieldValue]) -> bool
     items.len() >= 2 && are_pairs(&items[..2], &fields[..2]) && are_pairs(&items[2..], &fields[3..])
 }
 
-fn tells_fields(value: &Value, fields: &[FieldValue]) -> bool
-    ensures { IsTrue result ↔ TellsFields (view value.now) fields.now }
+fn describes_fields(value: &Value, fields: &[FieldValue]) -> bool
+    ensures { IsTrue result ↔ DescribesFields (view value.now) fields.now }
 {
     match list_at(value, "fields") {
         Some(items) => are_pairs(items, fields) || are_others(items, fields),
@@ -77,8 +77,8 @@ fn is_byte(x: u8, y: u8) -> bool
     x == y
 }
 
-// The bytes behind a first byte, where it is this one.
-fn behind_byte(x: u8, ys: &[u8]) -> Option<&[u8]>
+// The bytes after a first byte, where it is this one.
+fn after_byte(x: u8, ys: &[u8]) -> Option<&[u8]>
     ensures found { IfSome result (λ rest. bits_of ys.now ≡ number_bits 8 x ++ bits_of rest.now) }
     ensures each { (bits : List Bool) → bits_of ys.now ≡ number_bits 8 x ++ bits → IsSomeAnd result (λ rest. bits_of rest.now ≡ bits) }
 {
@@ -93,7 +93,7 @@ fn are_bytes(xs: &[u8], ys: &[u8]) -> bool
     ensures { IsTrue result ↔ (bits_of xs.now ≡ bits_of ys.now) }
 {
     match xs.split_first() {
-        Some((x, xs)) => match behind_byte(*x, ys) {
+        Some((x, xs)) => match after_byte(*x, ys) {
             Some(ys) => are_bytes(xs, ys),
             None => false,
         },
@@ -103,7 +103,7 @@ fn are_bytes(xs: &[u8], ys: &[u8]) -> bool
 
 // Whether bytes are the bits of a run, padded with zero bits to the next whole byte.
 fn hold_bits(bytes: &[u8], run: &Run<'_>) -> bool
-    ensures told { OnTrue result ((length bytes.now ≡ (length run.now + 7) / 8) × (bits_of bytes.now ≡ run.now ++ replicate (8 * length bytes.now - length run.now) false)) }
+    ensures reported { OnTrue result ((length bytes.now ≡ (length run.now + 7) / 8) × (bits_of bytes.now ≡ run.now ++ replicate (8 * length bytes.now - length run.now) false)) }
     ensures each { length run.now ≤ 832 → length bytes.now ≡ (length run.now + 7) / 8
         → bits_of bytes.now ≡ run.now ++ replicate (8 * length bytes.now - length run.now) false → IsTrue result }
 {
@@ -117,9 +117,9 @@ fn hold_bits(bytes: &[u8], run: &Run<'_>) -> bool
     are_bytes(bytes, &held[..count])
 }
 
-fn tells_bits(value: &Value, run: &Run<'_>) -> bool
-    ensures told { OnTrue result (TellsBits (view value.now) run.now) }
-    ensures each { length run.now ≤ 832 → TellsBits (view value.now) run.now → IsTrue result }
+fn describes_bits(value: &Value, run: &Run<'_>) -> bool
+    ensures reported { OnTrue result (DescribesBits (view value.now) run.now) }
+    ensures each { length run.now ≤ 832 → DescribesBits (view value.now) run.now → IsTrue result }
 {
     match body_at(value) {
         Some(bytes) => {
@@ -130,35 +130,35 @@ fn tells_bits(value: &Value, run: &Run<'_>) -> bool
     }
 }
 
-fn tells_body(value: &Value, packet: &Packet<'_>) -> bool
-    ensures told { OnTrue result (TellsBody (view value.now) packet.now) }
-    ensures each { length_of packet.now ≤ 832 → TellsBody (view value.now) packet.now → IsTrue result }
+fn describes_body(value: &Value, packet: &Packet<'_>) -> bool
+    ensures reported { OnTrue result (DescribesBody (view value.now) packet.now) }
+    ensures each { length_of packet.now ≤ 832 → DescribesBody (view value.now) packet.now → IsTrue result }
 {
     match packet {
-        Packet::Other(other) => tells_bits(value, &other.body),
+        Packet::Other(other) => describes_bits(value, &other.body),
         _ => true,
     }
 }
 
-fn tells_packet(value: &Value, packet: &Packet<'_>) -> bool
-    ensures told { OnTrue result (TellsPacket (view value.now) packet.now) }
-    ensures each { length_of packet.now ≤ 832 → TellsPacket (view value.now) packet.now → IsTrue result }
+fn describes_packet(value: &Value, packet: &Packet<'_>) -> bool
+    ensures reported { OnTrue result (DescribesPacket (view value.now) packet.now) }
+    ensures each { length_of packet.now ≤ 832 → DescribesPacket (view value.now) packet.now → IsTrue result }
 {
     packet.length() <= 832
         && has_only(value, &["packet", "fields", "skipped_bits", "body"])
         && agrees_at(value, "packet", u64::from(packet.number().get()))
-        && tells_fields(value, fields_of_packet(packet).fields.as_slice())
-        && tells_body(value, packet)
+        && describes_fields(value, fields_of_packet(packet).fields.as_slice())
+        && describes_body(value, packet)
 }
 
-fn tell_packets(values: &[Value], packets: &[Packet<'_>]) -> bool
-    ensures told { OnTrue result (TellPackets (map view values.now) packets.now) }
-    ensures each { length_of_all packets.now ≤ 832 → TellPackets (map view values.now) packets.now → IsTrue result }
+fn describe_packets(values: &[Value], packets: &[Packet<'_>]) -> bool
+    ensures reported { OnTrue result (DescribePackets (map view values.now) packets.now) }
+    ensures each { length_of_all packets.now ≤ 832 → DescribePackets (map view values.now) packets.now → IsTrue result }
 {
     match (values.split_first(), packets.split_first()) {
         (None, None) => true,
         (Some((value, values)), Some((packet, packets))) => {
-            tells_packet(value, packet) && tell_packets(values, packets)
+            describes_packet(value, packet) && describe_packets(values, packets)
         }
         _ => false,
     }
@@ -176,17 +176,17 @@ fn has_members(value: &Value, fields: &[FieldValue]) -> bool
     }
 }
 
-fn tells_header(value: &Value, header: &Header) -> bool
-    ensures { IsTrue result ↔ TellsHeader (view value.now) header.now }
+fn describes_header(value: &Value, header: &Header) -> bool
+    ensures { IsTrue result ↔ DescribesHeader (view value.now) header.now }
 {
     let list = fields_of_header(header);
     has_count(value, list.fields.len()) && has_members(value, list.fields.as_slice())
 }
 
-/// Whether a value tells a telegram.
-pub(crate) fn tells(value: &Value, telegram: &Telegram<'_>) -> bool
-    ensures told { OnTrue result (TellsTelegram (view value.now) telegram.now) }
-    ensures each { length_of_all telegram.now.packets.items ≤ 832 → TellsTelegram (view value.now) telegram.now → IsTrue result }
+/// Whether a value reports a telegram.
+pub(crate) fn describes(value: &Value, telegram: &Telegram<'_>) -> bool
+    ensures reported { OnTrue result (DescribesTelegram (view value.now) telegram.now) }
+    ensures each { length_of_all telegram.now.packets.items ≤ 832 → DescribesTelegram (view value.now) telegram.now → IsTrue result }
 {
     let Some(head) = value.get("header") else {
         return false;
@@ -196,6 +196,6 @@ pub(crate) fn tells(value: &Value, telegram: &Telegram<'_>) -> bool
     };
     has_only(value, &["header", "packets", "bits"])
         && agrees_at(value, "bits", telegram.bits())
-        && tells_header(head, &telegram.header)
-        && tell_packets(items, telegram.packets.as_slice())
+        && describes_header(head, &telegram.header)
+        && describe_packets(items, telegram.packets.as_slice())
 }

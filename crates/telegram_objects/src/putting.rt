@@ -1,5 +1,5 @@
-//! The bits of a telegram that an object tells: each number in the bits of its variable, one after another, L_PACKET
-//! as the length of its packet, and behind the packets the end mark. Nothing is tested here: whether an object tells a
+//! The bits of a telegram that an object reports: each number in the bits of its variable, one after another, L_PACKET
+//! as the length of its packet, and after the packets the end mark. Nothing is tested here: whether an object reports a
 //! telegram is seen once its bits are read again.
 ghost use Rattle.std.specs.Prelude.{◌≡◌, ◌↔◌, ◌⊎◌, ◌+◌, ◌<◌, ◌≤◌, ℕ, List, [], ◌∷◌, ◌++◌, Bool, true, false, length, map, replicate, codes, IsTrue, IsSomeAnd};
 ghost use Rattle.bits.specs.Bits.{bits_of, number_bits};
@@ -12,7 +12,7 @@ ghost use Rattle.packets.specs.declared.packet.Packet.{Packet as a_packet};
 ghost use Rattle.decoding.specs.Fields.{header_fields};
 ghost use Rattle.telegram_objects.specs.Fields.{fields_bits, fields_size};
 ghost use Rattle.telegram_objects.specs.Laying.{BeginWithOther, HaveWidths, Lays, SameVariables, length_field};
-ghost use Rattle.telegram_objects.specs.Telling.{HasMembers, TellPackets, TellsBits, TellsTelegram, pair_of};
+ghost use Rattle.telegram_objects.specs.Description.{HasMembers, DescribePackets, DescribesBits, DescribesTelegram, pair_of};
 ghost use Rattle.telegram_objects.specs.Widths.{HasWidth};
 ghost use Rattle.decoding.specs.declared.fields.FieldValue.{FieldValue as a_field};
 
@@ -83,25 +83,25 @@ fn put_pairs(items: &[Value], writer: &mut BitWriter<TELEGRAM_BYTES>) -> bool
 }
 
 // Puts Q_DIR, and L_PACKET with a number.
-fn put_second(second: &Value, told: u64, writer: &mut BitWriter<TELEGRAM_BYTES>) -> bool
+fn put_second(second: &Value, reported: u64, writer: &mut BitWriter<TELEGRAM_BYTES>) -> bool
     ensures { (g : a_field) → view second.now ≡ pair_of g → HasWidth g.name g.width → length writer.old + (g.width + 13) ≤ 832
-        → (result ≡ true) × (writer.new ≡ (writer.old ++ number_bits g.width g.number) ++ number_bits 13 told) }
+        → (result ≡ true) × (writer.new ≡ (writer.old ++ number_bits g.width g.number) ++ number_bits 13 reported) }
 {
-    put_pair(second, writer) && put_low(writer, 13, told)
+    put_pair(second, writer) && put_low(writer, 13, reported)
 }
 
 // Puts NID_PACKET and Q_DIR, and L_PACKET with a number.
 fn put_head(
     first: &Value,
     second: &Value,
-    told: u64,
+    reported: u64,
     writer: &mut BitWriter<TELEGRAM_BYTES>,
 ) -> bool
     ensures { (f g : a_field) → view first.now ≡ pair_of f → view second.now ≡ pair_of g → HasWidth f.name f.width → HasWidth g.name g.width
         → length writer.old + (f.width + (g.width + 13)) ≤ 832
-        → (result ≡ true) × (writer.new ≡ ((writer.old ++ number_bits f.width f.number) ++ number_bits g.width g.number) ++ number_bits 13 told) }
+        → (result ≡ true) × (writer.new ≡ ((writer.old ++ number_bits f.width f.number) ++ number_bits g.width g.number) ++ number_bits 13 reported) }
 {
-    put_pair(first, writer) && put_second(second, told, writer)
+    put_pair(first, writer) && put_second(second, reported, writer)
 }
 
 // Whether a pair is one of L_PACKET.
@@ -114,7 +114,7 @@ fn is_length(value: &Value) -> bool
     }
 }
 
-// The pairs of a packet behind NID_PACKET and Q_DIR, without L_PACKET.
+// The pairs of a packet after NID_PACKET and Q_DIR, without L_PACKET.
 fn without_length(items: &[Value]) -> &[Value]
     ensures { (n : ℕ) (others : List a_field) → (BeginWithOther others ⊎ (others ≡ []))
         → (map view items.now ≡ map pair_of (length_field n ∷ others)) ⊎ (map view items.now ≡ map pair_of others)
@@ -143,9 +143,9 @@ fn put_front(bytes: &[u8], count: u64, writer: &mut BitWriter<TELEGRAM_BYTES>) -
     }
 }
 
-// Puts so many bits of the body that a value tells.
+// Puts so many bits of the body that a value reports.
 fn put_body(value: &Value, count: u64, writer: &mut BitWriter<TELEGRAM_BYTES>) -> bool
-    ensures some { (body : List Bool) → TellsBits (view value.now) body → count ≡ length body → length writer.old + length body ≤ 832
+    ensures some { (body : List Bool) → DescribesBits (view value.now) body → count ≡ length body → length writer.old + length body ≤ 832
         → (result ≡ true) × (writer.new ≡ writer.old ++ body) }
     ensures none { count ≡ 0 → (result ≡ true) × (writer.new ≡ writer.old) }
 {
@@ -158,7 +158,7 @@ fn put_body(value: &Value, count: u64, writer: &mut BitWriter<TELEGRAM_BYTES>) -
     }
 }
 
-// The number of the bits of the body: only a packet that is skipped has no fields behind its head.
+// The number of the bits of the body: only a packet that is skipped has no fields after its head.
 fn body_bits(value: &Value, others: &[Value]) -> u64
     ensures { (bits : List Bool) (lays : Lays (view value.now) bits) → map view others.now ≡ map pair_of lays.others → result ≡ length lays.body }
 {
@@ -169,7 +169,7 @@ fn body_bits(value: &Value, others: &[Value]) -> u64
     }
 }
 
-// The length of a packet by the pairs behind L_PACKET and the number of the bits of its body.
+// The length of a packet by the pairs after L_PACKET and the number of the bits of its body.
 fn length_of_packet(others: &[Value], count: u64) -> u64
     ensures { (fields : List a_field) → map view others.now ≡ map pair_of fields → HaveWidths fields → fields_size fields ≤ 832 → count ≤ 832
         → result ≡ 23 + fields_size fields + count }
@@ -179,7 +179,7 @@ fn length_of_packet(others: &[Value], count: u64) -> u64
         .saturating_add(count)
 }
 
-// Puts the pairs behind L_PACKET, and so many bits of the body.
+// Puts the pairs after L_PACKET, and so many bits of the body.
 fn put_others(
     value: &Value,
     others: &[Value],
@@ -193,7 +193,7 @@ fn put_others(
     put_pairs(others, writer) && put_body(value, count, writer)
 }
 
-// Puts a packet, of which the first two pairs and those behind L_PACKET are given.
+// Puts a packet, of which the first two pairs and those after L_PACKET are given.
 fn put_parts(
     value: &Value,
     first: &Value,
@@ -205,12 +205,12 @@ fn put_parts(
         → map view others.now ≡ map pair_of lays.others → length writer.old + length bits ≤ 832 → (result ≡ true) × (writer.new ≡ writer.old ++ bits) }
 {
     let count = body_bits(value, others);
-    let told = length_of_packet(others, count);
-    put_head(first, second, told, writer) && put_others(value, others, count, writer)
+    let reported = length_of_packet(others, count);
+    put_head(first, second, reported, writer) && put_others(value, others, count, writer)
 }
 
 // Puts a packet, of which the first pair and the others are given.
-fn put_behind(
+fn put_after(
     value: &Value,
     first: &Value,
     items: &[Value],
@@ -235,7 +235,7 @@ fn put_items(value: &Value, items: &[Value], writer: &mut BitWriter<TELEGRAM_BYT
         → length writer.old + length bits ≤ 832 → (result ≡ true) × (writer.new ≡ writer.old ++ bits) }
 {
     match items.split_first() {
-        Some((first, others)) => put_behind(value, first, others, writer),
+        Some((first, others)) => put_after(value, first, others, writer),
         None => false,
     }
 }
@@ -251,7 +251,7 @@ fn put_packet(value: &Value, writer: &mut BitWriter<TELEGRAM_BYTES>) -> bool
 
 // Puts packets and the end mark.
 fn put_packets(values: &[Value], writer: &mut BitWriter<TELEGRAM_BYTES>) -> bool
-    ensures { (ps : List a_packet) (bits : List Bool) → SpellsPackets ps bits → TellPackets (map view values.now) ps → length writer.old + length bits ≤ 832
+    ensures { (ps : List a_packet) (bits : List Bool) → SpellsPackets ps bits → DescribePackets (map view values.now) ps → length writer.old + length bits ≤ 832
         → (result ≡ true) × (writer.new ≡ writer.old ++ bits) }
 {
     match values.split_first() {
@@ -262,8 +262,8 @@ fn put_packets(values: &[Value], writer: &mut BitWriter<TELEGRAM_BYTES>) -> bool
 
 // Puts the numbers of the variables that fields name.
 fn put_members(head: &Value, fields: &[FieldValue], writer: &mut BitWriter<TELEGRAM_BYTES>) -> bool
-    ensures { (told : List a_field) → SameVariables fields.now told → HasMembers (view head.now) told → length writer.old + fields_size told ≤ 832
-        → (result ≡ true) × (writer.new ≡ writer.old ++ fields_bits told) }
+    ensures { (reported : List a_field) → SameVariables fields.now reported → HasMembers (view head.now) reported → length writer.old + fields_size reported ≤ 832
+        → (result ≡ true) × (writer.new ≡ writer.old ++ fields_bits reported) }
 {
     match fields.split_first() {
         Some((field, fields)) => match number_at(head, field.name.text()) {
@@ -284,9 +284,9 @@ fn put_header(head: &Value, writer: &mut BitWriter<TELEGRAM_BYTES>) -> bool
     put_members(head, fields.as_slice(), writer)
 }
 
-/// Puts the telegram that an object tells; false where it tells none, for some.
+/// Puts the telegram that an object reports; false where it says none, for some.
 pub(crate) fn put_telegram(object: &Value, writer: &mut BitWriter<TELEGRAM_BYTES>) -> bool
-    ensures { (t : a_telegram) (bits : List Bool) → SpellsTelegram t bits → TellsTelegram (view object.now) t → writer.old ≡ [] → length bits ≤ 832
+    ensures { (t : a_telegram) (bits : List Bool) → SpellsTelegram t bits → DescribesTelegram (view object.now) t → writer.old ≡ [] → length bits ≤ 832
         → (result ≡ true) × (writer.new ≡ bits) }
 {
     match object.get("header") {

@@ -1,9 +1,9 @@
-//! The first fault of an object that tells no telegram, in the object's order, the header before the packets.
+//! The first fault of an object that says no telegram, in the object's order, the header before the packets.
 
 use crate::drafts::MOST_BITS;
 use crate::faults::{ObjectFault, Place, Ranges, Reason};
 use crate::headers::test_header;
-use crate::packets_told::end_of_packet;
+use crate::packets_reported::end_of_packet;
 use crate::values::{agrees_at, has_only, list_at};
 use serde_json::Value;
 use telegram::HEADER_BITS;
@@ -44,7 +44,7 @@ fn test_object(object: &Value) -> Result<(), ObjectFault> {
     Ok(())
 }
 
-/// The first fault of an object that tells no telegram.
+/// The first fault of an object that says no telegram.
 pub(crate) fn fault_of(object: &Value) -> ObjectFault {
     match test_object(object) {
         Ok(()) => ObjectFault::new(Place::Whole, Reason::Wants("a telegram")),

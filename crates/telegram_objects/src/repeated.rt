@@ -13,12 +13,12 @@ pub struct RepeatedName {
     repeat: Repeat,
 }
 
-/// `a name is told again at line 3, column 5, first at line 2, column 5 (/header/NID_BG)`.
+/// `a name is repeated at line 3, column 5, first at line 2, column 5 (/header/NID_BG)`.
 impl fmt::Display for RepeatedName {
     fn fmt<W: Write>(&self, f: &mut Formatter<W>) -> fmt::Result {
         let again = TextPlace::Name(self.repeat.spot);
         let first = TextPlace::Name(self.repeat.first);
-        write!(f, "a name is told again")?;
+        write!(f, "a name is repeated")?;
         if let Some(position) = self.outline.position(again) {
             write!(f, " at {position}")?;
         }

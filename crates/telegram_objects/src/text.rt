@@ -14,8 +14,8 @@ ghost use Rattle.telegram.specs.Telegrams.{Carries, RefusesBytes};
 ghost use Rattle.telegram.specs.declared.fault.TelegramFault.{TelegramFault as a_fault};
 ghost use Rattle.telegram.specs.declared.message.Telegram.{Telegram as a_telegram};
 ghost use Rattle.decoding.specs.Fields.{header_fields, packet_fields};
-ghost use Rattle.telegram_objects.specs.Lines.{body_bytes, members_of, body_members, members_behind, packet_object, text_behind_header, object_of, refusal_of, line_of, refusal_line, AreSmall, HaveSmallFields};
-ghost use Rattle.telegram_objects.specs.Telling.{pair_of, TellsText};
+ghost use Rattle.telegram_objects.specs.Lines.{body_bytes, members_of, body_members, members_after, packet_object, text_after_header, object_of, refusal_of, line_of, refusal_line, AreSmall, HaveSmallFields};
+ghost use Rattle.telegram_objects.specs.Description.{pair_of, DescribesText};
 
 use bits::{BitWriter, Run};
 use decoding::{FieldValue, fields_of_header, fields_of_packet};
@@ -28,7 +28,7 @@ use text_output::{Form, Piece, write_pieces};
 // The hexadecimal digits.
 const DIGITS: [u8; 16] = *b"0123456789ABCDEF";
 
-// Behind another member or item stands a comma.
+// After another member or item stands a comma.
 fn comma(later: bool) -> Piece
     ensures { text_of Json result ≡ comma_if later }
 {
@@ -147,10 +147,10 @@ fn write_body<W: Write>(run: &Run<'_>, out: &mut W) -> io::Result<()>
     out.write_all(b"\"}")
 }
 
-// Writes what is told of a packet behind its fields, and the end of the object.
-fn write_behind<W: Write>(packet: &Packet<'_>, out: &mut W) -> io::Result<()>
+// Writes what is reported of a packet after its fields, and the end of the object.
+fn write_after<W: Write>(packet: &Packet<'_>, out: &mut W) -> io::Result<()>
     requires { length_of packet.now ≤ 832 }
-    ensures { OnOk result (Appends (W.contents out.old) (W.contents out.new) (members_text true (members_behind packet.now))) }
+    ensures { OnOk result (Appends (W.contents out.old) (W.contents out.new) (members_text true (members_after packet.now))) }
 {
     match packet {
         Packet::Other(other) => write_body(&other.body, out),
@@ -177,7 +177,7 @@ fn write_packet<W: Write>(packet: &Packet<'_>, later: bool, out: &mut W) -> io::
     let list = fields_of_packet(packet);
     write_pieces(Form::Json, &front_pieces(later, number), out)?;
     write_pairs(list.fields.as_slice(), false, out)?;
-    write_behind(packet, out)
+    write_after(packet, out)
 }
 
 // Writes packets, and the end of the list.
@@ -215,7 +215,7 @@ fn end_pieces(bits: u64) -> [Piece; 3]
 // Writes the packets of a telegram, and how many bits it has.
 fn write_list<W: Write>(telegram: &Telegram<'_>, out: &mut W) -> io::Result<()>
     requires { length_of_all telegram.now.packets.items ≤ 832 }
-    ensures { OnOk result (Appends (W.contents out.old) (W.contents out.new) (text_behind_header telegram.now) × HaveSmallFields telegram.now.packets.items) }
+    ensures { OnOk result (Appends (W.contents out.old) (W.contents out.new) (text_after_header telegram.now) × HaveSmallFields telegram.now.packets.items) }
 {
     out.write_all(b",\"packets\":[")?;
     write_packets(telegram.packets.as_slice(), false, out)?;
@@ -245,8 +245,8 @@ fn write_refusal<W: Write>(fault: TelegramFault, out: &mut W) -> io::Result<()>
 /// Writes the telegram that bytes carry as an object, and answers true; or why they carry none, and answers false. The
 /// error is that of a write.
 pub fn write_object<W: Write>(bytes: &[u8], out: &mut W) -> io::Result<bool>
-    ensures told { IfOk result (λ told. IsTrue told → (t : a_telegram) × Carries bytes.now t × TellsText (line_of t) t × Appends (W.contents out.old) (W.contents out.new) (object_of t)) }
-    ensures refused { IfOk result (λ told. told ≡ false → (e : a_fault) × RefusesBytes e bytes.now × Appends (W.contents out.old) (W.contents out.new) (refusal_of e)) }
+    ensures reported { IfOk result (λ reported. IsTrue reported → (t : a_telegram) × Carries bytes.now t × DescribesText (line_of t) t × Appends (W.contents out.old) (W.contents out.new) (object_of t)) }
+    ensures refused { IfOk result (λ reported. reported ≡ false → (e : a_fault) × RefusesBytes e bytes.now × Appends (W.contents out.old) (W.contents out.new) (refusal_of e)) }
 {
     let mut telegram = Telegram::new();
     match decode_into(bytes, &mut telegram) {
@@ -263,10 +263,10 @@ pub fn write_object<W: Write>(bytes: &[u8], out: &mut W) -> io::Result<bool>
 
 /// Writes what `write_object` does on a line of its own.
 pub fn write_answer<W: Write>(bytes: &[u8], out: &mut W) -> io::Result<bool>
-    ensures told { IfOk result (λ told. IsTrue told → (t : a_telegram) × Carries bytes.now t × TellsText (line_of t) t × Appends (W.contents out.old) (W.contents out.new) (line_of t)) }
-    ensures refused { IfOk result (λ told. told ≡ false → (e : a_fault) × RefusesBytes e bytes.now × Appends (W.contents out.old) (W.contents out.new) (refusal_line e)) }
+    ensures reported { IfOk result (λ reported. IsTrue reported → (t : a_telegram) × Carries bytes.now t × DescribesText (line_of t) t × Appends (W.contents out.old) (W.contents out.new) (line_of t)) }
+    ensures refused { IfOk result (λ reported. reported ≡ false → (e : a_fault) × RefusesBytes e bytes.now × Appends (W.contents out.old) (W.contents out.new) (refusal_line e)) }
 {
-    let told = write_object(bytes, out)?;
+    let reported = write_object(bytes, out)?;
     out.write_all(b"\n")?;
-    Ok(told)
+    Ok(reported)
 }

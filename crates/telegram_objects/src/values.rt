@@ -4,7 +4,7 @@ ghost use Rattle.bits.specs.Names.{name_text};
 ghost use Rattle.serde_json.specs.Data.{unsigned, Data, number, string, array};
 ghost use Rattle.serde_json.specs.Find.{get};
 ghost use Rattle.serde_json.specs.View.{view, items_of};
-ghost use Rattle.telegram_objects.specs.Telling.{AgreesAt, HasCount, HasOnly, count_of, pair_of};
+ghost use Rattle.telegram_objects.specs.Description.{AgreesAt, HasCount, HasOnly, count_of, pair_of};
 ghost use Rattle.decoding.specs.declared.fields.FieldValue.{FieldValue as a_field};
 
 use serde_json::Value;
@@ -141,7 +141,7 @@ fn number_alone(items: &[Value]) -> Option<u64>
     }
 }
 
-// The name, which is a text, and the number behind it.
+// The name, which is a text, and the number after it.
 fn pair_of_parts<'a>(name: &'a Value, others: &[Value]) -> Option<(&'a str, u64)>
     ensures { (codes : List ℕ) (n : ℕ) → view name.now ≡ string codes → map view others.now ≡ number (unsigned n) ∷ []
         → IsSomeAnd result (λ pair. (pair.0.now ≡ codes) × (pair.1 ≡ n)) }

@@ -4,7 +4,7 @@ use Rattle.std.proofs.lemmas.List.{append_assoc, append-nil}
 use Rattle.std.proofs.lemmas.List.Concat.{flat_map-cons}
 use Rattle.text_output.specs.declared.piece.Form.{Form}
 use Rattle.text_output.specs.declared.piece.Piece.{Piece}
-use Rattle.text_output.specs.Pieces.{text_of, texts, parts_behind, part_texts}
+use Rattle.text_output.specs.Pieces.{text_of, texts, parts_after, part_texts}
 
 pub texts-flat : (form : Form) (ps : List Piece) → flat_map (text_of form) ps ≡ texts form ps
 texts-flat form [] = refl
@@ -13,7 +13,7 @@ texts-flat form (p ∷ ps) = flat_map-cons (text_of form) p ps ∙ ap (λ l. tex
 abbrev pub part_text : Form → Bor (List Piece) → List ℕ
 part_text form part = texts form part.now
 
-behind-flat : (form : Form) (text : List ℕ) (ps : List (Bor (List Piece))) → text ++ flat_map (part_text form) ps ≡ parts_behind form text ps
+behind-flat : (form : Form) (text : List ℕ) (ps : List (Bor (List Piece))) → text ++ flat_map (part_text form) ps ≡ parts_after form text ps
 behind-flat form text [] = append-nil text
 behind-flat form text (p ∷ ps) =
     ap (λ l. text ++ l) (flat_map-cons (part_text form) p ps)

@@ -33,17 +33,17 @@ abbrev pub texts : Form → List Piece → List ℕ
 texts form [] = []
 texts form (p ∷ ps) = text_of form p ++ texts form ps
 
--- a text, and behind it those of parts
-abbrev pub parts_behind : Form → List ℕ → List (Bor (List Piece)) → List ℕ
-parts_behind form text [] = text
-parts_behind form text (p ∷ ps) = parts_behind form (text ++ texts form p.now) ps
+-- a text, and after it those of parts
+abbrev pub parts_after : Form → List ℕ → List (Bor (List Piece)) → List ℕ
+parts_after form text [] = text
+parts_after form text (p ∷ ps) = parts_after form (text ++ texts form p.now) ps
 
 -- the texts of parts, one after another
 abbrev pub part_texts : Form → List (Bor (List Piece)) → List ℕ
 part_texts form [] = []
-part_texts form (p ∷ ps) = parts_behind form (texts form p.now) ps
+part_texts form (p ∷ ps) = parts_after form (texts form p.now) ps
 
--- a printable character; as JSON a quotation mark (34) and a backslash (92) behind a backslash (RFC 8259, 7)
+-- a printable character; as JSON a quotation mark (34) and a backslash (92) after a backslash (RFC 8259, 7)
 unfoldable pub escaped : Form → ℕ → List ℕ
 escaped People byte = byte ∷ []
 escaped Json byte = if byte == 34 then codes "\\\"" else if byte == 92 then codes "\\\\" else byte ∷ []

@@ -3,8 +3,8 @@ ghost use Rattle.std.specs.Prelude.{OnOk};
 ghost use Rattle.std.specs.Io.KnownBytes.{Appends};
 ghost use Rattle.text_output.specs.OutputLine.{front_of, back_of, line_of};
 
+use crate::description::write_texts;
 use crate::output_words::{brake_word, level_word, mode_word};
-use crate::telling::write_texts;
 use events::Output;
 use itoa::Buffer;
 use std::io;

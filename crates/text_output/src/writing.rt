@@ -78,7 +78,7 @@ fn write_character<W: Write>(form: Form, byte: u8, out: &mut W) -> io::Result<()
     }
 }
 
-/// Writes printable characters: for people as they are, as JSON a quotation mark and a backslash behind a backslash
+/// Writes printable characters: for people as they are, as JSON a quotation mark and a backslash after a backslash
 /// (RFC 8259, 7). The error is that of a write.
 pub fn write_characters<W: Write>(form: Form, bytes: &[u8], out: &mut W) -> io::Result<()>
     ensures { OnOk result (Appends (W.contents out.old) (W.contents out.new) (flat_map (escaped form) bytes.now)) }

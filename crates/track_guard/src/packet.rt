@@ -102,7 +102,7 @@ pub(crate) fn finding_in_refused(bytes: &[u8], fault: TelegramFault) -> Finding
     }
 }
 
-/// Whether a telegram is of a balise, and of a version whose first number is 1, so that its packets can be told apart.
+/// Whether a telegram is of a balise, and of a version whose first number is 1, so that its packets can be distinguished.
 pub(crate) fn has_known_packets(bytes: &[u8]) -> bool
     ensures { result ≡ has_known_packets_of (bits_of bytes.now) }
 {

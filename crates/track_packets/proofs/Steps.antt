@@ -101,7 +101,7 @@ here at bits =
       ]
     ]
 
--- ---- other bits behind
+-- ---- other bits after
 
 pub number_front : (u v : List Bool) → 8 ≤ length u → number_at (u ++ v) ≡ number_at u
 number_front u v le = ap number (take-append-le 8 u v le)

@@ -16,7 +16,7 @@ use Rattle.track_packets.specs.declared.row.When.TheVariants as whens
 
 -- What is known of a packet of so many bits while it is read: its fields so far, the number of its gate and of its last
 -- qualifier, and the bits that are left.
-pub record Told : Type 0 where
+pub record Reported : Type 0 where
   pub fields : List Field
   pub gate : Option ℕ
   pub qualifier : Option ℕ
@@ -30,30 +30,30 @@ is_number v None = false
 is_number v (Some n) = n == v
 
 -- whether a row comes
-abbrev pub comes : When → Told → Bool
+abbrev pub comes : When → Reported → Bool
 comes whens.Always t = true
 comes (whens.Qualifier v) t = is_number v t.qualifier
 comes (whens.Gate v) t = is_number v t.gate
 
 -- a number that was read, in the part that it has for other rows
-abbrev pub noted : Role → ℕ → Told → Told
+abbrev pub noted : Role → ℕ → Reported → Reported
 noted roles.Plain n t = t
 noted roles.Counter n t = t
 noted roles.Qualifier n t = record t { qualifier = Some n }
 noted roles.Gate n t = record t { gate = Some n }
 
--- how often the deeper rows behind a row come
-abbrev pub times_told : Role → ℕ → ℕ
-times_told roles.Plain n = 0
-times_told roles.Counter n = n
-times_told roles.Qualifier n = 0
-times_told roles.Gate n = 0
+-- how often the deeper rows after a row come
+abbrev pub times_reported : Role → ℕ → ℕ
+times_reported roles.Plain n = 0
+times_reported roles.Counter n = n
+times_reported roles.Qualifier n = 0
+times_reported roles.Gate n = 0
 
 -- the field at the front of the bits that are left
-abbrev pub next_field : Row → Told → Field
+abbrev pub next_field : Row → Reported → Field
 next_field row t = record { variable = row.variable; start = t.whole - length t.left; width = width_of row.variable; number = number (take (width_of row.variable) t.left) }
 
-abbrev pub with_field : Row → Told → Told
+abbrev pub with_field : Row → Reported → Reported
 with_field row t =
     noted row.role (number (take (width_of row.variable) t.left)) (record t { fields = t.fields ++ next_field row t ∷ []; left = drop (width_of row.variable) t.left })
 
@@ -62,13 +62,13 @@ abbrev pub fault_at : Row → ℕ → FieldFault
 fault_at row start =
     if row.depth == 0 then CutOff (record { variable = row.variable; start = start }) else TooMany (record { variable = row.variable; start = start })
 
--- a row, and how often the deeper rows behind it come
-abbrev pub read_row : Row → Told → Result (Told × ℕ) FieldFault
+-- a row, and how often the deeper rows after it come
+abbrev pub read_row : Row → Reported → Result (Reported × ℕ) FieldFault
 read_row row t =
     if comes row.when t
     then (if nat_lt (length t.left) (width_of row.variable)
     then Err (fault_at row (t.whole - length t.left))
-    else Ok (with_field row t, times_told row.role (number (take (width_of row.variable) t.left))))
+    else Ok (with_field row t, times_reported row.role (number (take (width_of row.variable) t.left))))
     else Ok (t, 0)
 
 -- ---- rows
@@ -78,7 +78,7 @@ then_read (Ok x) f = f x
 then_read (Err e) f = Err e
 
 -- so many times
-unfoldable pub times : ℕ → (Told → Result Told FieldFault) → Told → Result Told FieldFault
+unfoldable pub times : ℕ → (Reported → Result Reported FieldFault) → Reported → Result Reported FieldFault
 times zero f t = Ok t
 times (suc n) f t = then_read (f t) (λ s. times n f s)
 
@@ -86,8 +86,8 @@ times (suc n) f t = then_read (f t) (λ s. times n f s)
 abbrev pub deeper : ℕ → List Row → List Row
 deeper depth rows = take_while (λ row. nat_lt depth row.depth) rows
 
--- The rows of a depth, each with the deeper ones behind it, where so many depths are left.
-unfoldable pub read_rows : ℕ → ℕ → List Row → Told → Result Told FieldFault
+-- The rows of a depth, each with the deeper ones after it, where so many depths are left.
+unfoldable pub read_rows : ℕ → ℕ → List Row → Reported → Result Reported FieldFault
 read_rows zero depth rows t = Ok t
 read_rows (suc levels) depth [] t = Ok t
 read_rows (suc levels) depth (row ∷ rows) t =

@@ -11,8 +11,8 @@ kind_in number [] = None
 kind_in number (kind ∷ kinds) = if kind.number == number then Some kind else kind_in number kinds
 
 -- What is known of a packet.
-abbrev pub kind_told : ℕ → Option Kind
-kind_told number = kind_in number KINDS
+abbrev pub kind_reported : ℕ → Option Kind
+kind_reported number = kind_in number KINDS
 
 abbrev pub name_text : PacketName → List ℕ
 name_text names.VirtualBaliseCoverMarker = codes "Virtual Balise Cover marker"

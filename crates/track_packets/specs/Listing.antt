@@ -14,7 +14,7 @@ use Rattle.track_packets.specs.declared.listing.Step.TheVariants as steps
 
 -- ---- what stands at a place
 
--- the bits of NID_PACKET, and of Q_DIR and L_PACKET behind it
+-- the bits of NID_PACKET, and of Q_DIR and L_PACKET after it
 abbrev pub number_at : List Bool → ℕ
 number_at bits = number (take 8 bits)
 
@@ -54,7 +54,7 @@ IsWhole bits (steps.End e) = Unit {0}
 abbrev pub ended : ListingEnd → Listing
 ended e = record { packets = record { items = [] }; end = e }
 
--- a packet in front of those behind it
+-- a packet in front of those after it
 abbrev pub in_front : PacketPlace → Listing → Listing
 in_front p behind = record { packets = record { items = p ∷ behind.packets.items }; end = behind.end }
 
@@ -67,6 +67,6 @@ unfoldable pub listed : ℕ → ℕ → List Bool → Listing
 listed zero at bits = ended (TooMany at)
 listed (suc n) at bits = gone_on (step_at at bits) (λ p. listed n (at + p.length) (drop p.length bits))
 
--- The packets of a telegram behind its header of 50 bits, at most 34 of them.
+-- The packets of a telegram after its header of 50 bits, at most 34 of them.
 abbrev pub listing_of : List ℕ → Listing
 listing_of bytes = if nat_lt (length (bits_of bytes)) 50 then ended (CutOff 0) else listed 34 50 (drop 50 (bits_of bytes))

@@ -1,4 +1,4 @@
--- What a function that tells fields returned, beside what the definitions give (this project's profile). Where memory was
+-- What a function that says fields returned, along with what the definitions give (this project's profile). Where memory was
 -- refused nothing is said.
 use Rattle.std.specs.Prelude.{◌≡◌, ℕ, Bool, List, Result, Ok, Err}
 use Rattle.bits.specs.Layout.{Begins, Refuses}
@@ -22,11 +22,11 @@ abbrev pub Gives : {A B : Type 0} → (A → B) → Result A FieldsError → Res
 Gives view (Ok x) given = given ≡ Ok (view x)
 Gives view (Err e) given = Fails e given
 
--- The answer, seen by view, has the fields of the packet that the bits begin with and no bits behind them, or the fault
+-- The answer, seen by view, has the fields of the packet that the bits begin with and no bits after them, or the fault
 -- for which `packets` refuses it.
-abbrev pub TellsKernel : {A : Type 0} → (A → List Field × ℕ) → Result A FieldsError → List Bool → Type 0
-TellsKernel view (Ok x) bits = (p : Packet) × (rest : List Bool) × Begins packet p bits rest × (view x ≡ (kernel_fields p, 0))
-TellsKernel view (Err NoMemory) bits = Unit {0}
-TellsKernel view (Err NotThere) bits = ⊥
-TellsKernel view (Err (Refused e)) bits = Refuses packet e bits
-TellsKernel view (Err (Fault f)) bits = ⊥
+abbrev pub DescribesKernel : {A : Type 0} → (A → List Field × ℕ) → Result A FieldsError → List Bool → Type 0
+DescribesKernel view (Ok x) bits = (p : Packet) × (rest : List Bool) × Begins packet p bits rest × (view x ≡ (kernel_fields p, 0))
+DescribesKernel view (Err NoMemory) bits = Unit {0}
+DescribesKernel view (Err NotThere) bits = ⊥
+DescribesKernel view (Err (Refused e)) bits = Refuses packet e bits
+DescribesKernel view (Err (Fault f)) bits = ⊥

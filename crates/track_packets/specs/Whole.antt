@@ -1,7 +1,7 @@
 -- The fields of a whole packet (SUBSET-026, 7.4.2), NID_PACKET first. Places and lengths are bits.
 use Rattle.std.specs.Prelude.{ℕ, ◌-◌, ◌%◌, ◌==◌, nat_lt, Bool, true, false, List, [], length, Option, Some, None, Result, Ok, Err, if◌then◌else◌}
-use Rattle.track_packets.specs.Fields.{Told, then_read, read_rows}
-use Rattle.track_packets.specs.Kinds.{kind_told}
+use Rattle.track_packets.specs.Fields.{Reported, then_read, read_rows}
+use Rattle.track_packets.specs.Kinds.{kind_reported}
 use Rattle.track_packets.specs.Layouts.{rows_of}
 use Rattle.track_packets.specs.declared.fault.FieldFault.{FieldFault}
 use Rattle.track_packets.specs.declared.fault.FieldFault.TheVariants.{TooLong}
@@ -12,7 +12,7 @@ use Rattle.track_packets.specs.declared.layouts.TheConstants.{HEAD}
 use Rattle.track_packets.specs.declared.reading.Field.{Field}
 
 -- a packet before its first field
-abbrev pub begun : List Bool → Told
+abbrev pub begun : List Bool → Reported
 begun bits = record { fields = []; gate = None; qualifier = None; whole = length bits; left = bits }
 
 -- whether the rows of a layout take all bits of the packet
@@ -28,18 +28,18 @@ abbrev pub takes_all_in : Option Kind → Bool
 takes_all_in (Some kind) = takes_all kind.body
 takes_all_in None = false
 
--- the fields, and how many bits are left behind them: none where the rows take all
-abbrev pub finished : Bool → Told → Result (List Field × ℕ) FieldFault
+-- the fields, and how many bits are left after them: none where the rows take all
+abbrev pub finished : Bool → Reported → Result (List Field × ℕ) FieldFault
 finished all t =
     if all then (if nat_lt 0 (length t.left) then Err (TooLong (t.whole - length t.left)) else Ok (t.fields, length t.left))
     else Ok (t.fields, length t.left)
 
--- The fields of a packet by the rows of its layout, and how many bits are left behind them; or the first fault.
+-- The fields of a packet by the rows of its layout, and how many bits are left after them; or the first fault.
 abbrev pub fields_by_rows : ℕ → List Bool → Result (List Field × ℕ) FieldFault
 fields_by_rows number bits =
-    then_read (read_rows 3 0 HEAD (begun bits)) (λ t. then_read (read_rows 3 0 (rows_of number) t) (λ s. finished (takes_all_in (kind_told number)) s))
+    then_read (read_rows 3 0 HEAD (begun bits)) (λ t. then_read (read_rows 3 0 (rows_of number) t) (λ s. finished (takes_all_in (kind_reported number)) s))
 
--- whether the fields of a packet of so many bits are told by `packets`
+-- whether the fields of a packet of so many bits are reported by `packets`
 abbrev pub by_kernel : Body → ℕ → Bool
 by_kernel bodies.Rows length = false
 by_kernel bodies.RowsThenBits length = false

@@ -1,4 +1,4 @@
-//! Why the fields of a packet can't be told.
+//! Why the fields of a packet can't be reported.
 use crate::variable::Variable;
 
 /// A field that isn't whole: its variable, and the place of its first bit in the packet, counted from 0.
@@ -10,13 +10,13 @@ pub struct FieldPlace {
     pub start: u32,
 }
 
-/// Why the fields of a packet can't be told (SUBSET-026, 7.4.2).
+/// Why the fields of a packet can't be reported (SUBSET-026, 7.4.2).
 #[derive(Clone, Copy)]
 pub enum FieldFault {
     /// A field outside of lists goes beyond the packet's last bit.
     CutOff(FieldPlace),
-    /// A field of a list does: its counter tells too many elements.
+    /// A field of a list does: its counter reports too many elements.
     TooMany(FieldPlace),
-    /// Bits are left behind the last field; the first of them stands here.
+    /// Bits are left after the last field; the first of them stands here.
     TooLong(u32),
 }

@@ -1,9 +1,9 @@
 //! The fields of a whole packet where it stands in its telegram.
 ghost use Rattle.std.specs.Prelude.{◌≡◌, ◌+◌, ◌<◌, ◌≤◌, Err, drop, length as count, take, true, false};
 ghost use Rattle.bits.specs.Bits.{bits_of};
-ghost use Rattle.track_packets.specs.Kinds.{kind_told};
-ghost use Rattle.track_packets.specs.Reading.{Gives, TellsKernel};
-ghost use Rattle.track_packets.specs.Whole.{fields_by_rows, is_kernels as is_kernels_told, takes_all as takes_all_told, takes_all_in};
+ghost use Rattle.track_packets.specs.Kinds.{kind_reported};
+ghost use Rattle.track_packets.specs.Reading.{Gives, DescribesKernel};
+ghost use Rattle.track_packets.specs.Whole.{fields_by_rows, is_kernels as is_kernels_reported, takes_all as takes_all_reported, takes_all_in};
 ghost use Rattle.track_packets.specs.declared.reading.FieldsError.{FieldsError};
 
 use crate::kernel::kernel_fields_of;
@@ -16,7 +16,7 @@ use std::alloc::Global;
 
 /// Whether the rows of a layout take all bits of a packet.
 fn takes_all(body: Body) -> bool
-    ensures { result ≡ takes_all_told body }
+    ensures { result ≡ takes_all_reported body }
 {
     match body {
         Body::Rows | Body::OwnOrRows => true,
@@ -50,9 +50,9 @@ pub(crate) fn fields_by_rows_of(
     reading.finish(kind_takes_all(kind_of(number)))
 }
 
-/// Whether the fields of a packet are told by `packets`.
+/// Whether the fields of a packet are reported by `packets`.
 fn is_kernels(kind: Option<Kind>, length: u32) -> bool
-    ensures { result ≡ is_kernels_told kind length }
+    ensures { result ≡ is_kernels_reported kind length }
 {
     match kind {
         Some(kind) => match kind.body {
@@ -68,9 +68,9 @@ fn is_kernels(kind: Option<Kind>, length: u32) -> bool
 /// (also packet 3 where its length is that of this project's order), each other one by its rows here.
 pub fn fields_of(alloc: Global, bytes: &[u8], place: PacketPlace) -> Result<Fields, FieldsError>
     ensures outside { count (bits_of bytes.now) < place.start + place.length → result ≡ Err FieldsError.NotThere }
-    ensures kernel { place.start + place.length ≤ count (bits_of bytes.now) → is_kernels_told (kind_told place.number) place.length ≡ true
-        → TellsKernel (λ f. (f.fields.items, f.rest)) result (drop place.start (bits_of bytes.now)) }
-    ensures rows { place.start + place.length ≤ count (bits_of bytes.now) → is_kernels_told (kind_told place.number) place.length ≡ false
+    ensures kernel { place.start + place.length ≤ count (bits_of bytes.now) → is_kernels_reported (kind_reported place.number) place.length ≡ true
+        → DescribesKernel (λ f. (f.fields.items, f.rest)) result (drop place.start (bits_of bytes.now)) }
+    ensures rows { place.start + place.length ≤ count (bits_of bytes.now) → is_kernels_reported (kind_reported place.number) place.length ≡ false
         → Gives (λ f. (f.fields.items, f.rest)) result (fields_by_rows place.number (take place.length (drop place.start (bits_of bytes.now)))) }
 {
     let mut reader = BitReader::new(bytes);

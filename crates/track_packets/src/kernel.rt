@@ -1,5 +1,5 @@
-//! The fields of a packet that the kernel uses, told by `packets`, which has its layout.
-ghost use Rattle.track_packets.specs.Reading.{TellsKernel};
+//! The fields of a packet that the kernel uses, reported by `packets`, which has its layout.
+ghost use Rattle.track_packets.specs.Reading.{DescribesKernel};
 
 use crate::reading::{Field, Fields, FieldsError};
 use crate::variable::Variable;
@@ -57,7 +57,7 @@ impl FieldSink for FieldTaker {
 
 /// The fields of the packet that the bits of a reader begin with, by its layout in `packets`.
 pub(crate) fn kernel_fields_of(alloc: Global, reader: &BitReader<'_>) -> Result<Fields, FieldsError>
-    ensures { TellsKernel (λ f. (f.fields.items, f.rest)) result reader.now }
+    ensures { DescribesKernel (λ f. (f.fields.items, f.rest)) result reader.now }
 {
     let mut bits = reader.fork();
     let packet = match read_packet(&mut bits) {

@@ -1,6 +1,6 @@
-//! What is known of a packet by its number: its name, who sends it, and how its fields are told.
+//! What is known of a packet by its number: its name, who sends it, and how its fields are reported.
 ghost use Rattle.std.specs.Prelude.{◌≡◌};
-ghost use Rattle.track_packets.specs.Kinds.{kind_in, kind_told, name_text};
+ghost use Rattle.track_packets.specs.Kinds.{kind_in, kind_reported, name_text};
 
 /// The packets by name (SUBSET-026, 7.4.2).
 #[derive(Clone, Copy)]
@@ -181,7 +181,7 @@ pub enum Issue {
     Later,
 }
 
-/// How the fields of a packet are told.
+/// How the fields of a packet are reported.
 #[derive(Clone, Copy)]
 pub enum Body {
     /// By the rows of its layout, which take all its bits.
@@ -221,7 +221,7 @@ pub struct Kind {
     pub sender: Sender,
     /// Which issue has it.
     pub issue: Issue,
-    /// How its fields are told.
+    /// How its fields are reported.
     pub body: Body,
     /// How sure this is.
     pub sureness: Sureness,
@@ -305,7 +305,7 @@ fn find(kinds: &[Kind], number: u8) -> Option<Kind>
 
 /// What is known of a packet, by its number: None where it has no name here.
 pub fn kind_of(number: u8) -> Option<Kind>
-    ensures { result ≡ kind_told number }
+    ensures { result ≡ kind_reported number }
 {
     find(&KINDS, number)
 }

@@ -1,7 +1,7 @@
-//! The layouts of packets behind L_PACKET, as SUBSET-026, 7.4.2 has them in issue 2.3.0: a row a variable. How sure each
+//! The layouts of packets after L_PACKET, as SUBSET-026, 7.4.2 has them in issue 2.3.0: a row a variable. How sure each
 //! is stands in `docs/reference/packets.md`.
 ghost use Rattle.std.specs.Prelude.{◌≡◌};
-ghost use Rattle.track_packets.specs.Layouts.{rows_of as rows_told};
+ghost use Rattle.track_packets.specs.Layouts.{rows_of as rows_reported};
 
 use crate::row::{Role, Row, When};
 use crate::variable::Variable;
@@ -319,9 +319,9 @@ pub const DEFAULT_GRADIENT: [Row; 2] = [
     row!(own GTsr, 0, Plain, Always),
 ];
 
-/// The rows of a packet behind L_PACKET, by its number: none where its layout isn't told here.
+/// The rows of a packet after L_PACKET, by its number: none where its layout isn't reported here.
 pub fn rows_of(number: u8) -> &'static [Row]
-    ensures { result.now ≡ rows_told number }
+    ensures { result.now ≡ rows_reported number }
 {
     match number {
         3 => &NATIONAL_VALUES,

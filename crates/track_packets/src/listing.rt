@@ -37,7 +37,7 @@ pub enum ListingEnd {
     CutOff(u32),
     /// The L_PACKET of the packet here is below 23, the bits of a packet's head.
     WrongLength(u32),
-    /// There are as many packets as are listed at most, and no end mark behind them.
+    /// There are as many packets as are listed at most, and no end mark after them.
     TooMany(u32),
 }
 
@@ -46,7 +46,7 @@ pub enum ListingEnd {
 pub struct Listing {
     /// The packets in order.
     pub packets: ArrayVec<PacketPlace, MOST_LISTED>,
-    /// What comes behind them.
+    /// What comes after them.
     pub end: ListingEnd,
 }
 
@@ -109,7 +109,7 @@ fn pass(reader: &mut BitReader<'_>, bits: u32)
 }
 
 /// The packets of a telegram in order, each by its L_PACKET, up to the end mark or to what keeps it from being found.
-/// What the header says isn't looked at, and no field behind L_PACKET is.
+/// What the header says isn't looked at, and no field after L_PACKET is.
 pub fn packets_in_order(bytes: &[u8]) -> Listing
     ensures { result ≡ listing_of bytes.now }
 {

@@ -5,7 +5,7 @@ ghost use Rattle.bits.specs.Bits.{number};
 use bits::BitReader;
 use std::marker::Model;
 
-/// So many bits in front of a reader, and nothing behind them.
+/// So many bits in front of a reader, and nothing after them.
 #[derive(Drop)]
 pub(crate) struct PacketBits<'a> {
     reader: BitReader<'a>,

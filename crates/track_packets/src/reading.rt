@@ -1,6 +1,6 @@
 //! The one walk over the rows of a layout.
 ghost use Rattle.std.specs.Prelude.{◌≡◌, ◌+◌, ◌≤◌, length as count, take};
-ghost use Rattle.track_packets.specs.Fields.{comes, deeper as deeper_rows, fault_at as fault_of, is_number as has_number, read_row, read_rows, noted, times_told};
+ghost use Rattle.track_packets.specs.Fields.{comes, deeper as deeper_rows, fault_at as fault_of, is_number as has_number, read_row, read_rows, noted, times_reported};
 ghost use Rattle.track_packets.specs.Reading.{Gives};
 ghost use Rattle.track_packets.specs.Whole.{begun, finished};
 
@@ -26,7 +26,7 @@ pub struct Field {
     pub number: u64,
 }
 
-/// Why the fields of a packet aren't told.
+/// Why the fields of a packet aren't reported.
 #[derive(Drop)]
 pub enum FieldsError {
     /// Memory was refused.
@@ -39,12 +39,12 @@ pub enum FieldsError {
     Fault(FieldFault),
 }
 
-/// The fields of a packet, and what is behind them.
+/// The fields of a packet, and what is after them.
 #[derive(Drop)]
 pub struct Fields {
     /// The fields in order, NID_PACKET first.
     pub fields: Vec<Field>,
-    /// How many bits of the packet are behind the last field, which have no layout here.
+    /// How many bits of the packet are after the last field, which have no layout here.
     pub rest: u32,
 }
 
@@ -59,9 +59,9 @@ pub(crate) struct Reading<'a> {
 }
 
 impl<'a> Model for Reading<'a> {
-    ghost use Rattle.track_packets.specs.Fields.{Told};
+    ghost use Rattle.track_packets.specs.Fields.{Reported};
 
-    ghost Value = { Told };
+    ghost Value = { Reported };
 
     ghost view = { λ r. record { fields = r.fields.items; gate = r.gate; qualifier = r.qualifier; whole = r.whole; left = r.left } };
 }
@@ -76,9 +76,9 @@ fn is_number(number: u64, kept: Option<u64>) -> bool
     }
 }
 
-/// How often the deeper rows behind a row come.
+/// How often the deeper rows after a row come.
 fn times_of(role: Role, number: u64) -> u64
-    ensures { result ≡ times_told role number }
+    ensures { result ≡ times_reported role number }
 {
     match role {
         Role::Counter => number,
@@ -128,7 +128,7 @@ impl<'a> Reading<'a> {
         }
     }
 
-    /// The fields, and how many bits are left behind them: none where the rows are to take all.
+    /// The fields, and how many bits are left after them: none where the rows are to take all.
     pub(crate) fn finish(self, all: bool) -> Result<Fields, FieldsError>
         ensures { Gives (λ f. (f.fields.items, f.rest)) result (finished all self.entry) }
     {
@@ -154,7 +154,7 @@ impl<'a> Reading<'a> {
         }
     }
 
-    /// Keeps a number for the rows behind it, where they ask for it.
+    /// Keeps a number for the rows after it, where they ask for it.
     fn note(&mut self, role: Role, number: u64)
         ensures { self.new ≡ noted role number self.old }
     {
@@ -165,7 +165,7 @@ impl<'a> Reading<'a> {
         }
     }
 
-    /// Reads a row, and answers how often the deeper ones behind it come.
+    /// Reads a row, and answers how often the deeper ones after it come.
     fn row(&mut self, row: &Row) -> Result<u64, FieldsError>
         ensures { Gives (λ n. (self.new, n)) result (read_row row.now self.old) }
     {
@@ -190,7 +190,7 @@ impl<'a> Reading<'a> {
         Ok(times_of(row.role, number))
     }
 
-    /// Reads the rows of a depth, each with the deeper ones behind it. The caller owes at most three depths.
+    /// Reads the rows of a depth, each with the deeper ones after it. The caller owes at most three depths.
     pub(crate) fn rows(&mut self, rows: &[Row], levels: u8, depth: u8) -> Result<(), FieldsError>
         requires { levels + depth ≤ 3 }
         ensures { Gives (λ _. self.new) result (read_rows levels depth rows.now self.old) }

@@ -1,14 +1,14 @@
 //! A layout as data: the rows of a packet's table in SUBSET-026, 7.4.2.
 use crate::variable::Variable;
 
-/// What a row's number says of the rows behind it.
+/// What a row's number says of the rows after it.
 #[derive(Clone, Copy)]
 pub enum Role {
     /// Nothing.
     Plain,
-    /// How often the deeper rows behind it come.
+    /// How often the deeper rows after it come.
     Counter,
-    /// Which rows behind it come, up to the next qualifier.
+    /// Which rows after it come, up to the next qualifier.
     Qualifier,
     /// Which rows of the whole packet come.
     Gate,
@@ -32,7 +32,7 @@ pub struct Row {
     pub variable: Variable,
     /// How many lists it is in: 0, 1 for (k), 2 for (k, m).
     pub depth: u8,
-    /// What it says of the rows behind it.
+    /// What it says of the rows after it.
     pub role: Role,
     /// Whether it comes.
     pub when: When,

@@ -1,35 +1,35 @@
 -- What an event brings about before its groups are used leaves the restrictions, the forgetting mark and the profiles as
--- they were: a moment and the groups that were missed alone are told the parts.
+-- they were: a moment and the groups that were missed alone are reported the parts.
 use Rattle.std.proofs.Common.{◌≡◌, ℕ, ℤ, List, [], ◌∷◌, Option, None, Some, refl, sym, ap, ◌∙◌}
 use Rattle.authority.specs.Entries.{AuthorityEntry}
 use Rattle.events.specs.declared.input.Reading.{Reading}
 use Rattle.linking.specs.Linking.{LinkEntry}
-use Rattle.speed_profile.specs.declared.told.CategorySpeeds.{CategorySpeeds}
+use Rattle.speed_profile.specs.declared.reported.CategorySpeeds.{CategorySpeeds}
 use Rattle.track_store.specs.Facts.{MarkedFacts, profile_of}
 use Rattle.track_store.specs.Restrictions.{in_force}
 use Rattle.track_picture.specs.declared.happened.Happened.{Happened}
-use Rattle.track_picture.specs.Columns.{TrackTold, StandsForColumns, columns_of, told_in}
+use Rattle.track_picture.specs.Columns.{TrackReports, StandsForColumns, columns_of, reported_in}
 use Rattle.track_picture.specs.Entry.{Begun}
 use Rattle.track_picture.specs.Happenings.{and_missed, and_moved, and_ticked, happenings}
 use Rattle.track_picture.specs.Live.{Happening}
 use Rattle.track_picture.specs.StandsFor.{KnownTrack, Knowledge, Life, grown_so_far}
 use Rattle.track_picture.specs.Stores.{Stores}
-use Rattle.track_picture.proofs.Telling.{told_missed}
+use Rattle.track_picture.proofs.Description.{reported_missed}
 
-module _ {A : Type 0} (f : TrackTold → A) (by_links : (told : TrackTold) (links : List LinkEntry) → f (record told { links = links }) ≡ f told)
-    (by_grants : (told : TrackTold) (grants : List AuthorityEntry) → f (record told { grants = grants }) ≡ f told) where
-  ticked : (moment : Option ℕ) (hs : List Happening) → f (told_in (and_ticked moment hs)) ≡ f (told_in hs)
+module _ {A : Type 0} (f : TrackReports → A) (by_links : (reported : TrackReports) (links : List LinkEntry) → f (record reported { links = links }) ≡ f reported)
+    (by_grants : (reported : TrackReports) (grants : List AuthorityEntry) → f (record reported { grants = grants }) ≡ f reported) where
+  ticked : (moment : Option ℕ) (hs : List Happening) → f (reported_in (and_ticked moment hs)) ≡ f (reported_in hs)
   ticked None hs = refl
-  ticked (Some moment) hs = by_grants (told_in hs) (AuthorityEntry.Ticked moment ∷ (told_in hs).grants)
+  ticked (Some moment) hs = by_grants (reported_in hs) (AuthorityEntry.Ticked moment ∷ (reported_in hs).grants)
 
-  went : (reading : Option Reading) (hs : List Happening) → f (told_in (and_moved reading hs)) ≡ f (told_in hs)
+  went : (reading : Option Reading) (hs : List Happening) → f (reported_in (and_moved reading hs)) ≡ f (reported_in hs)
   went None hs = refl
   went (Some reading) hs = refl
 
-  begun_same : (begun : Begun) (hs : List Happening) → f (told_in (and_missed begun.missed (and_moved begun.reading (and_ticked begun.clock hs)))) ≡ f (told_in hs)
+  begun_same : (begun : Begun) (hs : List Happening) → f (reported_in (and_missed begun.missed (and_moved begun.reading (and_ticked begun.clock hs)))) ≡ f (reported_in hs)
   begun_same begun hs =
-      ap f (told_missed begun.missed (and_moved begun.reading (and_ticked begun.clock hs)))
-      ∙ by_links (told_in (and_moved begun.reading (and_ticked begun.clock hs))) _
+      ap f (reported_missed begun.missed (and_moved begun.reading (and_ticked begun.clock hs)))
+      ∙ by_links (reported_in (and_moved begun.reading (and_ticked begun.clock hs))) _
       ∙ went begun.reading (and_ticked begun.clock hs)
       ∙ ticked begun.clock hs
 
@@ -40,9 +40,9 @@ module _ {G S : Type 0} {stores : Stores G S} {known : Knowledge G S} {parts : K
       let hs = happenings life.entries in
       record {
         parts_are = is;
-        restrictions_are = s.restrictions_are ∙ ap in_force (sym (begun_same (λ told. told.restrictions) (λ told links. refl) (λ told grants. refl) begun hs));
+        restrictions_are = s.restrictions_are ∙ ap in_force (sym (begun_same (λ reported. reported.restrictions) (λ reported links. refl) (λ reported grants. refl) begun hs));
         gradients_are = s.gradients_are
-            ∙ ap profile_of (sym (begun_same {A = MarkedFacts ℤ} (λ told. record { mark = told.mark; facts = told.gradients }) (λ told links. refl) (λ told grants. refl) begun hs));
+            ∙ ap profile_of (sym (begun_same {A = MarkedFacts ℤ} (λ reported. record { mark = reported.mark; facts = reported.gradients }) (λ reported links. refl) (λ reported grants. refl) begun hs));
         speeds_are = s.speeds_are
-            ∙ ap profile_of (sym (begun_same {A = MarkedFacts CategorySpeeds} (λ told. record { mark = told.mark; facts = told.speeds }) (λ told links. refl) (λ told grants. refl) begun hs));
+            ∙ ap profile_of (sym (begun_same {A = MarkedFacts CategorySpeeds} (λ reported. record { mark = reported.mark; facts = reported.speeds }) (λ reported links. refl) (λ reported grants. refl) begun hs));
       }

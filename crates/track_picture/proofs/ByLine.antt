@@ -1,4 +1,4 @@
--- Kind by kind, what counts behind a happening follows the kind's line of the table.
+-- Kind by kind, what counts after a happening follows the kind's line of the table.
 use Rattle.std.proofs.Common.{List, refl, ap}
 use Rattle.std.specs.Prelude.{reverse}
 use Rattle.mode_table.specs.declared.mode.Mode.{Mode}

@@ -8,7 +8,7 @@ use Rattle.authority.specs.Entries.{Sight}
 use Rattle.linking.specs.declared.announcement.Announcement.{Announcement}
 use Rattle.national.specs.InForce as national
 use Rattle.restriction.specs.declared.restriction.Restriction.{Restriction}
-use Rattle.speed_profile.specs.declared.told.CategorySpeeds.{CategorySpeeds}
+use Rattle.speed_profile.specs.declared.reported.CategorySpeeds.{CategorySpeeds}
 use Rattle.track_store.specs.Facts as profiles
 use Rattle.track_picture.specs.Live.{TrackFact}
 use Rattle.track_picture.specs.Parts.{as_values, as_link, as_miss, as_authority, as_look, as_gradients, as_speeds, as_level, as_restriction, as_areas}

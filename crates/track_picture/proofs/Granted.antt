@@ -12,10 +12,10 @@ use Rattle.packets.specs.declared.packet.Packet.TheVariants as packets
 use Rattle.track_store.specs.Profiles.{listed}
 use Rattle.track_store.proofs.Standing.{filter-true}
 use Rattle.units.specs.Stretches.{Span}
-use Rattle.track_picture.specs.Columns.{TrackTold, told_in, authority_deleted}
+use Rattle.track_picture.specs.Columns.{TrackReports, reported_in, authority_deleted}
 use Rattle.track_picture.specs.Entry.{TrackEntry, Outcome, facts_in}
 use Rattle.track_picture.specs.Happenings.{and_ticked, and_moved, and_missed, and_judged, and_closed, and_seen, and_entered, and_marked, happenings}
-use Rattle.track_picture.specs.Live.{Happening, level_told, deleting}
+use Rattle.track_picture.specs.Live.{Happening, level_reported, deleting}
 use Rattle.track_picture.specs.Parts.{moment_in}
 use Rattle.track_picture.proofs.EachKind.{grant, look}
 use Rattle.track_picture.proofs.Growing.{past_missed, past_judged, past_used}
@@ -26,77 +26,77 @@ use Rattle.track_picture.proofs.OneKind.{Follows, value, fact_with, lost_all, by
 abbrev granted : List AuthorityEntry → List authority.Fact
 granted es = listed (accepted es)
 
-abbrev latest : TrackTold → List authority.Fact
-latest told = granted told.grants
+abbrev latest : TrackReports → List authority.Fact
+latest reported = granted reported.grants
 
-grant_told : (group : GroupIdentity) (place : ℤ) (moment : ℕ) (packet : Packet) (told : TrackTold) →
-    Follows grant latest (Happening.Told (fact_with group place moment packet)) told
-grant_told g p m (packets.MovementAuthority q) told = ap (λ xs. authority.fact_of q p m ∷ xs) (lost_all (latest told))
-grant_told g p m (packets.Linking q) told = past_links grant (λ a. refl) g p q (latest told)
-grant_told g p m (packets.LevelTransition q) told =
-    past_level grant (λ a. refl) (level_told (fact_with g p m (packets.LevelTransition q))) (latest told)
-grant_told g p m other told = filter-true (latest told)
+grant_reported : (group : GroupIdentity) (place : ℤ) (moment : ℕ) (packet : Packet) (reported : TrackReports) →
+    Follows grant latest (Happening.Reported (fact_with group place moment packet)) reported
+grant_reported g p m (packets.MovementAuthority q) reported = ap (λ xs. authority.fact_of q p m ∷ xs) (lost_all (latest reported))
+grant_reported g p m (packets.Linking q) reported = past_links grant (λ a. refl) g p q (latest reported)
+grant_reported g p m (packets.LevelTransition q) reported =
+    past_level grant (λ a. refl) (level_reported (fact_with g p m (packets.LevelTransition q))) (latest reported)
+grant_reported g p m other reported = filter-true (latest reported)
 
-grant_one : (h : Happening) (told : TrackTold) → Follows grant latest h told
-grant_one (Happening.Told fact) told = grant_told fact.group fact.place fact.moment fact.packet told
-grant_one (Happening.Linked entry) told = past_linked grant refl entry (latest told)
-grant_one (Happening.Entered mode) told = by_mode grant granted authority_deleted (λ xs. refl) (deleting item.Authority mode) told.grants
-grant_one other told = filter-true (latest told)
+grant_one : (h : Happening) (reported : TrackReports) → Follows grant latest h reported
+grant_one (Happening.Reported fact) reported = grant_reported fact.group fact.place fact.moment fact.packet reported
+grant_one (Happening.Linked entry) reported = past_linked grant refl entry (latest reported)
+grant_one (Happening.Entered mode) reported = by_mode grant granted authority_deleted (λ xs. refl) (deleting item.Authority mode) reported.grants
+grant_one other reported = filter-true (latest reported)
 
-pub grants_are : (hs : List Happening) → value grant hs ≡ listed (accepted (told_in hs).grants)
+pub grants_are : (hs : List Happening) → value grant hs ≡ listed (accepted (reported_in hs).grants)
 grants_are = follows grant latest refl grant_one
 
 -- ---- the moment
 
-now_told : (group : GroupIdentity) (place : ℤ) (moment : ℕ) (packet : Packet) (hs : List Happening) → moment_in hs ≡ now_of (told_in hs).grants →
-    moment_in (Happening.Told (fact_with group place moment packet) ∷ hs) ≡ now_of (told_in (Happening.Told (fact_with group place moment packet) ∷ hs)).grants
-now_told g p m (packets.MovementAuthority q) hs r = refl
-now_told g p m other hs r = r
+now_reported : (group : GroupIdentity) (place : ℤ) (moment : ℕ) (packet : Packet) (hs : List Happening) → moment_in hs ≡ now_of (reported_in hs).grants →
+    moment_in (Happening.Reported (fact_with group place moment packet) ∷ hs) ≡ now_of (reported_in (Happening.Reported (fact_with group place moment packet) ∷ hs)).grants
+now_reported g p m (packets.MovementAuthority q) hs r = refl
+now_reported g p m other hs r = r
 
 now_by_mode : (deleted : Bool) (es : List AuthorityEntry) → now_of es ≡ now_of (cond deleted (authority_deleted es) es)
 now_by_mode true es = refl
 now_by_mode false es = refl
 
-pub moment_is : (hs : List Happening) → moment_in hs ≡ now_of (told_in hs).grants
+pub moment_is : (hs : List Happening) → moment_in hs ≡ now_of (reported_in hs).grants
 moment_is [] = refl
 moment_is (Happening.Ticked moment ∷ hs) = refl
-moment_is (Happening.Told fact ∷ hs) = now_told fact.group fact.place fact.moment fact.packet hs (moment_is hs)
-moment_is (Happening.Entered mode ∷ hs) = moment_is hs ∙ now_by_mode (deleting item.Authority mode) (told_in hs).grants
+moment_is (Happening.Reported fact ∷ hs) = now_reported fact.group fact.place fact.moment fact.packet hs (moment_is hs)
+moment_is (Happening.Entered mode ∷ hs) = moment_is hs ∙ now_by_mode (deleting item.Authority mode) (reported_in hs).grants
 moment_is (other ∷ hs) = moment_is hs
 
--- ---- what its timers have seen, where each look was at the moment that it tells
+-- ---- what its timers have seen, where each look was at the moment that it says
 
 abbrev IsInTime : List Happening → Type 0
 IsInTime [] = Unit {0}
 IsInTime (Happening.Seen sight ∷ hs) = (sight.moment ≡ moment_in hs) × IsInTime hs
 IsInTime (happening ∷ hs) = IsInTime hs
 
-look_told : (group : GroupIdentity) (place : ℤ) (moment : ℕ) (packet : Packet) (told : TrackTold) →
-    Follows look (λ t. sights t.grants) (Happening.Told (fact_with group place moment packet)) told
-look_told g p m (packets.MovementAuthority q) told = lost_all (sights told.grants)
-look_told g p m (packets.Linking q) told = past_links look (λ a. refl) g p q (sights told.grants)
-look_told g p m (packets.LevelTransition q) told =
-    past_level look (λ a. refl) (level_told (fact_with g p m (packets.LevelTransition q))) (sights told.grants)
-look_told g p m other told = filter-true (sights told.grants)
+look_reported : (group : GroupIdentity) (place : ℤ) (moment : ℕ) (packet : Packet) (reported : TrackReports) →
+    Follows look (λ t. sights t.grants) (Happening.Reported (fact_with group place moment packet)) reported
+look_reported g p m (packets.MovementAuthority q) reported = lost_all (sights reported.grants)
+look_reported g p m (packets.Linking q) reported = past_links look (λ a. refl) g p q (sights reported.grants)
+look_reported g p m (packets.LevelTransition q) reported =
+    past_level look (λ a. refl) (level_reported (fact_with g p m (packets.LevelTransition q))) (sights reported.grants)
+look_reported g p m other reported = filter-true (sights reported.grants)
 
-looks_in_time : (hs : List Happening) → IsInTime hs → value look hs ≡ sights (told_in hs).grants
+looks_in_time : (hs : List Happening) → IsInTime hs → value look hs ≡ sights (reported_in hs).grants
 looks_in_time [] t = refl
 looks_in_time (Happening.Seen sight ∷ hs) t =
-    let seen = (told_in hs).grants in
+    let seen = (reported_in hs).grants in
     step_to look (Happening.Seen sight) hs (sights seen) (looks_in_time hs t.1)
     ∙ (ap (λ xs. sight ∷ xs) (filter-true (sights seen))
     ∙ ap (λ (at : ℕ). (let s : Sight = record { moment = at; train = sight.train } in s) ∷ sights seen) (t.0 ∙ moment_is hs))
-looks_in_time (Happening.Told fact ∷ hs) t =
-    step_to look (Happening.Told fact) hs (sights (told_in hs).grants) (looks_in_time hs t)
-    ∙ look_told fact.group fact.place fact.moment fact.packet (told_in hs)
+looks_in_time (Happening.Reported fact ∷ hs) t =
+    step_to look (Happening.Reported fact) hs (sights (reported_in hs).grants) (looks_in_time hs t)
+    ∙ look_reported fact.group fact.place fact.moment fact.packet (reported_in hs)
 looks_in_time (Happening.Linked entry ∷ hs) t =
-    step_to look (Happening.Linked entry) hs (sights (told_in hs).grants) (looks_in_time hs t)
-    ∙ past_linked look refl entry (sights (told_in hs).grants)
+    step_to look (Happening.Linked entry) hs (sights (reported_in hs).grants) (looks_in_time hs t)
+    ∙ past_linked look refl entry (sights (reported_in hs).grants)
 looks_in_time (Happening.Entered mode ∷ hs) t =
-    step_to look (Happening.Entered mode) hs (sights (told_in hs).grants) (looks_in_time hs t)
-    ∙ by_mode look sights authority_deleted (λ xs. refl) (deleting item.Authority mode) (told_in hs).grants
+    step_to look (Happening.Entered mode) hs (sights (reported_in hs).grants) (looks_in_time hs t)
+    ∙ by_mode look sights authority_deleted (λ xs. refl) (deleting item.Authority mode) (reported_in hs).grants
 looks_in_time (other ∷ hs) t =
-    step_to look other hs (sights (told_in hs).grants) (looks_in_time hs t) ∙ filter-true (sights (told_in hs).grants)
+    step_to look other hs (sights (reported_in hs).grants) (looks_in_time hs t) ∙ filter-true (sights (reported_in hs).grants)
 
 -- so it is in a life
 
@@ -137,5 +137,5 @@ in_time (e ∷ es) =
     marked e.mark (and_entered e.entered seen_now) (entered e.entered seen_now (seen e.train closed_now (closed e.used.groups begun
     (past_missed IsInTime (λ entry hs t. t) e.begun.missed moved_now (moved e.begun.reading ticked_now (ticked e.begun.clock (happenings es) (in_time es)))))))
 
-pub looks_are : (events : List TrackEntry) → value look (happenings events) ≡ sights (told_in (happenings events)).grants
+pub looks_are : (events : List TrackEntry) → value look (happenings events) ≡ sights (reported_in (happenings events)).grants
 looks_are events = looks_in_time (happenings events) (in_time events)

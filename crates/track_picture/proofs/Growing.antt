@@ -11,19 +11,19 @@ use Rattle.odometry.specs.declared.fix.Fix.{Fix}
 use Rattle.track_picture.specs.Entry.{Fact, Outcome}
 use Rattle.track_picture.specs.Live.{Happening}
 use Rattle.track_picture.specs.Parts.{links_in}
-use Rattle.track_picture.specs.Happenings.{and_fixed, and_missed, and_judged, and_told, and_used, comes_later}
+use Rattle.track_picture.specs.Happenings.{and_fixed, and_missed, and_judged, and_reported, and_used, comes_later}
 
 module _ (P : List Happening → Type 0) where
-  pub past_told : ((fact : Fact) (hs : List Happening) → P hs → P (Happening.Told fact ∷ hs)) → (facts : List Fact) (hs : List Happening) → P hs →
-      P (and_told facts hs)
-  past_told one [] hs p = p
-  past_told one (fact ∷ facts) hs p = past_told one facts (Happening.Told fact ∷ hs) (one fact hs p)
+  pub past_reported : ((fact : Fact) (hs : List Happening) → P hs → P (Happening.Reported fact ∷ hs)) → (facts : List Fact) (hs : List Happening) → P hs →
+      P (and_reported facts hs)
+  past_reported one [] hs p = p
+  past_reported one (fact ∷ facts) hs p = past_reported one facts (Happening.Reported fact ∷ hs) (one fact hs p)
 
-  pub past_used : ((fact : Fact) (hs : List Happening) → P hs → P (Happening.Told fact ∷ hs)) → (facts : List Fact) (hs : List Happening) → P hs →
+  pub past_used : ((fact : Fact) (hs : List Happening) → P hs → P (Happening.Reported fact ∷ hs)) → (facts : List Fact) (hs : List Happening) → P hs →
       P (and_used facts hs)
   past_used one facts hs p =
       let first = filter (λ f. not (comes_later f.packet)) facts in
-      past_told one (filter (λ f. comes_later f.packet) facts) (and_told first hs) (past_told one first hs p)
+      past_reported one (filter (λ f. comes_later f.packet) facts) (and_reported first hs) (past_reported one first hs p)
 
   pub past_missed : ((entry : LinkEntry) (hs : List Happening) → P hs → P (Happening.Linked entry ∷ hs)) →
       (announcements : List Announcement) (hs : List Happening) → P hs → P (and_missed announcements hs)

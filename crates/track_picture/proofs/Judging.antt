@@ -12,7 +12,7 @@ use Rattle.national.specs.InForce.{NationalEntry}
 use Rattle.track_picture.specs.Entry.{Begun, Used, added, asking, asking_for}
 use Rattle.track_picture.specs.Sentences.{outcome_at_first}
 use Rattle.track_picture.specs.StandsFor.{KnownTrack, Life, grown_so_far}
-use Rattle.track_picture.specs.Columns.{TrackTold, known_by, after_country, after_judging}
+use Rattle.track_picture.specs.Columns.{TrackReports, known_by, after_country, after_judging}
 
 pub not_entered : (verdict : Verdict) (message : Message) (entries : List NationalEntry) → ((a : Option Announcement) → verdict ≡ Accept a → ⊥) →
     after_country verdict message entries ≡ entries
@@ -20,17 +20,17 @@ not_entered (Accept announced) message entries isnt = absurd (isnt announced ref
 not_entered Ignore message entries isnt = refl
 not_entered (Reaction a) message entries isnt = refl
 
-abbrev pub as_judged : Life → Begun → Used → TrackTold → Effect → Message → Verdict → KnownTrack
-as_judged life begun used told effect message verdict =
-    record (known_by (grown_so_far life begun used) told) {
-      links = known_links (after_verdict verdict told.links);
-      national = national.known life.kept (after_country verdict message told.values);
+abbrev pub as_judged : Life → Begun → Used → TrackReports → Effect → Message → Verdict → KnownTrack
+as_judged life begun used reported effect message verdict =
+    record (known_by (grown_so_far life begun used) reported) {
+      links = known_links (after_verdict verdict reported.links);
+      national = national.known life.kept (after_country verdict message reported.values);
       happened = asking used.happened effect;
     }
 
-pub is_judged : (life : Life) (begun : Begun) (used : Used) (told : TrackTold) (effect : Effect) (message : Message) (verdict : Verdict) →
-    as_judged life begun used told effect message verdict
-    ≡ known_by (grown_so_far life begun (added (outcome_at_first message verdict) (asking_for effect used))) (after_judging verdict message told)
-is_judged life begun used told effect message (Accept announced) = refl
-is_judged life begun used told effect message Ignore = refl
-is_judged life begun used told effect message (Reaction a) = refl
+pub is_judged : (life : Life) (begun : Begun) (used : Used) (reported : TrackReports) (effect : Effect) (message : Message) (verdict : Verdict) →
+    as_judged life begun used reported effect message verdict
+    ≡ known_by (grown_so_far life begun (added (outcome_at_first message verdict) (asking_for effect used))) (after_judging verdict message reported)
+is_judged life begun used reported effect message (Accept announced) = refl
+is_judged life begun used reported effect message Ignore = refl
+is_judged life begun used reported effect message (Reaction a) = refl

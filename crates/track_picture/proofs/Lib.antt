@@ -1,6 +1,6 @@
 pub mod Carrying
 pub mod Standing
-pub mod Telling
+pub mod Description
 pub mod Walking
 pub mod Marking
 pub mod Idling

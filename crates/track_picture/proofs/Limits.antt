@@ -15,8 +15,8 @@ use Rattle.restriction.specs.Covering.{is_ended_by, reaches_past}
 use Rattle.track_store.specs.Restrictions as track
 use Rattle.track_store.specs.Restrictions.{RestrictionEntry, InForce, ends, standing_but_for, standing}
 use Rattle.track_store.proofs.Standing.{filter-true}
-use Rattle.track_picture.specs.Columns.{TrackTold, told_in}
-use Rattle.track_picture.specs.Live.{Happening, level_told, deleting}
+use Rattle.track_picture.specs.Columns.{TrackReports, reported_in}
+use Rattle.track_picture.specs.Live.{Happening, level_reported, deleting}
 use Rattle.track_picture.specs.Parts.{restrictions_in}
 use Rattle.track_picture.proofs.EachKind.{restricted}
 use Rattle.track_picture.proofs.Marking.{one_mark}
@@ -59,33 +59,33 @@ pub none_deletes : (m : Mode) → deleting item.Restrictions m ≡ false
 none_deletes mode.StandBy = refl
 none_deletes other = refl
 
-abbrev left : TrackTold → List Restriction
-left told = alive told.restrictions
+abbrev left : TrackReports → List Restriction
+left reported = alive reported.restrictions
 
-restricted_told : (group : GroupIdentity) (place : ℤ) (moment : ℕ) (packet : Packet) (told : TrackTold) →
-    Follows restricted left (Happening.Told (fact_with group place moment packet)) told
-restricted_told g p m (packets.SpeedRestriction q) told = refl
-restricted_told g p m (packets.RestrictionRevocation q) told = refl
-restricted_told g p m (packets.Linking q) told = past_links restricted (λ a. refl) g p q (left told)
-restricted_told g p m (packets.LevelTransition q) told =
-    past_level restricted (λ a. refl) (level_told (fact_with g p m (packets.LevelTransition q))) (left told)
-restricted_told g p m other told = filter-true (left told)
+restricted_reported : (group : GroupIdentity) (place : ℤ) (moment : ℕ) (packet : Packet) (reported : TrackReports) →
+    Follows restricted left (Happening.Reported (fact_with group place moment packet)) reported
+restricted_reported g p m (packets.SpeedRestriction q) reported = refl
+restricted_reported g p m (packets.RestrictionRevocation q) reported = refl
+restricted_reported g p m (packets.Linking q) reported = past_links restricted (λ a. refl) g p q (left reported)
+restricted_reported g p m (packets.LevelTransition q) reported =
+    past_level restricted (λ a. refl) (level_reported (fact_with g p m (packets.LevelTransition q))) (left reported)
+restricted_reported g p m other reported = filter-true (left reported)
 
-restricted_one : (h : Happening) (told : TrackTold) → Follows restricted left h told
-restricted_one (Happening.Told fact) told = restricted_told fact.group fact.place fact.moment fact.packet told
-restricted_one (Happening.Linked entry) told = past_linked restricted refl entry (left told)
-restricted_one (Happening.Entered m) told =
-    ap (λ b. filter (λ x. not b) (left told)) (none_deletes m) ∙ filter-true (left told)
-restricted_one other told = filter-true (left told)
+restricted_one : (h : Happening) (reported : TrackReports) → Follows restricted left h reported
+restricted_one (Happening.Reported fact) reported = restricted_reported fact.group fact.place fact.moment fact.packet reported
+restricted_one (Happening.Linked entry) reported = past_linked restricted refl entry (left reported)
+restricted_one (Happening.Entered m) reported =
+    ap (λ b. filter (λ x. not b) (left reported)) (none_deletes m) ∙ filter-true (left reported)
+restricted_one other reported = filter-true (left reported)
 
-alive_all : (hs : List Happening) → value restricted hs ≡ alive (told_in hs).restrictions
+alive_all : (hs : List Happening) → value restricted hs ≡ alive (reported_in hs).restrictions
 alive_all = follows restricted left refl restricted_one
 
 abbrev pub held : ℤ → List Restriction → InForce
 held mark rs = record { mark = mark; restrictions = filter (reaches_past mark) rs }
 
-pub restrictions_are : (hs : List Happening) → restrictions_in hs ≡ track.in_force (told_in hs).restrictions
+pub restrictions_are : (hs : List Happening) → restrictions_in hs ≡ track.in_force (reported_in hs).restrictions
 restrictions_are hs =
-    let entries = (told_in hs).restrictions in
+    let entries = (reported_in hs).restrictions in
     ap (λ mark. held mark (reverse (value restricted hs))) (mark_is hs ∙ sym (one_mark hs))
     ∙ ap (held (track.mark_of entries)) (ap reverse (alive_all hs) ∙ sym (all_stand entries))

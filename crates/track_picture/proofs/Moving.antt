@@ -9,14 +9,14 @@ use Rattle.track_picture.specs.Live.{Happening}
 use Rattle.track_picture.specs.Sentences.{with_closed, with_groups}
 use Rattle.track_picture.specs.StandsFor.{KnownTrack, Knowledge, Life, grown_so_far}
 use Rattle.track_picture.specs.Stores.{Stores}
-use Rattle.track_picture.proofs.Standing.{told_as}
-use Rattle.track_picture.proofs.Telling.{told_missed}
+use Rattle.track_picture.proofs.Standing.{reported_as}
+use Rattle.track_picture.proofs.Description.{reported_missed}
 
 module _ {G S : Type 0} {stores : Stores G S} {known : Knowledge G S} {parts : KnownTrack} where
   pub moved_only : (life : Life) (reading : Reading) → parts ≡ known_moved life reading → StandsForColumns stores known life →
       StandsForColumns stores (record known { parts = parts }) (grown_so_far life (moved life.entries reading) (after_moving life.entries reading))
   moved_only life reading is s =
-      told_as (sym (told_missed (moved life.entries reading).missed (Happening.Moved reading.movement ∷ happenings life.entries))) (record {
+      reported_as (sym (reported_missed (moved life.entries reading).missed (Happening.Moved reading.movement ∷ happenings life.entries))) (record {
         parts_are = is;
         restrictions_are = s.restrictions_are;
         gradients_are = s.gradients_are;

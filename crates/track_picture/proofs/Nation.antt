@@ -12,8 +12,8 @@ use Rattle.packets.specs.declared.packet.Packet.{Packet}
 use Rattle.packets.specs.declared.packet.Packet.TheVariants as packets
 use Rattle.track_store.specs.Profiles.{listed}
 use Rattle.track_store.proofs.Standing.{filter-true}
-use Rattle.track_picture.specs.Columns.{TrackTold, told_in, after_values}
-use Rattle.track_picture.specs.Live.{Happening, level_told, deleting}
+use Rattle.track_picture.specs.Columns.{TrackReports, reported_in, after_values}
+use Rattle.track_picture.specs.Live.{Happening, level_reported, deleting}
 use Rattle.track_picture.specs.Parts.{newest, values_in, in_force_in}
 use Rattle.track_picture.proofs.EachKind.{values}
 use Rattle.track_picture.proofs.OneKind.{Follows, value, fact_with, newest_listed, lost_all, follows, past_linked, past_links, past_level}
@@ -40,50 +40,50 @@ pub none_deletes : (m : Mode) → deleting item.AnnouncedValues m ≡ false
 none_deletes mode.StandBy = refl
 none_deletes other = refl
 
-abbrev waits : TrackTold → List national.Fact
-waits told = listed (waiting told.values)
+abbrev waits : TrackReports → List national.Fact
+waits reported = listed (waiting reported.values)
 
-values_told : (group : GroupIdentity) (place : ℤ) (moment : ℕ) (packet : Packet) (told : TrackTold) →
-    Follows values waits (Happening.Told (fact_with group place moment packet)) told
-values_told g p m (packets.NationalValues q) told = ap (λ xs. national.fact_of q g.country p ∷ xs) (lost_all (waits told))
-values_told g p m (packets.Linking q) told = past_links values (λ a. refl) g p q (waits told)
-values_told g p m (packets.LevelTransition q) told =
-    past_level values (λ a. refl) (level_told (fact_with g p m (packets.LevelTransition q))) (waits told)
-values_told g p m other told = filter-true (waits told)
+values_reported : (group : GroupIdentity) (place : ℤ) (moment : ℕ) (packet : Packet) (reported : TrackReports) →
+    Follows values waits (Happening.Reported (fact_with group place moment packet)) reported
+values_reported g p m (packets.NationalValues q) reported = ap (λ xs. national.fact_of q g.country p ∷ xs) (lost_all (waits reported))
+values_reported g p m (packets.Linking q) reported = past_links values (λ a. refl) g p q (waits reported)
+values_reported g p m (packets.LevelTransition q) reported =
+    past_level values (λ a. refl) (level_reported (fact_with g p m (packets.LevelTransition q))) (waits reported)
+values_reported g p m other reported = filter-true (waits reported)
 
-values_one : (h : Happening) (told : TrackTold) → Follows values waits h told
-values_one (Happening.Told fact) told = values_told fact.group fact.place fact.moment fact.packet told
-values_one (Happening.Linked entry) told = past_linked values refl entry (waits told)
-values_one (Happening.Accepted group) told = entered_one group.country (waiting told.values)
-values_one (Happening.Seen sight) told = reached_one sight.train.max_front (waiting told.values)
-values_one (Happening.Entered m) told =
-    ap (λ b. filter (λ x. not b) (waits told)) (none_deletes m) ∙ filter-true (waits told)
-values_one other told = filter-true (waits told)
+values_one : (h : Happening) (reported : TrackReports) → Follows values waits h reported
+values_one (Happening.Reported fact) reported = values_reported fact.group fact.place fact.moment fact.packet reported
+values_one (Happening.Linked entry) reported = past_linked values refl entry (waits reported)
+values_one (Happening.Accepted group) reported = entered_one group.country (waiting reported.values)
+values_one (Happening.Seen sight) reported = reached_one sight.train.max_front (waiting reported.values)
+values_one (Happening.Entered m) reported =
+    ap (λ b. filter (λ x. not b) (waits reported)) (none_deletes m) ∙ filter-true (waits reported)
+values_one other reported = filter-true (waits reported)
 
-pub waiting_are : (hs : List Happening) → value values hs ≡ listed (waiting (told_in hs).values)
+pub waiting_are : (hs : List Happening) → value values hs ≡ listed (waiting (reported_in hs).values)
 waiting_are = follows values waits refl values_one
 
-pub values_are : (hs : List Happening) → values_in hs ≡ waiting (told_in hs).values
-values_are hs = ap newest (waiting_are hs) ∙ newest_listed (waiting (told_in hs).values)
+pub values_are : (hs : List Happening) → values_in hs ≡ waiting (reported_in hs).values
+values_are hs = ap newest (waiting_are hs) ∙ newest_listed (waiting (reported_in hs).values)
 
 -- ---- what is in force
 
 module _ (kept : ValuesFor) where
   -- a packet that is used changes nothing that is in force
-  told_holds : (group : GroupIdentity) (place : ℤ) (moment : ℕ) (packet : Packet) (es : List NationalEntry) →
+  reported_holds : (group : GroupIdentity) (place : ℤ) (moment : ℕ) (packet : Packet) (es : List NationalEntry) →
       in_force kept es ≡ in_force kept (after_values (fact_with group place moment packet) es)
-  told_holds g p m (packets.NationalValues q) es = refl
-  told_holds g p m other es = refl
+  reported_holds g p m (packets.NationalValues q) es = refl
+  reported_holds g p m other es = refl
 
-  one_more : (entry : NationalEntry) (hs : List Happening) → in_force_in kept hs ≡ in_force kept (told_in hs).values →
-      in_force_behind entry (values_in hs) (in_force_in kept hs) ≡ in_force kept (entry ∷ (told_in hs).values)
+  one_more : (entry : NationalEntry) (hs : List Happening) → in_force_in kept hs ≡ in_force kept (reported_in hs).values →
+      in_force_behind entry (values_in hs) (in_force_in kept hs) ≡ in_force kept (entry ∷ (reported_in hs).values)
   one_more entry hs r =
       ap (λ w. in_force_behind entry w (in_force_in kept hs)) (values_are hs)
-      ∙ ap (λ v. in_force_behind entry (waiting (told_in hs).values) v) r
+      ∙ ap (λ v. in_force_behind entry (waiting (reported_in hs).values) v) r
 
-  pub in_force_is : (hs : List Happening) → in_force_in kept hs ≡ in_force kept (told_in hs).values
+  pub in_force_is : (hs : List Happening) → in_force_in kept hs ≡ in_force kept (reported_in hs).values
   in_force_is [] = refl
   in_force_is (Happening.Accepted group ∷ hs) = one_more (national.NationalEntry.Entered group.country) hs (in_force_is hs)
   in_force_is (Happening.Seen sight ∷ hs) = one_more (national.NationalEntry.Reached sight.train.max_front) hs (in_force_is hs)
-  in_force_is (Happening.Told fact ∷ hs) = in_force_is hs ∙ told_holds fact.group fact.place fact.moment fact.packet (told_in hs).values
+  in_force_is (Happening.Reported fact ∷ hs) = in_force_is hs ∙ reported_holds fact.group fact.place fact.moment fact.packet (reported_in hs).values
   in_force_is (other ∷ hs) = in_force_is hs

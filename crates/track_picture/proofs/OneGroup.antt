@@ -1,4 +1,4 @@
--- One group more that closes: what became of it is told by the links and the place before it.
+-- One group more that closes: what became of it is reported by the links and the place before it.
 use Rattle.std.proofs.Common.{◌≡◌, List, [], ◌∷◌, ◌++◌, Option, Some, None, refl, ap, sym, ◌∙◌}
 use Rattle.balise_groups.specs.declared.message.Closed.{Closed}
 use Rattle.balise_groups.specs.declared.message.Closed.TheVariants as closed
@@ -18,7 +18,7 @@ use Rattle.track_picture.specs.Sentences.{group_read, judged, outcome_at_first, 
 use Rattle.track_picture.specs.StandsFor.{Life, KnownTrack, grown_so_far}
 use Rattle.track_picture.proofs.SameParts.{same_parts}
 
--- where none closes behind it
+-- where none closes after it
 pub alone : (ended : Option Closing) → all_of (record { ended = ended; whole = None }) ≡ listed ended
 alone None = refl
 alone (Some one) = refl

@@ -16,7 +16,7 @@ use Rattle.track_store.specs.Profiles.{listed}
 use Rattle.track_store.proofs.Standing.{filter-true}
 use Rattle.track_picture.specs.Announcing.{announcements_of}
 use Rattle.track_picture.specs.Entry.{Fact}
-use Rattle.track_picture.specs.Columns.{TrackTold, nothing_told, after, told_in}
+use Rattle.track_picture.specs.Columns.{TrackReports, nothing_reported, after, reported_in}
 use Rattle.track_picture.specs.Live.{Happening, TrackFact, brought, missed_by, ends, live, deleting}
 use Rattle.track_picture.specs.Parts.{newest}
 
@@ -132,24 +132,24 @@ module _ {X : Type 0} (kind : Kind X) where
       let announcements = linking.numbered (announcements_of group place p) in
       dropped (map TrackFact.Link announcements) xs (no_links n announcements)
 
-  pub no_level : ((level : AnnouncedLevel) → kind.read (TrackFact.Level level) ≡ None) → (told : Option AnnouncedLevel) →
-      filter_map kind.read (option_map_or (λ level. TrackFact.Level level ∷ []) told []) ≡ []
+  pub no_level : ((level : AnnouncedLevel) → kind.read (TrackFact.Level level) ≡ None) → (reported : Option AnnouncedLevel) →
+      filter_map kind.read (option_map_or (λ level. TrackFact.Level level ∷ []) reported []) ≡ []
   no_level n None = refl
   no_level n (Some level) = rw (n level) refl
 
-  pub past_level : ((level : AnnouncedLevel) → kind.read (TrackFact.Level level) ≡ None) → (told : Option AnnouncedLevel) (xs : List X) →
-      filter_map kind.read (option_map_or (λ level. TrackFact.Level level ∷ []) told []) ++ filter (λ x. true) xs ≡ xs
-  past_level n told xs = dropped (option_map_or (λ level. TrackFact.Level level ∷ []) told []) xs (no_level n told)
+  pub past_level : ((level : AnnouncedLevel) → kind.read (TrackFact.Level level) ≡ None) → (reported : Option AnnouncedLevel) (xs : List X) →
+      filter_map kind.read (option_map_or (λ level. TrackFact.Level level ∷ []) reported []) ++ filter (λ x. true) xs ≡ xs
+  past_level n reported xs = dropped (option_map_or (λ level. TrackFact.Level level ∷ []) reported []) xs (no_level n reported)
 
-  -- ---- a kind is what its list tells, where each happening gives the one what it gives the other
+  -- ---- a kind is what its list reports, where each happening gives the one what it gives the other
 
-  abbrev pub Follows : (TrackTold → List X) → Happening → TrackTold → Type 0
-  Follows inner h told = filter_map kind.read (brought h) ++ filter (λ x. not (ended h x)) (inner told) ≡ inner (after h told)
+  abbrev pub Follows : (TrackReports → List X) → Happening → TrackReports → Type 0
+  Follows inner h reported = filter_map kind.read (brought h) ++ filter (λ x. not (ended h x)) (inner reported) ≡ inner (after h reported)
 
-  pub follows : (inner : TrackTold → List X) → inner nothing_told ≡ [] → ((h : Happening) (told : TrackTold) → Follows inner h told) →
-      (hs : List Happening) → value hs ≡ inner (told_in hs)
+  pub follows : (inner : TrackReports → List X) → inner nothing_reported ≡ [] → ((h : Happening) (reported : TrackReports) → Follows inner h reported) →
+      (hs : List Happening) → value hs ≡ inner (reported_in hs)
   follows inner none one [] = sym none
-  follows inner none one (h ∷ hs) = step_to h hs (inner (told_in hs)) (follows inner none one hs) ∙ one h (told_in hs)
+  follows inner none one (h ∷ hs) = step_to h hs (inner (reported_in hs)) (follows inner none one hs) ∙ one h (reported_in hs)
 
   -- ---- a mode that deletes an item
 

@@ -24,7 +24,7 @@ record IsPlaced (hs : List Happening) (es : List PlaceEntry) (group : Option Gro
   places_are : places_in hs ≡ es
   group_is : group_in hs ≡ group
 
--- with the group that is known beside
+-- with the group that is known along with
 module _ (group : Option GroupIdentity) where
   abbrev same : List Happening → List PlaceEntry → Type 0
   same hs es = IsPlaced hs es group

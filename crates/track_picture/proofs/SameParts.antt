@@ -21,7 +21,7 @@ use Rattle.track_picture.specs.Sentences.{alone, with_path}
 use Rattle.track_picture.specs.Sentences as sentences
 use Rattle.track_picture.specs.StandsFor.{Life, Knowledge, StandsForLife, parts_of, national_of}
 use Rattle.track_picture.specs.Columns as columns
-use Rattle.track_picture.specs.Columns.{StandsForColumns, columns_of, told_of}
+use Rattle.track_picture.specs.Columns.{StandsForColumns, columns_of, description_of}
 use Rattle.track_picture.specs.Stores.{Stores}
 use Rattle.track_picture.proofs.Announced.{level_is}
 use Rattle.track_picture.proofs.Chain.{links_are}
@@ -32,7 +32,7 @@ use Rattle.track_picture.proofs.OneKind.{newest_listed}
 use Rattle.track_picture.proofs.Profile.{gradients_are, speeds_are, mark_is}
 use Rattle.track_picture.proofs.Zones.{areas_are}
 
--- ---- the authority: what its entries tell is the authority that counts, with what its timers have seen
+-- ---- the authority: what its entries report is the authority that counts, with what its timers have seen
 
 accepted_behind : (looks : List Sight) (granted : Option authority.Fact) → accepted (looked looks (acceptance granted)) ≡ granted
 accepted_behind [] None = refl
@@ -44,33 +44,33 @@ seen_behind [] None = refl
 seen_behind [] (Some fact) = refl
 seen_behind (look ∷ looks) granted = ap (λ xs. look ∷ xs) (seen_behind looks granted)
 
-pub same_accepted : (events : List TrackEntry) → accepted (picture.authorities events) ≡ accepted (told_of events).grants
+pub same_accepted : (events : List TrackEntry) → accepted (picture.authorities events) ≡ accepted (description_of events).grants
 unfolding authorities_in
 same_accepted events =
     accepted_behind (looks_in (happenings events)) (granted_in (happenings events))
-    ∙ (ap newest (grants_are (happenings events)) ∙ newest_listed (accepted (told_of events).grants))
+    ∙ (ap newest (grants_are (happenings events)) ∙ newest_listed (accepted (description_of events).grants))
 
-same_sights : (events : List TrackEntry) → sights (picture.authorities events) ≡ sights (told_of events).grants
+same_sights : (events : List TrackEntry) → sights (picture.authorities events) ≡ sights (description_of events).grants
 unfolding authorities_in
 same_sights events = seen_behind (looks_in (happenings events)) (granted_in (happenings events)) ∙ looks_are events
 
-same_now : (events : List TrackEntry) → now_of (picture.authorities events) ≡ now_of (told_of events).grants
+same_now : (events : List TrackEntry) → now_of (picture.authorities events) ≡ now_of (description_of events).grants
 unfolding authorities_in
 same_now events = moment_is (happenings events)
 
-same_authority : (events : List TrackEntry) → picture.authority_of events ≡ known_authority (told_of events).grants
+same_authority : (events : List TrackEntry) → picture.authority_of events ≡ known_authority (description_of events).grants
 same_authority events =
     (λ i. record {
       moment = same_now events i;
       stored = option_map (λ fact. stored_of fact (same_sights events i)) (same_accepted events i);
     })
 
-pub same_end : (events : List TrackEntry) → end_of (picture.authorities events) ≡ end_of (told_of events).grants
+pub same_end : (events : List TrackEntry) → end_of (picture.authorities events) ≡ end_of (description_of events).grants
 same_end events = (λ i. option_map (λ fact. end_now fact (same_now events i) (same_sights events i)) (same_accepted events i))
 
 -- ---- all parts
 
-same_national : (life : Life) → national_of life ≡ national.known life.kept (told_of life.entries).values
+same_national : (life : Life) → national_of life ≡ national.known life.kept (description_of life.entries).values
 same_national life =
     (λ i. record {
       in_force = in_force_is life.kept (happenings life.entries) i;
@@ -95,12 +95,12 @@ same_parts life =
     })
 
 same_gradients : (events : List TrackEntry) →
-    picture.gradients_of events ≡ profiles.profile_of (record { mark = (told_of events).mark; facts = (told_of events).gradients })
+    picture.gradients_of events ≡ profiles.profile_of (record { mark = (description_of events).mark; facts = (description_of events).gradients })
 same_gradients events =
     (λ i. profiles.profile_of (record { mark = mark_is (happenings events) i; facts = gradients_are (happenings events) i }))
 
 same_speeds : (events : List TrackEntry) →
-    picture.speeds_of events ≡ profiles.profile_of (record { mark = (told_of events).mark; facts = (told_of events).speeds })
+    picture.speeds_of events ≡ profiles.profile_of (record { mark = (description_of events).mark; facts = (description_of events).speeds })
 same_speeds events =
     (λ i. profiles.profile_of (record { mark = mark_is (happenings events) i; facts = speeds_are (happenings events) i }))
 

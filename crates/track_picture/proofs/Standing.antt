@@ -1,7 +1,7 @@
 -- What stands for a life, by what is inside.
 use Rattle.std.proofs.Common.{◌≡◌, ap, sym, subst}
 use Rattle.track_picture.specs.StandsFor.{Knowledge, Life, StandsForLife}
-use Rattle.track_picture.specs.Columns.{TrackTold, StandsForTold, StandsForColumns}
+use Rattle.track_picture.specs.Columns.{TrackReports, StandsForReported, StandsForColumns}
 use Rattle.track_picture.specs.Stores.{Stores}
 
 -- what two stores give, where these are the same
@@ -21,6 +21,6 @@ module _ {G S : Type 0} {stores : Stores G S} where
       inside ≡ known → StandsForColumns stores known life → StandsForColumns stores inside life
   seen_columns {life = life} is s = subst (λ k. StandsForColumns stores k life) (sym is) s
 
-  pub told_as : {known : Knowledge G S} {life : Life} {told other : TrackTold} →
-      told ≡ other → StandsForTold stores known life told → StandsForTold stores known life other
-  told_as {known} {life} is s = subst (λ t. StandsForTold stores known life t) is s
+  pub reported_as : {known : Knowledge G S} {life : Life} {reported other : TrackReports} →
+      reported ≡ other → StandsForReported stores known life reported → StandsForReported stores known life other
+  reported_as {known} {life} is s = subst (λ t. StandsForReported stores known life t) is s

@@ -11,33 +11,33 @@ use Rattle.track_picture.specs.Entry.{Fact}
 use Rattle.track_picture.specs.Columns.{after_facts}
 use Rattle.track_picture.specs.Sentences.{is_used}
 use Rattle.track_picture.specs.Steps.{fact_of, facts}
-use Rattle.track_picture.specs.Told.{Walked, after_later}
+use Rattle.track_picture.specs.Reported.{Walked, after_later}
 use Rattle.track_picture.specs.Happenings.{comes_later}
 
-module _ {A : Type 0} (tell : Fact → A → A) (used : Use) (packet : Packet) (rest : List Packet) (told : A) where
+module _ {A : Type 0} (describe : Fact → A → A) (used : Use) (packet : Packet) (rest : List Packet) (reported : A) where
   by_use : (b : Bool) →
-      after_facts tell (map (fact_of used) (cond b (packet ∷ filter (is_used used.mode used.direction) rest) (filter (is_used used.mode used.direction) rest))) told
-      ≡ after_facts tell (facts used rest) (cond b (tell (fact_of used packet) told) told)
+      after_facts describe (map (fact_of used) (cond b (packet ∷ filter (is_used used.mode used.direction) rest) (filter (is_used used.mode used.direction) rest))) reported
+      ≡ after_facts describe (facts used rest) (cond b (describe (fact_of used packet) reported) reported)
   by_use true = refl
   by_use false = refl
 
-  -- what it tells where it is used, and then the others
-  pub one_packet : after_facts tell (facts used (packet ∷ rest)) told
-      ≡ after_facts tell (facts used rest) (cond (is_used used.mode used.direction packet) (tell (fact_of used packet) told) told)
+  -- what it says where it is used, and then the others
+  pub one_packet : after_facts describe (facts used (packet ∷ rest)) reported
+      ≡ after_facts describe (facts used rest) (cond (is_used used.mode used.direction packet) (describe (fact_of used packet) reported) reported)
   one_packet = by_use (is_used used.mode used.direction packet)
 
--- ---- a packet that isn't for the second walk tells it nothing
+-- ---- a packet that isn't for the second walk says it nothing
 
-nothing_told : {A B : Type 0} (tell : A → B) (o : Option A) (told : B) → is_some o ≡ false → option_map_or tell o told ≡ told
-nothing_told tell None told h = refl
-nothing_told tell (Some a) told h = cc
+nothing_reported : {A B : Type 0} (describe : A → B) (o : Option A) (reported : B) → is_some o ≡ false → option_map_or describe o reported ≡ reported
+nothing_reported describe None reported h = refl
+nothing_reported describe (Some a) reported h = cc
 
 stays : (fact : Fact) (walked : Walked) → comes_later fact.packet ≡ false → after_later fact walked ≡ walked
 stays fact walked h =
-    let told = walked.told in
-    let revocation = nothing_told _ (as_revocation fact.packet) told.restrictions (or_left _ _ h) in
-    let areas = nothing_told _ (as_mode_profile fact.packet) told.areas (or_right _ _ h) in
-    (λ i. record walked { told = record told { restrictions = revocation i; areas = areas i } })
+    let reported = walked.reported in
+    let revocation = nothing_reported _ (as_revocation fact.packet) reported.restrictions (or_left _ _ h) in
+    let areas = nothing_reported _ (as_mode_profile fact.packet) reported.areas (or_right _ _ h) in
+    (λ i. record walked { reported = record reported { restrictions = revocation i; areas = areas i } })
 
 stays_so : (fact : Fact) (walked : Walked) → comes_later fact.packet ≡ false → (b : Bool) → cond b (after_later fact walked) walked ≡ walked
 stays_so fact walked h true = stays fact walked h

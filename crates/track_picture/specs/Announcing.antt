@@ -19,7 +19,7 @@ announced scale place country link =
       reaction = link.reaction;
     }
 
--- those behind a place and a country; linking numbers them
+-- those after a place and a country; linking numbers them
 abbrev pub announced_from : Scale → ℤ → ℕ → List Link → List Announcement
 announced_from scale place country [] = []
 announced_from scale place country (link ∷ links) =

@@ -10,7 +10,7 @@ use Rattle.telegram.specs.declared.header.Header.{Header}
 use Rattle.telegram.specs.declared.message.Telegram.{Telegram}
 use Rattle.telegram.specs.Telegrams.{header, next_packet}
 
--- the packet that was read, and those behind it; none where the end mark was read, and no list at a fault
+-- the packet that was read, and those after it; none where the end mark was read, and no list at a fault
 abbrev pub those_from : Result (Option Packet × List Bool) TelegramFault → (List Bool → Option (List Packet)) → Option (List Packet)
 those_from (Ok (Some p, rest)) more = option_map (λ ps. p ∷ ps) (more rest)
 those_from (Ok (None, rest)) more = Some []

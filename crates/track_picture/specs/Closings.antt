@@ -16,7 +16,7 @@ use Rattle.track_picture.specs.declared.closings.Closing.{Closing}
 use Rattle.track_picture.specs.declared.closings.Closing.TheVariants as closing
 use Rattle.track_picture.specs.declared.closings.Closings.{Closings}
 use Rattle.track_picture.specs.declared.closings.MessageOutcome.{MessageOutcome}
-use Rattle.track_picture.specs.declared.closings.MessageOutcome.TheVariants as told
+use Rattle.track_picture.specs.declared.closings.MessageOutcome.TheVariants as reported
 use Rattle.track_picture.specs.Entry.{TrackEntry, Begun, Outcome, blank, nothing_happened}
 use Rattle.track_picture.specs.History.{links_of}
 use Rattle.track_picture.specs.Sentences.{begun, used_by, group_read, outcome_at_first}
@@ -26,14 +26,14 @@ use Rattle.track_picture.specs.Sentences.{begun, used_by, group_read, outcome_at
 -- one that is announced and wasn't used: it was passed in the wrong direction (3.16.2.3), or else found too early
 -- (3.16.2)
 abbrev pub why_rejected : Message → Announcement → MessageOutcome
-why_rejected message a = if is_passed_wrongly message.direction a then told.WrongWay a else told.TooEarly a
+why_rejected message a = if is_passed_wrongly message.direction a then reported.WrongWay a else reported.TooEarly a
 
 -- a broken group takes the announcement with it that is meant
 abbrev pub closing_of : KnownLinks → Outcome → Closing
 closing_of links (Outcome.Broken b) = closing.Broken b (meant links b.group b.linked)
-closing_of links (Outcome.Ignored message) = closing.Whole message told.NotAnnounced
+closing_of links (Outcome.Ignored message) = closing.Whole message reported.NotAnnounced
 closing_of links (Outcome.Rejected message a) = closing.Whole message (why_rejected message a)
-closing_of links (Outcome.Accepted message announced fix facts) = closing.Whole message (told.Accepted announced)
+closing_of links (Outcome.Accepted message announced fix facts) = closing.Whole message (reported.Accepted announced)
 
 -- ---- all groups of an event, each by the links that those before it have left
 
@@ -50,7 +50,7 @@ closings_in entries begun (outcome ∷ earlier) =
 abbrev pub closings_by : Mode → List TrackEntry → Input → List Closing
 closings_by mode entries input = closings_in entries (begun entries input) (used_by mode entries input).groups
 
--- the one that the input ended, if it ended one, and behind it its own
+-- the one that the input ended, if it ended one, and after it its own
 abbrev pub listed : Option Closing → List Closing
 listed None = []
 listed (Some one) = one ∷ []

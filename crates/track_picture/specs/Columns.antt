@@ -29,8 +29,8 @@ use Rattle.mode_table.specs.declared.statuses.Item.{Item}
 use Rattle.mode_table.specs.declared.statuses.Item.TheVariants as item
 use Rattle.national.specs.InForce as national
 use Rattle.odometry.specs.Place as odometry
-use Rattle.speed_profile.specs.declared.told.CategorySpeeds.{CategorySpeeds}
-use Rattle.speed_profile.specs.Told.{gradient_fact, speed_fact}
+use Rattle.speed_profile.specs.declared.reported.CategorySpeeds.{CategorySpeeds}
+use Rattle.speed_profile.specs.Reported.{gradient_fact, speed_fact}
 use Rattle.track_store.specs.Facts as profiles
 use Rattle.track_store.specs.Restrictions as track
 use Rattle.track_picture.specs.declared.happened.Happened.{Happened}
@@ -66,7 +66,7 @@ abbrev pub after_grant : Fact → List areas.AreaEntry → List areas.AreaEntry
 after_grant fact entries = option_map_or (λ p. areas.AreaEntry.Cleared ∷ entries) (as_movement_authority fact.packet) entries
 
 abbrev pub after_areas : Fact → List areas.AreaEntry → List areas.AreaEntry
-after_areas fact entries = option_map_or (λ p. areas.AreaEntry.Told (areas.fact_of p fact.place) ∷ entries) (as_mode_profile fact.packet) entries
+after_areas fact entries = option_map_or (λ p. areas.AreaEntry.Reported (areas.fact_of p fact.place) ∷ entries) (as_mode_profile fact.packet) entries
 
 abbrev pub after_level : Fact → List levels.LevelEntry → List levels.LevelEntry
 after_level fact entries = option_map_or (λ p. levels.LevelEntry.Announced (levels.fact_of p fact.place) ∷ entries) (as_level_transition fact.packet) entries
@@ -79,20 +79,20 @@ abbrev pub after_revocation : Fact → List track.RestrictionEntry → List trac
 after_revocation fact entries = option_map_or (λ p. track.RestrictionEntry.Revoked p.number ∷ entries) (as_revocation fact.packet) entries
 
 abbrev pub after_gradients : Fact → List (profiles.Fact ℤ) → List (profiles.Fact ℤ)
-after_gradients fact told = option_map_or (λ p. gradient_fact fact.place p ∷ told) (as_gradients fact.packet) told
+after_gradients fact reported = option_map_or (λ p. gradient_fact fact.place p ∷ reported) (as_gradients fact.packet) reported
 
 abbrev pub after_speeds : Fact → List (profiles.Fact CategorySpeeds) → List (profiles.Fact CategorySpeeds)
-after_speeds fact told = option_map_or (λ p. speed_fact fact.place p ∷ told) (as_static_speeds fact.packet) told
+after_speeds fact reported = option_map_or (λ p. speed_fact fact.place p ∷ reported) (as_static_speeds fact.packet) reported
 
 -- packets one after another
 abbrev pub after_facts : {A : Type 0} → (Fact → A → A) → List Fact → A → A
-after_facts tell [] told = told
-after_facts tell (fact ∷ facts) told = after_facts tell facts (tell fact told)
+after_facts describe [] reported = reported
+after_facts describe (fact ∷ facts) reported = after_facts describe facts (describe fact reported)
 
 -- ---- what the mode deletes that is entered
 
 abbrev pub after_mode : {A : Type 0} → Item → (A → A) → Mode → A → A
-after_mode item deleted mode told = if deleting item mode then deleted told else told
+after_mode item deleted mode reported = if deleting item mode then deleted reported else reported
 
 abbrev pub links_deleted : List linking.LinkEntry → List linking.LinkEntry
 links_deleted entries = linking.LinkEntry.Announced [] ∷ entries
@@ -106,12 +106,12 @@ areas_deleted entries = areas.AreaEntry.Cleared ∷ entries
 abbrev pub level_deleted : List levels.LevelEntry → List levels.LevelEntry
 level_deleted entries = levels.LevelEntry.Forgotten ∷ entries
 
-abbrev pub none_told : {A : Type 0} → List A → List A
-none_told told = []
+abbrev pub none_reported : {A : Type 0} → List A → List A
+none_reported reported = []
 
--- ---- what the parts were told, and the forgetting mark
+-- ---- what the parts were reported, and the forgetting mark
 
-pub record TrackTold : Type 0 where
+pub record TrackReports : Type 0 where
   pub values : List national.NationalEntry
   pub links : List linking.LinkEntry
   pub grants : List authority.AuthorityEntry
@@ -122,46 +122,46 @@ pub record TrackTold : Type 0 where
   pub gradients : List (profiles.Fact ℤ)
   pub speeds : List (profiles.Fact CategorySpeeds)
 
-abbrev pub nothing_told : TrackTold
-nothing_told =
+abbrev pub nothing_reported : TrackReports
+nothing_reported =
     record { values = []; links = []; grants = []; areas = []; levels = []; restrictions = []; mark = neg_ℤ (pos outermost); gradients = []; speeds = [] }
 
 -- by a packet in the first walk over a message, and in the second
-abbrev pub earlier_told : Fact → TrackTold → TrackTold
-earlier_told fact told =
-    record told {
-      values = after_values fact told.values;
-      links = after_links fact told.links;
-      grants = after_authority fact told.grants;
-      areas = after_grant fact told.areas;
-      levels = after_level fact told.levels;
-      restrictions = after_restriction fact told.restrictions;
-      gradients = after_gradients fact told.gradients;
-      speeds = after_speeds fact told.speeds;
+abbrev pub earlier_reported : Fact → TrackReports → TrackReports
+earlier_reported fact reported =
+    record reported {
+      values = after_values fact reported.values;
+      links = after_links fact reported.links;
+      grants = after_authority fact reported.grants;
+      areas = after_grant fact reported.areas;
+      levels = after_level fact reported.levels;
+      restrictions = after_restriction fact reported.restrictions;
+      gradients = after_gradients fact reported.gradients;
+      speeds = after_speeds fact reported.speeds;
     }
 
-abbrev pub later_told : Fact → TrackTold → TrackTold
-later_told fact told =
-    record told { restrictions = after_revocation fact told.restrictions; areas = after_areas fact told.areas }
+abbrev pub later_reported : Fact → TrackReports → TrackReports
+later_reported fact reported =
+    record reported { restrictions = after_revocation fact reported.restrictions; areas = after_areas fact reported.areas }
 
 -- by a look at the train, and by a mode that is entered
-abbrev pub after_look : Span → TrackTold → TrackTold
-after_look train told =
-    record told {
-      values = national.NationalEntry.Reached train.max_front ∷ told.values;
-      grants = authority.AuthorityEntry.Passed train ∷ told.grants;
-      levels = levels.LevelEntry.Reached train.max_front ∷ told.levels;
+abbrev pub after_look : Span → TrackReports → TrackReports
+after_look train reported =
+    record reported {
+      values = national.NationalEntry.Reached train.max_front ∷ reported.values;
+      grants = authority.AuthorityEntry.Passed train ∷ reported.grants;
+      levels = levels.LevelEntry.Reached train.max_front ∷ reported.levels;
     }
 
-abbrev pub after_entering : Mode → TrackTold → TrackTold
-after_entering mode told =
-    record told {
-      links = after_mode item.Linking links_deleted mode told.links;
-      grants = after_mode item.Authority authority_deleted mode told.grants;
-      areas = after_mode item.ModeAreas areas_deleted mode told.areas;
-      levels = after_mode item.LevelAnnouncement level_deleted mode told.levels;
-      gradients = after_mode item.Profiles none_told mode told.gradients;
-      speeds = after_mode item.Profiles none_told mode told.speeds;
+abbrev pub after_entering : Mode → TrackReports → TrackReports
+after_entering mode reported =
+    record reported {
+      links = after_mode item.Linking links_deleted mode reported.links;
+      grants = after_mode item.Authority authority_deleted mode reported.grants;
+      areas = after_mode item.ModeAreas areas_deleted mode reported.areas;
+      levels = after_mode item.LevelAnnouncement level_deleted mode reported.levels;
+      gradients = after_mode item.Profiles none_reported mode reported.gradients;
+      speeds = after_mode item.Profiles none_reported mode reported.speeds;
     }
 
 -- what became of an announced group; only a packet announces some
@@ -170,60 +170,60 @@ after_link (linking.LinkEntry.Announced announcements) entries = entries
 after_link entry entries = entry ∷ entries
 
 -- by a happening
-abbrev pub after : Happening → TrackTold → TrackTold
-after (Happening.Ticked moment) told = record told { grants = authority.AuthorityEntry.Ticked moment ∷ told.grants }
-after (Happening.Moved by) told = told
-after (Happening.Linked entry) told = record told { links = after_link entry told.links }
-after (Happening.Accepted group) told = record told { values = national.NationalEntry.Entered group.country ∷ told.values }
-after (Happening.Fixed group fix) told = told
-after (Happening.Told fact) told = later_told fact (earlier_told fact told)
-after (Happening.Seen sight) told = after_look sight.train told
-after (Happening.Entered mode) told = after_entering mode told
-after (Happening.Marked mark) told =
-    record told { restrictions = track.RestrictionEntry.Forgotten mark ∷ told.restrictions; mark = int_max mark told.mark }
+abbrev pub after : Happening → TrackReports → TrackReports
+after (Happening.Ticked moment) reported = record reported { grants = authority.AuthorityEntry.Ticked moment ∷ reported.grants }
+after (Happening.Moved by) reported = reported
+after (Happening.Linked entry) reported = record reported { links = after_link entry reported.links }
+after (Happening.Accepted group) reported = record reported { values = national.NationalEntry.Entered group.country ∷ reported.values }
+after (Happening.Fixed group fix) reported = reported
+after (Happening.Reported fact) reported = later_reported fact (earlier_reported fact reported)
+after (Happening.Seen sight) reported = after_look sight.train reported
+after (Happening.Entered mode) reported = after_entering mode reported
+after (Happening.Marked mark) reported =
+    record reported { restrictions = track.RestrictionEntry.Forgotten mark ∷ reported.restrictions; mark = int_max mark reported.mark }
 
-abbrev pub told_in : List Happening → TrackTold
-told_in [] = nothing_told
-told_in (happening ∷ earlier) = after happening (told_in earlier)
+abbrev pub reported_in : List Happening → TrackReports
+reported_in [] = nothing_reported
+reported_in (happening ∷ earlier) = after happening (reported_in earlier)
 
-abbrev pub told_of : List TrackEntry → TrackTold
-told_of entries = told_in (happenings entries)
+abbrev pub description_of : List TrackEntry → TrackReports
+description_of entries = reported_in (happenings entries)
 
 -- ---- what the parts know of a life, and what stands for it, by these lists
 
-abbrev pub known_by : Life → TrackTold → KnownTrack
-known_by life told =
+abbrev pub known_by : Life → TrackReports → KnownTrack
+known_by life reported =
     record {
       place = place_of life.entries;
       group = group_of_fix life.entries;
       speed = speed_of life.entries;
       groups = groups_of life.entries;
-      links = linking.known told.links;
-      national = national.known life.kept told.values;
+      links = linking.known reported.links;
+      national = national.known life.kept reported.values;
       moment = moment_of life.entries;
-      authority = known_authority told.grants;
-      areas = stored told.areas;
-      level = levels.waiting told.levels;
+      authority = known_authority reported.grants;
+      areas = stored reported.areas;
+      level = levels.waiting reported.levels;
       happened = happened_of life.entries;
       stopped = is_stopped life.entries;
     }
 
 abbrev pub columns_of : Life → KnownTrack
-columns_of life = known_by life (told_of life.entries)
+columns_of life = known_by life (description_of life.entries)
 
-pub record StandsForTold {G S : Type 0} (stores : Stores G S) (known : Knowledge G S) (life : Life) (told : TrackTold) : Type 0 where
-  pub parts_are : known.parts ≡ known_by life told
-  pub restrictions_are : known.restrictions.track ≡ track.in_force told.restrictions
-  pub gradients_are : stores.gradients known.gradients ≡ profiles.profile_of (record { mark = told.mark; facts = told.gradients })
-  pub speeds_are : stores.speeds known.speeds ≡ profiles.profile_of (record { mark = told.mark; facts = told.speeds })
+pub record StandsForReported {G S : Type 0} (stores : Stores G S) (known : Knowledge G S) (life : Life) (reported : TrackReports) : Type 0 where
+  pub parts_are : known.parts ≡ known_by life reported
+  pub restrictions_are : known.restrictions.track ≡ track.in_force reported.restrictions
+  pub gradients_are : stores.gradients known.gradients ≡ profiles.profile_of (record { mark = reported.mark; facts = reported.gradients })
+  pub speeds_are : stores.speeds known.speeds ≡ profiles.profile_of (record { mark = reported.mark; facts = reported.speeds })
 
 abbrev pub StandsForColumns : {G S : Type 0} → Stores G S → Knowledge G S → Life → Type 0
-StandsForColumns stores known life = StandsForTold stores known life (told_of life.entries)
+StandsForColumns stores known life = StandsForReported stores known life (description_of life.entries)
 
 -- ---- a movement, by the announced groups that are left in these lists
 
 abbrev pub links_left : List TrackEntry → linking.KnownLinks
-links_left entries = linking.known (told_of entries).links
+links_left entries = linking.known (description_of entries).links
 
 abbrev pub passed : List TrackEntry → Begun → List Announcement
 passed entries begun = filter (is_passed_by (odometry.min_front (place_of (alone begun ∷ entries)))) (links_left entries).left
@@ -247,14 +247,14 @@ left_by entries reading = (closed_by (groups_of entries) (moved entries reading)
 abbrev pub after_moving : List TrackEntry → Reading → Used
 after_moving entries reading = record { groups = []; happened = happened_by entries reading }
 
--- what the parts were told after it, and know
-abbrev pub told_moved : List TrackEntry → Reading → TrackTold
-told_moved entries reading =
-    record (told_of entries) { links = linking.after_misses (moved entries reading).missed (told_of entries).links }
+-- what the parts were reported after it, and know
+abbrev pub reported_moved : List TrackEntry → Reading → TrackReports
+reported_moved entries reading =
+    record (description_of entries) { links = linking.after_misses (moved entries reading).missed (description_of entries).links }
 
 abbrev pub known_moved : Life → Reading → KnownTrack
 known_moved life reading =
-    known_by (grown_so_far life (moved life.entries reading) (after_moving life.entries reading)) (told_moved life.entries reading)
+    known_by (grown_so_far life (moved life.entries reading) (after_moving life.entries reading)) (reported_moved life.entries reading)
 
 -- .. but that the group being read hasn't taken it yet
 abbrev pub still_reading : Life → Reading → KnownTrack
@@ -269,9 +269,9 @@ after_country Ignore message entries = entries
 after_country (Reaction a) message entries = entries
 
 -- the verdict on a whole group; a broken one, where such links are left
-abbrev pub after_judging : Verdict → Message → TrackTold → TrackTold
-after_judging verdict message told =
-    record told { links = after_verdict verdict told.links; values = after_country verdict message told.values }
+abbrev pub after_judging : Verdict → Message → TrackReports → TrackReports
+after_judging verdict message reported =
+    record reported { links = after_verdict verdict reported.links; values = after_country verdict message reported.values }
 
-abbrev pub after_breaking : linking.KnownLinks → Broken → TrackTold → TrackTold
-after_breaking known group told = record told { links = after_broken known group.group group.linked told.links }
+abbrev pub after_breaking : linking.KnownLinks → Broken → TrackReports → TrackReports
+after_breaking known group reported = record reported { links = after_broken known group.group group.linked reported.links }

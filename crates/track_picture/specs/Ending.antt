@@ -1,7 +1,7 @@
 -- What an assessor asks of the facts that count (SUBSET-026, 4.10 and the sections of the table; the rest: this
 -- project's profile). Lists of happenings and of events have the newest first; a life begins with no happening.
 --
--- They don't say that the track tells a fact in time, nor that what ends a fact in the table is all that ought to.
+-- They don't say that the track says a fact in time, nor that what ends a fact in the table is all that ought to.
 use Rattle.std.specs.Prelude.{◌≡◌, ◌↔◌, ℕ, ◌≤◌, true, false, not, Option, None, List, [], ◌∷◌, ◌++◌, filter, filter_map, length}
 use Rattle.authority.specs.Laws.{IsAmong}
 use Rattle.mode_table.specs.declared.mode.Mode.{Mode}
@@ -32,7 +32,7 @@ pub record CameAnew (fact : TrackFact) (since : List Happening) : Type 0 where
   pub among : IsAmong cause since
   pub came : IsAmong fact (brought cause)
 
--- no fact counts behind what ends it, unless it came anew with that or behind it
+-- no fact counts after what ends it, unless it came anew with that or after it
 abbrev pub EndedCountsNoMore : Type 0
 EndedCountsNoMore = (later : List Happening) (happening : Happening) (earlier : List Happening) (fact : TrackFact) →
     ends happening fact ≡ true → IsAmong fact (live (later ++ (happening ∷ earlier))) → CameAnew fact (later ++ (happening ∷ []))
@@ -53,7 +53,7 @@ NoneAtPowerUp = (train_length : ℕ) → live (happenings (powered_up train_leng
 
 -- ---- kind by kind
 
--- of a kind count, behind a happening, the facts that it brings, and those of before that it doesn't end by their line
+-- of a kind count, after a happening, the facts that it brings, and those of before that it doesn't end by their line
 -- of the table
 abbrev pub ByItsLine : {X : Type 0} → (X → TrackFact) → (TrackFact → Option X) → Type 0
 ByItsLine of read = (happening : Happening) (earlier : List Happening) →

@@ -40,8 +40,8 @@ facts_in (Outcome.Accepted message announced fix facts) = facts
 
 -- what the input itself did
 pub record Begun : Type 0 where
-  pub clock : Option ℕ  -- the moment that the clock told
-  pub reading : Option Reading  -- what the odometer told
+  pub clock : Option ℕ  -- the moment that the clock reported
+  pub reading : Option Reading  -- what the odometer reported
   pub heard : Option groups.GroupEntry  -- a telegram that was read, or the path that the life has come to
   pub missed : List Announcement  -- the announced groups that the train has passed
 

@@ -47,18 +47,18 @@ and_judged (Outcome.Accepted message announced fix facts) before =
     (Happening.Accepted message.group ∷ option_map_or (λ a. Happening.Linked (linking.LinkEntry.Accepted a.number) ∷ before) announced before)
 
 -- packets one after another
-abbrev pub and_told : List Fact → List Happening → List Happening
-and_told [] before = before
-and_told (fact ∷ facts) before = and_told facts (Happening.Told fact ∷ before)
+abbrev pub and_reported : List Fact → List Happening → List Happening
+and_reported [] before = before
+and_reported (fact ∷ facts) before = and_reported facts (Happening.Reported fact ∷ before)
 
--- packets 66 and 80 come behind all others of a group
+-- packets 66 and 80 come after all others of a group
 abbrev pub comes_later : Packet → Bool
 comes_later packet = is_some (as_revocation packet) || is_some (as_mode_profile packet)
 
 -- those of a group
 abbrev pub and_used : List Fact → List Happening → List Happening
 and_used facts before =
-    and_told (filter (λ fact. comes_later fact.packet) facts) (and_told (filter (λ fact. not (comes_later fact.packet)) facts) before)
+    and_reported (filter (λ fact. comes_later fact.packet) facts) (and_reported (filter (λ fact. not (comes_later fact.packet)) facts) before)
 
 abbrev pub and_closed : List Outcome → List Happening → List Happening
 and_closed [] before = before

@@ -1,6 +1,6 @@
 -- What is known of the track and of the train on it, read off the entries of a life (SUBSET-026, 3.4.4, 3.7, 3.8, 3.11,
--- 3.12.4, 3.18.2 and 5.10; the rest: this project's profile). What the track told is read off the facts that count
--- behind the happenings of the life (`live`); place, speed, moment and groups are no facts that something ends, and are
+-- 3.12.4, 3.18.2 and 5.10; the rest: this project's profile). What the track announced is read off the facts that count
+-- after the happenings of the life (`live`); place, speed, moment and groups are no facts that something ends, and are
 -- read off the entries themselves. Distances and places are centimetres, moments milliseconds. Lists have the newest
 -- first. A reader may take for granted that an entry holds all that its event brought.
 use Rattle.std.specs.Prelude.{ℕ, ◌==◌, ℤ, Bool, false, Option, Some, None, unwrap_or, List, [], ◌∷◌}
@@ -18,7 +18,7 @@ use Rattle.linking.specs.Linking.{KnownLinks}
 use Rattle.odometry.specs.Place as odometry
 use Rattle.odometry.specs.declared.fix.Fix.{Fix}
 use Rattle.odometry.specs.Place.PlaceEntry.{Fixed}
-use Rattle.speed_profile.specs.declared.told.CategorySpeeds.{CategorySpeeds}
+use Rattle.speed_profile.specs.declared.reported.CategorySpeeds.{CategorySpeeds}
 use Rattle.track_store.specs.Facts as profiles
 use Rattle.track_store.specs.Profiles.{Profile}
 use Rattle.track_store.specs.Restrictions.{InForce}
@@ -42,7 +42,7 @@ areas_of entries = areas_in (happenings entries)
 abbrev pub announced_level : List TrackEntry → Option AnnouncedLevel
 announced_level entries = level_in (happenings entries)
 
--- the authority, and what its timers have seen, as the entries by which `authority` tells its end
+-- the authority, and what its timers have seen, as the entries by which `authority` says its end
 abbrev pub authorities : List TrackEntry → List AuthorityEntry
 authorities entries = authorities_in (happenings entries)
 
@@ -70,7 +70,7 @@ abbrev pub speed_of : List TrackEntry → ℕ
 speed_of [] = 0
 speed_of (entry ∷ entries) = option_map_or (λ reading. reading.speed) entry.begun.reading (speed_of entries)
 
--- ---- the place: movements, and behind them the fixes of the groups
+-- ---- the place: movements, and after them the fixes of the groups
 
 abbrev pub with_movement : Option Reading → List odometry.PlaceEntry → List odometry.PlaceEntry
 with_movement None entries = entries

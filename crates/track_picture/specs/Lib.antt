@@ -12,4 +12,4 @@ pub mod Stores
 pub mod StandsFor
 pub mod Ending
 pub mod Columns
-pub mod Told
+pub mod Reported

@@ -1,4 +1,4 @@
--- What counts of all that the track has told in a life (SUBSET-026, 3.4.4, 3.7, 3.8, 3.11, 3.12.4, 3.16.2, 3.18.2, 4.10
+-- What counts of all that the track has reported in a life (SUBSET-026, 3.4.4, 3.7, 3.8, 3.11, 3.12.4, 3.16.2, 3.18.2, 4.10
 -- and 5.10; the lines of the table: this project's profile). A fact counts from the happening that brings it until a
 -- later one ends it. A power-up begins with no happening, and so with no fact. Lists have the newest first. Places are
 -- centimetres, moments milliseconds.
@@ -15,7 +15,7 @@ use Rattle.areas.specs.declared.announcement.Announcement.{Announcement as Annou
 use Rattle.areas.specs.declared.area.Area.{Area}
 use Rattle.areas.specs.Entries as areas
 use Rattle.areas.specs.Levels as levels
-use Rattle.areas.specs.Telling.{areas_of}
+use Rattle.areas.specs.Description.{areas_of}
 use Rattle.authority.specs.Entries as authority
 use Rattle.authority.specs.Entries.{Sight}
 use Rattle.linking.specs.declared.announcement.Announcement.{Announcement}
@@ -31,8 +31,8 @@ use Rattle.national.specs.InForce as national
 use Rattle.odometry.specs.declared.fix.Fix.{Fix}
 use Rattle.restriction.specs.declared.restriction.Restriction.{Restriction}
 use Rattle.restriction.specs.Covering.{is_ended_by}
-use Rattle.speed_profile.specs.declared.told.CategorySpeeds.{CategorySpeeds}
-use Rattle.speed_profile.specs.Told.{gradient_fact, speed_fact}
+use Rattle.speed_profile.specs.declared.reported.CategorySpeeds.{CategorySpeeds}
+use Rattle.speed_profile.specs.Reported.{gradient_fact, speed_fact}
 use Rattle.track_store.specs.Facts as profiles
 use Rattle.track_picture.specs.Announcing.{announcements_of}
 use Rattle.track_picture.specs.Entry.{Fact}
@@ -40,12 +40,12 @@ use Rattle.track_picture.specs.Entry.{Fact}
 -- ---- what happens in a life
 
 pub data Happening : Type 0 where
-  Ticked : ℕ → Happening  -- the clock told a moment
-  Moved : ℤ → Happening  -- the odometer told a movement
+  Ticked : ℕ → Happening  -- the clock reported a moment
+  Moved : ℤ → Happening  -- the odometer reported a movement
   Linked : LinkEntry → Happening  -- an announced group was accepted, not used or broken, or missed, by the number of its link
   Accepted : GroupIdentity → Happening  -- a group was accepted
   Fixed : GroupIdentity → Fix → Happening  -- it made a fix of the train's place
-  Told : Fact → Happening  -- one of its packets was used
+  Reported : Fact → Happening  -- one of its packets was used
   Seen : Sight → Happening  -- the groups of an event are used, and the train is there
   Entered : Mode → Happening  -- another mode was entered
   Marked : ℤ → Happening  -- the track before this place is forgotten
@@ -76,21 +76,21 @@ restriction_of place p =
     }
 
 -- the level that a packet 41 announces: the first that the train can run in, if there is one
-abbrev pub level_told : Fact → Option AnnouncedLevel
-level_told fact = option_map_or (λ p. levels.announced_by (levels.fact_of p fact.place)) (as_level_transition fact.packet) None
+abbrev pub level_reported : Fact → Option AnnouncedLevel
+level_reported fact = option_map_or (λ p. levels.announced_by (levels.fact_of p fact.place)) (as_level_transition fact.packet) None
 
--- the facts that a packet tells; one that revokes restrictions (packet 66) tells none, nor does one that isn't known
-abbrev pub told_by : Fact → Packet → List TrackFact
-told_by fact (packets.NationalValues p) = TrackFact.Values (national.fact_of p fact.group.country fact.place) ∷ []
-told_by fact (packets.Linking p) = map TrackFact.Link (numbered (announcements_of fact.group fact.place p))
-told_by fact (packets.MovementAuthority p) = TrackFact.Authority (authority.fact_of p fact.place fact.moment) ∷ []
-told_by fact (packets.Gradients p) = TrackFact.Gradients (gradient_fact fact.place p) ∷ []
-told_by fact (packets.StaticSpeeds p) = TrackFact.Speeds (speed_fact fact.place p) ∷ []
-told_by fact (packets.LevelTransition p) = option_map_or (λ level. TrackFact.Level level ∷ []) (level_told fact) []
-told_by fact (packets.SpeedRestriction p) = TrackFact.Restricted (restriction_of fact.place p) ∷ []
-told_by fact (packets.RestrictionRevocation p) = []
-told_by fact (packets.ModeProfile p) = TrackFact.Areas (areas_of (areas.fact_of p fact.place)) ∷ []
-told_by fact (packets.Other p) = []
+-- the facts that a packet says; one that revokes restrictions (packet 66) reports none, nor does one that isn't known
+abbrev pub reported_by : Fact → Packet → List TrackFact
+reported_by fact (packets.NationalValues p) = TrackFact.Values (national.fact_of p fact.group.country fact.place) ∷ []
+reported_by fact (packets.Linking p) = map TrackFact.Link (numbered (announcements_of fact.group fact.place p))
+reported_by fact (packets.MovementAuthority p) = TrackFact.Authority (authority.fact_of p fact.place fact.moment) ∷ []
+reported_by fact (packets.Gradients p) = TrackFact.Gradients (gradient_fact fact.place p) ∷ []
+reported_by fact (packets.StaticSpeeds p) = TrackFact.Speeds (speed_fact fact.place p) ∷ []
+reported_by fact (packets.LevelTransition p) = option_map_or (λ level. TrackFact.Level level ∷ []) (level_reported fact) []
+reported_by fact (packets.SpeedRestriction p) = TrackFact.Restricted (restriction_of fact.place p) ∷ []
+reported_by fact (packets.RestrictionRevocation p) = []
+reported_by fact (packets.ModeProfile p) = TrackFact.Areas (areas_of (areas.fact_of p fact.place)) ∷ []
+reported_by fact (packets.Other p) = []
 
 abbrev pub missed_by : LinkEntry → List TrackFact
 missed_by (linking.LinkEntry.Announced announcements) = []
@@ -105,7 +105,7 @@ brought (Happening.Moved by) = []
 brought (Happening.Linked entry) = missed_by entry
 brought (Happening.Accepted group) = []
 brought (Happening.Fixed group fix) = []
-brought (Happening.Told fact) = told_by fact fact.packet
+brought (Happening.Reported fact) = reported_by fact fact.packet
 brought (Happening.Seen sight) = TrackFact.Look sight ∷ []
 brought (Happening.Entered mode) = []
 brought (Happening.Marked mark) = []
@@ -159,7 +159,7 @@ new_authority_or_areas fact = is_some (as_movement_authority fact.packet) || is_
 
 -- a packet 41 that announces a level
 abbrev pub new_level : Fact → Bool
-new_level fact = is_some (level_told fact)
+new_level fact = is_some (level_reported fact)
 
 -- the number of a restriction (packet 65) or of a revocation (packet 66)
 abbrev pub number_of : Fact → Option ℕ
@@ -200,14 +200,14 @@ table TrackFact.Miss = line no_mode no_packet no_place accepted_group
 table (TrackFact.Authority granted) = line (deleting item.Authority) new_authority no_place no_group
 table (TrackFact.Look sight) = line (deleting item.Authority) new_authority no_place no_group
 -- 21 and 27: a later profile covers it from its first place on, and doesn't end it (3.7, 3.11)
-table (TrackFact.Gradients told) = line (deleting item.Profiles) no_packet no_place no_group
-table (TrackFact.Speeds told) = line (deleting item.Profiles) no_packet no_place no_group
+table (TrackFact.Gradients reported) = line (deleting item.Profiles) no_packet no_place no_group
+table (TrackFact.Speeds reported) = line (deleting item.Profiles) no_packet no_place no_group
 -- 41: the latest level, until its place is reached: then it is in force (5.10)
 table (TrackFact.Level level) = line (deleting item.LevelAnnouncement) new_level (level_reached level) no_group
--- 65: until its number is told again or revoked (3.11.5)
+-- 65: until its number is reported again or revoked (3.11.5)
 table (TrackFact.Restricted restriction) = line (deleting item.Restrictions) (same_number restriction) no_place no_group
 -- 80: the latest areas, until a later authority (3.12.4)
-table (TrackFact.Areas told) = line (deleting item.ModeAreas) new_authority_or_areas no_place no_group
+table (TrackFact.Areas reported) = line (deleting item.ModeAreas) new_authority_or_areas no_place no_group
 
 -- a line names a happening
 abbrev pub names : Line → Happening → Bool
@@ -216,7 +216,7 @@ names line (Happening.Moved by) = false
 names line (Happening.Linked entry) = line.groups entry
 names line (Happening.Accepted group) = false
 names line (Happening.Fixed group fix) = false
-names line (Happening.Told fact) = line.packets fact
+names line (Happening.Reported fact) = line.packets fact
 names line (Happening.Seen sight) = line.places sight.train
 names line (Happening.Entered mode) = line.modes mode
 names line (Happening.Marked mark) = false

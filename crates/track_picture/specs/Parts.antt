@@ -19,7 +19,7 @@ use Rattle.national.specs.Values.{ValuesFor}
 use Rattle.odometry.specs.Place as odometry
 use Rattle.restriction.specs.declared.restriction.Restriction.{Restriction}
 use Rattle.restriction.specs.Covering.{reaches_past}
-use Rattle.speed_profile.specs.declared.told.CategorySpeeds.{CategorySpeeds}
+use Rattle.speed_profile.specs.declared.reported.CategorySpeeds.{CategorySpeeds}
 use Rattle.track_store.specs.Facts as profiles
 use Rattle.track_store.specs.Restrictions.{InForce}
 use Rattle.track_store.specs.Profiles.{is_any}
@@ -48,11 +48,11 @@ as_look (TrackFact.Look sight) = Some sight
 as_look fact = None
 
 abbrev pub as_gradients : TrackFact → Option (profiles.Fact ℤ)
-as_gradients (TrackFact.Gradients told) = Some told
+as_gradients (TrackFact.Gradients reported) = Some reported
 as_gradients fact = None
 
 abbrev pub as_speeds : TrackFact → Option (profiles.Fact CategorySpeeds)
-as_speeds (TrackFact.Speeds told) = Some told
+as_speeds (TrackFact.Speeds reported) = Some reported
 as_speeds fact = None
 
 abbrev pub as_level : TrackFact → Option AnnouncedLevel
@@ -86,7 +86,7 @@ mark_in [] = neg_ℤ (pos outermost)
 mark_in (Happening.Marked mark ∷ earlier) = int_max mark (mark_in earlier)
 mark_in (happening ∷ earlier) = mark_in earlier
 
--- restrictions are told the oldest first
+-- restrictions are reported the oldest first
 abbrev pub restrictions_in : List Happening → InForce
 restrictions_in happenings = record {
   mark = mark_in happenings;
@@ -110,11 +110,11 @@ links_in happenings = record {
   has_missed = is_any (filter_map as_miss (live happenings));
 }
 
--- the moment for the timers: what the clock told last, or when an authority was accepted
+-- the moment for the timers: what the clock reported last, or when an authority was accepted
 abbrev pub moment_in : List Happening → ℕ
 moment_in [] = 0
 moment_in (Happening.Ticked moment ∷ earlier) = moment
-moment_in (Happening.Told fact ∷ earlier) =
+moment_in (Happening.Reported fact ∷ earlier) =
     option_map_or (λ p. fact.moment) (as_movement_authority fact.packet) (moment_in earlier)
 moment_in (happening ∷ earlier) = moment_in earlier
 
@@ -125,7 +125,7 @@ granted_in happenings = newest (filter_map as_authority (live happenings))
 abbrev pub looks_in : List Happening → List Sight
 looks_in happenings = filter_map as_look (live happenings)
 
--- both as the entries by which `authority` tells the end of authority: the moment now, each look with its moment, and
+-- both as the entries by which `authority` reports the end of authority: the moment now, each look with its moment, and
 -- the acceptance
 abbrev pub looked : List Sight → List AuthorityEntry → List AuthorityEntry
 looked [] entries = entries

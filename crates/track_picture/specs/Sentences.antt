@@ -84,7 +84,7 @@ happened_first entries (Odometer reading) = happened_by entries reading
 happened_first entries (Clock moment) = nothing_happened
 happened_first entries (Driver action) = nothing_happened
 
--- ---- then the groups that closed: the one that was ended, and behind it the one that is whole. Each is judged by
+-- ---- then the groups that closed: the one that was ended, and after it the one that is whole. Each is judged by
 -- linking, by the place of the train at its reading
 
 abbrev pub group_read : odometry.KnownPlace → Message → GroupRead

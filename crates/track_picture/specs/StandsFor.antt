@@ -40,7 +40,7 @@ pub record KnownTrack : Type 0 where
   pub happened : Happened
   pub stopped : Bool
 
--- .. and what grows with what the track tells, as its stores keep it: restrictions and profiles
+-- .. and what grows with what the track says, as its stores keep it: restrictions and profiles
 pub record Knowledge (G S : Type 0) : Type 0 where
   pub parts : KnownTrack
   pub restrictions : track.Held

@@ -1,6 +1,6 @@
 -- What contracts see of the two stores of the profiles, however these keep them (this project's profile).
 use Rattle.std.specs.Prelude.{ℕ, ℤ}
-use Rattle.speed_profile.specs.declared.told.CategorySpeeds.{CategorySpeeds}
+use Rattle.speed_profile.specs.declared.reported.CategorySpeeds.{CategorySpeeds}
 use Rattle.track_store.specs.Profiles.{Profile}
 use Rattle.track_store.specs.Remembered as remembered
 use Rattle.track_store.specs.Remembered.{Listed, profile_listed}

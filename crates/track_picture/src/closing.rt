@@ -12,7 +12,7 @@ ghost use Rattle.track_picture.specs.Entry.Outcome.{Accepted, Broken as NoMessag
 ghost use Rattle.track_picture.specs.Sentences.{group_read, accepted, outcome_at_first, outcome, after_group, with_closed};
 ghost use Rattle.track_picture.specs.Steps.{facts};
 ghost use Rattle.track_picture.specs.StandsFor.{Life, SameTrack, grown, grown_so_far, room_in};
-ghost use Rattle.track_picture.specs.Columns.{TrackTold, StandsForColumns, known_by, after_judging, after_breaking};
+ghost use Rattle.track_picture.specs.Columns.{TrackReports, StandsForColumns, known_by, after_judging, after_breaking};
 
 use crate::parts::Parts;
 use crate::state::TracksideOver;
@@ -40,10 +40,10 @@ impl Parts {
     // country.
     fn judge(&mut self, message: &Message) -> Verdict
         ensures answer { result ≡ (judgement self.old.links (group_read self.old.place message.now)).verdict }
-        ensures stands { (life : Life) (begun : Begun) (used : Used) (told : TrackTold) → self.old ≡ known_by (grown_so_far life begun used) told
+        ensures stands { (life : Life) (begun : Begun) (used : Used) (reported : TrackReports) → self.old ≡ known_by (grown_so_far life begun used) reported
             → (let j = judgement self.old.links (group_read self.old.place message.now) in
             self.new ≡ known_by (grown_so_far life begun (added (outcome_at_first message.now j.verdict) (asking_for j.effect used)))
-            (after_judging j.verdict message.now told)) }
+            (after_judging j.verdict message.now reported)) }
     {
         let group = self.group_read(message);
         let judgement = self.links.judge(&group);
@@ -56,9 +56,9 @@ impl Parts {
 
     // A broken group: what linking asks for it.
     fn give_up(&mut self, group: &Broken)
-        ensures { (life : Life) (begun : Begun) (used : Used) (told : TrackTold) → self.old ≡ known_by (grown_so_far life begun used) told
+        ensures { (life : Life) (begun : Begun) (used : Used) (reported : TrackReports) → self.old ≡ known_by (grown_so_far life begun used) reported
             → self.new ≡ known_by (grown_so_far life begun (added (NoMessage group.now)
-            (asking_for (broken_effect self.old.links group.now.group group.now.linked) used))) (after_breaking self.old.links group.now told) }
+            (asking_for (broken_effect self.old.links group.now.group group.now.linked) used))) (after_breaking self.old.links group.now reported) }
     {
         let asked = self.links.broken(group.group, group.linked);
         self.happened = self.happened.asking(asked);
@@ -164,12 +164,12 @@ impl<T: ProfileStores> TracksideOver<T> {
 
 /// The direction in which a group was passed: that of its balises, else the announced one (SUBSET-026, 3.4).
 pub fn direction_by(
-    told: &Option<LinkOrientation>,
+    reported: &Option<LinkOrientation>,
     announced: &Option<Announcement>,
 ) -> Option<LinkOrientation>
-    ensures { result ≡ option_or told.now (option_map (λ a. a.direction) announced.now) }
+    ensures { result ≡ option_or reported.now (option_map (λ a. a.direction) announced.now) }
 {
-    match (told, announced) {
+    match (reported, announced) {
         (Some(direction), _) => Some(*direction),
         (None, Some(announcement)) => Some(announcement.direction),
         (None, None) => None,

@@ -32,7 +32,7 @@ pub enum MessageOutcome {
     Accepted(Option<Announcement>),
     /// Its group is linked and isn't announced while others are (3.4.4). It isn't used.
     NotAnnounced,
-    /// Its group was passed in another direction than this announcement tells (3.16.2.3). It isn't used.
+    /// Its group was passed in another direction than this announcement reports (3.16.2.3). It isn't used.
     WrongWay(Announcement),
     /// Its group was found before the place that this announcement allows (3.16.2). It isn't used.
     TooEarly(Announcement),

@@ -11,7 +11,7 @@ ghost use Rattle.track_store.specs.Facts.{MarkedFacts, profile_of};
 ghost use Rattle.track_store.specs.Profiles.{profile_with};
 ghost use Rattle.track_picture.specs.Entry.{TrackEntry};
 ghost use Rattle.track_picture.specs.Live.{deleting};
-ghost use Rattle.track_picture.specs.Columns.{after_mode, links_deleted, authority_deleted, areas_deleted, level_deleted, none_told, TrackTold, known_by, after_entering};
+ghost use Rattle.track_picture.specs.Columns.{after_mode, links_deleted, authority_deleted, areas_deleted, level_deleted, none_reported, TrackReports, known_by, after_entering};
 ghost use Rattle.track_picture.specs.StandsFor.{Life, StandsForLife, grown, size_in};
 
 use crate::parts::Parts;
@@ -67,8 +67,8 @@ fn leave_level(level: &mut AnnouncedLevel, mode: Mode)
 }
 
 fn leave_profile<T, P: ProfileStore<T>>(profile: &mut P, mode: Mode)
-    ensures profile { (told : MarkedFacts T) → P.profile profile.old ≡ profile_of told
-        → P.profile profile.new ≡ profile_of (record told { facts = after_mode item.Profiles none_told mode told.facts }) }
+    ensures profile { (reported : MarkedFacts T) → P.profile profile.old ≡ profile_of reported
+        → P.profile profile.new ≡ profile_of (record reported { facts = after_mode item.Profiles none_reported mode reported.facts }) }
     ensures size { P.size profile.new ≤ P.size profile.old }
 {
     if is_deleted(Item::Profiles, mode) {
@@ -79,7 +79,7 @@ fn leave_profile<T, P: ProfileStore<T>>(profile: &mut P, mode: Mode)
 impl Parts {
     // A mode is entered.
     fn enter(&mut self, mode: Mode)
-        ensures { (life : Life) (told : TrackTold) → self.old ≡ known_by life told → self.new ≡ known_by life (after_entering mode told) }
+        ensures { (life : Life) (reported : TrackReports) → self.old ≡ known_by life reported → self.new ≡ known_by life (after_entering mode reported) }
     {
         leave_links(&mut self.links, mode);
         leave_authority(&mut self.authority, mode);

@@ -6,7 +6,7 @@ pub fn counts_while_not_ended()
     ensures { CountsWhileNotEnded }
 {}
 
-/// A law: no fact counts behind what ends it, unless it came anew.
+/// A law: no fact counts after what ends it, unless it came anew.
 pub fn ended_counts_no_more()
     ensures { EndedCountsNoMore }
 {}

@@ -6,7 +6,7 @@ ghost use Rattle.track_picture.specs.History.{place_of};
 ghost use Rattle.track_picture.specs.Sentences.{own_place, place_by, is_free, fix_of};
 ghost use Rattle.track_picture.specs.Steps.{fix_wanted};
 ghost use Rattle.track_picture.specs.StandsFor.{Life, StandsForLife, grown_so_far};
-ghost use Rattle.track_picture.specs.Columns.{TrackTold, known_by};
+ghost use Rattle.track_picture.specs.Columns.{TrackReports, known_by};
 
 use crate::parts::Parts;
 use crate::state::TracksideOver;
@@ -34,14 +34,14 @@ impl Parts {
         announced: &Option<Announcement>,
         free: bool,
     ) -> GroupPlace
-        ensures answer { (life : Life) (begun : Begun) (used : Used) (told : TrackTold)
-            → self.old ≡ known_by (grown_so_far life begun (added (Accepted message.now announced.now None []) used)) told
+        ensures answer { (life : Life) (begun : Begun) (used : Used) (reported : TrackReports)
+            → self.old ≡ known_by (grown_so_far life begun (added (Accepted message.now announced.now None []) used)) reported
             → (let here = place_of (record blank { begun = begun; used = added (Accepted message.now announced.now None []) used } ∷ life.entries) in
             result ≡ place_by (own_place here message.now) (fix_of here free message.now announced.now)) }
-        ensures stands { (life : Life) (begun : Begun) (used : Used) (told : TrackTold)
-            → self.old ≡ known_by (grown_so_far life begun (added (Accepted message.now announced.now None []) used)) told
+        ensures stands { (life : Life) (begun : Begun) (used : Used) (reported : TrackReports)
+            → self.old ≡ known_by (grown_so_far life begun (added (Accepted message.now announced.now None []) used)) reported
             → (let here = place_of (record blank { begun = begun; used = added (Accepted message.now announced.now None []) used } ∷ life.entries) in
-            self.new ≡ known_by (grown_so_far life begun (added (Accepted message.now announced.now (fix_of here free message.now announced.now) []) used)) told) }
+            self.new ≡ known_by (grown_so_far life begun (added (Accepted message.now announced.now (fix_of here free message.now announced.now) []) used)) reported) }
     {
         let own = self.place.place_at(&message.sums).estimate;
         let Some(wanted) = fix_wanted(free, own, announced) else {

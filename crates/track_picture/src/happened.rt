@@ -4,7 +4,7 @@ ghost use Rattle.track_picture.specs.Entry.{asking};
 
 use linking::Effect;
 
-/// What an event brings about for the train, beside its packets (this project's profile).
+/// What an event brings about for the train, along with its packets (this project's profile).
 #[derive(Clone, Copy)]
 pub struct Happened {
     /// Whether its movement led too far, and wasn't added.

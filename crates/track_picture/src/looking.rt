@@ -6,7 +6,7 @@ ghost use Rattle.track_picture.specs.Entry.{TrackEntry};
 ghost use Rattle.track_picture.specs.History.{announced_level};
 ghost use Rattle.track_picture.specs.Sentences.{span_with, mark_behind};
 ghost use Rattle.track_picture.specs.StandsFor.{Life, StandsForLife, grown, size_in};
-ghost use Rattle.track_picture.specs.Columns.{TrackTold, StandsForColumns, known_by, after_look};
+ghost use Rattle.track_picture.specs.Columns.{TrackReports, StandsForColumns, known_by, after_look};
 
 use crate::parts::Parts;
 use crate::state::TracksideOver;
@@ -32,7 +32,7 @@ impl Parts {
     #[inline(always)]
     fn look(&mut self, train: &Stretch) -> Option<TrainLevel>
         ensures level { result ≡ coming train.now.max_front self.old.level }
-        ensures stands { (life : Life) (told : TrackTold) → self.old ≡ known_by life told → self.new ≡ known_by life (after_look train.now told) }
+        ensures stands { (life : Life) (reported : TrackReports) → self.old ≡ known_by life reported → self.new ≡ known_by life (after_look train.now reported) }
     {
         self.authority.pass(train);
         self.national.reach(train.max_front());

@@ -1,6 +1,6 @@
 //! What an input does: its own effect, and then that of the groups which it closes.
 ghost use Rattle.std.specs.Prelude.{◌≡◌, ◌≤◌, ◌+◌, ℕ, length, true, false, List, ◌∷◌, IsOk, OnOk, OnErr, Some, None, is_none};
-ghost use Rattle.events.specs.declared.input.Reading.{Reading as Told};
+ghost use Rattle.events.specs.declared.input.Reading.{Reading as Reported};
 ghost use Rattle.balise_groups.specs.Rooms.{packets_in, packets_of_closed};
 ghost use Rattle.track_picture.specs.Bytes.{telegram_in};
 ghost use Rattle.track_picture.specs.Entry.{nothing_happened, no_groups, nothing};
@@ -56,15 +56,15 @@ impl Parts {
 
     /// Whether no group is being read, so that no movement closes one.
     pub(crate) fn is_idle(&self) -> bool
-        ensures { (life : Life) (reading : Told) → self.now ≡ columns_of life → result ≡ true → left_by life.entries reading ≡ None }
+        ensures { (life : Life) (reading : Reported) → self.now ≡ columns_of life → result ≡ true → left_by life.entries reading ≡ None }
     {
         self.groups.is_idle()
     }
 
     /// The group being read is left, and ends.
     pub(crate) fn leave(&mut self) -> Option<Closed>
-        ensures answer { (life : Life) (reading : Told) → self.old ≡ still_reading life reading → result ≡ left_by life.entries reading }
-        ensures stands { (life : Life) (reading : Told) → self.old ≡ still_reading life reading → self.new ≡ known_moved life reading }
+        ensures answer { (life : Life) (reading : Reported) → self.old ≡ still_reading life reading → result ≡ left_by life.entries reading }
+        ensures stands { (life : Life) (reading : Reported) → self.old ≡ still_reading life reading → self.new ≡ known_moved life reading }
         ensures packets { packets_of_closed result ≤ packets_in self.old.groups.readings }
     {
         self.groups.moved(self.place.sums().path())
@@ -139,7 +139,7 @@ impl<T: ProfileStores> TracksideOver<T> {
         Ok(())
     }
 
-    // A telegram: the group that it ends closes, and behind that its own where that is whole now. There is room for the
+    // A telegram: the group that it ends closes, and after that its own where that is whole now. There is room for the
     // packets of both.
     fn take(&mut self, mode: Mode, telegram: Received)
         requires { packets_in self.old.parts.groups.readings + length telegram.packets.items ≤ room_in T.stores self.old }

@@ -1,4 +1,4 @@
-//! Room for all that the groups of an event may add, so that behind it nothing can be refused.
+//! Room for all that the groups of an event may add, so that after it nothing can be refused.
 ghost use Rattle.std.specs.Prelude.{◌≡◌, ◌≤◌, IsOk, OnOk, OnErr};
 ghost use Rattle.track_picture.specs.StandsFor.{Life, room_in};
 ghost use Rattle.track_picture.specs.Columns.{StandsForColumns};

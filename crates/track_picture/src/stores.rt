@@ -38,7 +38,7 @@ impl ProfileStores for Segments {
     ghost stores_are = { refl };
 }
 
-/// Stores that keep all that was told.
+/// Stores that keep all that was reported.
 pub struct Facts;
 
 impl ProfileStores for Facts {

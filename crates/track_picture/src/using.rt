@@ -8,7 +8,7 @@ ghost use Rattle.track_picture.specs.Columns.{after_facts};
 ghost use Rattle.track_picture.specs.Sentences.{is_valid, valid_in, is_used};
 ghost use Rattle.track_picture.specs.StandsFor.{room_in};
 ghost use Rattle.track_picture.specs.Steps.{fact_of, facts};
-ghost use Rattle.track_picture.specs.Told.{Walked, IsTold as IsAllTold, known_of, after_earlier, after_later};
+ghost use Rattle.track_picture.specs.Reported.{Walked, IsReported as IsAllReported, known_of, after_earlier, after_later};
 ghost use Rattle.track_picture.specs.Happenings.{comes_later};
 
 mod gradients;
@@ -105,20 +105,20 @@ fn met_later(before: bool, packet: &Packet<'_>) -> bool
 }
 
 /// A walk over the packets of a message, and what a state takes of them one after another. It takes no memory, in the
-/// room that was made for so many packets of the walk, and for more behind them.
+/// room that was made for so many packets of the walk, and for more after them.
 pub trait Walk<T> {
-    ghost Told: { Type 0 };
+    ghost Reported: { Type 0 };
 
-    ghost IsTold: { T → Told → Type 0 };
+    ghost IsReported: { T → Reported → Type 0 };
 
     ghost HasRoom: { ℕ → ℕ → T → Type 0 };
 
-    ghost after: { Fact → Told → Told };
+    ghost after: { Fact → Reported → Reported };
 
     /// Takes what concerns this walk of a packet that is used.
     fn take(state: &mut T, packet: &Packet<'_>, used: &Use)
         requires { (left : ℕ) × HasRoom (left + 1) 0 state.old }
-        ensures told { (told : Told) → IsTold state.old told → IsTold state.new (after (fact_of used.now packet.now) told) }
+        ensures reported { (reported : Reported) → IsReported state.old reported → IsReported state.new (after (fact_of used.now packet.now) reported) }
         ensures room { (left behind : ℕ) → HasRoom (left + 1) behind state.old → HasRoom left behind state.new };
 
     ghost less: { (left behind : ℕ) (state : T) → HasRoom (left + 1) behind state → HasRoom left behind state };
@@ -127,8 +127,8 @@ pub trait Walk<T> {
 // One packet of a walk.
 fn take_one<T, W: Walk<T>>(state: &mut T, packet: &Packet<'_>, used: &Use)
     requires { (left : ℕ) × W.HasRoom (left + 1) 0 state.old }
-    ensures told { (told : W.Told) → W.IsTold state.old told
-        → W.IsTold state.new (if is_used used.now.mode used.now.direction packet.now then W.after (fact_of used.now packet.now) told else told) }
+    ensures reported { (reported : W.Reported) → W.IsReported state.old reported
+        → W.IsReported state.new (if is_used used.now.mode used.now.direction packet.now then W.after (fact_of used.now packet.now) reported else reported) }
     ensures room { (left behind : ℕ) → W.HasRoom (left + 1) behind state.old → W.HasRoom left behind state.new }
 {
     if is_used(packet, used) {
@@ -140,7 +140,7 @@ fn take_one<T, W: Walk<T>>(state: &mut T, packet: &Packet<'_>, used: &Use)
 /// walk as the message has.
 pub fn take_all<T, W: Walk<T>>(state: &mut T, packets: &GroupPackets, used: &Use) -> bool
     requires { W.HasRoom (length packets.now) 0 state.old }
-    ensures told { (told : W.Told) → W.IsTold state.old told → W.IsTold state.new (after_facts W.after (facts used.now packets.now) told) }
+    ensures reported { (reported : W.Reported) → W.IsReported state.old reported → W.IsReported state.new (after_facts W.after (facts used.now packets.now) reported) }
     ensures room { (behind : ℕ) → W.HasRoom (length packets.now) behind state.old → W.HasRoom 0 behind state.new }
     ensures later { result ≡ list_any comes_later packets.now }
     ensures none { length packets.now ≡ 0 → state.new ≡ state.old }
@@ -157,8 +157,8 @@ pub fn take_all<T, W: Walk<T>>(state: &mut T, packets: &GroupPackets, used: &Use
 
 impl Parts {
     // Takes what a packet has for one of these parts in the first walk.
-    fn tell(&mut self, packet: &Packet<'_>, used: &Use)
-        ensures { (told : Walked) → self.old ≡ known_of told → self.new ≡ known_of (after_earlier (fact_of used.now packet.now) told) }
+    fn describe(&mut self, packet: &Packet<'_>, used: &Use)
+        ensures { (reported : Walked) → self.old ≡ known_of reported → self.new ≡ known_of (after_earlier (fact_of used.now packet.now) reported) }
     {
         values::take(&mut self.national, packet, used);
         links::take(&mut self.links, packet, used);
@@ -169,22 +169,22 @@ impl Parts {
     }
 
     // .. and in the second.
-    fn tell_later(&mut self, packet: &Packet<'_>, used: &Use)
-        ensures { (told : Walked) → self.old ≡ known_of told → self.new ≡ known_of (after_later (fact_of used.now packet.now) told) }
+    fn describe_later(&mut self, packet: &Packet<'_>, used: &Use)
+        ensures { (reported : Walked) → self.old ≡ known_of reported → self.new ≡ known_of (after_later (fact_of used.now packet.now) reported) }
     {
         mode_areas::take(&mut self.areas, packet, used);
     }
 }
 
-/// The walk over all kinds of packets but those that come behind another kind of the same part.
+/// The walk over all kinds of packets but those that come after another kind of the same part.
 pub struct Earlier;
 
 impl<T: ProfileStores> Walk<TracksideOver<T>> for Earlier {
     ghost use Rattle.std.proofs.Common.{arith};
 
-    ghost Told = { Walked };
+    ghost Reported = { Walked };
 
-    ghost IsTold = { λ state told. IsAllTold T.stores state told };
+    ghost IsReported = { λ state reported. IsAllReported T.stores state reported };
 
     ghost HasRoom = { λ left behind state. left + behind ≤ room_in T.stores state };
 
@@ -194,21 +194,21 @@ impl<T: ProfileStores> Walk<TracksideOver<T>> for Earlier {
 
     fn take(state: &mut TracksideOver<T>, packet: &Packet<'_>, used: &Use) {
         let mark = state.restrictions.mark();
-        state.parts.tell(packet, used);
+        state.parts.describe(packet, used);
         restrictions::take(&mut state.restrictions, packet, used);
         gradients::take(&mut state.gradients, mark, packet, used);
         speeds::take(&mut state.speeds, mark, packet, used);
     }
 }
 
-/// The walk over the revocations, behind the restrictions, and over the mode areas, behind the authorities. It needs no
+/// The walk over the revocations, after the restrictions, and over the mode areas, after the authorities. It needs no
 /// room.
 pub struct Later;
 
 impl<T: ProfileStores> Walk<TracksideOver<T>> for Later {
-    ghost Told = { Walked };
+    ghost Reported = { Walked };
 
-    ghost IsTold = { λ state told. IsAllTold T.stores state told };
+    ghost IsReported = { λ state reported. IsAllReported T.stores state reported };
 
     ghost HasRoom = { λ left behind state. behind ≤ room_in T.stores state };
 
@@ -217,7 +217,7 @@ impl<T: ProfileStores> Walk<TracksideOver<T>> for Later {
     ghost less = { λ left behind state room. room };
 
     fn take(state: &mut TracksideOver<T>, packet: &Packet<'_>, used: &Use) {
-        state.parts.tell_later(packet, used);
+        state.parts.describe_later(packet, used);
         revocations::take(&mut state.restrictions, packet, used);
     }
 }

@@ -10,7 +10,7 @@ use Rattle.track_store.specs.Segments.{value_among, value_of_segments, value_beh
 use Rattle.track_store.proofs.Segmenting.{below, not_below, before_rising, rising_cut, rising_of}
 
 module _ {A : Type 0} where
-  -- the value behind all starts is that of the last segment
+  -- the value after all starts is that of the last segment
   pub behind_last : (otherwise : Option A) (segments : List (Segment A)) (i : ℕ) (d : Segment A) → i + 1 ≡ length segments →
       value_behind otherwise segments ≡ (get_or segments i d).value
   behind_last otherwise [] i d h = absurd (omega arith)
@@ -101,7 +101,7 @@ module _ {A : Type 0} where
   kept_behind [] k = tt
   kept_behind (first ∷ segments) k = (k.0, k.1.1)
 
-  -- what follows the first segment starts behind a mark before which it doesn't lie wholly
+  -- what follows the first segment starts after a mark before which it doesn't lie wholly
   rest_ahead : (mark : ℤ) (first : Segment A) (segments : List (Segment A)) → is_first_passed mark (first ∷ segments) ≡ false →
       IsRisingFrom first.start segments → IsRisingFrom mark segments
   rest_ahead mark first [] h r = tt

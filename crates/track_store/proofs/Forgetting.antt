@@ -1,4 +1,4 @@
--- What is left of the facts that were told once the track before a mark is forgotten.
+-- What is left of the facts that were reported once the track before a mark is forgotten.
 use Rattle.std.proofs.Common.{◌≡◌, ℕ, ◌+◌, ◌<◌, ◌≤◌, ℤ, List, [], ◌∷◌, ◌++◌, length, get_or, take, drop, map, Bool, true, false, cond, refl, ap, sym, ◌∙◌, append_assoc, arith}
 use Rattle.std.specs.Prelude.{int_lt, Option, None}
 use Rattle.std.specs.Int.{int_max}

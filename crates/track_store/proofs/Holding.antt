@@ -1,4 +1,4 @@
--- What was told gives the same from the last place of a step, of a fact or of its mark on, up to a place.
+-- What was reported gives the same from the last place of a step, of a fact or of its mark on, up to a place.
 use Rattle.std.proofs.Common.{◌≡◌, ℤ, ◌≤ℤ◌, ◌<ℤ◌, List, [], ◌∷◌, Bool, true, false, cond, refl, arith}
 use Rattle.std.specs.Prelude.{int_lt, not, ◌&&◌}
 use Rattle.std.proofs.lemmas.Int.{ints}
@@ -21,7 +21,7 @@ later_below place last change h =
     elim [ true ↦ elim [ true ↦ λ e. grind (arith, ints) | false ↦ λ e. h ] | false ↦ λ b e. h ] in
     cases (int_lt last change) (int_lt change place) refl
 
--- no change lies behind the last one and before the place
+-- no change lies beyond the last one and before the place
 later_same : (place last change from there : ℤ) → from ≤ℤ there → there <ℤ place → later place last change ≤ℤ from →
     int_lt there change ≡ int_lt from change
 later_same place last change from there ahead before h =
@@ -90,7 +90,7 @@ module _ {A : Type 0} (place from there : ℤ) (ahead : from ≤ℤ there) (befo
       let mark = later_same place began fact.mark from there ahead before to_mark in
       same_value facts fact from there start mark (step_same marked fact.steps stepped) (fact_same (last_in place last fact) facts h)
 
--- from the last of all places on, what was told gives the same up to the place
+-- from the last of all places on, what was reported gives the same up to the place
 pub holds : {A : Type 0} (place least from : ℤ) (facts : List (Remembered A)) → last_fact place least facts ≡ from →
     HoldsOver (value_remembered facts) (value_remembered facts from) from place
 holds place least from facts is there ahead before = fact_same place from there ahead before least facts (omega (arith, ints, is))

@@ -133,7 +133,7 @@ module _ {A : Type 0} (value : ℤ → Option A) (place to : ℤ) (here : place 
       let v = one_of_some (value place) some in
       any_in v.0 (over (λ c. listed (value c)) place to) (in_over (λ c. listed (value c)) place to v.0 place (omega (arith, ints)) here v.1)
 
-  -- where it doesn't, what gives something lies behind the next change
+  -- where it doesn't, what gives something lies beyond the next change
   pub skipped : (next : ℤ) → place <ℤ next → ((later : ℤ) → place ≤ℤ later → later <ℤ next → value later ≡ value place) →
       is_some (value place) ≡ false →
       is_any (over (λ c. listed (value c)) next to) ≡ is_any (over (λ c. listed (value c)) place to)

@@ -1,4 +1,4 @@
--- What was told gives the same up to the nearest place of a step, of a fact or of its mark.
+-- What was reported gives the same up to the nearest place of a step, of a fact or of its mark.
 use Rattle.std.proofs.Common.{◌≡◌, ℤ, ◌≤ℤ◌, ◌<ℤ◌, List, [], ◌∷◌, Bool, true, false, cond, refl, arith}
 use Rattle.std.specs.Prelude.{Option, None, Some, int_lt, not, ◌&&◌, is_none}
 use Rattle.std.specs.List.{list_any}
@@ -52,7 +52,7 @@ nearer_same place (Some near) change later ahead h =
     ] in
     cases (int_lt place change) (int_lt change near) refl refl h
 
--- two places of one value: the same of a fact's places lie ahead of them, and what was told before gives them the same
+-- two places of one value: the same of a fact's places lie ahead of them, and what was reported before gives them the same
 pub same_value : {A : Type 0} (facts : List (Remembered A)) (fact : Remembered A) (here there : ℤ) →
     int_lt there fact.start ≡ int_lt here fact.start → int_lt there fact.mark ≡ int_lt here fact.mark →
     passed there fact.steps ≡ passed here fact.steps → value_remembered facts there ≡ value_remembered facts here →
@@ -118,7 +118,7 @@ module _ {A : Type 0} (place : ℤ) where
   lasts_up_to value None ahead same = λ later a. same later a tt
   lasts_up_to value (Some near) ahead same = (ahead, same)
 
-  -- up to the nearest of all places, what was told gives the same
+  -- up to the nearest of all places, what was reported gives the same
   pub lasts : (facts : List (Remembered A)) (near : Option ℤ) → nearest_fact place None facts ≡ near →
       Lasts (value_remembered facts) place near
   lasts facts near is =

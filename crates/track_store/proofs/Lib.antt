@@ -4,7 +4,7 @@ pub mod Reading
 pub mod Lasting
 pub mod Holding
 pub mod Jumps
-pub mod Telling
+pub mod Description
 pub mod Segmenting
 pub mod Searching
 pub mod Forgetting

@@ -118,7 +118,7 @@ module _ {A : Type 0} where
       let d : Segment A = record { start = place; value = None } in
       all_ahead None there segments d (λ k h. omega (arith, ints, to, started.1.1 k d (omega arith) h))
 
-  -- and a later one starts behind an earlier one
+  -- and a later one starts after an earlier one
   pub apart : (segments : List (Segment A)) (i j : ℕ) (d e : Segment A) → IsRising segments → i < j → j < length segments →
       (get_or segments i d).start <ℤ (get_or segments j e).start
   apart [] i j d e r a h = absurd (omega arith)

@@ -1,4 +1,4 @@
--- What segments give once some are dropped, and one or more are put behind them.
+-- What segments give once some are dropped, and one or more are put after them.
 use Rattle.std.proofs.Common.{◌≡◌, ℤ, ◌≤ℤ◌, ◌<ℤ◌, List, [], ◌∷◌, ◌++◌, Bool, true, false, cond, refl, ap, sym, subst, ◌∙◌, arith}
 use Rattle.std.specs.Prelude.{Option, None, Some, int_lt, not, is_none, filter}
 use Rattle.std.specs.List.{list_any}
@@ -54,7 +54,7 @@ module _ {A : Type 0} where
       (λ (h : there <ℤ place). rw (below there place h) (cut_below place there value None segments h))
       (λ (h : place ≤ℤ there). rw (not_below there place h) (cut_from place there value None (filter (λ s. int_lt s.start place) segments) h))
 
-  -- .. or followed by none: the value behind them
+  -- .. or followed by none: the value after them
   front_from : (place there : ℤ) (otherwise : Option A) (segments : List (Segment A)) → place ≤ℤ there →
       value_among otherwise (filter (λ s. int_lt s.start place) segments) there ≡ value_behind otherwise (filter (λ s. int_lt s.start place) segments)
   front_from place there otherwise [] h = refl

@@ -41,10 +41,10 @@ from_mark mark value place = if int_lt place mark then None else value place
 
 -- the value that counts at a place
 abbrev pub value_in : {A : Type 0} → MarkedFacts A → ℤ → Option A
-value_in told = from_mark told.mark (latest told.facts)
+value_in reported = from_mark reported.mark (latest reported.facts)
 
 abbrev pub profile_of : {A : Type 0} → MarkedFacts A → Profile A
-profile_of told = record { value = value_in told }
+profile_of reported = record { value = value_in reported }
 
 -- a profile that steps replace from a first place on
 abbrev pub replaced : {A : Type 0} → (ℤ → Option A) → ℤ → List (Step A) → ℤ → Option A

@@ -34,12 +34,12 @@ with_room room kept = record kept { room = room }
 abbrev pub size_of : {A : Type 0} → Segmented A → ℕ
 size_of kept = length kept.segments + kept.room
 
--- segments that start behind a place, each behind the one before it
+-- segments that start after a place, each after the one before it
 abbrev pub IsRisingFrom : {A : Type 0} → ℤ → List (Segment A) → Type 0
 IsRisingFrom low [] = Unit {0}
 IsRisingFrom low (segment ∷ segments) = (low <ℤ segment.start) × IsRisingFrom segment.start segments
 
--- each segment starts behind the one before it
+-- each segment starts after the one before it
 abbrev pub IsRising : {A : Type 0} → List (Segment A) → Type 0
 IsRising [] = Unit {0}
 IsRising (segment ∷ segments) = IsRisingFrom segment.start segments
@@ -76,7 +76,7 @@ abbrev pub IsKeptBehind : {A : Type 0} → List (Segment A) → Type 0
 IsKeptBehind [] = Unit {0}
 IsKeptBehind (segment ∷ segments) = IsRisingFrom segment.start segments × AreApart segment.value segments
 
--- the value behind all starts; without one, another value
+-- the value after all starts; without one, another value
 abbrev pub value_behind : {A : Type 0} → Option A → List (Segment A) → Option A
 value_behind otherwise [] = otherwise
 value_behind otherwise (segment ∷ segments) = value_behind segment.value segments
@@ -96,7 +96,7 @@ next_among place [] = None
 next_among place (segment ∷ segments) =
     if int_lt place segment.start then Some segment.start else next_among place segments
 
--- a place lies at or behind an end, if there is one
+-- a place lies at or beyond an end, if there is one
 abbrev pub is_reached : ℤ → Option ℤ → Bool
 is_reached place None = false
 is_reached place (Some end) = not (int_lt place end)

@@ -36,7 +36,7 @@ pub struct Piece<T> {
     pub value: Option<T>,
     /// Where it ends, in centimetres, that place not included; None where it never does.
     pub next: Option<Cm>,
-    /// What finds the piece behind it sooner.
+    /// What finds the piece after it sooner.
     pub near: usize,
 }
 
@@ -79,7 +79,7 @@ pub trait Profile<T> {
     }
 
     /// The value of the centimetre before a place, and from where on it holds up to there; nothing is asked of what lies
-    /// before the least place. Who goes back from piece to piece hands in what the one behind gave as near, and first 0;
+    /// before the least place. Who goes back from piece to piece hands in what the one after gave as near, and first 0;
     /// that bears on nothing but the cost. The caller owes a least place before the other one.
     fn piece_before(&self, place: Cm, least: Cm, near: usize) -> PieceBefore<T>
         requires { least <ℤ place }

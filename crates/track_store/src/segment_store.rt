@@ -17,7 +17,7 @@ const MOST_SEGMENTS: usize = MOST_STEPS + 2;
 /// that it stays short however long the life.
 #[derive(Drop)]
 pub struct SegmentStore<T> {
-    // Each lasts up to the next one's start. Where nothing is known behind a value, a segment without one follows.
+    // Each lasts up to the next one's start. Where nothing is known after a value, a segment without one follows.
     segments: Vec<Segment<T>>,
     // For how many replacements the list has room.
     room: usize,

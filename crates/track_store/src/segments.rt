@@ -59,7 +59,7 @@ fn last_value<T: Copy>(segments: &[Segment<T>], count: usize) -> Option<T>
     last.value
 }
 
-// The start of the first segment behind so many.
+// The start of the first segment after so many.
 fn start_behind<T: Copy>(segments: &[Segment<T>], count: usize) -> Option<Cm>
     ensures { (place : ℤ) → IsStarted place segments.now count → result ≡ next_among place segments.now }
 {
@@ -100,7 +100,7 @@ pub(crate) fn piece_at<T: Copy>(segments: &[Segment<T>], place: Cm, near: usize)
     }
 }
 
-// The value behind all starts.
+// The value after all starts.
 fn value_behind<T: Copy>(segments: &[Segment<T>]) -> Option<T>
     ensures { result ≡ value_behind None segments.now }
 {
@@ -231,7 +231,7 @@ pub(crate) fn all_known<T: Copy>(segments: &[Segment<T>], from: Cm, end: Cm) -> 
     }
 }
 
-// Drops the segments that start at a place or behind it. Those that stay aren't gone through.
+// Drops the segments that start at a place or after it. Those that stay aren't gone through.
 fn drop_from<T: Copy>(segments: &mut Vec<Segment<T>>, place: Cm)
     requires { IsRising segments.old.items }
     ensures items { segments.new.items ≡ filter (λ segment. int_lt segment.start place) segments.old.items }

@@ -13,7 +13,7 @@ use Rattle.disk.specs.declared.record.Span.{Span}
 use Rattle.disk.specs.declared.record.Trace.{Trace}
 use Rattle.request_disk.proofs.Copied.{front_sector}
 use Rattle.unit_calls.specs.Mediums.{is_of, written_on, at_rest, carried_out}
-use Rattle.unit_calls.specs.Requests.{Where, Telling, Refuses, Syncs, IsAt, IsToldAs}
+use Rattle.unit_calls.specs.Requests.{Where, Description, Refuses, Syncs, IsAt, IsReportedAs}
 use Rattle.unit_calls.specs.declared.status.Status.{Status}
 use Rattle.unit_calls.specs.declared.status.Status.TheVariants as a_status
 use Rattle.unit_calls.specs.declared.words.EtcsRequest.{EtcsRequest}
@@ -50,10 +50,10 @@ torn_last t (Some place) = refl
 
 -- ---- a write
 
--- a sector of the bytes that it is told with
-told_sector : (written rest : List ℕ) (from n i : ℕ) → i < n → from + 512 * n ≤ length written
+-- a sector of the bytes that it is reported with
+reported_sector : (written rest : List ℕ) (from n i : ℕ) → i < n → from + 512 * n ≤ length written
     → sector_of (take (512 * n) (drop from written) ++ rest) i ≡ take 512 (drop (from + 512 * i) written)
-told_sector written rest from n i less within =
+reported_sector written rest from n i less within =
     let content : List ℕ = take (512 * n) (drop from written) in
     let left : 512 * n ≤ length (drop from written) = omega (arith, length-drop from written) in
     let size : length content ≡ 512 * n = length-take-le (512 * n) (drop from written) left in
@@ -86,24 +86,24 @@ module _ (start written rest : List ℕ) (before after : List Call) (span : Span
   written_there medium there = record {
     contents = λ s.
         one_sector (is_of its_request s) s (span.from + 512 * (s - span.first)) start written (sector_of (its_bytes ++ rest) (s - span.first)) (medium.contents s) (trace_of s before)
-        (λ yes. told_sector written rest span.from span.sectors (s - span.first) (below_end span.first span.sectors s yes) within) (there.contents s)
+        (λ yes. reported_sector written rest span.from span.sectors (s - span.first) (below_end span.first span.sectors s yes) within) (there.contents s)
         ∙ sym (ap (λ (t : Trace). bytes_at start written s t.last) (trace_later start written before after (Written span) next s));
     closed = λ s shut.
         one_closed (is_of its_request s) (span.from + 512 * (s - span.first)) (trace_of s before) (medium.is_open s) (there.closed s)
         (sym (ap (λ (t : Trace). t.is_open) (trace_later start written before after (Written span) next s)) ∙ shut);
   }
 
--- ---- a request, as it is told
+-- ---- a request, as it is reported
 
-sync_there : (told : EtcsRequest) (bytes : List ℕ) (medium copy : Platter) → told ≡ record { sector = 0; sectors = 0; kind = 2 }
-    → IsThere (at_rest medium.contents) copy → IsThere (carried_out told bytes medium) copy
-sync_there told bytes medium copy is there =
+sync_there : (reported : EtcsRequest) (bytes : List ℕ) (medium copy : Platter) → reported ≡ record { sector = 0; sectors = 0; kind = 2 }
+    → IsThere (at_rest medium.contents) copy → IsThere (carried_out reported bytes medium) copy
+sync_there reported bytes medium copy is there =
     let F : EtcsRequest → Type 0 = λ r. IsThere (carried_out r bytes medium) copy in
     subst F (sym is) there
 
-write_there : (told : EtcsRequest) (bytes content : List ℕ) (first n : ℕ) (medium copy : Platter) → told ≡ record { sector = first; sectors = n; kind = 1 } → bytes ≡ content
-    → IsThere (written_on (record { sector = first; sectors = n; kind = 1 }) content medium) copy → IsThere (carried_out told bytes medium) copy
-write_there told bytes content first n medium copy is same there =
+write_there : (reported : EtcsRequest) (bytes content : List ℕ) (first n : ℕ) (medium copy : Platter) → reported ≡ record { sector = first; sectors = n; kind = 1 } → bytes ≡ content
+    → IsThere (written_on (record { sector = first; sectors = n; kind = 1 }) content medium) copy → IsThere (carried_out reported bytes medium) copy
+write_there reported bytes content first n medium copy is same there =
     let F : EtcsRequest → Type 0 = λ r. IsThere (carried_out r bytes medium) copy in
     let B : List ℕ → Type 0 = λ b. IsThere (carried_out (record { sector = first; sectors = n; kind = 1 }) b medium) copy in
     subst F (sym is) (subst B (sym same) there)
@@ -115,34 +115,34 @@ otherwise false So Else not_so is = is
 no_room : (status : Status) → status ≡ a_status.Done → status ≡ a_status.NoRoom → ⊥
 no_room status done is = absurd cc
 
--- what is left to show of a request that was told
-abbrev Carried : List ℕ → List ℕ → List Call → ℕ → Telling → Platter → Type 0
+-- what is left to show of a request that was reported
+abbrev Carried : List ℕ → List ℕ → List Call → ℕ → Description → Platter → Type 0
 Carried start written requests index t medium =
-    (index < length requests) × IsThere (carried_out t.told t.bytes medium) (platter_of start written (take (index + 1) requests))
+    (index < length requests) × IsThere (carried_out t.reported t.bytes medium) (platter_of start written (take (index + 1) requests))
 
-module _ (sectors : ℕ) (start written : List ℕ) (requests : List Call) (index : ℕ) (t : Telling) (done : t.status ≡ a_status.Done) (medium : Platter)
+module _ (sectors : ℕ) (start written : List ℕ) (requests : List Call) (index : ℕ) (t : Description) (done : t.status ≡ a_status.Done) (medium : Platter)
     (there : IsThere medium (platter_of start written (take index requests))) where
   by_sync : (call : Call) → IsAt index requests (Some call) → ((s : ℕ) → (trace_next s (trace_of s (take index requests)) call).last ≡ (trace_of s (take index requests)).last)
       → Syncs t → Carried start written requests index t medium
-  by_sync call at same told = (
+  by_sync call at same reported = (
     at.0,
-    sync_there t.told t.bytes medium (platter_of start written (take (index + 1) requests)) told.1
+    sync_there t.reported t.bytes medium (platter_of start written (take (index + 1) requests)) reported.1
         (rest_there start written (take index requests) (take (index + 1) requests) call at.1 same medium there),
   )
 
   pub carried_there : (found : Option Call) → IsAt index requests found → ((request : Call) → found ≡ Some request → IsWithin sectors (length written) request)
-      → IsToldAs written found t → Carried start written requests index t medium
-  carried_there None at within told = let none : t.status ≡ a_status.NoSuchRequest = told.0 in absurd (let no : a_status.Done ≡ a_status.NoSuchRequest = sym done ∙ none in cc)
-  carried_there (Some Quiet) at within told = by_sync Quiet at (λ s. refl) told
-  carried_there (Some Synced) at within told = by_sync Synced at (λ s. refl) told
-  carried_there (Some (Torn span)) at within told = by_sync (Torn span) at (λ s. torn_last (trace_of s (take index requests)) (place_in span s)) told
-  carried_there (Some (Written span)) at within told =
+      → IsReportedAs written found t → Carried start written requests index t medium
+  carried_there None at within reported = let none : t.status ≡ a_status.NoSuchRequest = reported.0 in absurd (let no : a_status.Done ≡ a_status.NoSuchRequest = sym done ∙ none in cc)
+  carried_there (Some Quiet) at within reported = by_sync Quiet at (λ s. refl) reported
+  carried_there (Some Synced) at within reported = by_sync Synced at (λ s. refl) reported
+  carried_there (Some (Torn span)) at within reported = by_sync (Torn span) at (λ s. torn_last (trace_of s (take index requests)) (place_in span s)) reported
+  carried_there (Some (Written span)) at within reported =
       let content : List ℕ = take (512 * span.sectors) (drop span.from written) in
       let rest : List ℕ = drop (length content) t.room in
       let its = within (Written span) refl in
-      let Whole : Type 0 = (t.status ≡ a_status.Done) × (t.told ≡ record { sector = span.first; sectors = span.sectors; kind = 1 }) × (t.bytes ≡ content ++ rest) in
-      let so = otherwise (nat_lt (length t.room) (length content)) (Refuses a_status.NoRoom t) Whole (λ refused. no_room t.status done refused.0) told in (
+      let Whole : Type 0 = (t.status ≡ a_status.Done) × (t.reported ≡ record { sector = span.first; sectors = span.sectors; kind = 1 }) × (t.bytes ≡ content ++ rest) in
+      let so = otherwise (nat_lt (length t.room) (length content)) (Refuses a_status.NoRoom t) Whole (λ refused. no_room t.status done refused.0) reported in (
         at.0,
-        write_there t.told t.bytes (content ++ rest) span.first span.sectors medium (platter_of start written (take (index + 1) requests)) so.1 so.2
+        write_there t.reported t.bytes (content ++ rest) span.first span.sectors medium (platter_of start written (take (index + 1) requests)) so.1 so.2
             (written_there start written rest (take index requests) (take (index + 1) requests) span at.1 its.bytes medium there),
       )

@@ -14,7 +14,7 @@ use Rattle.journal.specs.Journals.{IsOpen}
 use Rattle.request_disk.specs.Requesting.{request_state}
 use Rattle.mode_table.specs.declared.statuses.Cold.{Cold}
 use Rattle.unit_start.specs.Events.{account_of, IsAhead}
-use Rattle.unit_start.specs.Lives.{Tells, TellsEither, IsReady, Opens, IsOfOpening}
+use Rattle.unit_start.specs.Lives.{Describes, DescribesEither, IsReady, Opens, IsOfOpening}
 use Rattle.unit_start.specs.Releases.{Release}
 use Rattle.unit_start.specs.declared.errors.OpenError.{OpenError}
 use Rattle.unit_start.proofs.Opening.{ready_after}
@@ -23,9 +23,9 @@ use Rattle.relayed_unit.specs.declared.moored.Moored.{Moored}
 use Rattle.unit_calls.specs.Handles.{OnHandle, OnHandleInto, Takes, Prepares, Says, Fails, Handing, Releases, IsPoweredUp, IsLeft, PowersUp, OpensFrom}
 use Rattle.unit_calls.specs.Histories.{Scene, Happening, Opening, Finishing, Taking, Preparing, Providing, Carrying, Saying, Failing, Releasing, Asking, Closing, Cutting, Happens, AllHappen, IsPartOf, outputs_of, HasAll, AreOnMedium, HandedOutIsOnMedium}
 use Rattle.unit_calls.specs.Mediums.{at_rest, carried_out, IsReadFrom}
-use Rattle.unit_calls.specs.Outputs.{told_of}
+use Rattle.unit_calls.specs.Outputs.{description_of}
 use Rattle.unit_calls.specs.PowerUps.{before_any, IsUp}
-use Rattle.unit_calls.specs.Requests.{Where, Telling, IsAt, IsToldAs, TellsRequest}
+use Rattle.unit_calls.specs.Requests.{Where, Description, IsAt, IsReportedAs, DescribesRequest}
 use Rattle.unit_calls.specs.Sectors.{Provides}
 use Rattle.unit_calls.specs.Statuses.{is_done}
 use Rattle.unit_calls.specs.Words.{word_by}
@@ -36,7 +36,7 @@ use Rattle.unit_calls.specs.declared.status.Status.TheVariants as a_status
 use Rattle.unit_calls.proofs.Carrying.{IsThere, carried_there}
 use Rattle.unit_calls.proofs.Floating.{moment_of, Floats, on_medium, accepts, carries}
 use Rattle.unit_calls.proofs.Parts.{part_longer}
-use Rattle.unit_calls.proofs.Beside.{at_some, IsUnder, Kept, takes_on, prepares_on, provides_on, says_on, fails_on, where_false, either_way, releases_on}
+use Rattle.unit_calls.proofs.Alongside.{at_some, IsUnder, Kept, takes_on, prepares_on, provides_on, says_on, fails_on, where_false, either_way, releases_on}
 
 -- ---- a power-up
 
@@ -54,7 +54,7 @@ module _ (whole_from sectors : ℕ) (handed : List EtcsOutput) (medium : Platter
   ready : IsReady whole_from held_list.0 held_list.0 begin
   ready =
       let same : medium.contents ≡ contents_of begin = λ i. λ s. contents s i in
-      let C : (ℕ → List ℕ) → Type 0 = λ c. Tells whole_from sectors held_list.0 c in
+      let C : (ℕ → List ℕ) → Type 0 = λ c. Describes whole_from sectors held_list.0 c in
       ready_after whole_from sectors held_list.0 begin size (λ s. refl) (subst C same held_list.3)
 
   abbrev Stands : Moored → Type 0
@@ -67,10 +67,10 @@ module _ (whole_from sectors : ℕ) (handed : List EtcsOutput) (medium : Platter
   found_all found (inr is) = is
 
   of_opening : (found : List Event) (word : Cold) (c : ℕ → List ℕ) → found ≡ held_list.0 → IsOfOpening whole_from sectors held_list.0 held_list.0 found word c
-      → TellsEither whole_from sectors found (PowerUp word ∷ found) c
-  of_opening found word c is (inl (inl tells)) = let T : List Event → Type 0 = λ l. Tells whole_from sectors l c in inl (subst T (sym is) tells)
-  of_opening found word c is (inl (inr tells)) = let T : List Event → Type 0 = λ l. Tells whole_from sectors l c in inl (subst T (sym is) tells)
-  of_opening found word c is (inr tells) = inr tells
+      → DescribesEither whole_from sectors found (PowerUp word ∷ found) c
+  of_opening found word c is (inl (inl describes)) = let T : List Event → Type 0 = λ l. Describes whole_from sectors l c in inl (subst T (sym is) describes)
+  of_opening found word c is (inl (inr describes)) = let T : List Event → Type 0 = λ l. Describes whole_from sectors l c in inl (subst T (sym is) describes)
+  of_opening found word c is (inr describes) = inr describes
 
   floats_up : (it : Moored) (outputs : List Release) (done carried : ℕ) → it.reading.disk.sectors ≡ n → outputs ≡ [] → done ≡ 0 → carried ≡ 0 → Stands it
       → Floats whole_from sectors handed medium carried it.reading.disk it.unit.journal it.unit.life outputs done
@@ -81,7 +81,7 @@ module _ (whole_from sectors : ℕ) (handed : List EtcsOutput) (medium : Platter
       let back : held_list.0 ≡ found = sym is in
       let G : List Event → Type 0 = λ l. IsPartOf handed (outputs_of l) in
       let given : IsPartOf handed (outputs_of found) = subst G back (part_longer handed on.durable held_list.0 held_list.1 held_list.2 on.outputs) in
-      let H : List Release → Type 0 = λ o. IsPartOf (handed ++ map told_of o) (outputs_of (PowerUp word ∷ found)) in
+      let H : List Release → Type 0 = λ o. IsPartOf (handed ++ map description_of o) (outputs_of (PowerUp word ∷ found)) in
       let N : List EtcsOutput → Type 0 = λ l. IsPartOf l (outputs_of (PowerUp word ∷ found)) in
       let T : Platter → Type 0 = λ p. IsThere medium p in
       let C : ℕ → Type 0 = λ k. IsThere medium (moment_of it.reading.disk k) in
@@ -119,7 +119,7 @@ module _ (whole_from sectors : ℕ) (handed : List EtcsOutput) (medium : Platter
       subst U (sym left.1) (under_up u carried begins its u.moored refl)
 
 module _ (whole_from sectors : ℕ) (handed : List EtcsOutput) (medium : Platter) (image : List ℕ) (cold : Cold) (read : IsReadFrom sectors image medium) (on : AreOnMedium whole_from sectors handed medium) where
-  left_on : (told : Result Relayed OpenError) (after : Option Opened) (carried : ℕ) (status : Status) → carried ≡ 0 → IsPoweredUp image cold told → IsLeft told after status
+  left_on : (reported : Result Relayed OpenError) (after : Option Opened) (carried : ℕ) (status : Status) → carried ≡ 0 → IsPoweredUp image cold reported → IsLeft reported after status
       → Kept whole_from sectors after handed medium carried
   left_on (Ok u) after carried status begins its left =
       stands_on whole_from sectors handed medium (take (512 * (length image / 512)) image) (length image / 512) cold read.size read.contents read.synced on u after carried status begins
@@ -133,7 +133,7 @@ module _ (whole_from sectors : ℕ) (handed : List EtcsOutput) (medium : Platter
 
   powers_on : (cold : Option Cold) (after : Option Opened) (carried : ℕ) (status : Status) → carried ≡ 0 → PowersUp image cold after status → Kept whole_from sectors after handed medium carried
   powers_on None after carried status begins its = closed_on after carried its.1
-  powers_on (Some cold) after carried status begins (told, up, left) = left_on whole_from sectors handed medium image cold read on told after carried status begins up left
+  powers_on (Some cold) after carried status begins (reported, up, left) = left_on whole_from sectors handed medium image cold read on reported after carried status begins up left
 
 -- ---- whatever happens
 
@@ -151,7 +151,7 @@ module _ (whole_from sectors : ℕ) (handed : List EtcsOutput) (medium : Platter
 
   input_on : (input : Option Input) (was is : Opened) (status : Status) → Takes input was is status → IsUnder whole_from sectors handed medium carried was.unit → IsUnder whole_from sectors handed medium carried is.unit
   input_on None was is status its under = let U : Opened → Type 0 = λ o. IsUnder whole_from sectors handed medium carried o.unit in subst U (sym its.1) under
-  input_on (Some input) was is status (told, answer, accepts, last) under = takes_on whole_from sectors handed medium carried input was.unit is.unit told accepts under
+  input_on (Some input) was is status (reported, answer, accepts, last) under = takes_on whole_from sectors handed medium carried input was.unit is.unit reported accepts under
 
   medium_of : (handle : Option Opened) → KeptBy handle → AreOnMedium whole_from sectors handed medium
   medium_of None kept = kept
@@ -181,7 +181,7 @@ as_it_was whole_from sectors handle handed handed' medium medium' carried carrie
     subst M (sym same_medium) (subst C (sym same_carried) (subst H (sym same_handed) kept))
 
 released_in : (whole_from sectors : ℕ) (handed handed' : List EtcsOutput) (medium : Platter) (carried carried' : ℕ) (h : Handing) (old new : Option Opened)
-    → OnHandleInto (Unit {0}) old new h.status (λ was is told. Releases was is h)
+    → OnHandleInto (Unit {0}) old new h.status (λ was is reported. Releases was is h)
     → Where (is_done h.status) ((handed' ≡ handed ++ take h.count h.handed) × (carried' ≡ 0)) ((handed' ≡ handed) × (carried' ≡ carried))
     → Kept whole_from sectors old handed medium carried → Kept whole_from sectors new handed' medium carried'
 released_in whole_from sectors handed handed' medium carried carried' h None None its out kept =
@@ -204,18 +204,18 @@ opened_in whole_from sectors handed medium carried carried' image cold abi (Some
     let C : ℕ → Type 0 = λ n. IsUnder whole_from sectors handed medium n before.unit in
     subst K (sym its.1) (subst C (sym begins) kept)
 
-carried_in : (whole_from sectors : ℕ) (handed : List EtcsOutput) (medium : Platter) (carried : ℕ) (opened : Opened) (t : Telling) → TellsRequest carried opened t → t.status ≡ a_status.Done
-    → IsUnder whole_from sectors handed medium carried opened.unit → IsUnder whole_from sectors handed (carried_out t.told t.bytes medium) (carried + 1) opened.unit
-carried_in whole_from sectors handed medium carried opened t (found, at, whole, told) done (it, there, floats) =
+carried_in : (whole_from sectors : ℕ) (handed : List EtcsOutput) (medium : Platter) (carried : ℕ) (opened : Opened) (t : Description) → DescribesRequest carried opened t → t.status ≡ a_status.Done
+    → IsUnder whole_from sectors handed medium carried opened.unit → IsUnder whole_from sectors handed (carried_out t.reported t.bytes medium) (carried + 1) opened.unit
+carried_in whole_from sectors handed medium carried opened t (found, at, whole, reported) done (it, there, floats) =
     let A : List Call → Type 0 = λ l. IsAt carried l found in
-    let W : List ℕ → Type 0 = λ w. IsToldAs w found t in
+    let W : List ℕ → Type 0 = λ w. IsReportedAs w found t in
     let so = carried_there it.reading.disk.sectors it.reading.disk.medium it.reading.disk.written it.reading.disk.requests carried t done medium floats.there found
     (subst A (ap list_of there) at)
     (λ request is. subst (λ (m : Option Moored). IsWithin (sectors_in m) (length (written_of m)) request) there (whole request is))
-    (subst W (ap written_of there) told) in (
+    (subst W (ap written_of there) reported) in (
       it,
       there,
-      carries whole_from sectors handed medium carried it.reading.disk it.unit.journal it.unit.life opened.unit.outputs opened.unit.done floats (carried_out t.told t.bytes medium) so.0 so.1,
+      carries whole_from sectors handed medium carried it.reading.disk it.unit.journal it.unit.life opened.unit.outputs opened.unit.done floats (carried_out t.reported t.bytes medium) so.0 so.1,
     )
 
 said_in : (whole_from sectors : ℕ) (handed : List EtcsOutput) (medium : Platter) (carried count : ℕ) (old new : Option Opened) (status : Status)
@@ -251,13 +251,13 @@ step whole_from sectors Preparing before after kept (status, its, quiet) =
 step whole_from sectors (Providing sector bytes) before after kept (status, its, read, quiet) =
     as_it_was whole_from sectors after.handle before.handed after.handed before.medium after.medium before.carried after.carried quiet.0 quiet.1 quiet.2
     (provided_in whole_from sectors before.handed before.medium before.carried sector bytes before.handle after.handle status its read kept)
-step whole_from sectors (Carrying t) before after kept (opened, was_open, told, done, handle, medium, carried, handed) =
+step whole_from sectors (Carrying t) before after kept (opened, was_open, reported, done, handle, medium, carried, handed) =
     let B : Option Opened → Type 0 = λ o. Kept whole_from sectors o before.handed before.medium before.carried in
     let under : IsUnder whole_from sectors before.handed before.medium before.carried opened.unit = subst B was_open kept in
     let K : Option Opened → Type 0 = λ o. Kept whole_from sectors o after.handed after.medium after.carried in
     subst K (sym (handle ∙ was_open))
-    (as_it_was whole_from sectors (Some opened) before.handed after.handed (carried_out t.told t.bytes before.medium) after.medium (before.carried + 1) after.carried medium carried handed
-    (carried_in whole_from sectors before.handed before.medium before.carried opened t told done under))
+    (as_it_was whole_from sectors (Some opened) before.handed after.handed (carried_out t.reported t.bytes before.medium) after.medium (before.carried + 1) after.carried medium carried handed
+    (carried_in whole_from sectors before.handed before.medium before.carried opened t reported done under))
 step whole_from sectors (Saying count) before after kept (status, its, most, quiet) =
     as_it_was whole_from sectors after.handle before.handed after.handed before.medium after.medium before.carried after.carried quiet.0 quiet.1 quiet.2
     (said_in whole_from sectors before.handed before.medium before.carried count before.handle after.handle status its most kept)

@@ -1,4 +1,4 @@
-pub mod Beside
+pub mod Alongside
 pub mod Carrying
 pub mod Emptying
 pub mod Floating
@@ -10,5 +10,5 @@ pub mod PlaceValues
 pub mod Providing
 pub mod Releasing
 pub mod Taking
-pub mod Untold
+pub mod Unreported
 pub mod Values

@@ -4,7 +4,7 @@ use Rattle.std.proofs.lemmas.List.{append-nil, map-append}
 use Rattle.events.specs.declared.input.Event.{Event}
 use Rattle.unit_start.specs.Events.{pair_of, pairs_of}
 use Rattle.unit_calls.specs.Histories.{IsPartOf, outputs_of}
-use Rattle.unit_calls.specs.Outputs.{told_of}
+use Rattle.unit_calls.specs.Outputs.{description_of}
 use Rattle.unit_calls.specs.declared.outputs.EtcsOutput.{EtcsOutput}
 
 -- of a longer list
@@ -22,13 +22,13 @@ part_past : {X : Type 0} (zs : List X) (y : X) (ys : List X) → IsPartOf zs ys 
 part_past [] y ys is = tt
 part_past (z ∷ zs) y ys is = inr is
 
-part_behind : {X : Type 0} (zs ys : List X) → IsPartOf zs (ys ++ zs)
-part_behind zs [] = part_all zs
-part_behind zs (y ∷ ys) = part_past zs y (ys ++ zs) (part_behind zs ys)
+part_after : {X : Type 0} (zs ys : List X) → IsPartOf zs (ys ++ zs)
+part_after zs [] = part_all zs
+part_after zs (y ∷ ys) = part_past zs y (ys ++ zs) (part_after zs ys)
 
--- the same behind both
+-- the same after both
 pub part_both : {X : Type 0} (xs ys zs : List X) → IsPartOf xs ys → IsPartOf (xs ++ zs) (ys ++ zs)
-part_both [] ys zs is = part_behind zs ys
+part_both [] ys zs is = part_after zs ys
 part_both (x ∷ xs) [] zs is = absurd is
 part_both (x ∷ xs) (y ∷ ys) zs (inl (same, is)) = inl (same, part_both xs ys zs is)
 part_both (x ∷ xs) (y ∷ ys) zs (inr is) = inr (part_both (x ∷ xs) ys zs is)
@@ -40,14 +40,14 @@ part_front (x ∷ xs) zs [] is = absurd is
 part_front (x ∷ xs) zs (y ∷ ys) (inl (same, is)) = inl (same, part_front xs zs ys is)
 part_front (x ∷ xs) zs (y ∷ ys) (inr is) = inr (part_front (x ∷ xs) zs ys is)
 
--- a longer list of events has more outputs behind those that it had
+-- a longer list of events has more outputs after those that it had
 more_outputs : (more events : List Event) → (rest : List EtcsOutput) × (outputs_of (more ++ events) ≡ outputs_of events ++ rest)
 more_outputs [] events = ([], sym (append-nil (outputs_of events)))
 more_outputs (event ∷ more) events =
     let so = more_outputs more events in
-    let one = told_of (pair_of (more ++ events) event) in (
+    let one = description_of (pair_of (more ++ events) event) in (
       so.0 ++ one ∷ [],
-      map-append told_of (pairs_of (more ++ events)) (pair_of (more ++ events) event ∷ [])
+      map-append description_of (pairs_of (more ++ events)) (pair_of (more ++ events) event ∷ [])
           ∙ ap (λ (l : List EtcsOutput). l ++ one ∷ []) so.1
           ∙ append_assoc (outputs_of events) so.0 (one ∷ []),
     )

@@ -6,9 +6,9 @@ use Rattle.std.proofs.lemmas.List.Sums.{fold-append}
 use Rattle.disk.specs.State.{contents_of}
 use Rattle.disk.specs.declared.record.Call.{Call}
 use Rattle.disk.specs.declared.record.Call.TheVariants.{Quiet, Synced, Written, Torn}
-use Rattle.request_disk.specs.Requests.{has_sector, found_next, found_in, told_at}
+use Rattle.request_disk.specs.Requests.{has_sector, found_next, found_in, reported_at}
 use Rattle.request_disk.specs.Requesting.{Requesting, request_state, knows, with_sector}
-use Rattle.request_disk.proofs.Found.{bytes_told}
+use Rattle.request_disk.proofs.Found.{bytes_reported}
 use Rattle.request_disk.proofs.Holding.{unknown_found, unknown_contents}
 use Rattle.unit_calls.proofs.Floating.{moment_of}
 
@@ -35,8 +35,8 @@ unknown_moment w s k is =
     let rest : List Call = drop k w.requests in
     let all : fold (found_next s) (found_in s first) rest ≡ None =
     sym (fold-append (found_next s) None first rest) ∙ ap (λ (l : List Call). found_in s l) (take-append-drop k w.requests) ∙ unknown_found s w is in
-    sym (bytes_told w.medium w.written s first)
-    ∙ ap (λ (o : Option ℕ). told_at w.medium w.written s o) (none_before s (found_in s first) rest all)
+    sym (bytes_reported w.medium w.written s first)
+    ∙ ap (λ (o : Option ℕ). reported_at w.medium w.written s o) (none_before s (found_in s first) rest all)
     ∙ sym (unknown_contents s w is)
 
 -- and the disk stays as it was

@@ -17,37 +17,37 @@ use Rattle.unit_calls.specs.declared.status.Status.{Status}
 use Rattle.unit_calls.specs.declared.status.Status.TheVariants as a_status
 
 -- what `UnitOpening::go_on` promises of an answer
-pub record IsGoneOn (before : Opening) (told : Result Going OpenError) : Type 0 where
+pub record IsGoneOn (before : Opening) (reported : Result Going OpenError) : Type 0 where
   -- a sector is wanted that the medium has, and that isn't known
-  pub wanted : IfOk told (λ g. OnWants g (λ it. (s : ℕ) × IsWanted it s))
+  pub wanted : IfOk reported (λ g. OnWants g (λ it. (s : ℕ) × IsWanted it s))
   -- it goes on over the same medium
-  pub going : (medium : List ℕ) → IsGoing medium before → IfOk told (λ g. OnWants g (IsGoing medium))
-  pub same : IfOk told (λ g. OnWants g (λ it. (it.disk.sectors ≡ before.disk.sectors) × (it.cold ≡ before.cold)))
+  pub going : (medium : List ℕ) → IsGoing medium before → IfOk reported (λ g. OnWants g (IsGoing medium))
+  pub same : IfOk reported (λ g. OnWants g (λ it. (it.disk.sectors ≡ before.disk.sectors) × (it.cold ≡ before.cold)))
   -- what was found of the slots is never given up
-  pub further : IfOk told (λ g. OnWants g (λ it. IsFurther before.scan it.scan))
+  pub further : IfOk reported (λ g. OnWants g (λ it. IsFurther before.scan it.scan))
   -- nothing is pending, there is no moment yet, and no flush failed
-  pub fresh_unit : IfOk told (λ g. OnOpen g (λ u. IfSome u.moored (λ it. (it.unit.life.records ≡ [])
+  pub fresh_unit : IfOk reported (λ g. OnOpen g (λ u. IfSome u.moored (λ it. (it.unit.life.records ≡ [])
       × (it.unit.life.pairs ≡ []) × (it.unit.life.moment ≡ 0) × (it.unit.journal.failed ≡ false))))
   -- a unit that came of it wants no sector
-  pub wants_nothing : IfOk told (λ g. OnOpen g (λ u. IfSome u.moored WantsNothing))
+  pub wants_nothing : IfOk reported (λ g. OnOpen g (λ u. IfSome u.moored WantsNothing))
   -- the unit was powered up over a disk that holds what the medium held
   pub up : (medium : List ℕ) → IsGoing medium before →
-      IfOk told (λ g. OnOpen g (IsUp (before_any medium before.disk.sectors) before.cold))
+      IfOk reported (λ g. OnOpen g (IsUp (before_any medium before.disk.sectors) before.cold))
   -- no fault of the device comes of it
-  pub no_device : IfErr told (λ e. is_device e ≡ false)
+  pub no_device : IfErr reported (λ e. is_device e ≡ false)
   -- each refusal but NoMemory has its cause
-  pub refused : (medium : List ℕ) → IsGoing medium before → IfErr told (λ e. (e ≡ an_open.NoMemory)
+  pub refused : (medium : List ℕ) → IsGoing medium before → IfErr reported (λ e. (e ≡ an_open.NoMemory)
       ⊎ IsOpenRefusal before.disk.sectors (contents_of (medium_state medium before.disk.sectors)) e)
   -- where it led to a unit there was no cause but a fault of the device
-  pub no_cause : (medium : List ℕ) → IsGoing medium before → IfOk told (λ g. OnOpen g (λ u.
+  pub no_cause : (medium : List ℕ) → IsGoing medium before → IfOk reported (λ g. OnOpen g (λ u.
       HasNoCause before.disk.sectors (contents_of (medium_state medium before.disk.sectors))))
   -- a medium of no sector isn't formatted
-  pub none : before.disk.sectors ≡ 0 → told ≡ Err an_open.NotFormatted
+  pub none : before.disk.sectors ≡ 0 → reported ≡ Err an_open.NotFormatted
   -- where a refusal has a cause, and there is a sector, no unit comes of it, and no other refusal but NoMemory and a fault
   -- of the device
   pub exact : (medium : List ℕ) → IsGoing medium before → 0 < before.disk.sectors → (e : OpenError) →
       IsOpenRefusal before.disk.sectors (contents_of (medium_state medium before.disk.sectors)) e →
-      (e ≡ an_open.DeviceFault) ⊎ MatchResult told (λ g. OnOpen g (λ u. ⊥))
+      (e ≡ an_open.DeviceFault) ⊎ MatchResult reported (λ g. OnOpen g (λ u. ⊥))
       (λ back. (back ≡ an_open.NoMemory) ⊎ ((back ≡ e) ⊎ (back ≡ an_open.DeviceFault)))
 
 -- it goes on in its handle and says so; else that has none, and the unit is in its own, or there was no memory for it
@@ -62,4 +62,4 @@ abbrev pub GoesOn : Option Opening → Option Opened → Option Opening → Opti
 GoesOn before (Some it) after unit status = (status ≡ a_status.IsOpen) × (after ≡ before) × (unit ≡ Some it)
 GoesOn None None after unit status = (status ≡ a_status.NotOpen) × (after ≡ None) × (unit ≡ None)
 GoesOn (Some before) None after unit status =
-    (told : Result Going OpenError) × IsGoneOn before told × IsLeftOn told after unit status
+    (reported : Result Going OpenError) × IsGoneOn before reported × IsLeftOn reported after unit status

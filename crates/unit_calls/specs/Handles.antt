@@ -1,4 +1,4 @@
--- What the calls do to what a handle holds (this project's profile): None where no unit is open. `told` is what the
+-- What the calls do to what a handle holds (this project's profile): None where no unit is open. `reported` is what the
 -- call of `RelayedUnit` answered, the status its number.
 use Rattle.std.specs.Prelude.{◌≡◌, ◌↔◌, ◌⊎◌, ℕ, ◌/◌, ◌<◌, ◌≤◌, ◌==◌, ◌∷◌, ◌||◌, nat_lt, Bool, true, false, if◌then◌else◌, List, [], length, Option, Some, None, IsSome, IfSome, Result, Ok, Err, IsOk, IfOk, IfErr, OnOk, OnErr, MatchOption, MatchResult, ⊤}
 use Rattle.disk.specs.State.{contents_of, IsSynced, AtEachMoment}
@@ -15,7 +15,7 @@ use Rattle.mode_table.specs.declared.statuses.Cold.{Cold}
 use Rattle.unit_start.specs.Answers.{is_device}
 use Rattle.onboard.specs.Answers.{refusal_of, HasRoom}
 use Rattle.unit_start.specs.Events.{account_of, IsAhead}
-use Rattle.unit_start.specs.Lives.{IsReady, Opens, IsOpenRefusal, HasNoCause, TellsEither}
+use Rattle.unit_start.specs.Lives.{IsReady, Opens, IsOpenRefusal, HasNoCause, DescribesEither}
 use Rattle.unit_start.specs.Releases.{nothing_released}
 use Rattle.onboard.specs.Progress.{progress_of, go_on}
 use Rattle.unit_start.specs.Written.{HasNewest}
@@ -23,12 +23,12 @@ use Rattle.onboard.specs.declared.errors.AcceptError.{AcceptError}
 use Rattle.onboard.specs.declared.errors.AcceptError.TheVariants as an_accept
 use Rattle.unit_start.specs.declared.errors.OpenError.{OpenError}
 use Rattle.unit_start.specs.declared.errors.OpenError.TheVariants as an_open
-use Rattle.relayed_unit.specs.LifeNow.{TellsLife}
+use Rattle.relayed_unit.specs.LifeNow.{DescribesLife}
 use Rattle.relayed_unit.specs.Relayed.{Relayed, Turns, list_of, requests_of, release_refusal, prepare_refusal, prepare_failed, wants_gate, IsLeftBy, WantsNothing}
 use Rattle.relayed_unit.specs.declared.errors.PrepareError.{PrepareError}
 use Rattle.relayed_unit.specs.declared.life_now.LifeNow.{LifeNow}
 use Rattle.ring.specs.Account.{Account}
-use Rattle.unit_calls.specs.Outputs.{told_of, last_of, AreHanded}
+use Rattle.unit_calls.specs.Outputs.{description_of, last_of, AreHanded}
 use Rattle.unit_calls.specs.Requests.{Where}
 use Rattle.unit_calls.specs.Statuses.{of_open, of_accept, of_prepare, of_release}
 use Rattle.unit_calls.specs.Words.{word_by}
@@ -54,24 +54,24 @@ OnHandleInto AsTheyWere (Some before) None status So = ⊥
 OnHandleInto AsTheyWere (Some before) (Some after) status So = So before after status
 
 -- what `RelayedUnit::accept` promises of an answer
-pub record Accepts (input : Input) (before after : Relayed) (told : Result ⊤ AcceptError) : Type 0 where
+pub record Accepts (input : Input) (before after : Relayed) (reported : Result ⊤ AcceptError) : Type 0 where
   -- each refusal comes exactly for its cause
   pub exact : IfSome before.moored (λ it. MatchOption
       (refusal_of (before.failed || it.unit.journal.failed) (length it.unit.life.records) it.unit.life.moment input)
-      (IfErr told (λ e. e ≡ an_accept.NoMemory)) (λ e. told ≡ Err e))
+      (IfErr reported (λ e. e ≡ an_accept.NoMemory)) (λ e. reported ≡ Err e))
   -- memory is never refused where there is room for what the input adds
   pub quiet : IfSome before.moored (λ it.
       refusal_of (before.failed || it.unit.journal.failed) (length it.unit.life.records) it.unit.life.moment input ≡ None →
-      HasRoom it.unit.life.state input → IsOk told)
+      HasRoom it.unit.life.state input → IsOk reported)
   -- a refusal changes nothing
-  pub refused : OnErr told (after ≡ before)
+  pub refused : OnErr reported (after ≡ before)
   -- the disk is as it was
   pub copy : Turns before.moored after.moored (λ it next. (next.reading ≡ it.reading) × (next.unit.journal ≡ it.unit.journal))
   -- what the next refusal goes by has gone on by this input
-  pub gone_on : OnOk told (Turns before.moored after.moored (λ it next.
+  pub gone_on : OnOk reported (Turns before.moored after.moored (λ it next.
       progress_of next.unit.journal next.unit.life ≡ go_on (progress_of it.unit.journal it.unit.life) (Accept input)))
-  -- the event is then pending, behind all that were accepted
-  pub accepted : OnOk told (Turns before.moored after.moored (λ it next. (durable accepted : List Event) →
+  -- the event is then pending, after all that were accepted
+  pub accepted : OnOk reported (Turns before.moored after.moored (λ it next. (durable accepted : List Event) →
       IsAhead durable accepted it.unit.life → IsAhead durable (an_input input ∷ accepted) next.unit.life))
   -- what is held back stays, and so does what was said of the requests
   pub held : (after.outputs ≡ before.outputs) × (after.done ≡ before.done) × (after.failed ≡ before.failed)
@@ -79,57 +79,57 @@ pub record Accepts (input : Input) (before after : Relayed) (told : Result ⊤ A
 -- an input is taken; one outside its limits is OutOfRange, and changes nothing
 abbrev pub Takes : Option Input → Opened → Opened → Status → Type 0
 Takes None before after status = (status ≡ a_status.OutOfRange) × (after ≡ before)
-Takes (Some input) before after status = (told : Result ⊤ AcceptError) × (status ≡ of_accept told)
-    × Accepts input before.unit after.unit told × (after.last ≡ before.last)
+Takes (Some input) before after status = (reported : Result ⊤ AcceptError) × (status ≡ of_accept reported)
+    × Accepts input before.unit after.unit reported × (after.last ≡ before.last)
 
 -- what `RelayedUnit::prepare` promises of an answer
-pub record IsPrepared (before after : Relayed) (told : Result ⊤ PrepareError) : Type 0 where
+pub record IsPrepared (before after : Relayed) (reported : Result ⊤ PrepareError) : Type 0 where
   -- each refusal comes exactly for its cause
-  pub exact : IfSome before.moored (λ it. MatchOption (prepare_refusal before.failed it) (IsOk told) (λ e. told ≡ Err e))
+  pub exact : IfSome before.moored (λ it. MatchOption (prepare_refusal before.failed it) (IsOk reported) (λ e. reported ≡ Err e))
   -- whether the unit can't go on
-  pub failed : after.failed ≡ (before.failed || prepare_failed told)
+  pub failed : after.failed ≡ (before.failed || prepare_failed reported)
   -- what is held back is what was pending, all of it
-  pub pending : OnOk told (IfSome before.moored (λ it. after.outputs ≡ it.unit.life.pairs))
+  pub pending : OnOk reported (IfSome before.moored (λ it. after.outputs ≡ it.unit.life.pairs))
   -- none of the requests is done yet
-  pub begun : OnOk told (after.done ≡ 0)
+  pub begun : OnOk reported (after.done ≡ 0)
   -- a refusal holds nothing more back, and what was said of the requests stays
-  pub held : OnErr told ((after.outputs ≡ before.outputs) × (after.done ≡ before.done))
+  pub held : OnErr reported ((after.outputs ≡ before.outputs) × (after.done ≡ before.done))
   -- and it leaves the unit and the disk as they were, but that a sector may be wanted
-  pub undone : IfErr told (λ e. IsLeftBy e before.moored after.moored)
+  pub undone : IfErr reported (λ e. IsLeftBy e before.moored after.moored)
   -- over a copy of the medium none is
   pub whole : IfSome before.moored (λ it. it.reading.disk.known ≡ None → wants_gate it ≡ false)
   -- and it stays one
   pub known : Turns before.moored after.moored (λ it next. it.reading.disk.known ≡ None → next.reading.disk.known ≡ None)
   -- where nothing was pending there is no request
-  pub nothing : OnOk told (Turns before.moored after.moored (λ it next.
+  pub nothing : OnOk reported (Turns before.moored after.moored (λ it next.
       length it.unit.life.records ≡ 0 → next.reading ≡ it.reading))
   -- the medium has as many sectors as before
-  pub sectors : OnOk told (Turns before.moored after.moored (λ it next. next.reading.disk.sectors ≡ it.reading.disk.sectors))
+  pub sectors : OnOk reported (Turns before.moored after.moored (λ it next. next.reading.disk.sectors ≡ it.reading.disk.sectors))
   -- what the next refusal goes by has gone on by this flush
-  pub gone_on : OnOk told (Turns before.moored after.moored (λ it next.
+  pub gone_on : OnOk reported (Turns before.moored after.moored (λ it next.
       progress_of next.unit.journal next.unit.life ≡ go_on (progress_of it.unit.journal it.unit.life) Flush))
-  -- behind each number of requests each image represents the durable events, or all accepted ones
-  pub any_moment : OnOk told (Turns before.moored after.moored (λ it next. (whole_from : ℕ) (durable accepted : List Event) →
+  -- after each number of requests each image represents the durable events, or all accepted ones
+  pub any_moment : OnOk reported (Turns before.moored after.moored (λ it next. (whole_from : ℕ) (durable accepted : List Event) →
       IsOpen it.unit.journal (account_of whole_from durable) (request_state it.reading.disk) → IsAhead durable accepted it.unit.life →
-      AtEachMoment (request_state it.reading.disk) (request_state next.reading.disk) (TellsEither whole_from it.reading.disk.sectors durable accepted)))
-  -- behind all of them the newest slot has its gate, and behind it the block of exactly what was pending
-  pub written : OnOk told (Turns before.moored after.moored (λ it next. (durable accepted : List Event) →
+      AtEachMoment (request_state it.reading.disk) (request_state next.reading.disk) (DescribesEither whole_from it.reading.disk.sectors durable accepted)))
+  -- after all of them the newest slot has its gate, and after it the block of exactly what was pending
+  pub written : OnOk reported (Turns before.moored after.moored (λ it next. (durable accepted : List Event) →
       IsAhead durable accepted it.unit.life → 0 < length it.unit.life.records →
       IsWritten next.unit.journal.slots next.unit.journal.newest it.unit.life.records (kept_by accepted)
       (contents_of (request_state next.reading.disk))))
   -- which is the block of the greatest number
-  pub last : OnOk told (Turns before.moored after.moored (λ it next. (whole_from : ℕ) (durable accepted : List Event) →
+  pub last : OnOk reported (Turns before.moored after.moored (λ it next. (whole_from : ℕ) (durable accepted : List Event) →
       IsOpen it.unit.journal (account_of whole_from durable) (request_state it.reading.disk) → IsAhead durable accepted it.unit.life →
       0 < length it.unit.life.records → HasNewest next.reading.disk.sectors it.unit.life.records accepted
       (contents_of (request_state next.reading.disk))))
   -- and each image represents all accepted ones
-  pub flushed : OnOk told (Turns before.moored after.moored (λ it next. (whole_from : ℕ) (durable accepted : List Event) →
+  pub flushed : OnOk reported (Turns before.moored after.moored (λ it next. (whole_from : ℕ) (durable accepted : List Event) →
       IsOpen it.unit.journal (account_of whole_from durable) (request_state it.reading.disk) → IsAhead durable accepted it.unit.life →
       IsOpen next.unit.journal (account_of whole_from accepted) (request_state next.reading.disk) × IsAhead accepted accepted next.unit.life))
 
 abbrev pub Prepares : Opened → Opened → Status → Type 0
-Prepares before after status = (told : Result ⊤ PrepareError) × (status ≡ of_prepare told)
-    × IsPrepared before.unit after.unit told × (after.last ≡ before.last)
+Prepares before after status = (reported : Result ⊤ PrepareError) × (status ≡ of_prepare reported)
+    × IsPrepared before.unit after.unit reported × (after.last ≡ before.last)
 
 -- so many requests are said to be done: WrongCount exactly where there are fewer, or more were said before, and then
 -- nothing changes
@@ -166,10 +166,10 @@ pub record IsReleased (before after : Relayed) : Type 0 where
   pub stands : Turns before.moored after.moored (λ it next. IsSynced (request_state it.reading.disk)
       × IsSynced (request_state next.reading.disk)
       × ((s : ℕ) → contents_of (request_state next.reading.disk) s ≡ contents_of (request_state it.reading.disk) s)
-      × ((told : Account) → IsOpen it.unit.journal told (request_state it.reading.disk) →
-      IsOpen next.unit.journal told (request_state next.reading.disk)))
+      × ((reported : Account) → IsOpen it.unit.journal reported (request_state it.reading.disk) →
+      IsOpen next.unit.journal reported (request_state next.reading.disk)))
 
--- The caller's places for outputs and for their count, before a release and behind it, and its status.
+-- The caller's places for outputs and for their count, before a release and after it, and its status.
 pub record Handing : Type 0 where
   pub places : List EtcsOutput
   pub handed : List EtcsOutput
@@ -199,7 +199,7 @@ Releases before after h = Where (nat_lt (length h.places) most_pending) (HandsNo
 -- how far a unit is, as C sees it, where this is known of its life
 abbrev pub state_of : Opened → LifeNow → EtcsState
 state_of opened life = record {
-  last = told_of opened.last;
+  last = description_of opened.last;
   requests = requests_of opened.unit.moored;
   done = opened.unit.done;
   held = length opened.unit.outputs;
@@ -211,40 +211,40 @@ state_of opened life = record {
 }
 
 -- how far a unit is, and what is known of its life
-abbrev pub TellsState : Opened → EtcsState → Type 0
-TellsState opened state = (life : LifeNow) × IfSome opened.unit.moored (λ it. TellsLife it.unit.life life) × (state ≡ state_of opened life)
+abbrev pub DescribesState : Opened → EtcsState → Type 0
+DescribesState opened state = (life : LifeNow) × IfSome opened.unit.moored (λ it. DescribesLife it.unit.life life) × (state ≡ state_of opened life)
 
 -- ---- opening and closing
 
 -- what `RelayedUnit::open` promises of an answer, on a copy of these bytes
-pub record IsPoweredUp (image : List ℕ) (cold : Cold) (told : Result Relayed OpenError) : Type 0 where
+pub record IsPoweredUp (image : List ℕ) (cold : Cold) (reported : Result Relayed OpenError) : Type 0 where
   -- nothing is held back, and nothing is done
-  pub fresh : IfOk told (λ u. (u.outputs ≡ []) × (u.done ≡ 0) × (u.failed ≡ false))
+  pub fresh : IfOk reported (λ u. (u.outputs ≡ []) × (u.done ≡ 0) × (u.failed ≡ false))
   -- there is a unit
-  pub there : IfOk told (λ u. IsSome u.moored)
+  pub there : IfOk reported (λ u. IsSome u.moored)
   -- nothing is pending, there is no moment yet, and no flush failed
-  pub fresh_unit : IfOk told (λ u. IfSome u.moored (λ it. (it.unit.life.records ≡ []) × (it.unit.life.pairs ≡ [])
+  pub fresh_unit : IfOk reported (λ u. IfSome u.moored (λ it. (it.unit.life.records ≡ []) × (it.unit.life.pairs ≡ [])
       × (it.unit.life.moment ≡ 0) × (it.unit.journal.failed ≡ false)))
   -- the copy has the whole sectors of the bytes
-  pub sectors : IfOk told (λ u. IfSome u.moored (λ it. it.reading.disk.sectors ≡ length image / 512))
+  pub sectors : IfOk reported (λ u. IfSome u.moored (λ it. it.reading.disk.sectors ≡ length image / 512))
   -- and holds all of them
-  pub whole : IfOk told (λ u. IfSome u.moored (λ it. it.reading.disk.known ≡ None))
+  pub whole : IfOk reported (λ u. IfSome u.moored (λ it. it.reading.disk.known ≡ None))
   -- no sector is wanted
-  pub wants_nothing : IfOk told (λ u. IfSome u.moored WantsNothing)
+  pub wants_nothing : IfOk reported (λ u. IfSome u.moored WantsNothing)
   -- each refusal but NoMemory has its cause
-  pub refused : IfErr told (λ e. (e ≡ an_open.NoMemory)
+  pub refused : IfErr reported (λ e. (e ≡ an_open.NoMemory)
       ⊎ IsOpenRefusal (length image / 512) (contents_of (request_state (copy_of image))) e)
   -- the copy's room is never wanting
-  pub room : IfErr told (λ e. is_device e ≡ false)
+  pub room : IfErr reported (λ e. is_device e ≡ false)
   -- where it is opened no refusal had one
-  pub no_cause : OnOk told (HasNoCause (length image / 512) (contents_of (request_state (copy_of image))))
+  pub no_cause : OnOk reported (HasNoCause (length image / 512) (contents_of (request_state (copy_of image))))
   -- where a refusal has one, and there is a sector, it comes, unless memory was refused
   pub exact : 0 < length image / 512 → (e : OpenError) →
       IsOpenRefusal (length image / 512) (contents_of (request_state (copy_of image))) e →
-      (e ≡ an_open.DeviceFault) ⊎ MatchResult told (λ it. ⊥) (λ back. (back ≡ e) ⊎ (back ≡ an_open.NoMemory))
-  -- behind each number of requests each image is one that a power-up may leave of these bytes
+      (e ≡ an_open.DeviceFault) ⊎ MatchResult reported (λ it. ⊥) (λ back. (back ≡ e) ⊎ (back ≡ an_open.NoMemory))
+  -- after each number of requests each image is one that a power-up may leave of these bytes
   pub up : (whole_from : ℕ) (durable accepted : List Event) → IsReady whole_from durable accepted (request_state (copy_of image)) →
-      IfOk told (λ u. IfSome u.moored (λ it. (found : List Event) × (power_up_word : Cold)
+      IfOk reported (λ u. IfSome u.moored (λ it. (found : List Event) × (power_up_word : Cold)
       × Opens whole_from durable accepted found cold power_up_word (request_state (copy_of image)) (request_state it.reading.disk)
       × IsOpen it.unit.journal (account_of whole_from (PowerUp power_up_word ∷ found)) (request_state it.reading.disk)
       × IsAhead (PowerUp power_up_word ∷ found) (PowerUp power_up_word ∷ found) it.unit.life))
@@ -259,7 +259,7 @@ IsLeft (Err e) (Some opened) status = ⊥
 -- a power-up with this word, where there is one, into a handle that has no unit
 abbrev pub PowersUp : List ℕ → Option Cold → Option Opened → Status → Type 0
 PowersUp image None after status = (status ≡ a_status.OutOfRange) × (after ≡ None)
-PowersUp image (Some cold) after status = (told : Result Relayed OpenError) × IsPoweredUp image cold told × IsLeft told after status
+PowersUp image (Some cold) after status = (reported : Result Relayed OpenError) × IsPoweredUp image cold reported × IsLeft reported after status
 
 -- the same into any handle: one that is open stays as it is
 abbrev pub OpensFrom : List ℕ → ℕ → ℕ → Option Opened → Option Opened → Status → Type 0

@@ -4,7 +4,7 @@
 
 -- Taken for granted: each call meets its contract (`OnHandle`, `Takes`, `Prepares`, ..), which is proved; and what the
 -- head of `include/etcs_unit.h` says that the caller owes. He hands in what he read from his medium, a sector as it is
--- there when he hands it in, carries out the requests in their order, as they are told, says of none that it is done
+-- there when he hands it in, carries out the requests in their order, as they are reported, says of none that it is done
 -- before it is, and nothing else writes there.
 use Rattle.std.specs.Prelude.{◌≡◌, ◌⊎◌, ℕ, ◌+◌, ◌≤◌, List, [], ◌∷◌, ◌++◌, length, map, take, Option, Some, None, MatchOption, Ok}
 use Rattle.disk.specs.State.{Platter, IsImage}
@@ -12,13 +12,13 @@ use Rattle.events.specs.declared.input.Event.{Event}
 use Rattle.events.specs.declared.input.Input.{Input}
 use Rattle.mode_table.specs.declared.statuses.Cold.{Cold}
 use Rattle.unit_start.specs.Events.{pairs_of}
-use Rattle.unit_start.specs.Lives.{Tells}
+use Rattle.unit_start.specs.Lives.{Describes}
 use Rattle.relayed_unit.specs.Relayed.{Relayed}
 use Rattle.unit_calls.specs.Handles.{OnHandle, OnHandleInto, Takes, Prepares, Says, Fails, Handing, Releases, OpensFrom, IsLeft}
 use Rattle.unit_calls.specs.Mediums.{at_rest, carried_out, IsAtRest, IsReadFrom}
-use Rattle.unit_calls.specs.Outputs.{told_of}
+use Rattle.unit_calls.specs.Outputs.{description_of}
 use Rattle.unit_calls.specs.PowerUps.{before_any, IsUp}
-use Rattle.unit_calls.specs.Requests.{Where, Telling, TellsRequest}
+use Rattle.unit_calls.specs.Requests.{Where, Description, DescribesRequest}
 use Rattle.unit_calls.specs.Sectors.{Provides}
 use Rattle.unit_calls.specs.Statuses.{is_done}
 use Rattle.unit_calls.specs.declared.handle.Opened.{Opened}
@@ -49,8 +49,8 @@ pub data Happening : Type 0 where
   Preparing : Happening
   -- `etcs_unit_provide` of this sector with these bytes
   Providing : ℕ → List ℕ → Happening
-  -- the next request is carried out, as `etcs_unit_request` told it
-  Carrying : Telling → Happening
+  -- the next request is carried out, as `etcs_unit_request` reported it
+  Carrying : Description → Happening
   -- `etcs_unit_done` with this count
   Saying : ℕ → Happening
   -- `etcs_unit_fail`
@@ -73,7 +73,7 @@ IsQuiet before after = (after.medium ≡ before.medium) × (after.carried ≡ be
 abbrev pub BeginsAnew : Scene → Scene → Type 0
 BeginsAnew before after = MatchOption before.handle (after.carried ≡ 0) (λ opened. after.carried ≡ before.carried)
 
--- what a release hands out is behind what was handed out before, and nothing of the next list is carried out
+-- what a release hands out is after what was handed out before, and nothing of the next list is carried out
 abbrev pub IsHandedOut : Handing → Scene → Scene → Type 0
 IsHandedOut h before after = Where (is_done h.status)
     ((after.handed ≡ before.handed ++ take h.count h.handed) × (after.carried ≡ 0))
@@ -97,8 +97,8 @@ Happens sectors (Providing sector bytes) before after =
     (status : Status) × OnHandle before.handle after.handle status (Provides sector bytes)
     × (status ≡ a_status.Done → bytes ≡ before.medium.contents sector) × IsQuiet before after
 Happens sectors (Carrying t) before after =
-    (opened : Opened) × (before.handle ≡ Some opened) × TellsRequest before.carried opened t × (t.status ≡ a_status.Done)
-    × (after.handle ≡ before.handle) × (after.medium ≡ carried_out t.told t.bytes before.medium)
+    (opened : Opened) × (before.handle ≡ Some opened) × DescribesRequest before.carried opened t × (t.status ≡ a_status.Done)
+    × (after.handle ≡ before.handle) × (after.medium ≡ carried_out t.reported t.bytes before.medium)
     × (after.carried ≡ before.carried + 1) × (after.handed ≡ before.handed)
 Happens sectors (Saying count) before after =
     (status : Status) × OnHandle before.handle after.handle status (Says count)
@@ -106,7 +106,7 @@ Happens sectors (Saying count) before after =
 Happens sectors Failing before after =
     (status : Status) × OnHandle before.handle after.handle status Fails × IsQuiet before after
 Happens sectors (Releasing h) before after =
-    OnHandleInto (Unit {0}) before.handle after.handle h.status (λ was is told. Releases was is h)
+    OnHandleInto (Unit {0}) before.handle after.handle h.status (λ was is reported. Releases was is h)
     × (after.medium ≡ before.medium) × IsHandedOut h before after
 Happens sectors Asking before after = (after.handle ≡ before.handle) × IsQuiet before after
 Happens sectors Closing before after = (after.handle ≡ None) × IsQuiet before after
@@ -128,11 +128,11 @@ IsPartOf (x ∷ xs) (y ∷ ys) = ((x ≡ y) × IsPartOf xs ys) ⊎ IsPartOf (x �
 
 -- the outputs of these events, as C gets them
 abbrev pub outputs_of : List Event → List EtcsOutput
-outputs_of events = map told_of (pairs_of events)
+outputs_of events = map description_of (pairs_of events)
 
 -- the image represents a list of events of which these are the beginning, by blocks that are whole from this number on
 abbrev pub HasAll : ℕ → ℕ → List Event → (ℕ → List ℕ) → Type 0
-HasAll whole_from sectors events image = (all : List Event) × (more : List Event) × (all ≡ more ++ events) × Tells whole_from sectors all image
+HasAll whole_from sectors events image = (all : List Event) × (more : List Event) × (all ≡ more ++ events) × Describes whole_from sectors all image
 
 -- All of these outputs, which were handed out, are on the medium.
 pub record AreOnMedium (whole_from sectors : ℕ) (handed : List EtcsOutput) (medium : Platter) : Type 0 where
@@ -156,7 +156,7 @@ abbrev pub OnMediumIsHeld : Type 0
 OnMediumIsHeld = (whole_from sectors : ℕ) (handed : List EtcsOutput) (medium : Platter) → AreOnMedium whole_from sectors handed medium
     → (durable : List Event)
     × ((before after : List EtcsOutput) (output : EtcsOutput) → handed ≡ before ++ output ∷ after
-    → (front : List EtcsOutput) × (back : List EtcsOutput) × (map told_of (pairs_of durable) ≡ front ++ output ∷ back)
+    → (front : List EtcsOutput) × (back : List EtcsOutput) × (map description_of (pairs_of durable) ≡ front ++ output ∷ back)
     × (length before ≤ length front) × (length after ≤ length back))
     × ((image : ℕ → List ℕ) → IsImage medium image
-    → (all : List Event) × (more : List Event) × (all ≡ more ++ durable) × Tells whole_from sectors all image)
+    → (all : List Event) × (more : List Event) × (all ≡ more ++ durable) × Describes whole_from sectors all image)

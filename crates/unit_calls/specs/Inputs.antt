@@ -12,13 +12,13 @@ use Rattle.events.specs.declared.input.Input.TheVariants.{Driver}
 use Rattle.mode_table.specs.declared.level.TrainLevel.TheVariants.{Level0, Level1}
 use Rattle.unit_calls.specs.declared.inputs.EtcsTrainData.{EtcsTrainData}
 
--- an input is told exactly where this holds, and then it is this one
-abbrev pub Tells : Type 0 → Input → Option Input → Type 0
-Tells Within input told = (IsSome told ↔ Within) × IfSome told (λ it. it ≡ input)
+-- an input is reported exactly where this holds, and then it is this one
+abbrev pub Describes : Type 0 → Input → Option Input → Type 0
+Describes Within input reported = (IsSome reported ↔ Within) × IfSome reported (λ it. it ≡ input)
 
--- an action is told exactly where there is one, and then it is this one
+-- an action is reported exactly where there is one, and then it is this one
 abbrev pub ActsAs : Option Action → Option Input → Type 0
-ActsAs action told = (IsSome told ↔ IsSome action) × IfSome told (λ it. IfSome action (λ does. it ≡ Driver does))
+ActsAs action reported = (IsSome reported ↔ IsSome action) × IfSome reported (λ it. IfSome action (λ does. it ≡ Driver does))
 
 -- within the limits of train data
 abbrev pub AreTrainData : EtcsTrainData → Type 0

@@ -6,6 +6,6 @@ use Rattle.unit_calls.specs.contracts.handle.Opened.{the_row as opened_row}
 use Rattle.unit_calls.specs.declared.raw.Raw.{Raw}
 use Rattle.unit_calls.specs.contracts.raw.Raw.{the_row as raw_row}
 
--- once the borrow r ends, what s holds is the last value behind r
+-- once the borrow r ends, what s holds is the last value after r
 abbrev pub LendsHeld : MutBor Raw → MutBor Opened → Fml
 LendsHeld s r = Lends raw_row opened_row s r (λ w. record s.now { value = Some w })

@@ -4,24 +4,24 @@ use Rattle.disk.specs.State.{Platter, contents_of, sector_of}
 use Rattle.request_disk.specs.Requesting.{copy_of, request_state}
 use Rattle.unit_calls.specs.declared.words.EtcsRequest.{EtcsRequest}
 
--- whether a write, as it is told, is of sector s
+-- whether a write, as it is reported, is of sector s
 abbrev pub is_of : EtcsRequest → ℕ → Bool
-is_of told s = nat_le told.sector s && nat_lt (s - told.sector) told.sectors
+is_of reported s = nat_le reported.sector s && nat_lt (s - reported.sector) reported.sectors
 
--- the medium behind a write: its sectors have these bytes, and stay open until a sync
+-- the medium after a write: its sectors have these bytes, and stay open until a sync
 abbrev pub written_on : EtcsRequest → List ℕ → Platter → Platter
-written_on told bytes medium = record {
-  contents = λ s. if is_of told s then sector_of bytes (s - told.sector) else medium.contents s;
-  is_open = λ s. if is_of told s then true else medium.is_open s;
+written_on reported bytes medium = record {
+  contents = λ s. if is_of reported s then sector_of bytes (s - reported.sector) else medium.contents s;
+  is_open = λ s. if is_of reported s then true else medium.is_open s;
 }
 
 -- the medium where no sector is open, with these contents
 abbrev pub at_rest : (ℕ → List ℕ) → Platter
 at_rest contents = record { contents = contents; is_open = λ s. false }
 
--- the medium behind a request, as it is told: a write, or a sync
+-- the medium after a request, as it is reported: a write, or a sync
 abbrev pub carried_out : EtcsRequest → List ℕ → Platter → Platter
-carried_out told bytes medium = if told.kind == 1 then written_on told bytes medium else at_rest medium.contents
+carried_out reported bytes medium = if reported.kind == 1 then written_on reported bytes medium else at_rest medium.contents
 
 -- The bytes are those of a medium of so many sectors, of which none is open: power was lost since the last write, or it
 -- was synced.

@@ -48,9 +48,9 @@ closing (Some it) = a_status.Done
 
 -- ---- sectors
 
--- the sector that it wants is told; NoneWanted where it wants none, and then nothing is written
-abbrev pub TellsWanted : Opening → ℕ → ℕ → Status → Type 0
-TellsWanted it old new status = MatchOption it.disk.wanted
+-- the sector that it wants is reported; NoneWanted where it wants none, and then nothing is written
+abbrev pub DescribesWanted : Opening → ℕ → ℕ → Status → Type 0
+DescribesWanted it old new status = MatchOption it.disk.wanted
     ((status ≡ a_status.NoneWanted) × (new ≡ old)) (λ sector. (status ≡ a_status.Done) × (new ≡ sector))
 
 -- what `UnitOpening::provide` promises where it takes a sector

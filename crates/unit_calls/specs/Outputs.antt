@@ -7,8 +7,8 @@ use Rattle.unit_start.specs.Releases.{Release}
 use Rattle.unit_calls.specs.declared.outputs.EtcsOutput.{EtcsOutput}
 
 -- as C sees it
-abbrev pub told_of : Release → EtcsOutput
-told_of released = record {
+abbrev pub description_of : Release → EtcsOutput
+description_of released = record {
   event = released.number;
   limit = released.output.limit;
   mode = mode_number released.output.mode;
@@ -17,9 +17,9 @@ told_of released = record {
   indications = indications_number released.output.indications;
 }
 
--- what was released is in the first of the caller's places, in its order, and the places behind it stay as they were
+-- what was released is in the first of the caller's places, in its order, and the places after it stay as they were
 abbrev pub AreHanded : List Release → List EtcsOutput → List EtcsOutput → Type 0
-AreHanded released places handed = handed ≡ map told_of released ++ drop (length released) places
+AreHanded released places handed = handed ≡ map description_of released ++ drop (length released) places
 
 -- the last of these outputs, or the one before them where there is none
 abbrev pub last_of : List Release → Release → Release

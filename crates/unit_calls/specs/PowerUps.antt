@@ -23,7 +23,7 @@ pub record IsUp (begin : State) (cold : Cold) (u : Relayed) : Type 0 where
   pub there : IsSome u.moored
   -- its disk has as many sectors
   pub sectors : IfSome u.moored (λ it. it.reading.disk.sectors ≡ begin.sectors)
-  -- behind each number of requests each image is one that a power-up may leave of what the disk held
+  -- after each number of requests each image is one that a power-up may leave of what the disk held
   pub up : (whole_from : ℕ) (durable accepted : List Event) → IsReady whole_from durable accepted begin → IfSome u.moored (λ it.
       (found : List Event) × (power_up_word : Cold)
       × Opens whole_from durable accepted found cold power_up_word begin (request_state it.reading.disk)

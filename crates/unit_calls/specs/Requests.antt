@@ -1,4 +1,4 @@
--- What C is told of a request (this project's profile). Requests are counted from the first of the list.
+-- What C gets of a request (this project's profile). Requests are counted from the first of the list.
 use Rattle.std.specs.Prelude.{◌≡◌, ℕ, ◌+◌, ◌*◌, ◌<◌, ◌≤◌, nat_lt, Bool, true, false, List, [], ◌∷◌, ◌++◌, length, take, drop, Option, Some, None}
 use Rattle.disk.specs.Record.{IsWithin}
 use Rattle.disk.specs.declared.record.Call.{Call}
@@ -14,48 +14,48 @@ abbrev pub Where : Bool → Type 0 → Type 0 → Type 0
 Where true So Else = So
 Where false So Else = Else
 
--- The request and the bytes that the caller has room for, before a call and behind it, and its status.
-pub record Telling : Type 0 where
+-- The request and the bytes that the caller has room for, before a call and after it, and its status.
+pub record Description : Type 0 where
   pub request : EtcsRequest
-  pub told : EtcsRequest
+  pub reported : EtcsRequest
   pub room : List ℕ
   pub bytes : List ℕ
   pub status : Status
 
 -- the call is refused so, and writes nothing
-abbrev pub Refuses : Status → Telling → Type 0
-Refuses status t = (t.status ≡ status) × (t.told ≡ t.request) × (t.bytes ≡ t.room)
+abbrev pub Refuses : Status → Description → Type 0
+Refuses status t = (t.status ≡ status) × (t.reported ≡ t.request) × (t.bytes ≡ t.room)
 
 -- so many sectors from this one on are to be written with these bytes, for which the caller has room
-abbrev pub Writes : ℕ → ℕ → List ℕ → Telling → Type 0
+abbrev pub Writes : ℕ → ℕ → List ℕ → Description → Type 0
 Writes sector sectors content t =
     Where (nat_lt (length t.room) (length content)) (Refuses a_status.NoRoom t)
-    ((t.status ≡ a_status.Done) × (t.told ≡ record { sector = sector; sectors = sectors; kind = 1 })
+    ((t.status ≡ a_status.Done) × (t.reported ≡ record { sector = sector; sectors = sectors; kind = 1 })
     × (t.bytes ≡ content ++ drop (length content) t.room))
 
 -- a sync is to be done
-abbrev pub Syncs : Telling → Type 0
-Syncs t = (t.status ≡ a_status.Done) × (t.told ≡ record { sector = 0; sectors = 0; kind = 2 }) × (t.bytes ≡ t.room)
+abbrev pub Syncs : Description → Type 0
+Syncs t = (t.status ≡ a_status.Done) × (t.reported ≡ record { sector = 0; sectors = 0; kind = 2 }) × (t.bytes ≡ t.room)
 
--- the request at this place of a list; None behind the last one
+-- the request at this place of a list; None after the last one
 abbrev pub IsAt : ℕ → List Call → Option Call → Type 0
 IsAt index requests None = length requests ≤ index
 IsAt index requests (Some request) = (index < length requests) × (take (index + 1) requests ≡ take index requests ++ request ∷ [])
 
--- what C is told of it, where it writes some of these bytes
-abbrev pub IsToldAs : List ℕ → Option Call → Telling → Type 0
-IsToldAs written None t = Refuses a_status.NoSuchRequest t
-IsToldAs written (Some Quiet) t = Syncs t
-IsToldAs written (Some Synced) t = Syncs t
-IsToldAs written (Some (Written span)) t = Writes span.first span.sectors (take (512 * span.sectors) (drop span.from written)) t
-IsToldAs written (Some (Torn span)) t = Syncs t
+-- what C gets of it, where it writes some of these bytes
+abbrev pub IsReportedAs : List ℕ → Option Call → Description → Type 0
+IsReportedAs written None t = Refuses a_status.NoSuchRequest t
+IsReportedAs written (Some Quiet) t = Syncs t
+IsReportedAs written (Some Synced) t = Syncs t
+IsReportedAs written (Some (Written span)) t = Writes span.first span.sectors (take (512 * span.sectors) (drop span.from written)) t
+IsReportedAs written (Some (Torn span)) t = Syncs t
 
 -- a request is of sectors that the medium has, and the bytes that it writes are there
 abbrev pub IsWhole : Opened → Option Call → Type 0
 IsWhole opened found = (request : Call) → found ≡ Some request
     → IsWithin (sectors_in opened.unit.moored) (length (written_of opened.unit.moored)) request
 
--- a request of the unit's list is told
-abbrev pub TellsRequest : ℕ → Opened → Telling → Type 0
-TellsRequest index opened t = (found : Option Call) × IsAt index (list_of opened.unit.moored) found × IsWhole opened found
-    × IsToldAs (written_of opened.unit.moored) found t
+-- a request of the unit's list is reported
+abbrev pub DescribesRequest : ℕ → Opened → Description → Type 0
+DescribesRequest index opened t = (found : Option Call) × IsAt index (list_of opened.unit.moored) found × IsWhole opened found
+    × IsReportedAs (written_of opened.unit.moored) found t

@@ -9,9 +9,9 @@ use Rattle.unit_calls.specs.declared.handle.Opened.{Opened}
 use Rattle.unit_calls.specs.declared.status.Status.{Status}
 use Rattle.unit_calls.specs.declared.status.Status.TheVariants as a_status
 
--- the sector that a unit wants is told; NoneWanted where it wants none, and then nothing is written
-abbrev pub TellsWanted : Opened → ℕ → ℕ → Status → Type 0
-TellsWanted opened old new status = (wanted : Option ℕ) × IfSome opened.unit.moored (λ it. wanted ≡ it.reading.disk.wanted)
+-- the sector that a unit wants is reported; NoneWanted where it wants none, and then nothing is written
+abbrev pub DescribesWanted : Opened → ℕ → ℕ → Status → Type 0
+DescribesWanted opened old new status = (wanted : Option ℕ) × IfSome opened.unit.moored (λ it. wanted ≡ it.reading.disk.wanted)
     × MatchOption wanted ((status ≡ a_status.NoneWanted) × (new ≡ old)) (λ sector. (status ≡ a_status.Done) × (new ≡ sector))
 
 -- whether these are the bytes of a sector that the medium has

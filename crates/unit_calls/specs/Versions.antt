@@ -8,8 +8,8 @@ use Rattle.unit_calls.specs.declared.status.Status.TheVariants as a_status
 abbrev pub version : List ℕ
 version = codes "0.1.0"
 
--- the version is written into the first of the caller's bytes, and its length told; NoRoom writes nothing
-abbrev pub TellsVersion : List ℕ → List ℕ → ℕ → ℕ → Status → Type 0
-TellsVersion room bytes len told status =
-    Where (nat_lt (length room) (length version)) ((status ≡ a_status.NoRoom) × (bytes ≡ room) × (told ≡ len))
-    ((status ≡ a_status.Done) × (bytes ≡ version ++ drop (length version) room) × (told ≡ length version))
+-- the version is written into the first of the caller's bytes, and its length reported; NoRoom writes nothing
+abbrev pub DescribesVersion : List ℕ → List ℕ → ℕ → ℕ → Status → Type 0
+DescribesVersion room bytes len reported status =
+    Where (nat_lt (length room) (length version)) ((status ≡ a_status.NoRoom) × (bytes ≡ room) × (reported ≡ len))
+    ((status ≡ a_status.Done) × (bytes ≡ version ++ drop (length version) room) × (reported ≡ length version))

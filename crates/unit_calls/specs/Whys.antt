@@ -1,4 +1,4 @@
--- Why the newest released output is what it is, and what a display shows of it, as C is told it (this project's profile).
+-- Why the newest released output is what it is, and what a display shows of it, as C gets it (this project's profile).
 -- Places and distances are centimetres, speeds metres per hour, times milliseconds; lists of events have the newest
 -- first.
 use Rattle.std.specs.Prelude.{◌≡◌, ℕ, ◌-◌, ℤ, int_lt, ◌-ℤ◌, Bool, true, false, if◌then◌else◌, List, [], ◌∷◌, map, length, Option, Some, None, is_some, IfSome}
@@ -23,17 +23,17 @@ use Rattle.speed_supervision.specs.declared.cause.SpeedCause.{SpeedCause}
 use Rattle.speed_supervision.specs.declared.cause.SpeedCause.TheVariants as a_speed
 use Rattle.mode_control.specs.Life.{Life}
 use Rattle.unit_start.specs.Events.{IsAhead}
-use Rattle.reasons.specs.LimitWords.{limit_told}
+use Rattle.reasons.specs.LimitWords.{limit_reported}
 use Rattle.relayed_unit.specs.Relayed.{is_unreleased}
 use Rattle.relayed_unit.specs.declared.moored.Moored.{Moored}
 use Rattle.speed_supervision.specs.Limit.{limit}
-use Rattle.unit_calls.specs.Outputs.{told_of}
+use Rattle.unit_calls.specs.Outputs.{description_of}
 use Rattle.unit_calls.specs.Requests.{Where}
 use Rattle.unit_calls.specs.declared.handle.Opened.{Opened}
 use Rattle.unit_calls.specs.declared.status.Status.{Status}
 use Rattle.unit_calls.specs.declared.status.Status.TheVariants as a_status
 use Rattle.unit_calls.specs.declared.why.EtcsUnitWhy.{EtcsUnitWhy}
-use Rattle.unit_calls.specs.declared.why.Told.{Told}
+use Rattle.unit_calls.specs.declared.why.Reported.{Reported}
 
 -- ---- the causes of a brake: whether each holds, in the order of the brake table
 
@@ -104,7 +104,7 @@ override_ends (Some left) = is_some left.time
 
 -- ---- as C sees it
 
-abbrev pub why_with : Told → EtcsUnitWhy
+abbrev pub why_with : Reported → EtcsUnitWhy
 why_with t = record {
   output = t.output;
   backward = t.motion.backward;
@@ -137,29 +137,29 @@ why_with t = record {
   reserved = 0 ∷ 0 ∷ 0 ∷ 0 ∷ [];
 }
 
--- what is known behind the event of this number that led to a life, where this decides the limit
-abbrev pub told_in : ℕ → Life → LimitCause → Told
-told_in event life decides = record {
-  output = told_of (record { number = event; output = output_of life });
+-- what is known after the event of this number that led to a life, where this decides the limit
+abbrev pub reported_in : ℕ → Life → LimitCause → Reported
+reported_in event life decides = record {
+  output = description_of (record { number = event; output = output_of life });
   motion = motion_of life;
-  limit = limit_told (limit life) decides;
+  limit = limit_reported (limit life) decides;
   target = target_of decides;
   releases = releases decides;
   shown = shown_of life;
   holds = holds_in (causes_of life);
 }
 
--- all that is told is of this life
-abbrev pub TellsLifeWhy : ℕ → Life → EtcsUnitWhy → Type 0
-TellsLifeWhy event life told = (decides : LimitCause) × IsLimitCause life (limit life) decides
-    × (told ≡ why_with (told_in event life decides))
+-- all that is reported is of this life
+abbrev pub DescribesLifeWhy : ℕ → Life → EtcsUnitWhy → Type 0
+DescribesLifeWhy event life reported = (decides : LimitCause) × IsLimitCause life (limit life) decides
+    × (reported ≡ why_with (reported_in event life decides))
 
--- what is told is of the newest event, and it is released: all accepted events are durable
+-- what is reported is of the newest event, and it is released: all accepted events are durable
 abbrev pub IsOfReleased : Moored → EtcsUnitWhy → Type 0
-IsOfReleased it told = (durable accepted : List Event) → IsAhead durable accepted it.unit.life
-    → (durable ≡ accepted) × TellsLifeWhy (length accepted - 1) (life_of accepted) told
+IsOfReleased it reported = (durable accepted : List Event) → IsAhead durable accepted it.unit.life
+    → (durable ≡ accepted) × DescribesLifeWhy (length accepted - 1) (life_of accepted) reported
 
--- the newest event is told of; NotReleased exactly where it isn't released yet, and then nothing is written
+-- the newest event is reported of; NotReleased exactly where it isn't released yet, and then nothing is written
 abbrev pub AsksUnitWhy : Opened → EtcsUnitWhy → EtcsUnitWhy → Status → Type 0
 AsksUnitWhy opened old new status = IfSome opened.unit.moored (λ it. Where (is_unreleased it)
     ((status ≡ a_status.NotReleased) × (new ≡ old)) ((status ≡ a_status.Done) × IsOfReleased it new))

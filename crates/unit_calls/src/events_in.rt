@@ -7,7 +7,7 @@ ghost use Rattle.events.specs.declared.input.Input.{Input as an_input};
 ghost use Rattle.events.specs.declared.input.Input.TheVariants.{Telegram, Odometer, Clock, Driver};
 ghost use Rattle.units.specs.Limits.{IsMovement, IsMph, IsMs};
 ghost use Rattle.unit_calls.specs.Handles.{OnHandle, Takes};
-ghost use Rattle.unit_calls.specs.Inputs.{Tells, ActsAs, AreTrainData, train_of, action_by};
+ghost use Rattle.unit_calls.specs.Inputs.{Describes, ActsAs, AreTrainData, train_of, action_by};
 
 use crate::handle::{EtcsUnit, Opened};
 use crate::inputs::{self, EtcsTrainData};
@@ -56,56 +56,56 @@ fn take(alloc: Global, handle: &mut EtcsUnit, input: Option<Input>) -> Status
 
 /// Takes the bytes that a balise sent.
 pub fn telegram_call(alloc: Global, unit: &mut EtcsUnit, bytes: &[u8]) -> Status
-    ensures { (told : Option an_input) × Tells (AreOfATelegram bytes.now) (Telegram bytes.now) told
-        × OnHandle unit.old.raw.value unit.new.raw.value result (Takes told) }
+    ensures { (reported : Option an_input) × Describes (AreOfATelegram bytes.now) (Telegram bytes.now) reported
+        × OnHandle unit.old.raw.value unit.new.raw.value result (Takes reported) }
 {
     take(alloc, unit, inputs::telegram(bytes))
 }
 
 /// Takes a reading of the odometer, in centimetres and metres per hour.
 pub fn odometer_call(alloc: Global, unit: &mut EtcsUnit, movement: i64, speed: u32) -> Status
-    ensures { (told : Option an_input) × Tells (IsMovement movement × IsMph speed) (Odometer (record { movement = movement; speed = speed })) told
-        × OnHandle unit.old.raw.value unit.new.raw.value result (Takes told) }
+    ensures { (reported : Option an_input) × Describes (IsMovement movement × IsMph speed) (Odometer (record { movement = movement; speed = speed })) reported
+        × OnHandle unit.old.raw.value unit.new.raw.value result (Takes reported) }
 {
     take(alloc, unit, inputs::odometer(movement, speed))
 }
 
 /// Takes a moment, in milliseconds.
 pub fn clock_call(alloc: Global, unit: &mut EtcsUnit, moment: u64) -> Status
-    ensures { (told : Option an_input) × Tells (IsMs moment) (Clock moment) told
-        × OnHandle unit.old.raw.value unit.new.raw.value result (Takes told) }
+    ensures { (reported : Option an_input) × Describes (IsMs moment) (Clock moment) reported
+        × OnHandle unit.old.raw.value unit.new.raw.value result (Takes reported) }
 {
     take(alloc, unit, inputs::clock(moment))
 }
 
 /// Takes an action of the driver, 1 to 15.
 pub fn action_call(alloc: Global, unit: &mut EtcsUnit, action: u32) -> Status
-    ensures { (told : Option an_input) × ActsAs (action_by action) told
-        × OnHandle unit.old.raw.value unit.new.raw.value result (Takes told) }
+    ensures { (reported : Option an_input) × ActsAs (action_by action) reported
+        × OnHandle unit.old.raw.value unit.new.raw.value result (Takes reported) }
 {
     take(alloc, unit, inputs::action(action))
 }
 
 /// Takes an identity that the driver enters.
 pub fn identity_call(alloc: Global, unit: &mut EtcsUnit, bytes: &[u8]) -> Status
-    ensures { (told : Option an_input) × Tells (IsIdentity bytes.now) (Driver (EnterIdentity bytes.now)) told
-        × OnHandle unit.old.raw.value unit.new.raw.value result (Takes told) }
+    ensures { (reported : Option an_input) × Describes (IsIdentity bytes.now) (Driver (EnterIdentity bytes.now)) reported
+        × OnHandle unit.old.raw.value unit.new.raw.value result (Takes reported) }
 {
     take(alloc, unit, inputs::identity(bytes))
 }
 
 /// Takes a running number that the driver enters.
 pub fn running_number_call(alloc: Global, unit: &mut EtcsUnit, number: u32) -> Status
-    ensures { (told : Option an_input) × Tells (IsRunningNumber number) (Driver (EnterRunningNumber number)) told
-        × OnHandle unit.old.raw.value unit.new.raw.value result (Takes told) }
+    ensures { (reported : Option an_input) × Describes (IsRunningNumber number) (Driver (EnterRunningNumber number)) reported
+        × OnHandle unit.old.raw.value unit.new.raw.value result (Takes reported) }
 {
     take(alloc, unit, inputs::running_number(number))
 }
 
 /// Takes train data that the driver enters.
 pub fn train_data_call(alloc: Global, unit: &mut EtcsUnit, train: &EtcsTrainData) -> Status
-    ensures { (told : Option an_input) × Tells (AreTrainData train.now) (Driver (EnterTrainData (train_of train.now))) told
-        × OnHandle unit.old.raw.value unit.new.raw.value result (Takes told) }
+    ensures { (reported : Option an_input) × Describes (AreTrainData train.now) (Driver (EnterTrainData (train_of train.now))) reported
+        × OnHandle unit.old.raw.value unit.new.raw.value result (Takes reported) }
 {
     take(alloc, unit, inputs::train_data(train))
 }

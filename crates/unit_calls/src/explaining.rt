@@ -5,9 +5,9 @@ ghost use Rattle.unit_calls.specs.Whys.{AsksUnitWhy};
 
 use crate::handle::{EtcsUnit, Opened};
 use crate::status::Status;
-use crate::why::{EtcsUnitWhy, why_told};
+use crate::why::{EtcsUnitWhy, why_reported};
 
-// Tells why the newest output of this unit is what it is, where it is released.
+// Reports why the newest output of this unit is what it is, where it is released.
 fn explain(opened: &Opened, why: &mut EtcsUnitWhy) -> Status
     ensures { AsksUnitWhy opened.now why.old why.new result }
 {
@@ -15,7 +15,7 @@ fn explain(opened: &Opened, why: &mut EtcsUnitWhy) -> Status
         None => Status::NotReleased,
         Some(state) => {
             let event = opened.unit.events().saturating_sub(1);
-            *why = why_told(event, state);
+            *why = why_reported(event, state);
             Status::Done
         }
     }
@@ -25,7 +25,7 @@ fn explain(opened: &Opened, why: &mut EtcsUnitWhy) -> Status
 /// or requests aren't released, and then nothing is written. Nothing changes.
 pub fn unit_why_call(unit: &mut EtcsUnit, why: &mut EtcsUnitWhy) -> Status
     ensures { OnHandleInto (why.new ≡ why.old) unit.old.raw.value unit.new.raw.value result
-        (λ before after told. (after ≡ before) × AsksUnitWhy before why.old why.new told) }
+        (λ before after reported. (after ≡ before) × AsksUnitWhy before why.old why.new reported) }
 {
     if !unit.has_unit() {
         return Status::NotOpen;

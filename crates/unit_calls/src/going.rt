@@ -17,13 +17,13 @@ fn leave(
     opening: &mut EtcsOpening,
     place: Box<Place>,
     unit: &mut EtcsUnit,
-    told: Result<Going, OpenError>,
+    reported: Result<Going, OpenError>,
 ) -> Status
     requires opening { under_way opening.old.raw.value ≡ None }
     requires unit { unit.old.raw.value ≡ None }
-    ensures { IsLeftOn told (under_way opening.new.raw.value) unit.new.raw.value result }
+    ensures { IsLeftOn reported (under_way opening.new.raw.value) unit.new.raw.value result }
 {
-    match told {
+    match reported {
         Ok(Going::Wants(next)) => {
             *opening = handle_of(next, place);
             Status::SectorWanted
@@ -45,6 +45,6 @@ pub fn go_on_call(alloc: Global, opening: &mut EtcsOpening, unit: &mut EtcsUnit)
     let Some((it, place)) = taken(alloc, opening) else {
         return Status::NotOpen;
     };
-    let told = it.go_on(alloc);
-    leave(alloc, opening, place, unit, told)
+    let reported = it.go_on(alloc);
+    leave(alloc, opening, place, unit, reported)
 }

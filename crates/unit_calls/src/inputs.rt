@@ -1,4 +1,4 @@
-//! Inputs of the numbers and bytes that C hands in. None is told exactly outside the limits.
+//! Inputs of the numbers and bytes that C hands in. None is reported exactly outside the limits.
 ghost use Rattle.std.specs.Prelude.{◌≡◌, ◌↔◌, ◌<◌, IsSome, IfSome};
 ghost use Rattle.brakes.specs.Limits.{IsDeceleration, IsReaction};
 ghost use Rattle.driver.specs.Limits.{IsIdentity, IsRunningNumber};

@@ -2,7 +2,7 @@
 ghost use Rattle.unit_calls.specs.Formatting.{FormatEmpties};
 ghost use Rattle.unit_calls.specs.Histories.{HandedOutIsOnMedium, OnMediumIsHeld};
 
-/// A law: behind all requests of a format, carried out in their order, a medium is an empty journal, as
+/// A law: after all requests of a format, carried out in their order, a medium is an empty journal, as
 /// `journal::format` leaves it.
 pub fn format_empties()
     ensures { FormatEmpties }

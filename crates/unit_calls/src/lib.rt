@@ -1,4 +1,4 @@
-//! The unit, and a power-up in steps, as C programs call them: the calls behind the exports of `etcs_unit`, with their
+//! The unit, and a power-up in steps, as C programs call them: the calls after the exports of `etcs_unit`, with their
 //! contracts.
 #![tactic(auto)]
 

@@ -16,12 +16,12 @@ use std::alloc::Global;
 pub fn put_unit(
     alloc: Global,
     handle: &mut EtcsUnit,
-    told: Result<RelayedUnit, OpenError>,
+    reported: Result<RelayedUnit, OpenError>,
 ) -> Status
     requires { handle.old.raw.value ≡ None }
-    ensures { IsLeft told handle.new.raw.value result }
+    ensures { IsLeft reported handle.new.raw.value result }
 {
-    let unit = match told {
+    let unit = match reported {
         Ok(unit) => unit,
         Err(error) => return of_open(error),
     };
@@ -43,8 +43,8 @@ fn power_up(alloc: Global, handle: &mut EtcsUnit, image: &[u8], cold: Option<Col
     let Some(cold) = cold else {
         return Status::OutOfRange;
     };
-    let told = RelayedUnit::open(alloc, image, cold);
-    put_unit(alloc, handle, told)
+    let reported = RelayedUnit::open(alloc, image, cold);
+    put_unit(alloc, handle, reported)
 }
 
 /// Powers up on these sectors.
@@ -63,7 +63,7 @@ pub fn open_call(alloc: Global, unit: &mut EtcsUnit, image: &[u8], cold: u32, ab
 /// Closes it.
 pub fn close_call(alloc: Global, unit: &mut EtcsUnit) -> Status
     ensures closed { unit.new.raw.value ≡ None }
-    ensures told { result ≡ closing unit.old.raw.value }
+    ensures reported { result ≡ closing unit.old.raw.value }
 {
     match taken(alloc, unit) {
         Some(_) => Status::Done,

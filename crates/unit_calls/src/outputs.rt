@@ -1,6 +1,6 @@
 //! Outputs, as C gets them.
 ghost use Rattle.std.specs.Prelude.{◌≡◌, ◌≤◌, length};
-ghost use Rattle.unit_calls.specs.Outputs.{told_of, AreHanded};
+ghost use Rattle.unit_calls.specs.Outputs.{description_of, AreHanded};
 
 use c_numbers::{brake_number, level_number};
 use events::Output;
@@ -49,8 +49,8 @@ pub struct EtcsState {
 }
 
 /// The output of the event of this number, as C sees it.
-pub fn output_told(event: u64, output: Output) -> EtcsOutput
-    ensures { result ≡ told_of (record { number = event; output = output }) }
+pub fn output_reported(event: u64, output: Output) -> EtcsOutput
+    ensures { result ≡ description_of (record { number = event; output = output }) }
 {
     EtcsOutput {
         event,
@@ -63,10 +63,10 @@ pub fn output_told(event: u64, output: Output) -> EtcsOutput
 }
 
 /// As C sees it.
-pub fn told_of(released: &Released) -> EtcsOutput
-    ensures { result ≡ told_of released.now }
+pub fn description_of(released: &Released) -> EtcsOutput
+    ensures { result ≡ description_of released.now }
 {
-    output_told(released.event(), released.output())
+    output_reported(released.event(), released.output())
 }
 
 /// Writes what was released into the first places. The caller owes a place for each.
@@ -75,6 +75,6 @@ pub fn hand_out(released: &[Released], outputs: &mut [EtcsOutput])
     ensures { AreHanded released.now outputs.old outputs.new }
 {
     for i in 0..released.len() {
-        outputs[i] = told_of(&released[i]);
+        outputs[i] = description_of(&released[i]);
     }
 }

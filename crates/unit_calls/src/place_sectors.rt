@@ -1,6 +1,6 @@
 //! Sectors of a power-up in steps: which one is wanted, and handing it in.
 ghost use Rattle.std.specs.Prelude.{◌≡◌};
-ghost use Rattle.unit_calls.specs.Openings.{OnPlace, OnPlaceInto, TellsWanted, Provides};
+ghost use Rattle.unit_calls.specs.Openings.{OnPlace, OnPlaceInto, DescribesWanted, Provides};
 ghost use Rattle.unit_calls.specs.Places.{under_way};
 
 use crate::place::{EtcsOpening, handle_of, taken};
@@ -9,9 +9,9 @@ use disk::SECTOR_BYTES;
 use relayed_unit::UnitOpening;
 use std::alloc::Global;
 
-// Tells the sector that it wants.
-fn tell_wanted(opening: &UnitOpening, sector: &mut u64) -> Status
-    ensures { TellsWanted opening.now sector.old sector.new result }
+// Reports the sector that it wants.
+fn describe_wanted(opening: &UnitOpening, sector: &mut u64) -> Status
+    ensures { DescribesWanted opening.now sector.old sector.new result }
 {
     match opening.wanted() {
         Some(wanted) => {
@@ -22,15 +22,15 @@ fn tell_wanted(opening: &UnitOpening, sector: &mut u64) -> Status
     }
 }
 
-/// Tells the sector that is wanted, until it is handed in; NoneWanted where none is, and then nothing is written.
+/// Reports the sector that is wanted, until it is handed in; NoneWanted where none is, and then nothing is written.
 pub fn opening_wanted_call(alloc: Global, opening: &mut EtcsOpening, sector: &mut u64) -> Status
     ensures { OnPlaceInto (sector.new ≡ sector.old) (under_way opening.old.raw.value) (under_way opening.new.raw.value) result
-        (λ before after told. (after ≡ before) × TellsWanted before sector.old sector.new told) }
+        (λ before after reported. (after ≡ before) × DescribesWanted before sector.old sector.new reported) }
 {
     let Some((it, place)) = taken(alloc, opening) else {
         return Status::NotOpen;
     };
-    let status = tell_wanted(&it, sector);
+    let status = describe_wanted(&it, sector);
     *opening = handle_of(it, place);
     status
 }

@@ -1,14 +1,14 @@
 //! From inputs to outputs: preparing, requests, releasing.
 ghost use Rattle.std.specs.Prelude.{◌≡◌};
-ghost use Rattle.unit_calls.specs.Handles.{OnHandle, OnHandleInto, Prepares, Says, Fails, Releases, TellsState};
+ghost use Rattle.unit_calls.specs.Handles.{OnHandle, OnHandleInto, Prepares, Says, Fails, Releases, DescribesState};
 ghost use Rattle.unit_calls.specs.Outputs.{last_of};
 ghost use Rattle.unit_calls.specs.declared.status.Status.TheVariants.{Done};
-ghost use Rattle.unit_calls.specs.Requests.{TellsRequest};
+ghost use Rattle.unit_calls.specs.Requests.{DescribesRequest};
 
 use crate::handle::{EtcsUnit, Opened};
-use crate::outputs::{EtcsOutput, EtcsState, hand_out, told_of};
+use crate::outputs::{EtcsOutput, EtcsState, description_of, hand_out};
 use crate::status::{Status, of_prepare, of_release};
-use crate::words::{EtcsRequest, sync, tell_write};
+use crate::words::{EtcsRequest, describe_write, sync};
 use disk::Call;
 use events::MOST_PENDING;
 use onboard::Released;
@@ -30,14 +30,14 @@ pub fn prepare_call(unit: &mut EtcsUnit) -> Status
     prepare(unit.raw.as_mut())
 }
 
-// Tells a request of a unit.
-fn tell(opened: &Opened, index: u32, request: &mut EtcsRequest, bytes: &mut [u8]) -> Status
-    ensures { TellsRequest index opened.now
-        (record { request = request.old; told = request.new; room = bytes.old; bytes = bytes.new; status = result }) }
+// Reports a request of a unit.
+fn describe(opened: &Opened, index: u32, request: &mut EtcsRequest, bytes: &mut [u8]) -> Status
+    ensures { DescribesRequest index opened.now
+        (record { request = request.old; reported = request.new; room = bytes.old; bytes = bytes.new; status = result }) }
 {
     match opened.unit.request(index as usize) {
         Some(Call::Written(span)) => {
-            tell_write(
+            describe_write(
                 span.first,
                 span.sectors,
                 opened.unit.bytes_of(span),
@@ -53,7 +53,7 @@ fn tell(opened: &Opened, index: u32, request: &mut EtcsRequest, bytes: &mut [u8]
     }
 }
 
-/// Tells a request of the list, from 0 on, and the bytes that it writes.
+/// Reports a request of the list, from 0 on, and the bytes that it writes.
 pub fn request_call(
     unit: &mut EtcsUnit,
     index: u32,
@@ -61,13 +61,13 @@ pub fn request_call(
     bytes: &mut [u8],
 ) -> Status
     ensures { OnHandleInto ((request.new ≡ request.old) × (bytes.new ≡ bytes.old))
-        unit.old.raw.value unit.new.raw.value result (λ before after told. (after ≡ before) × TellsRequest index before
-        (record { request = request.old; told = request.new; room = bytes.old; bytes = bytes.new; status = told })) }
+        unit.old.raw.value unit.new.raw.value result (λ before after reported. (after ≡ before) × DescribesRequest index before
+        (record { request = request.old; reported = request.new; room = bytes.old; bytes = bytes.new; status = reported })) }
 {
     if !unit.has_unit() {
         return Status::NotOpen;
     }
-    tell(unit.raw.as_mut(), index, request, bytes)
+    describe(unit.raw.as_mut(), index, request, bytes)
 }
 
 // Says that so many requests, from the first on, are done.
@@ -141,8 +141,8 @@ fn release(opened: &mut Opened, outputs: &mut [EtcsOutput], count: &mut u32) -> 
 /// Releases what was held back, all of it, into room for eight; a refusal writes nothing.
 pub fn release_call(unit: &mut EtcsUnit, outputs: &mut [EtcsOutput], count: &mut u32) -> Status
     ensures { OnHandleInto ((outputs.new ≡ outputs.old) × (count.new ≡ count.old))
-        unit.old.raw.value unit.new.raw.value result (λ before after told. Releases before after
-        (record { places = outputs.old; handed = outputs.new; counted = count.old; count = count.new; status = told })) }
+        unit.old.raw.value unit.new.raw.value result (λ before after reported. Releases before after
+        (record { places = outputs.old; handed = outputs.new; counted = count.old; count = count.new; status = reported })) }
 {
     if !unit.has_unit() {
         return Status::NotOpen;
@@ -152,11 +152,11 @@ pub fn release_call(unit: &mut EtcsUnit, outputs: &mut [EtcsOutput], count: &mut
 
 // How far this unit is.
 fn state_of(opened: &Opened) -> EtcsState
-    ensures { TellsState opened.now result }
+    ensures { DescribesState opened.now result }
 {
     let life = opened.unit.life_now();
     EtcsState {
-        last: told_of(&opened.last),
+        last: description_of(&opened.last),
         requests: opened.unit.count() as u64,
         done: opened.unit.done_count() as u64,
         held: opened.unit.held() as u64,
@@ -168,21 +168,21 @@ fn state_of(opened: &Opened) -> EtcsState
     }
 }
 
-// Tells how far this unit is.
-fn tell_state(opened: &Opened, state: &mut EtcsState) -> Status
-    ensures { (result ≡ Done) × TellsState opened.now state.new }
+// Reports how far this unit is.
+fn describe_state(opened: &Opened, state: &mut EtcsState) -> Status
+    ensures { (result ≡ Done) × DescribesState opened.now state.new }
 {
     *state = state_of(opened);
     Status::Done
 }
 
-/// Tells how far the unit is.
+/// Reports how far the unit is.
 pub fn state_call(unit: &mut EtcsUnit, state: &mut EtcsState) -> Status
     ensures { OnHandleInto (state.new ≡ state.old) unit.old.raw.value unit.new.raw.value result
-        (λ before after told. (after ≡ before) × (told ≡ Done) × TellsState before state.new) }
+        (λ before after reported. (after ≡ before) × (reported ≡ Done) × DescribesState before state.new) }
 {
     if !unit.has_unit() {
         return Status::NotOpen;
     }
-    tell_state(unit.raw.as_mut(), state)
+    describe_state(unit.raw.as_mut(), state)
 }

@@ -1,15 +1,15 @@
 //! Sectors of a medium that isn't copied: which one is wanted, and handing it in.
 ghost use Rattle.std.specs.Prelude.{◌≡◌};
 ghost use Rattle.unit_calls.specs.Handles.{OnHandle, OnHandleInto};
-ghost use Rattle.unit_calls.specs.Sectors.{TellsWanted, Provides};
+ghost use Rattle.unit_calls.specs.Sectors.{DescribesWanted, Provides};
 
 use crate::handle::{EtcsUnit, Opened};
 use crate::status::Status;
 use disk::SECTOR_BYTES;
 
-// Tells the sector that this unit wants.
-fn tell_wanted(opened: &Opened, sector: &mut u64) -> Status
-    ensures { TellsWanted opened.now sector.old sector.new result }
+// Reports the sector that this unit wants.
+fn describe_wanted(opened: &Opened, sector: &mut u64) -> Status
+    ensures { DescribesWanted opened.now sector.old sector.new result }
 {
     match opened.unit.wanted() {
         Some(wanted) => {
@@ -20,15 +20,15 @@ fn tell_wanted(opened: &Opened, sector: &mut u64) -> Status
     }
 }
 
-/// Tells the sector that is wanted, until it is handed in; NoneWanted where none is, and then nothing is written.
+/// Reports the sector that is wanted, until it is handed in; NoneWanted where none is, and then nothing is written.
 pub fn wanted_call(unit: &mut EtcsUnit, sector: &mut u64) -> Status
     ensures { OnHandleInto (sector.new ≡ sector.old) unit.old.raw.value unit.new.raw.value result
-        (λ before after told. (after ≡ before) × TellsWanted before sector.old sector.new told) }
+        (λ before after reported. (after ≡ before) × DescribesWanted before sector.old sector.new reported) }
 {
     if !unit.has_unit() {
         return Status::NotOpen;
     }
-    tell_wanted(unit.raw.as_mut(), sector)
+    describe_wanted(unit.raw.as_mut(), sector)
 }
 
 // Hands in what the medium holds of a sector.

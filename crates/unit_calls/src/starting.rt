@@ -57,7 +57,7 @@ pub fn begin_call(
 /// Closes it.
 pub fn opening_close_call(alloc: Global, opening: &mut EtcsOpening) -> Status
     ensures closed { under_way opening.new.raw.value ≡ None }
-    ensures told { result ≡ closing (under_way opening.old.raw.value) }
+    ensures reported { result ≡ closing (under_way opening.old.raw.value) }
 {
     match taken(alloc, opening) {
         Some(_) => Status::Done,

@@ -59,7 +59,7 @@ pub enum Status {
 }
 
 impl Status {
-    /// The number by which it is told.
+    /// The number by which it is reported.
     pub fn number(self) -> u32
         ensures { result ≡ status_number self }
     {
@@ -81,10 +81,10 @@ pub fn of_open(error: OpenError) -> Status
 }
 
 /// Of an input.
-pub fn of_accept(told: Result<(), AcceptError>) -> Status
-    ensures { result ≡ of_accept told }
+pub fn of_accept(reported: Result<(), AcceptError>) -> Status
+    ensures { result ≡ of_accept reported }
 {
-    match told {
+    match reported {
         Ok(()) => Status::Done,
         Err(AcceptError::Failed) => Status::InputFailed,
         Err(AcceptError::PendingFull) => Status::PendingFull,
@@ -94,10 +94,10 @@ pub fn of_accept(told: Result<(), AcceptError>) -> Status
 }
 
 /// Of a preparation.
-pub fn of_prepare(told: Result<(), PrepareError>) -> Status
-    ensures { result ≡ of_prepare told }
+pub fn of_prepare(reported: Result<(), PrepareError>) -> Status
+    ensures { result ≡ of_prepare reported }
 {
-    match told {
+    match reported {
         Ok(()) => Status::Done,
         Err(PrepareError::Failed) => Status::Failed,
         Err(PrepareError::RequestsOwed) => Status::RequestsOwed,

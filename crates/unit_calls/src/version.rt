@@ -1,6 +1,6 @@
 //! Which library this is.
 ghost use Rattle.std.specs.Prelude.{◌≡◌};
-ghost use Rattle.unit_calls.specs.Versions.{TellsVersion};
+ghost use Rattle.unit_calls.specs.Versions.{DescribesVersion};
 
 use crate::status::Status;
 
@@ -9,7 +9,7 @@ const VERSION_BYTES: usize = 5;
 
 /// Writes the version of the product into room for it, and how many bytes it has.
 pub fn version_call(out: &mut [u8], len: &mut u32) -> Status
-    ensures { TellsVersion out.old out.new len.old len.new result }
+    ensures { DescribesVersion out.old out.new len.old len.new result }
 {
     if out.len() < VERSION_BYTES {
         return Status::NoRoom;

@@ -5,14 +5,14 @@ ghost use Rattle.kernel.specs.Causes.{is_among, marked};
 ghost use Rattle.kernel.specs.StandsFor.{StandsForLife};
 ghost use Rattle.mode_control.specs.Life.{Life};
 ghost use Rattle.track_picture.specs.Stores.{segment_stores};
-ghost use Rattle.unit_calls.specs.Whys.{holds_in, target_of, releases, distance_to, target_distance, target_speed, waiting_number, time_left, override_time, override_distance, override_ends, why_with, TellsLifeWhy};
+ghost use Rattle.unit_calls.specs.Whys.{holds_in, target_of, releases, distance_to, target_distance, target_speed, waiting_number, time_left, override_time, override_distance, override_ends, why_with, DescribesLifeWhy};
 
-use crate::outputs::{EtcsOutput, output_told};
+use crate::outputs::{EtcsOutput, output_reported};
 use braking::Target;
 use c_numbers::{flag, limit_number, or_zero, place_or_zero};
 use driver::OverrideLeft;
 use kernel::{BrakeCause, BrakeCauses, Motion, Shown, State, Waiting};
-use reasons::{LimitTold, limit_told};
+use reasons::{LimitReport, limit_reported};
 use speed_supervision::{LimitCause, SpeedCause};
 use units::{Cm, Mph};
 
@@ -83,13 +83,13 @@ pub struct EtcsUnitWhy {
 
 /// What is known of it.
 #[derive(Clone, Copy)]
-pub struct Told {
+pub struct Reported {
     /// The output.
     pub output: EtcsOutput,
     /// How the train moves.
     pub motion: Motion,
     /// What decides the limit.
-    pub limit: LimitTold,
+    pub limit: LimitReport,
     /// The target ahead that does.
     pub target: Option<Target>,
     /// Whether a release speed does.
@@ -118,7 +118,7 @@ fn holds_in(causes: &BrakeCauses) -> [u8; 10]
         mark_of(causes, BrakeCause::OwesTrip),
         mark_of(causes, BrakeCause::FarTooFast),
         mark_of(causes, BrakeCause::RolledTooFar),
-        mark_of(causes, BrakeCause::AskedForService),
+        mark_of(causes, BrakeCause::ServiceBrakeRequested),
         mark_of(causes, BrakeCause::TooFast),
         mark_of(causes, BrakeCause::MustStand),
         mark_of(causes, BrakeCause::OwesTooLong),
@@ -234,53 +234,57 @@ fn override_ends(left: Option<OverrideLeft>) -> bool
 }
 
 // All of it as C sees it.
-fn why_with(told: &Told) -> EtcsUnitWhy
-    ensures { result ≡ why_with told.now }
+fn why_with(reported: &Reported) -> EtcsUnitWhy
+    ensures { result ≡ why_with reported.now }
 {
     EtcsUnitWhy {
-        output: told.output,
-        backward: told.motion.backward,
-        allowed: told.motion.allowed,
-        place: place_or_zero(told.limit.place),
-        restriction: or_zero(told.limit.number),
-        target_distance: target_distance(told.shown.max_front, told.target),
-        on_sight_left: time_left(told.shown.waiting.on_sight),
-        shunting_left: time_left(told.shown.waiting.shunting),
-        level_0_left: time_left(told.shown.waiting.level_0),
-        override_time: override_time(told.shown.overriding),
-        override_distance: override_distance(told.shown.overriding),
-        service_speed: told.shown.service_speed,
-        emergency_speed: told.shown.emergency_speed,
-        speed: told.motion.speed.get(),
-        limit_speed: told.limit.speed.get(),
-        target_speed: target_speed(told.target),
-        release_speed: if told.releases { told.output.limit } else { 0 },
-        holds: told.holds,
-        limit_cause: limit_number(told.limit.kind),
-        has_place: flag(told.limit.place),
-        has_restriction: flag(told.limit.number),
-        has_target: flag(told.target),
-        has_release: u8::from(told.releases),
-        on_sight: waiting_number(told.shown.waiting.on_sight),
-        shunting: waiting_number(told.shown.waiting.shunting),
-        level_0: waiting_number(told.shown.waiting.level_0),
-        has_override: flag(told.shown.overriding),
-        override_ends: u8::from(override_ends(told.shown.overriding)),
+        output: reported.output,
+        backward: reported.motion.backward,
+        allowed: reported.motion.allowed,
+        place: place_or_zero(reported.limit.place),
+        restriction: or_zero(reported.limit.number),
+        target_distance: target_distance(reported.shown.max_front, reported.target),
+        on_sight_left: time_left(reported.shown.waiting.on_sight),
+        shunting_left: time_left(reported.shown.waiting.shunting),
+        level_0_left: time_left(reported.shown.waiting.level_0),
+        override_time: override_time(reported.shown.overriding),
+        override_distance: override_distance(reported.shown.overriding),
+        service_speed: reported.shown.service_speed,
+        emergency_speed: reported.shown.emergency_speed,
+        speed: reported.motion.speed.get(),
+        limit_speed: reported.limit.speed.get(),
+        target_speed: target_speed(reported.target),
+        release_speed: if reported.releases {
+            reported.output.limit
+        } else {
+            0
+        },
+        holds: reported.holds,
+        limit_cause: limit_number(reported.limit.kind),
+        has_place: flag(reported.limit.place),
+        has_restriction: flag(reported.limit.number),
+        has_target: flag(reported.target),
+        has_release: u8::from(reported.releases),
+        on_sight: waiting_number(reported.shown.waiting.on_sight),
+        shunting: waiting_number(reported.shown.waiting.shunting),
+        level_0: waiting_number(reported.shown.waiting.level_0),
+        has_override: flag(reported.shown.overriding),
+        override_ends: u8::from(override_ends(reported.shown.overriding)),
         reserved: [0; 4],
     }
 }
 
-/// What a state tells of its last event, which has this number.
-pub fn why_told(event: u64, state: &State) -> EtcsUnitWhy
-    ensures { (life : Life) → StandsForLife segment_stores state.now life → TellsLifeWhy event life result }
+/// What a state says about its last event, which has this number.
+pub fn why_reported(event: u64, state: &State) -> EtcsUnitWhy
+    ensures { (life : Life) → StandsForLife segment_stores state.now life → DescribesLifeWhy event life result }
 {
     let output = state.output();
     let permitted = output.limit;
     let decides = state.limit_cause();
-    let limit = limit_told(permitted, &decides);
+    let limit = limit_reported(permitted, &decides);
     let causes = state.brake_causes();
-    let told = Told {
-        output: output_told(event, output),
+    let reported = Reported {
+        output: output_reported(event, output),
         motion: state.motion(),
         limit,
         target: target_of(&decides),
@@ -288,5 +292,5 @@ pub fn why_told(event: u64, state: &State) -> EtcsUnitWhy
         shown: state.shown(),
         holds: holds_in(&causes),
     };
-    why_with(&told)
+    why_with(&reported)
 }

@@ -18,8 +18,8 @@ pub struct EtcsRequest {
     pub kind: u64,
 }
 
-/// Tells a write of so many sectors from this one on, and copies its bytes into room for them.
-pub fn tell_write(
+/// Reports a write of so many sectors from this one on, and copies its bytes into room for them.
+pub fn describe_write(
     sector: u64,
     sectors: u64,
     written: &[u8],
@@ -27,7 +27,7 @@ pub fn tell_write(
     bytes: &mut [u8],
 ) -> Status
     ensures { Writes sector sectors written.now
-        (record { request = request.old; told = request.new; room = bytes.old; bytes = bytes.new; status = result }) }
+        (record { request = request.old; reported = request.new; room = bytes.old; bytes = bytes.new; status = result }) }
 {
     if bytes.len() < written.len() {
         return Status::NoRoom;

@@ -1,4 +1,4 @@
-pub mod Behind
+pub mod Afterwards
 pub mod Fresh
 pub mod Greatest
 pub mod InParts

@@ -1,4 +1,4 @@
--- The numbers and the names by which refusals are told (this project's profile).
+-- The numbers and the names by which refusals are reported (this project's profile).
 use Rattle.std.specs.Prelude.{ℕ, List, codes}
 use Rattle.unit_start.specs.declared.errors.OpenError.{OpenError}
 use Rattle.unit_start.specs.declared.errors.OpenError.TheVariants as an_open

@@ -22,14 +22,14 @@ pub enum OpenError {
 }
 
 impl OpenError {
-    /// The number by which the refusal is told.
+    /// The number by which the refusal is reported.
     pub fn number(self) -> u8
         ensures { result ≡ open_number self }
     {
         self as u8
     }
 
-    /// The name by which the refusal is told.
+    /// The name by which the refusal is reported.
     pub fn name(self) -> &'static str
         ensures { result.now ≡ open_name self }
     {

@@ -24,7 +24,7 @@ reach = 32_767_000
 abbrev pub IsReach : ℕ → Type 0
 IsReach n = n ≤ reach
 
--- the greatest place, forward and backward: behind a group 33 distances of a packet, one after another, still lead to a
+-- the greatest place, forward and backward: beyond a group 33 distances of a packet, one after another, still lead to a
 -- place
 abbrev pub outermost : ℕ
 outermost = 2 ^ 42

@@ -6,7 +6,7 @@ ghost use Rattle.units.specs.Limits.{IsCm, HasReach, reach};
 use crate::Reach;
 use std::marker::Model;
 
-/// A distance or a place, in centimetres: from -2^42 to 2^42 (this project's profile). Places behind the start of a
+/// A distance or a place, in centimetres: from -2^42 to 2^42 (this project's profile). Places beyond the start of a
 /// life are negative.
 #[derive(Clone, Copy, PartialEq, Eq, PartialOrd, Ord)]
 pub struct Cm {
@@ -84,7 +84,7 @@ impl Cm {
         Cm::new(self.cm + i64::from(by.get())).unwrap()
     }
 
-    /// The place so far behind. The caller owes a place so far within the limits that any `Reach` from it is a `Cm`.
+    /// The place so far after. The caller owes a place so far within the limits that any `Reach` from it is a `Cm`.
     pub fn behind(self, by: Reach) -> Cm
         requires { HasReach self }
         ensures { result ≡ self -ℤ pos by }

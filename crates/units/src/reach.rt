@@ -1,4 +1,4 @@
-//! Unsigned centimetres up to 327.67 km, the farthest that a variable D_ or L_ of a packet tells.
+//! Unsigned centimetres up to 327.67 km, the farthest that a variable D_ or L_ of a packet says.
 ghost use Rattle.std.specs.Prelude.{◌≡◌, ◌↔◌, pos, IsSome, IfSome};
 ghost use Rattle.units.specs.Limits.{IsReach};
 

@@ -93,7 +93,7 @@ apart y x rest false other e = (refl, e)
 small_speed : (v : ℕ) → ltb 120 v ≡ false → v ≤ 120
 small_speed v e = ltb-false 120 v e
 
--- a speed is a number's own value beside one that is kept exactly where it is a speed
+-- a speed is a number's own value along with one that is kept exactly where it is a speed
 speed_own : {A : Type 0} (k : ℕ) (y : A) (f : ℕ → A) → 120 < k → (v : ℕ) → (y ≡ f v → ⊥)
     → (speed.value v ≡ Ok v) ↔ (cond (nat_eq v k) (stands_for y) (cond (ltb 120 v) (Err OutOfRange) (Ok (f v))) ≡ Ok (f v))
 speed_own k y f high v other = (
@@ -105,7 +105,7 @@ speed_own k y f high v other = (
   λ e. let small = in_range OutOfRange (f v) (ltb 120 v) (apart y (f v) _ (nat_eq v k) other e).1 in rw small refl,
 )
 
--- a number is a value's own beside one that is kept exactly where it isn't that one
+-- a number is a value's own along with one that is kept exactly where it isn't that one
 other_own : {A : Type 0} (k : ℕ) (y : A) (f : ℕ → A) (v : ℕ) → (y ≡ f v → ⊥) → (v ≢ k) ↔ (cond (nat_eq v k) (stands_for y) (Ok (f v)) ≡ Ok (f v))
 other_own k y f v other = (
   λ not. let no : nat_eq v k ≡ false = ne_eqb v k not in rw no refl,

@@ -5,7 +5,7 @@ use crate::variable::{NoValue, Variable};
 /// D_VALIDNV and D_LEVELTR: where an announcement comes into force (SUBSET-026, 7.5.1).
 #[derive(Clone, Copy)]
 pub enum StartPlace {
-    /// So far behind the group.
+    /// So far beyond the group.
     At(Distance),
     /// At once.
     Now,

@@ -27,7 +27,7 @@ in_none : (pair : Released) (before after : List Released) → [] ≡ before ++ 
 in_none pair [] after is = absurd cc
 in_none pair (x ∷ before) after is = absurd cc
 
--- a longer list has more pairs behind those that it had
+-- a longer list has more pairs after those that it had
 more_pairs : (more events : List Event) → (rest : List Released) × (pairs_of (more ++ events) ≡ pairs_of events ++ rest)
 more_pairs [] events = ([], sym (append-nil (pairs_of events)))
 more_pairs (event ∷ more) events =
@@ -75,8 +75,8 @@ heir_on whole_from d a p q word steps old ready settled (inr (inr is)) =
 
 -- ---- one life more
 
--- What is found behind a life: a list that goes on from the first one and has all that was released, or that with what
--- was accepted behind it.
+-- What is found after a life: a list that goes on from the first one and has all that was released, or that with what
+-- was accepted after it.
 pub record Goes (whole_from : ℕ) (d : List Event) (its : List Released) (found : State) : Type 0 where
   pub list : List Event
   pub longer : List Event

@@ -14,10 +14,10 @@ use Rattle.events.specs.declared.step.Step.{Step}
 use Rattle.events.specs.declared.step.Step.TheVariants.{Accept, Flush}
 use Rattle.onboard.specs.declared.released.Released.{Released}
 use Rattle.unit_start.specs.Events.{pairs_of, account_of, IsAhead}
-use Rattle.unit_start.specs.Lives.{Tells}
-use Rattle.whole_lives.specs.Stops.{AreBehind}
+use Rattle.unit_start.specs.Lives.{Describes}
+use Rattle.whole_lives.specs.Stops.{AreAfter}
 use Rattle.whole_lives.specs.Runs.{accept_one, accepted_by, flush_one, flushed_by, durable_by, IsOfStep, IsStepped, IsDurable, IsOfRun, IsHeld, Reached, Ran, Took, Going}
-use Rattle.onboard.proofs.Resting.{rest_tells}
+use Rattle.onboard.proofs.Resting.{rest_describes}
 
 pub one_taken : (steps : List Step) (i : ℕ) (x d : Step) → i < length steps → x ≡ get_or steps i d → take (i + 1) steps ≡ take i steps ++ x ∷ []
 one_taken steps i x d below is = take_more steps i d below ∙ ap (λ (y : Step). take i steps ++ y ∷ []) (sym is)
@@ -26,13 +26,13 @@ pub flushed_push : (durable accepted : List Event) (steps : List Step) (x : Step
 flushed_push durable accepted [] x = refl
 flushed_push durable accepted (step ∷ steps) x = flushed_push (flush_one durable accepted step) (accept_one accepted step) steps x
 
--- what is durable behind more steps
+-- what is durable after more steps
 longer_durable : (s : List Event) (steps more : List Step) (events : List Event) → IsDurable s steps events → IsDurable s (steps ++ more) events
 longer_durable s steps more events (inl is) = inl is
 longer_durable s steps more events (inr (before, after, split, is)) =
     inr (before, after ++ more, ap (λ (l : List Step). l ++ more) split ∙ append_assoc before (Flush ∷ after) more, is)
 
--- what is durable behind some steps is what was there, or what was accepted before one of the flushes
+-- what is durable after some steps is what was there, or what was accepted before one of the flushes
 durable_on : (s : List Event) (done steps : List Step) (durable : List Event) → IsDurable s done durable → IsDurable s (done ++ steps) (flushed_by durable (accepted_by s done) steps)
 durable_on s done [] durable is = (let D : List Step → Type 0 = λ l. IsDurable s l durable in subst D (sym (append-nil done)) is)
 durable_on s done (step ∷ steps) durable is =
@@ -49,8 +49,8 @@ pub durable_there : (s : List Event) (steps : List Step) → IsDurable s steps (
 durable_there s steps = durable_on s [] steps s (inl refl)
 
 longer_run : (whole_from sectors : ℕ) (s : List Event) (steps more all : List Step) → all ≡ steps ++ more → (c : ℕ → List ℕ) → IsOfRun whole_from sectors s steps c → IsOfRun whole_from sectors s all c
-longer_run whole_from sectors s steps more all is c (events, durable, tells) =
-    let D : List Step → Type 0 = λ l. IsDurable s l events in (events, subst D (sym is) (longer_durable s steps more events durable), tells)
+longer_run whole_from sectors s steps more all is c (events, durable, describes) =
+    let D : List Step → Type 0 = λ l. IsDurable s l events in (events, subst D (sym is) (longer_durable s steps more events durable), describes)
 
 pub all_durable : (s : List Event) (steps : List Step) (i : ℕ) (events : List Event) → IsDurable s (take i steps) events → IsDurable s steps events
 all_durable s steps i events durable = let D : List Step → Type 0 = λ l. IsDurable s l events in subst D (take-append-drop i steps) (longer_durable s (take i steps) (drop i steps) events durable)
@@ -86,8 +86,8 @@ module _ (whole_from : ℕ) (s : List Event) (steps : List Step) (i : ℕ) (belo
   now_durable = ap (λ (l : List Event). flush_one l here x) going.durable_is ∙ sym (flushed_push s s first x) ∙ ap (λ (l : List Step). durable_by s l) (sym more_first)
 
   of_run : (c : ℕ → List ℕ) → IsOfStep whole_from mid.sectors x going.durable here c → IsOfRun whole_from old.sectors s next c
-  of_run c (inl is) = (let T : ℕ → Type 0 = λ n. Tells whole_from n going.durable c in (going.durable, still_durable going.durable going.one_of, subst T sectors is))
-  of_run c (inr (flush, is)) = (let T : ℕ → Type 0 = λ n. Tells whole_from n here c in (here, at_flush flush, subst T sectors is))
+  of_run c (inl is) = (let T : ℕ → Type 0 = λ n. Describes whole_from n going.durable c in (going.durable, still_durable going.durable going.one_of, subst T sectors is))
+  of_run c (inr (flush, is)) = (let T : ℕ → Type 0 = λ n. Describes whole_from n here c in (here, at_flush flush, subst T sectors is))
 
   further : (new : State) → IsStepped whole_from x going.durable here mid new → AtEachMoment old new (IsOfRun whole_from old.sectors s next)
   further new step = run_on old mid new (IsOfRun whole_from old.sectors s next)
@@ -97,11 +97,11 @@ module _ (whole_from : ℕ) (s : List Event) (steps : List Step) (i : ℕ) (belo
   -- what was reached earlier stands in the images of this step too
   held : (j : ℕ) → j ≤ i → (c : ℕ → List ℕ) → IsOfStep whole_from mid.sectors x going.durable here c → IsHeld whole_from old.sectors s steps (durable_by s (take j steps)) c
   held j most c (inl is) =
-      let T : ℕ → Type 0 = λ n. Tells whole_from n going.durable c in
+      let T : ℕ → Type 0 = λ n. Describes whole_from n going.durable c in
       let begun = going.begun j most in
       (going.durable, all_durable s steps i going.durable going.one_of, subst T sectors is, begun.0, begun.1)
   held j most c (inr (flush, is)) =
-      let T : ℕ → Type 0 = λ n. Tells whole_from n here c in
+      let T : ℕ → Type 0 = λ n. Describes whole_from n here c in
       let begun = going.begun j most in (
         here,
         all_durable s steps (i + 1) here (at_flush flush),
@@ -130,7 +130,7 @@ module _ (whole_from : ℕ) (s : List Event) (steps : List Step) (i : ℕ) (belo
       }
 
   -- a step failed
-  pub stopped : (new : State) → IsStepped whole_from x going.durable here mid new → (it : Ran whole_from s steps old new [] given) × (it.steps_taken ≡ i) × AreBehind s first it.durable_at_end it.accepted_at_end it.released
+  pub stopped : (new : State) → IsStepped whole_from x going.durable here mid new → (it : Ran whole_from s steps old new [] given) × (it.steps_taken ≡ i) × AreAfter s first it.durable_at_end it.accepted_at_end it.released
   stopped new step = (
     record {
       at_each_moment = weaken old new (IsOfRun whole_from old.sectors s next) (IsOfRun whole_from old.sectors s steps) (all_run whole_from old.sectors s steps (i + 1)) (further new step);
@@ -173,8 +173,8 @@ module _ (whole_from : ℕ) (s : List Event) (steps : List Step) (i : ℕ) (belo
         since = λ k low high c image.
             let at_end : k ≡ new.clock = omega (arith, low, high) in
             let end : IsImage (new.at new.clock) c = subst (λ (n : ℕ). IsImage (new.at n) c) at_end image in
-            let T : ℕ → Type 0 = λ n. Tells whole_from n (durable_by s next) c in
-            (durable_by s next, all_durable s steps (i + 1) (durable_by s next) one, subst T same (rest_tells whole_from journal' (durable_by s next) new opened c end), [], refl);
+            let T : ℕ → Type 0 = λ n. Describes whole_from n (durable_by s next) c in
+            (durable_by s next, all_durable s steps (i + 1) (durable_by s next) one, subst T same (rest_describes whole_from journal' (durable_by s next) new opened c end), [], refl);
       }
 
   begun_now : (y : Step) (j : ℕ) → j ≤ i → (more : List Event) × (flush_one going.durable here y ≡ more ++ durable_by s (take j steps))

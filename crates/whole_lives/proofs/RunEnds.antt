@@ -12,17 +12,17 @@ use Rattle.onboard.specs.declared.released.Released.{Released}
 use Rattle.unit_start.specs.Events.{pairs_of, account_of, IsAhead}
 use Rattle.whole_lives.specs.Runs.{accepted_by, durable_by, IsOfRun, Reached, Ran, Going}
 use Rattle.whole_lives.specs.Answers.{is_full}
-use Rattle.unit_start.specs.Lives.{Tells}
-use Rattle.whole_lives.specs.Stops.{AreBehind, step_of, IsUnflushed}
+use Rattle.unit_start.specs.Lives.{Describes}
+use Rattle.whole_lives.specs.Stops.{AreAfter, step_of, IsUnflushed}
 use Rattle.whole_lives.specs.declared.errors.LiveError.{LiveError}
 use Rattle.unit_start.specs.UnitState.{LifeState}
 use Rattle.whole_lives.proofs.Onward.{all_run}
-use Rattle.onboard.proofs.Resting.{rest_tells}
+use Rattle.onboard.proofs.Resting.{rest_describes}
 use Rattle.whole_lives.proofs.Stepping.{quiet_step}
 
 -- all steps were taken
 pub finished : (whole_from : ℕ) (s : List Event) (steps : List Step) (i : ℕ) (old mid : State) (journal : Journal) (life : LifeState) (given : List Released)
-    → (going : Going whole_from s steps i old mid journal life given) → (it : Ran whole_from s steps old mid [] given) × (it.steps_taken ≡ i) × AreBehind s (take i steps) it.durable_at_end it.accepted_at_end it.released
+    → (going : Going whole_from s steps i old mid journal life given) → (it : Ran whole_from s steps old mid [] given) × (it.steps_taken ≡ i) × AreAfter s (take i steps) it.durable_at_end it.accepted_at_end it.released
 finished whole_from s steps i old mid journal life given going = (
   record {
     at_each_moment = weaken old mid (IsOfRun whole_from old.sectors s (take i steps)) (IsOfRun whole_from old.sectors s steps) (all_run whole_from old.sectors s steps i) going.at_each_moment;
@@ -45,7 +45,7 @@ finished whole_from s steps i old mid journal life given going = (
 pub going_first : (whole_from : ℕ) (s : List Event) (steps : List Step) (disk : State) (journal : Journal) (life : LifeState)
     → IsOpen journal (account_of whole_from s) disk → IsAhead s s life → Going whole_from s steps 0 disk disk journal life []
 going_first whole_from s steps disk journal life opened ahead =
-    let still = at_start disk (IsOfRun whole_from disk.sectors s (take 0 steps)) (λ c image. (s, inl refl, rest_tells whole_from journal s disk opened c image)) in
+    let still = at_start disk (IsOfRun whole_from disk.sectors s (take 0 steps)) (λ c image. (s, inl refl, rest_describes whole_from journal s disk opened c image)) in
     let none = sym (append-nil (pairs_of s)) in
     let R : ℕ → Type 0 = λ n. Reached whole_from (IsOfRun whole_from disk.sectors s (take n steps)) s steps (take n steps) disk disk [] in
     let first : R 0 = record {
@@ -59,7 +59,7 @@ going_first whole_from s steps disk journal life opened ahead =
       until = λ k low high c image. still.each k low high c image;
       since = λ k low high c image. (
           let at_end : k ≡ disk.clock = omega (arith, low, high) in
-          (s, inl refl, rest_tells whole_from journal s disk opened c (subst (λ (n : ℕ). IsImage (disk.at n) c) at_end image), [], refl));
+          (s, inl refl, rest_describes whole_from journal s disk opened c (subst (λ (n : ℕ). IsImage (disk.at n) c) at_end image), [], refl));
     } in
     record {
       at_each_moment = still;
@@ -73,7 +73,7 @@ going_first whole_from s steps disk journal life opened ahead =
       reached = λ j most. (let zero_is : j ≡ 0 = omega (arith, most) in subst R (sym zero_is) first);
     }
 
--- what was released stands behind what was there
+-- what was released comes after what was there
 pub ran_onto : (whole_from : ℕ) (s : List Event) (steps : List Step) (old new : State) (out out' given : List Released) → out' ≡ out ++ given
     → (it : Ran whole_from s steps old new [] given) → (x : Ran whole_from s steps old new out out') × (x.steps_taken ≡ it.steps_taken) × (x.durable_at_end ≡ it.durable_at_end) × (x.accepted_at_end ≡ it.accepted_at_end) × (x.released ≡ it.released)
 ran_onto whole_from s steps old new out out' given is it = (
@@ -102,8 +102,8 @@ pub unflushed : (whole_from : ℕ) (s : List Event) (steps : List Step) (i : ℕ
     → IsUnflushed {T = Unit {0}} whole_from (IsOfRun whole_from old.sectors s) steps (Err error) it.durable_at_end old new
 unflushed whole_from s steps i old mid new journal life given error sectors going named same it before_is = λ full k also.
     let number : i ≡ k = (let e : Some i ≡ Some k = sym named ∙ also in cc) in
-    let there = rest_tells whole_from journal going.durable mid going.opened in
-    let R : State → Type 0 = λ d. AtEachMoment old d (IsOfRun whole_from old.sectors s (take k steps)) × EachImage d (Tells whole_from old.sectors it.durable_at_end) in
+    let there = rest_describes whole_from journal going.durable mid going.opened in
+    let R : State → Type 0 = λ d. AtEachMoment old d (IsOfRun whole_from old.sectors s (take k steps)) × EachImage d (Describes whole_from old.sectors it.durable_at_end) in
     let M : ℕ → Type 0 = λ n. AtEachMoment old mid (IsOfRun whole_from old.sectors s (take n steps)) in
-    let D : ℕ → List Event → Type 0 = λ n l. EachImage mid (Tells whole_from n l) in
+    let D : ℕ → List Event → Type 0 = λ n l. EachImage mid (Describes whole_from n l) in
     subst R (sym (same full)) (subst M number going.at_each_moment, subst (λ (l : List Event). D old.sectors l) (sym before_is) (subst (λ (n : ℕ). D n going.durable) sectors there))

@@ -8,7 +8,7 @@ use Rattle.disk.specs.State.{State, Counted}
 use Rattle.events.specs.declared.input.Input.{Input}
 use Rattle.events.specs.declared.input.Input.TheVariants.{Telegram, Odometer, Clock, Driver}
 use Rattle.kernel.specs.StandsFor.{Knowledge}
-use Rattle.speed_profile.specs.declared.told.CategorySpeeds.{CategorySpeeds}
+use Rattle.speed_profile.specs.declared.reported.CategorySpeeds.{CategorySpeeds}
 use Rattle.track_store.specs.Segments.{Segmented}
 use Rattle.events.specs.declared.step.Step.{Step}
 use Rattle.events.specs.declared.step.Step.TheVariants.{Accept, Flush}
@@ -26,7 +26,7 @@ use Rattle.onboard.specs.Answers.{refusal_of, may_add, HasRoom, RoomForOthers, f
 use Rattle.onboard.specs.declared.released.Released.{Released}
 use Rattle.whole_lives.specs.Runs.{NothingReleased}
 use Rattle.onboard.specs.Progress.{Progress, progress_of, begun_with, go_on}
-use Rattle.whole_lives.specs.Stops.{Stands, AllStand, StopsAt, Stopped, step_of, AreBehind, IsDone}
+use Rattle.whole_lives.specs.Stops.{Stands, AllStand, StopsAt, Stopped, step_of, AreAfter, IsDone}
 
 -- ---- room in memory
 
@@ -134,10 +134,10 @@ module _ (from so : Progress) (steps : List Step) (k : ℕ) (below : k < length 
 
 -- ---- what was carried out
 
-pub done_before : (s : List Event) (steps : List Step) (k : ℕ) (e : LiveError) (taken : ℕ) (before after : List Event) (given : List Released) → step_of e ≡ Some k → taken ≡ k → AreBehind s (take k steps) before after given
-    → MatchOption (step_of e) (NothingReleased given × ⊥) (λ n. (taken ≡ n) × AreBehind s (take n steps) before after given)
+pub done_before : (s : List Event) (steps : List Step) (k : ℕ) (e : LiveError) (taken : ℕ) (before after : List Event) (given : List Released) → step_of e ≡ Some k → taken ≡ k → AreAfter s (take k steps) before after given
+    → MatchOption (step_of e) (NothingReleased given × ⊥) (λ n. (taken ≡ n) × AreAfter s (take n steps) before after given)
 done_before s steps k e taken before after given named all behind =
-    let M : Option ℕ → Type 0 = λ o. MatchOption o (NothingReleased given × ⊥) (λ n. (taken ≡ n) × AreBehind s (take n steps) before after given) in
+    let M : Option ℕ → Type 0 = λ o. MatchOption o (NothingReleased given × ⊥) (λ n. (taken ≡ n) × AreAfter s (take n steps) before after given) in
     subst M (sym named) (all, behind)
 
 opened_by : (o : Option ℕ) (U : Type 0) (P : ℕ → Type 0) (given : List Released) → MatchOption o (NothingReleased given × ⊥) P → MatchOption o (NothingReleased given × U) P
@@ -148,7 +148,7 @@ opened_by (Some k) U P given is = is
 pub done_opened : {T : Type 0} (s : List Event) (steps : List Step) (U : Type 0) (ended : Result T LiveError) (taken : ℕ) (before after : List Event) (given : List Released)
     → IsDone s steps ⊥ ended taken before after given → IsDone s steps U ended taken before after given
 done_opened {T} s steps U (Ok x) taken before after given is = is
-done_opened {T} s steps U (Err e) taken before after given is = opened_by (step_of e) U (λ k. (taken ≡ k) × AreBehind s (take k steps) before after given) given is
+done_opened {T} s steps U (Err e) taken before after given is = opened_by (step_of e) U (λ k. (taken ≡ k) × AreAfter s (take k steps) before after given) given is
 
 pub same_done : {T : Type 0} (s : List Event) (steps : List Step) (U : Type 0) (ended : Result T LiveError) (n n' : ℕ) (b b' a a' : List Event) (given given' : List Released) → n' ≡ n → b' ≡ b → a' ≡ a → given' ≡ given
     → IsDone s steps U ended n b a given → IsDone s steps U ended n' b' a' given'

@@ -10,7 +10,7 @@ use Rattle.events.specs.declared.input.Event.TheVariants.{PowerUp}
 use Rattle.mode_table.specs.declared.statuses.Cold.{Cold}
 use Rattle.events.specs.declared.step.Step.{Step}
 use Rattle.onboard.specs.declared.released.Released.{Released}
-use Rattle.unit_start.specs.Lives.{IsWord, Tells, TellsEither, IsReady, IsOfOpening, Opens}
+use Rattle.unit_start.specs.Lives.{IsWord, Describes, DescribesEither, IsReady, IsOfOpening, Opens}
 use Rattle.whole_lives.specs.Runs.{durable_by, NothingReleased, IsDurable, IsOfRun, IsOfLife, IsHeld, Reached, Ran, LeftUnopened, WasOpened, Lives, IsCut, IsHeir, LivesCompose}
 use Rattle.whole_lives.specs.Stops.{IsUnflushed}
 use Rattle.whole_lives.specs.declared.errors.LiveError.{LiveError}
@@ -107,7 +107,7 @@ module _ (whole_from : ℕ) (d a p : List Event) (cold word : Cold) (steps : Lis
   unflushed_on {T} new (Ok x) durable sectors so = so
   unflushed_on {T} new (Err e) durable sectors so = λ full k named.
       let first = take k steps in
-      let R : ℕ → Type 0 = λ n. AtEachMoment mid new (IsOfRun whole_from n (PowerUp word ∷ p) first) × EachImage new (Tells whole_from n durable) in
+      let R : ℕ → Type 0 = λ n. AtEachMoment mid new (IsOfRun whole_from n (PowerUp word ∷ p) first) × EachImage new (Describes whole_from n durable) in
       let both = subst R sectors (so full k named) in
       let begun = weaken old mid (IsOfOpening whole_from old.sectors d a p word) (IsOfLife whole_from old.sectors d a p word first) (of_opening_first first) opens.at_each_moment in
       let more = weaken mid new (IsOfRun whole_from old.sectors (PowerUp word ∷ p) first) (IsOfLife whole_from old.sectors d a p word first) (λ c is. inr is) both.0 in
@@ -117,7 +117,7 @@ pub on_ok : {X E : Type 0} (r : Result X E) (P Q : Type 0) → (P → Q) → OnO
 on_ok (Ok x) P Q so is = so is
 on_ok (Err e) P Q so is = is
 
--- what was released stands behind what was there
+-- what was released comes after what was there
 pub lives_onto : (whole_from : ℕ) (d a p : List Event) (cold word : Cold) (steps : List Step) (old new : State) (out out' given : List Released) → out' ≡ out ++ given
     → (it : Lives whole_from d a p cold word steps old new [] given) → (x : Lives whole_from d a p cold word steps old new out out') × (x.steps_taken ≡ it.steps_taken) × (x.durable_at_end ≡ it.durable_at_end) × (x.accepted_at_end ≡ it.accepted_at_end) × (x.released ≡ it.released)
 lives_onto whole_from d a p cold word steps old new out out' given is it = (
@@ -148,9 +148,9 @@ same_unflushed {T} whole_from Leave steps ended b b' old new same is = let U : L
 module _ (whole_from : ℕ) (old new found : State) (d a p : List Event) (cold word : Cold) (steps : List Step) (out out' : List Released) (life : Lives whole_from d a p cold word steps old new out out') where
   pub after_cut : IsCut old new found → (q : List Event) × IsReady whole_from q q found × IsHeir d a p word steps q
   after_cut cut = ⊎_elim
-      (λ (is : TellsEither whole_from old.sectors d a (contents_of found)). ⊎_elim
-      (λ (tells : Tells whole_from old.sectors d (contents_of found)). (d, ready_after whole_from old.sectors d found cut.sectors cut.synced tells, inl refl))
-      (λ (tells : Tells whole_from old.sectors a (contents_of found)). (a, ready_after whole_from old.sectors a found cut.sectors cut.synced tells, inr (inl refl)))
+      (λ (is : DescribesEither whole_from old.sectors d a (contents_of found)). ⊎_elim
+      (λ (describes : Describes whole_from old.sectors d (contents_of found)). (d, ready_after whole_from old.sectors d found cut.sectors cut.synced describes, inl refl))
+      (λ (describes : Describes whole_from old.sectors a (contents_of found)). (a, ready_after whole_from old.sectors a found cut.sectors cut.synced describes, inr (inl refl)))
       is)
       (λ (is : IsOfRun whole_from old.sectors (PowerUp word ∷ p) steps (contents_of found)).
       (is.0, ready_after whole_from old.sectors is.0 found cut.sectors cut.synced is.2, inr (inr is.1)))

@@ -51,7 +51,7 @@ pub record OneLife : Type 0 where
       × (it : Lives whole_from durable accepted found cold power_up_word steps old new out_before out_after)
       × IsLeftWith whole_from durable accepted found power_up_word steps old new next it.released released_by_then
 
--- each life begins on the disk that is found behind the one before it
+-- each life begins on the disk that is found after the one before it
 abbrev pub Follow : State → List OneLife → State → Type 0
 Follow first [] last = first ≡ last
 Follow first (life ∷ lives) last = (first ≡ life.old) × Follow life.next lives last

@@ -12,16 +12,16 @@ use Rattle.events.specs.declared.step.Step.{Step}
 use Rattle.mode_table.specs.declared.statuses.Cold.{Cold}
 use Rattle.blocks.specs.FirstSector.{sectors_of}
 use Rattle.unit_start.specs.Events.{account_of, pair_of}
-use Rattle.unit_start.specs.Lives.{Tells, IsReady}
+use Rattle.unit_start.specs.Lives.{Describes, IsReady}
 use Rattle.whole_lives.specs.Runs.{accepted_by}
-use Rattle.ring.specs.Account.{Account, TellsNothing}
+use Rattle.ring.specs.Account.{Account, DescribesNothing}
 use Rattle.ring.specs.Endless.{IsEndless}
 use Rattle.ring.specs.Scans.{IsNewest, IsScanned}
 use Rattle.ring.specs.Slots.{valid_at, IsFormatted, IsAtRest}
 use Rattle.mode_control.specs.History.{deeds}
 use Rattle.mode_control.specs.Life.{left_at_power_up}
 
--- Nothing but what is kept crosses a power-up: behind two lists of which the same is kept, and the same word, the same
+-- Nothing but what is kept crosses a power-up: after two lists of which the same is kept, and the same word, the same
 -- steps are answered by the same output.
 abbrev pub ForgetsAcross : Type 0
 ForgetsAcross = (one other : List Event) (power_up_word : Cold) (steps : List Step) → kept_by one ≡ kept_by other →
@@ -38,17 +38,17 @@ ReleasesBrake = (events : List Event) (event : Event) →
 -- are the last ones of the list, none skipped.
 abbrev pub ImagesAreEndless : Type 0
 ImagesAreEndless = (whole_from sectors slots first newest : ℕ) (events : List Event) (image : ℕ → List ℕ) → 2 ≤ slots → sectors ≡ sectors_of slots
-    → Tells whole_from sectors events image → IsScanned slots (valid_at slots image) first newest → IsEndless slots (valid_at slots image) first newest (account_of whole_from events)
+    → Describes whole_from sectors events image → IsScanned slots (valid_at slots image) first newest → IsEndless slots (valid_at slots image) first newest (account_of whole_from events)
 
 -- Whatever happens to other slots of an image that represents a list, the disk that holds what is left is ready for a
 -- life on the same list, whole from its newest block on: as long as the slot of that block stays valid as it was, and
--- no slot tells a greater number.
+-- no slot reports a greater number.
 abbrev pub OutlivesDamage : Type 0
 OutlivesDamage = (whole_from slots newest : ℕ) (events : List Event) (image : ℕ → List ℕ) (disk : State) → 2 ≤ slots → 0 < newest
-    → Tells whole_from disk.sectors events image → IsNewest slots (valid_at slots image) newest
+    → Describes whole_from disk.sectors events image → IsNewest slots (valid_at slots image) newest
     → IsFormatted disk.sectors slots (contents_of disk 0) → IsSynced disk → IsNewest slots (valid_at slots (contents_of disk)) newest
     → valid_at slots (contents_of disk) (newest % slots) ≡ valid_at slots image (newest % slots) → IsReady newest events events disk
 
 -- A disk that was formatted, as `journal::format` promises it, is ready for a first life.
 abbrev pub FormattedIsReady : Type 0
-FormattedIsReady = (slots : ℕ) (disk : State) → ((told : Account) → TellsNothing told → IsAtRest slots 0 told disk) → IsReady 0 [] [] disk
+FormattedIsReady = (slots : ℕ) (disk : State) → ((reported : Account) → DescribesNothing reported → IsAtRest slots 0 reported disk) → IsReady 0 [] [] disk

@@ -22,7 +22,7 @@
 -- and the next life finds `durable` or `accepted`. A cut before the flush leaves `durable`. One in the opening leaves
 -- what the life before left, or `found` with PowerUp.
 --
--- A life of three events with a cut, on a new journal (tests/rows/test_onboard.row, behind "Power is lost within the
+-- A life of three events with a cut, on a new journal (tests/rows/test_onboard.row, after "Power is lost within the
 -- gate of block 3"): event 0 is the power-up, events 1 and 2 are moments of the clock. Event 1 is flushed, and power is
 -- lost in the flush of event 2:
 --
@@ -30,7 +30,7 @@
 --     none  | event 0 | event 1 | event 2      accepted = event 2 ∷ event 1 ∷ event 0 ∷ []
 --                                              released = output 1 ∷ []
 --
--- Behind it the rows that settle `new` and `ff` find three events (`accepted`), the one that settles `zeros` two
+-- After it the rows that settle `new` and `ff` find three events (`accepted`), the one that settles `zeros` two
 -- (`durable`).
 
 use Rattle.std.specs.Prelude.{◌≡◌, ◌⊎◌, ℕ, ◌≤◌, List, [], ◌∷◌, ◌++◌, take, fold}
@@ -45,7 +45,7 @@ use Rattle.onboard.specs.declared.released.Released.{Released}
 use Rattle.events.specs.declared.step.Step.{Step}
 use Rattle.events.specs.declared.step.Step.TheVariants.{Accept, Flush}
 use Rattle.unit_start.specs.Events.{pairs_of, account_of, IsAhead}
-use Rattle.unit_start.specs.Lives.{IsWord, Tells, TellsEither, IsReady}
+use Rattle.unit_start.specs.Lives.{IsWord, Describes, DescribesEither, IsReady}
 
 -- ---- what is accepted
 
@@ -82,20 +82,20 @@ NothingReleased released = released ≡ []
 
 -- the image represents the durable events, or, in a flush, all accepted ones
 abbrev pub IsOfStep : ℕ → ℕ → Step → List Event → List Event → (ℕ → List ℕ) → Type 0
-IsOfStep whole_from sectors step durable accepted image = Tells whole_from sectors durable image ⊎ ((step ≡ Flush) × Tells whole_from sectors accepted image)
+IsOfStep whole_from sectors step durable accepted image = Describes whole_from sectors durable image ⊎ ((step ≡ Flush) × Describes whole_from sectors accepted image)
 
 -- What a step leaves on the disk, done or not; both lists have the newest first.
 pub record IsStepped (whole_from : ℕ) (step : Step) (durable accepted : List Event) (old new : State) : Type 0 where
   -- wherever power is lost in the step, the image that is left is of it
   pub at_each_moment : AtEachMoment old new (IsOfStep whole_from old.sectors step durable accepted)
-  -- behind the step each image represents one of the two lists still
+  -- after the step each image represents one of the two lists still
   pub ready_at_end : IsReady whole_from durable accepted new
 
 -- A step was taken, and these were released for it: events with the newest first, releases with the oldest first.
 pub record Took (whole_from : ℕ) (durable accepted : List Event) (step : Step) (journal : Journal) (life : LifeState) (disk : State) (released : List Released) : Type 0 where
-  -- the journal on the disk has what is durable behind the step
+  -- the journal on the disk has what is durable after the step
   pub opened : IsOpen journal (account_of whole_from (flush_one durable accepted step)) disk
-  -- what is in memory is what is accepted behind the step, and what of it isn't durable is pending
+  -- what is in memory is what is accepted after the step, and what of it isn't durable is pending
   pub ahead : IsAhead (flush_one durable accepted step) (accept_one accepted step) life
   -- what was released is, in order, each output of what the step made durable
   pub released_is : pairs_of (flush_one durable accepted step) ≡ pairs_of durable ++ released
@@ -112,12 +112,12 @@ IsDurable initial steps events = (events ≡ initial) ⊎ IsFlushed initial step
 
 -- the image represents such a list
 abbrev pub IsOfRun : ℕ → ℕ → List Event → List Step → (ℕ → List ℕ) → Type 0
-IsOfRun whole_from sectors initial steps image = (events : List Event) × IsDurable initial steps events × Tells whole_from sectors events image
+IsOfRun whole_from sectors initial steps image = (events : List Event) × IsDurable initial steps events × Describes whole_from sectors events image
 
 -- the image represents what was accepted before one of the flushes, and this durable list is a beginning of it
 abbrev pub IsHeld : ℕ → ℕ → List Event → List Step → List Event → (ℕ → List ℕ) → Type 0
 IsHeld whole_from sectors initial steps durable image =
-    (events : List Event) × IsDurable initial steps events × Tells whole_from sectors events image × (more : List Event) × (events ≡ more ++ durable)
+    (events : List Event) × IsDurable initial steps events × Describes whole_from sectors events image × (more : List Event) × (events ≡ more ++ durable)
 
 -- The first of the steps were done at a moment, and by then these outputs were released: those of all events that were
 -- durable then. Until then each image has `Leaves`, and from then on each image holds these events.
@@ -126,15 +126,15 @@ pub record Reached (whole_from : ℕ) (Leaves : (ℕ → List ℕ) → Type 0) (
   pub moment : ℕ
   -- it doesn't lie before the disk's clock at the start
   pub from : old.clock ≤ moment
-  -- nor behind the disk's clock at the end
+  -- nor after the disk's clock at the end
   pub to : moment ≤ new.clock
   -- what was released by that moment, the oldest first
   pub released_by_then : List Released
   -- what was released later, the oldest first
   pub released_later : List Released
-  -- both, one behind the other, are all that was released
+  -- both, one after the other, are all that was released
   pub released_parts : released ≡ released_by_then ++ released_later
-  -- what was released by then is, in order, each output of what the first steps made durable behind `initial`
+  -- what was released by then is, in order, each output of what the first steps made durable after `initial`
   pub released_is : pairs_of (durable_by initial first_steps) ≡ pairs_of initial ++ released_by_then
   -- where power is lost until then, the image that is left is one that the first steps leave
   pub until : (k : ℕ) → old.clock ≤ k → k ≤ moment → (image : ℕ → List ℕ) → IsImage (new.at k) image → Leaves image
@@ -160,9 +160,9 @@ pub record Ran (whole_from : ℕ) (initial : List Event) (steps : List Step) (ol
   pub ready_at_end : IsReady whole_from durable_at_end accepted_at_end new
   -- what was released, the oldest first
   pub released : List Released
-  -- the caller's list, the oldest first, has it behind what it had before
+  -- the caller's list, the oldest first, has it after what it had before
   pub out_is : out_after ≡ out_before ++ released
-  -- it is, in order, each output of what is durable at the end behind `initial`
+  -- it is, in order, each output of what is durable at the end after `initial`
   pub released_is : pairs_of durable_at_end ≡ pairs_of initial ++ released
   -- for each number of steps: when they were done, what was released by then, and that it stays
   pub reached : (count : ℕ) → count ≤ steps_taken → Reached whole_from (IsOfRun whole_from old.sectors initial (take count steps)) initial steps (take count steps) old new released
@@ -181,7 +181,7 @@ pub record Going (whole_from : ℕ) (initial : List Event) (steps : List Step) (
   pub opened : IsOpen journal (account_of whole_from durable) new
   -- what is in memory is what these steps accepted, and what of it isn't durable is pending
   pub ahead : IsAhead durable (accepted_by initial (take taken steps)) life
-  -- what was released is, in order, each output of what is durable behind `initial`
+  -- what was released is, in order, each output of what is durable after `initial`
   pub released_is : pairs_of durable ≡ pairs_of initial ++ released
   -- what fewer steps made durable is a beginning of it
   pub begun : (count : ℕ) → count ≤ taken → (more : List Event) × (durable ≡ more ++ durable_by initial (take count steps))
@@ -194,7 +194,7 @@ pub record Going (whole_from : ℕ) (initial : List Event) (steps : List Step) (
 -- what was accepted before one of the flushes.
 abbrev pub IsOfLife : ℕ → ℕ → List Event → List Event → List Event → Cold → List Step → (ℕ → List ℕ) → Type 0
 IsOfLife whole_from sectors durable accepted found power_up_word steps image =
-    TellsEither whole_from sectors durable accepted image ⊎ IsOfRun whole_from sectors (an_event.PowerUp power_up_word ∷ found) steps image
+    DescribesEither whole_from sectors durable accepted image ⊎ IsOfRun whole_from sectors (an_event.PowerUp power_up_word ∷ found) steps image
 
 -- It wasn't opened, and nothing was released: at the end there are still `durable` and `accepted`, or `found`, alone
 -- and with the power-up.
@@ -207,11 +207,11 @@ LeftUnopened durable accepted found power_up_word durable_at_end accepted_at_end
 -- It was opened, and so many of the steps were taken. Lists of events have the newest first; `steps` and `released`
 -- have the oldest first. Each later image has what an earlier flush released.
 pub record WasOpened (whole_from : ℕ) (durable accepted found : List Event) (power_up_word : Cold) (steps : List Step) (steps_taken : ℕ) (old new : State) (durable_at_end accepted_at_end : List Event) (released : List Released) : Type 0 where
-  -- the steps that were taken made this durable, behind the power-up
+  -- the steps that were taken made this durable, after the power-up
   pub durable_at_end_is : durable_at_end ≡ durable_by (an_event.PowerUp power_up_word ∷ found) (take steps_taken steps)
   -- and accepted that
   pub accepted_at_end_is : accepted_at_end ≡ accepted_by (an_event.PowerUp power_up_word ∷ found) (take steps_taken steps)
-  -- what was released is, in order, each output of what is durable at the end behind the power-up
+  -- what was released is, in order, each output of what is durable at the end after the power-up
   pub released_is : pairs_of durable_at_end ≡ pairs_of (an_event.PowerUp power_up_word ∷ found) ++ released
   -- for each number of steps: when they were done, what was released by then, and that it stays
   pub reached : (count : ℕ) → count ≤ steps_taken →
@@ -224,7 +224,7 @@ pub record Lives (whole_from : ℕ) (durable accepted found : List Event) (cold 
   -- the events on which this life goes on, the newest first: of `durable` and `accepted` the one that was found
   pub found_is : (found ≡ durable) ⊎ (found ≡ accepted)
   -- what the disk held at the start represents them
-  pub found_on_disk : Tells whole_from old.sectors found (contents_of old)
+  pub found_on_disk : Describes whole_from old.sectors found (contents_of old)
   -- wherever power is lost in the life, the image that is left is of it
   pub at_each_moment : AtEachMoment old new (IsOfLife whole_from old.sectors durable accepted found power_up_word steps)
   -- how many of the steps were taken, from the first one on
@@ -237,7 +237,7 @@ pub record Lives (whole_from : ℕ) (durable accepted found : List Event) (cold 
   pub ready_at_end : IsReady whole_from durable_at_end accepted_at_end new
   -- the outputs that the life released, the oldest first
   pub released : List Released
-  -- the caller's list, the oldest first, has them behind what it had before
+  -- the caller's list, the oldest first, has them after what it had before
   pub out_is : out_after ≡ out_before ++ released
   -- the power-up's word is that of the image; or no power-up was written, and nothing was released
   pub word_is : IsWord old.sectors (contents_of old) cold power_up_word ⊎ (AtEachMoment old new (IsImage (now old)) × NothingReleased released)
@@ -254,7 +254,7 @@ pub record IsCut (old new next : State) : Type 0 where
   pub moment : ℕ
   -- it doesn't lie before the disk's clock at the start
   pub from : old.clock ≤ moment
-  -- nor behind the disk's clock at the end
+  -- nor after the disk's clock at the end
   pub to : moment ≤ new.clock
   -- what the next disk holds is an image of that moment
   pub image : IsImage (new.at moment) (contents_of next)
@@ -275,7 +275,7 @@ IsHeir durable accepted found power_up_word steps left =
     (left ≡ durable) ⊎ ((left ≡ accepted) ⊎ IsDurable (an_event.PowerUp power_up_word ∷ found) steps left)
 
 -- Wherever a life is cut, and where it hands its disk back, what it leaves is ready for the next one: it represents
--- what the life made durable, or that with what it accepted behind it.
+-- what the life made durable, or that with what it accepted after it.
 abbrev pub LivesCompose : Type 0
 LivesCompose = (whole_from : ℕ) (old new next : State) (durable accepted found : List Event) (cold power_up_word : Cold) (steps : List Step) (out_before out_after : List Released)
     → Lives whole_from durable accepted found cold power_up_word steps old new out_before out_after → IsLeft old new next

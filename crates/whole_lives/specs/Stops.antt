@@ -20,7 +20,7 @@ use Rattle.onboard.specs.declared.released.Released.{Released}
 use Rattle.unit_start.specs.Events.{pairs_of}
 use Rattle.mode_table.specs.declared.statuses.Cold.{Cold}
 use Rattle.onboard.specs.Progress.{Progress, begun_with, go_on}
-use Rattle.unit_start.specs.Lives.{Tells, IsOpenRefusal, IsOfOpening, IsNextNumber}
+use Rattle.unit_start.specs.Lives.{Describes, IsOpenRefusal, IsOfOpening, IsNextNumber}
 use Rattle.whole_lives.specs.Runs.{accepted_by, durable_by, NothingReleased}
 
 -- ---- why a step is refused
@@ -30,7 +30,7 @@ abbrev pub Stands : Progress → Step → Type 0
 Stands so (Accept input) = refusal_of so.failed so.pending so.moment input ≡ None
 Stands so Flush = flush_refusal so.failed so.pending so.newest ≡ None
 
--- so has none of these steps, behind those before it
+-- so has none of these steps, after those before it
 abbrev pub AllStand : Progress → List Step → Type 0
 AllStand so [] = Unit {0}
 AllStand so (step ∷ steps) = Stands so step × AllStand (go_on so step) steps
@@ -50,7 +50,7 @@ pub record Stopped (from : Progress) (steps : List Step) (error : LiveError) : T
   pub first : List Step
   -- the step that wasn't
   pub step : Step
-  -- the steps behind it
+  -- the steps after it
   pub rest : List Step
   -- these are all steps
   pub steps_are : steps ≡ first ++ step ∷ rest
@@ -84,10 +84,10 @@ step_of (a_live.Accept number error) = Some number
 step_of (a_live.Flush number error) = Some number
 step_of (a_live.NoMemory number) = Some number
 
--- behind these steps this is durable at the end, that accepted, and just the outputs of what is durable behind
+-- after these steps this is durable at the end, that accepted, and just the outputs of what is durable after
 -- `initial` were released
-abbrev pub AreBehind : List Event → List Step → List Event → List Event → List Released → Type 0
-AreBehind initial steps durable_at_end accepted_at_end released =
+abbrev pub AreAfter : List Event → List Step → List Event → List Event → List Released → Type 0
+AreAfter initial steps durable_at_end accepted_at_end released =
     (durable_at_end ≡ durable_by initial steps) × (accepted_at_end ≡ accepted_by initial steps) × (pairs_of durable_at_end ≡ pairs_of initial ++ released)
 
 -- no more than an opening: at each moment the image represents `durable`, `accepted`, or `found` with the power-up
@@ -98,13 +98,13 @@ OnlyOpens whole_from durable accepted found power_up_word old new = AtEachMoment
 -- none, nothing was released, and this is so of what was never opened.
 abbrev pub IsDone : {T : Type 0} → List Event → List Step → Type 0 → Result T LiveError → ℕ → List Event → List Event → List Released → Type 0
 IsDone initial steps unopened (Ok x) steps_taken durable_at_end accepted_at_end released =
-    (steps_taken ≡ length steps) × AreBehind initial steps durable_at_end accepted_at_end released
+    (steps_taken ≡ length steps) × AreAfter initial steps durable_at_end accepted_at_end released
 IsDone initial steps unopened (Err error) steps_taken durable_at_end accepted_at_end released =
     MatchOption (step_of error) (NothingReleased released × unopened)
-    (λ number. (steps_taken ≡ number) × AreBehind initial (take number steps) durable_at_end accepted_at_end released)
+    (λ number. (steps_taken ≡ number) × AreAfter initial (take number steps) durable_at_end accepted_at_end released)
 
 -- A flush that found no room for its releases did nothing: at each moment the image is one that the steps before it
 -- leave, and at the end it represents just what these made durable.
 abbrev pub IsUnflushed : {T : Type 0} → ℕ → (List Step → (ℕ → List ℕ) → Type 0) → List Step → Result T LiveError → List Event → State → State → Type 0
 IsUnflushed whole_from Leave steps ended durable_at_end old new = IfErr ended (λ error. IsTrue (is_full error) → (number : ℕ) → step_of error ≡ Some number
-    → AtEachMoment old new (Leave (take number steps)) × EachImage new (Tells whole_from old.sectors durable_at_end))
+    → AtEachMoment old new (Leave (take number steps)) × EachImage new (Describes whole_from old.sectors durable_at_end))

@@ -2,7 +2,7 @@
 -- records and of steps have the oldest first. Sizes of disks are in sectors of 512 bytes; blocks are numbered from 1
 -- on.
 
--- Taken for granted: the clauses that name these definitions speak of an honest disk, behind calls that answered Ok.
+-- Taken for granted: the clauses that name these definitions speak of an honest disk, after calls that answered Ok.
 use Rattle.std.specs.Prelude.{◌≡◌, ℕ, ◌==◌, if◌then◌else◌, List, [], ◌∷◌, ◌++◌, length, Result, OnOk}
 use Rattle.blocks.specs.declared.records.Record.{Record}
 use Rattle.disk.specs.State.{State, contents_of}
@@ -15,12 +15,12 @@ use Rattle.unit_start.specs.Written.{HasNewest}
 use Rattle.unit_start.specs.Events.{records_of}
 use Rattle.whole_lives.specs.Runs.{accept_one, flush_one, durable_by}
 
--- that block has the records of the durable events behind those of an earlier list, and what is kept behind all of them
+-- that block has the records of the durable events after those of an earlier list, and what is kept after all of them
 abbrev pub IsLastWritten : ℕ → List Event → List Event → (ℕ → List ℕ) → Type 0
 IsLastWritten sectors earlier durable image =
     (records : List Record) × (records_of durable ≡ records_of earlier ++ records) × HasNewest sectors records durable image
 
--- What was durable before the last block was written, behind one more step: a flush writes a block where something is
+-- What was durable before the last block was written, after one more step: a flush writes a block where something is
 -- pending.
 abbrev pub earlier_one : List Event → List Event → List Event → Step → List Event
 earlier_one earlier durable accepted (Accept input) = earlier

@@ -18,7 +18,7 @@ pub fn releases_stay()
     ensures { AnyNumberOfLives }
 {}
 
-/// A law: behind each power-up the mode is Stand By, whatever the word says of movements.
+/// A law: after each power-up the mode is Stand By, whatever the word says of movements.
 pub fn stands_by()
     ensures { StandsBy }
 {}
@@ -54,7 +54,7 @@ pub fn formatted_is_ready()
     ensures { FormattedIsReady }
 {}
 
-/// A law: no disk gives an opening two causes to be refused, beside a fault of the device.
+/// A law: no disk gives an opening two causes to be refused, along with a fault of the device.
 pub fn one_cause()
     ensures { OneCause }
 {}

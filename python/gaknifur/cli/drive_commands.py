@@ -69,7 +69,7 @@ def csv_text(driven: driving.Driven) -> str:
 
 
 def scenario_text(scenario: scenarios.Scenario, driven: driving.Driven) -> str:
-    """What the unit was told, as a scenario of its own. Each time step is flushed, as it was."""
+    """What the unit was given, as a scenario of its own. Each time step is flushed, as it was."""
     return scenarios.Scenario(scenario.cold, [], driven.steps).text()
 
 
@@ -81,7 +81,7 @@ BUILD_UP = """\
 - {name: end_kmh, at: end, value: train_speed_kmh}
 - {name: beyond_m, at: end, value: beyond_location_m}
 """
-"""What is told of a drive with each build-up time: where each brake came first, and where the train is at the end."""
+"""What is reported of a drive with each build-up time: where each brake came first, and where the train is at the end."""
 
 
 def tell_build_ups(path: Path, build_ups: list[str], progress: Progress) -> None:

@@ -77,7 +77,7 @@ def records_of(path: Path) -> list[Json]:
 
 
 def tell_held(one: Property, judged: int, where: str) -> bool:
-    """Tells of a property that no record breaks; answers whether it was never judged, and doesn't say why that may
+    """Reports of a property that no record breaks; answers whether it was never judged, and doesn't say why that may
     be."""
     why = f"; {one.unjudged}" if one.unjudged and not judged else ""
     print(f"{'holds' if judged else 'unjudged'}: {one.note}: {judged} records judged{where}{why}", flush=True)
@@ -111,7 +111,7 @@ def plain(text: str) -> str:
 
 
 def names_of(notes: Sequence[str]) -> list[str]:
-    """The names of what is kept of properties: those of their notes, with a number behind where one has it already."""
+    """The names of what is kept of properties: those of their notes, with a number after where one has it already."""
     found: list[str] = []
     for note in notes:
         name, number = plain(note), 1

@@ -33,7 +33,7 @@ WITHOUT_PYTHON = ("-c", os.devnull, "--noconftest", *(word for name in ("python"
 PLUGIN = ("-p", "no:gaknifur", "-p", "gaknifur.testing.pytest_plugin")
 """Words of pytest that take the plugin once, also where it is installed and pytest would find it by itself."""
 WRITING = ("--log-file", "--basetemp", "--debug", "--pastebin")
-"""Words of pytest that write where they are told, or send."""
+"""Words of pytest that write where they are reported, or send."""
 
 
 def begun(folder: Path, words: list[str], plugins: list[object]) -> int:

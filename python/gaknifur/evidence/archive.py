@@ -5,8 +5,8 @@ are joined to one image of a larger ring.
         ...                                         # at least once in as many flushes as the ring has slots, less two
         kept.keep("unit.image")
 
-An archive is a file of blocks, each as it lies in its slot, behind a first sector (docs/reference/format.md). It is appended to alone, and
-synced. What is kept are blocks behind their own gates; whether one can be read `etcs_lab` says.
+An archive is a file of blocks, each as it lies in its slot, after a first sector (docs/reference/format.md). It is appended to alone, and
+synced. What is kept are blocks after their own gates; whether one can be read `etcs_lab` says.
 """
 import os
 import stat
@@ -56,7 +56,7 @@ class Ring:
         os.close(self.descriptor)
 
     def number(self, slot: int) -> int | None:
-        """The number of a slot's gate, where it is a gate as a unit writes it and the head behind it has the same number: a gate with a bit
+        """The number of a slot's gate, where it is a gate as a unit writes it and the head after it has the same number: a gate with a bit
         altered names no block."""
         data = os.pread(self.descriptor, 2 * layout.SECTOR, layout.slot_at(slot))
         number = layout.number_of_gate(data)
@@ -70,7 +70,7 @@ class Ring:
         return data if layout.block_in(data) == number and self.number(number % self.slots) == number else None
 
     def numbers(self, behind: int = 0) -> list[int]:
-        """The numbers of all blocks behind one, in their order."""
+        """The numbers of all blocks after one, in their order."""
         found = ((slot, self.number(slot)) for slot in range(self.slots))
         return sorted(number for slot, number in found if number is not None and number > behind and number % self.slots == slot)
 
@@ -80,7 +80,7 @@ class Ring:
         return any((self.number(at % self.slots) or 0) >= number for at in (number, number + 1))
 
     def blocks(self, behind: int) -> Iterator[tuple[int, bytes]]:
-        """The blocks behind one, in their order, as far as they are there. Where some were overwritten it goes on behind
+        """The blocks after one, in their order, as far as they are there. Where some were overwritten it goes on after
         these."""
         while not behind or self.has_later(behind + 1):
             data, number = self.block(behind + 1), behind + 1
@@ -100,7 +100,7 @@ class Archive(files.Appended):
         super().__init__(Path(path), layout.archive_sector(), "an archive of blocks")
         self.drop(layout.slot_at(self.count))  # a part of a block; its slot still has it
         self.behind: int | None = None
-        """Behind which block an image's are new; None until the image was looked at."""
+        """After which block an image's are new; None until the image was looked at."""
 
     @property
     def count(self) -> int:
@@ -153,7 +153,7 @@ class Place:
 
 @dataclass
 class Source:
-    """An image or an archive that is joined: its blocks in their order, each by its number and its place, and what else is told."""
+    """An image or an archive that is joined: its blocks in their order, each by its number and its place, and what else is reported."""
 
     path: Path
     blocks: list[tuple[int, Place]] = field(default_factory=list)
@@ -162,7 +162,7 @@ class Source:
     odd: int = 0
     """How many entries of an archive are no block."""
     behind: int = 0
-    """How many bytes behind the last whole block of an archive aren't taken."""
+    """How many bytes after the last whole block of an archive aren't taken."""
 
     @property
     def numbers(self) -> set[int]:
@@ -271,7 +271,7 @@ def choose(found: Joined, number: int, places: list[Place], can_be_read: set[Pla
 
 
 def different(places: list[Place]) -> list[Place]:
-    """Those of a block's places that hold other bytes behind the gate than those before them."""
+    """Those of a block's places that hold other bytes after the gate than those before them."""
     if len(places) == 1:
         return places
     by_bytes: dict[bytes, Place] = {}
@@ -321,10 +321,10 @@ def judge(found: Joined, out: Path) -> None:
 
 
 def told(found: Joined) -> list[Json]:
-    """What sources come to, as JSON tells it."""
+    """What sources come to, as JSON says it."""
     from .diff import runs
     lines: list[Json] = [{"source": shown(one.path.name), "blocks": runs(one.numbers), "unreadable": runs(one.unreadable), "odd": one.odd,
-                          "bytes_behind": one.behind} for one in found.sources]
+                          "trailing_bytes": one.behind} for one in found.sources]
     lines += [{"contradicts": number, "taken": shown(one.path.name), "other": shown(other.path.name)} for number, (one, other) in found.contradictions.items()]
     lines += [{"mended": number, "unreadable_in": shown(place.path.name)} for number, place in found.mended.items()]
     lines += [{"breaks": one["block"], "what": one["what"]} for one in found.breaks]

@@ -1,7 +1,7 @@
 """What changed between two images of one unit: which blocks both hold, which one alone, which differ and in what, and whether the
 second continues the first, is older than it, or both went on from the same blocks.
 
-Which blocks an image holds `etcs_lab examine` tells, and what their records say `etcs_lab events`. Blocks are compared byte by
+Which blocks an image holds `etcs_lab examine` reports, and what their records say `etcs_lab events`. Blocks are compared byte by
 byte.
 """
 import os
@@ -29,7 +29,7 @@ VERDICTS = {
 """Each verdict, and what it says."""
 FINE = ("same", "continues")
 NOT_COMPARED = ("byte", "source", "decoded", "block")
-"""Members of a record that tell where it stands, or come of others."""
+"""Members of a record that say where it stands, or come of others."""
 
 
 @dataclass
@@ -58,7 +58,7 @@ class Side:
         return sorted({*range(first, self.newest + 1), *self.unreadable()} - self.blocks.keys())
 
     def told(self) -> Json:
-        """The image, as JSON tells it."""
+        """The image, as JSON says it."""
         image = self.examination["image"]
         return {"name": shown(self.path.name), "sha256": image["sha256"], "slots": image["slots"], "blocks": runs(self.blocks),
                 "unreadable": runs(self.unreadable()), "lost": runs(self.lost())}
@@ -72,7 +72,7 @@ class Difference:
     b: Side
     verdict: str
     differ: list[Json]
-    """In what the blocks differ that both hold: block, event and field, and what each image tells; or a byte of a head."""
+    """In what the blocks differ that both hold: block, event and field, and what each image says; or a byte of a head."""
     differing: list[int]
     """Their numbers."""
 
@@ -101,12 +101,12 @@ def side(path: Path) -> Side:
 
 
 def bytes_at(file: int, slot: Json) -> bytes:
-    """The bytes of a block behind its gate."""
+    """The bytes of a block after its gate."""
     return os.pread(file, layout.SLOT - layout.SECTOR, layout.slot_at(slot["slot"]) + layout.SECTOR)
 
 
 def differing(a: Side, b: Side) -> dict[int, int]:
-    """The blocks that both hold and that differ, each with the first byte behind its gate that does."""
+    """The blocks that both hold and that differ, each with the first byte after its gate that does."""
     found, files = {}, [os.open(one.path, os.O_RDONLY | os.O_CLOEXEC) for one in (a, b)]
     try:
         for number in sorted(set(a.blocks) & set(b.blocks)):
@@ -124,7 +124,7 @@ def records_of(one: Side, numbers: Iterable[int]) -> dict[int, dict[int, Json]]:
     found: dict[int, dict[int, Json]] = {number: {} for number in numbers}
 
     def step(told: Json) -> None:
-        if told.get("block") in found and told.get("source") in ("journal", "behind_gap"):
+        if told.get("block") in found and told.get("source") in ("journal", "after_gap"):
             found[told["block"]][told["event"]] = told
 
     run = objects(["events", "--all"], one.path, step)
@@ -188,7 +188,7 @@ def compare(one: Path, other: Path) -> Difference:
     return told
 
 
-# ---- how it is told
+# ---- how it is reported
 
 def runs_text(told: list[list[int]]) -> str:
     """Runs of numbers, for people."""

@@ -1,5 +1,5 @@
 """Sealed copies of images: a bag (module `bag`) that holds the image byte for byte, the digests of its parts, all that
-`etcs_lab` and `lab` tell of it, who sealed it, when and with which tools, and perhaps a signature and a time stamp.
+`etcs_lab` and `lab` say about it, who sealed it, when and with which tools, and perhaps a signature and a time stamp.
 
 A seal shows that nothing changed since it was made, and nothing of what was before.
 """
@@ -28,7 +28,7 @@ from .times import DRIFT_PPM, Times
 IMAGE, SEAL, PARTS, TIMES = "image", "seal.json", "digests.csv", "image.times"
 WORDS = {"examine.json": ["examine", "--json"], "events.jsonl": ["events", "--all"], "replay.jsonl": ["replay", "--json"],
          "why.jsonl": ["why", "--json"]}
-"""What `etcs_lab` tells of the image: the file, and the words by which it does."""
+"""What `etcs_lab` says about the image: the file, and the words by which it does."""
 FILES = (IMAGE, TIMES, SEAL, PARTS, *WORDS, "table.csv", "journal.db", "report.html")
 """The files that the payload of a bag may have."""
 BAG = (*(f"{bag.PAYLOAD}/{name}" for name in FILES), bag.DECLARATION, bag.INFO, *map(bag.MANIFEST.format, bag.ALGORITHMS),
@@ -42,7 +42,7 @@ RECORD_BYTES = {1: 128, 2: 256, 3: 256}
 
 @dataclass
 class Sealing:
-    """What a seal tells beside the image, and how it is signed."""
+    """What a seal reports along with the image, and how it is signed."""
 
     by: str | None = None
     medium: str | None = None
@@ -109,7 +109,7 @@ def parts(image: BinaryIO, examination: Json, events: Iterable[Json]) -> Iterato
 
 
 def tell(data: Path) -> dict[str, Json]:
-    """Writes what `etcs_lab` tells of the image, and the digests of its parts; answers each run's status and last line."""
+    """Writes what `etcs_lab` says about the image, and the digests of its parts; answers each run's status and last line."""
     told: dict[str, Json] = {}
     for name, words in WORDS.items():
         text, run = lines_of(words, data / IMAGE)
@@ -167,8 +167,8 @@ def info_of(seal: Json) -> list[tuple[str, str]]:
 
 
 def seal(image: Path, folder: Path, how: Sealing, progress: Progress = silent) -> tuple[Json, list[str]]:
-    """Makes a bag of an image; answers what `seal.json` tells, and what of the image isn't as it should be. An image that isn't formatted is sealed too, without what
-    can't be told of it."""
+    """Makes a bag of an image; answers what `seal.json` reports, and what of the image isn't as it should be. An image that isn't formatted is sealed too, without what
+    can't be reported of it."""
     with files.open_to_read(image) as source, files.new_folder(folder, BAG) as made:
         data = made / bag.PAYLOAD
         data.mkdir()

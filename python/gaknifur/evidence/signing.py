@@ -32,7 +32,7 @@ class Key:
     name: str
 
     def told(self) -> str:
-        """The key as it is told: its fingerprint."""
+        """The key as it is reported: its fingerprint."""
         if self.kind == "ssh":
             done = tool("ssh-keygen", "-l", "-f", self.name)
             found = FINGERPRINT.search(done.output)
@@ -46,7 +46,7 @@ class Key:
         return prints[0]
 
     def sign(self, path: Path) -> None:
-        """Signs a file, and leaves the signature beside it."""
+        """Signs a file, and leaves the signature next to it."""
         if self.kind == "ssh":
             done = tool("ssh-keygen", "-q", "-Y", "sign", "-f", self.name, "-n", NAMESPACE, path)
         else:
@@ -183,7 +183,7 @@ class Stamp:
 
 
 def time_of(path: Path) -> str:
-    """The time that the answer of an authority tells."""
+    """The time that the answer of an authority reports."""
     told = re.search(r"^Time stamp: (.*)$", tool("openssl", "ts", "-reply", "-in", path, "-text").output, re.MULTILINE)
     return told.group(1) if told else "no time"
 

@@ -29,7 +29,7 @@ def message(record: Json, differs: str | None = None) -> str:
 
 
 def lines(journal: Journal) -> Iterator[Json]:
-    """Each record, with its time of day where marks tell one. `datetime` and the two beside it are null elsewhere."""
+    """Each record, with its time of day where marks say one. `datetime` and the two next to it are null elsewhere."""
     differs = {(one["block"], one["event"]): one["field"] for one in journal.differences if one["replay"] == "record_differs"}
     for record in journal.records:
         told = journal.times.utc(record["life"], record["time_ms"]) if journal.times else None

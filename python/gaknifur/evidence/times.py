@@ -1,9 +1,9 @@
-"""The time of day of events, by marks beside a journal. A journal has none: a mark says that at a moment of a life, or at an event, a
-clock told a time of day, right to so many milliseconds. Marks are outside the journal and outside the proof; each output says so.
+"""The time of day of events, by marks along with a journal. A journal has none: a mark says that at a moment of a life, or at an event, a
+clock reported a time of day, right to so many milliseconds. Marks are outside the journal and outside the proof; each output says so.
 
 Each mark bounds the time of day of every moment of its life, since the unit's clock runs off by no more than a bound (the drift). What is
-told of a moment is the middle of what all marks of its life allow, and how far off it may be. Where two marks of a life can't both be
-right, both are named, and of that life no time of day is told.
+reported of a moment is the middle of what all marks of its life allow, and how far off it may be. Where two marks of a life can't both be
+right, both are named, and of that life no time of day is reported.
 """
 import csv
 import datetime
@@ -236,7 +236,7 @@ class Times:
         return found
 
     def bound(self, journal: Journal, mark: Mark) -> tuple[int, Bound | None]:
-        """What a mark says of a moment. An event came at its moment or behind it, before the next moment of its life."""
+        """What a mark says of a moment. An event came at its moment or after it, before the next moment of its life."""
         if mark.life is not None and mark.moment_ms is not None:
             return mark.life, Bound(mark.moment_ms, mark.utc_ms - mark.uncertainty_ms, mark.utc_ms + mark.uncertainty_ms, mark)
         at = next((row for row, one in enumerate(journal.records) if one["event"] == mark.event), None)
@@ -254,7 +254,7 @@ class Times:
         return int(record["life"]), Bound(moment, mark.utc_ms - mark.uncertainty_ms - behind, mark.utc_ms + mark.uncertainty_ms, mark)
 
     def utc(self, life: int | None, moment_ms: int) -> tuple[int, int] | None:
-        """The time of day of a moment of a life, and how far off it may be, in ms; None where no marks tell it, they contradict, or it is of
+        """The time of day of a moment of a life, and how far off it may be, in ms; None where no marks say it, they contradict, or it is of
         no year that can be written."""
         one = self.lives.get(life) if life is not None else None
         told = None if one is None or one.contradictions else one.utc(moment_ms)
@@ -278,7 +278,7 @@ def columns(journal: Journal) -> Json:
 
 
 def beside(image: Path, told: Path | None) -> Path | None:
-    """The file of marks: the one that is named, else that beside the image, where there is one."""
+    """The file of marks: the one that is named, else that along with the image, where there is one."""
     if told is not None:
         return told
     path = image.with_name(image.name + ENDING)

@@ -1,10 +1,10 @@
-"""Why a brake was commanded, why the train was tripped, and what decided the limit, as `etcs_lab why` tells it. Nothing
+"""Why a brake was commanded, why the train was tripped, and what decided the limit, as `etcs_lab why` says it. Nothing
 here guesses a cause from what a record shows.
 
 `etcs_lab why` has a line of each event at which brake, limit, a cause or the kind of what decides the limit is another
-one than before in its life, so between two lines the causes are those of the first. What is told is what the kernel
-answers. So it counts only where the replay says that the journal tells the same; elsewhere the causes aren't known, and
-the reason is told.
+one than before in its life, so between two lines the causes are those of the first. What is reported is what the kernel
+answers. So it counts only where the replay says that the journal reports the same; elsewhere the causes aren't known, and
+the reason is reported.
 """
 import bisect
 import re
@@ -22,7 +22,7 @@ CAUSES = {
                      "ends when the train stands"),
     "rolled_too_far": ("the train rolled backward too far since it stood",
                        "ends when the train stands, or a greater D_NVROLL comes into force"),
-    "asked_for_service": ("linking or a balise group asked for the service brake, and the train has not stood since",
+    "service_brake_requested": ("linking or a balise group asked for the service brake, and the train has not stood since",
                           "ends when the train stands"),
     "too_fast": ("the speed was above the limit by more than 5000 m/h, and not within it since",
                  "ends when the speed is within the limit"),
@@ -39,11 +39,11 @@ TRIP_CAUSES = {
 """Of each cause of a trip what it says, in the words of `etcs_lab why`, and its sections of SUBSET-026."""
 TRIP_BEFORE = "it was tripped before the power-up, and why isn't known"
 LIMIT_CAUSE = "limit_cause"
-"""The member that tells the kind of what decides the limit; others of the same beginning tell more of it."""
+"""The member that says the kind of what decides the limit; others of the same beginning report more of it."""
 REASONS = {"before_oldest_block": "what was kept before its power-up was overwritten",
            "gap": "blocks or events are missing before",
-           "within_block": "no head tells what was kept before its power-up",
-           "behind_difference": "they follow a record that differs"}
+           "within_block": "no head contains what was kept before its power-up",
+           "after_difference": "they follow a record that differs"}
 """Why events can't be replayed."""
 OTHER_BLOCK = "its block isn't of the journal"
 DIFFERS = "the record differs from what the kernel answers"
@@ -51,7 +51,7 @@ NO_REPLAY = "no replay was made"
 
 
 def held(line: Json) -> dict[str, int]:
-    """The causes of a line of `etcs_lab why` that hold, each with the first event behind which it has held."""
+    """The causes of a line of `etcs_lab why` that hold, each with the first event after which it has held."""
     return {cause: line[cause] for cause in CAUSES if line.get(cause) is not None}
 
 
@@ -86,11 +86,11 @@ class Known:
     line: Json | None = None
     """Its line of `etcs_lab why`, if it has one."""
     held: dict[str, int] | None = None
-    """The causes of its brake that hold; None where they aren't told."""
+    """The causes of its brake that hold; None where they aren't reported."""
     limit: str | None = None
-    """The kind of what decides the limit; None where it isn't told."""
+    """The kind of what decides the limit; None where it isn't reported."""
     trip: "Trip | None" = None
-    """The trip that is owed; None where none is, or where it isn't told."""
+    """The trip that is owed; None where none is, or where it isn't reported."""
 
 
 @dataclass(frozen=True)
@@ -109,7 +109,7 @@ class Trip:
 
 
 def trip_of(line: Json) -> Trip | None:
-    """The trip that is owed behind the event of a line."""
+    """The trip that is owed after the event of a line."""
     if line.get("owes_trip") is None or "trip_cause" not in line:
         return None
     return Trip(line["trip_cause"], line["trip_cause_event"])
@@ -125,7 +125,7 @@ def rows_of(journal: Journal) -> Iterator[Row]:
 
 
 def known(journal: Journal, records: Iterable[Row]) -> Iterator[Known]:
-    """What is known of each record. All behind one line of `etcs_lab why` have the same causes, limit and trip."""
+    """What is known of each record. All after one line of `etcs_lab why` have the same causes, limit and trip."""
     told, reasons = {line["event"]: line for line in journal.why}, Reasons(journal)
     before, same = None, Known(None)
     for event, kind, brake, source in records:
@@ -150,11 +150,11 @@ class Held:
 
     cause: str
     since: int
-    """The first event behind which it has held."""
+    """The first event after which it has held."""
     last: int
-    """The last event of which it is told that it holds."""
+    """The last event of which it is reported that it holds."""
     gone: int | None = None
-    """The first event behind that of which it is told that it doesn't hold."""
+    """The first event after that of which it is reported that it doesn't hold."""
 
     @property
     def says(self) -> str:
@@ -172,7 +172,7 @@ class Held:
 
 
 def of_run(events: Iterable[int], told: Iterable[dict[str, int] | None]) -> list[Held]:
-    """The causes of a run of events, of some of which those that hold are told, in the order in which they began to hold.
+    """The causes of a run of events, of some of which those that hold are reported, in the order in which they began to hold.
     One that ends and begins anew comes twice."""
     found: list[Held] = []
     for event, now in zip(events, told):
@@ -191,7 +191,7 @@ def of_run(events: Iterable[int], told: Iterable[dict[str, int] | None]) -> list
 
 
 def text(told: dict[str, int] | None) -> str | None:
-    """Causes as a column tells them: none is an empty text."""
+    """Causes as a column reports them: none is an empty text."""
     return None if told is None else ", ".join(f"{cause} since {since}" for cause, since in told.items())
 
 
@@ -212,7 +212,7 @@ ROW = ("block", "event", "life", "brake", "cause", "since_event", "says", "ends"
 
 
 def rows(journal: Journal) -> list[Json]:
-    """A row for each cause that holds behind an event of which causes are told, with its words."""
+    """A row for each cause that holds after an event of which causes are reported, with its words."""
     return [{"block": record["block"], "event": record["event"], "life": record["life"], "brake": record["brake"], "cause": cause,
              "since_event": since, "says": CAUSES[cause][0], "ends": CAUSES[cause][1]}
             for record, one in zip(journal.records, known(journal, rows_of(journal))) for cause, since in (one.held or {}).items()]

@@ -1,7 +1,7 @@
 """Pictures of a stretch of a life, as SVG text for a page: speed and limit over distance, time or events.
 
-Behind speed and limit stand the brake commands, below them a strip of brakes and one of modes, with letters: colour
-alone carries nothing. The colours are those of Okabe and Ito, which colour-blind people tell apart; on a dark screen
+After speed and limit stand the brake commands, below them a strip of brakes and one of modes, with letters: colour
+alone carries nothing. The colours are those of Okabe and Ito, which colour-blind people report apart; on a dark screen
 `templates/report.css` has others in their place, so a colour that is added here is added there. Marks of single
 events are anchors `pN` that link to the row `rN` of the page. The same table gives the same bytes each time.
 """
@@ -32,7 +32,7 @@ AXES = {"distance": ("place from the power-up of the life, m", "place_cm", 100.0
         "time": ("moment of the clock in the life, s", "time_ms", 1000.0), "event": ("event", "event", 1.0)}
 MOST_DRAWN, MOST_MARKS, MOST_LABELS, COLUMNS = 6000, 120, 14, 400
 MOST_SIGNS, BARS = 60, 90
-"""So many telegrams have each a sign of its own; of more the picture tells how many there are, in so many parts of the way."""
+"""So many telegrams have each a sign of its own; of more the picture says how many there are, in so many parts of the way."""
 
 MARK = re.compile(r'(<g id="(?:p|\w+-to)(\d+)">\s*<g[^>]*>\s*<use [^>]*/>\s*</g>\s*</g>)')
 """A circle, by its id. The lines of this library have no links of their own."""
@@ -40,7 +40,7 @@ MARK = re.compile(r'(<g id="(?:p|\w+-to)(\d+)">\s*<g[^>]*>\s*<use [^>]*/>\s*</g>
 
 @dataclass
 class Picture:
-    """What a picture shows beside its table. Rows are those of the table's index."""
+    """What a picture shows along with its table. Rows are those of the table's index."""
 
     axis: str
     title: str
@@ -113,7 +113,7 @@ def spans(table: pd.DataFrame, x: Any, name: str) -> list[tuple[float, float, st
 
 
 def draw_strips(brakes: Any, modes: Any, main: Any, table: pd.DataFrame, x: Any, width: float, is_vast: bool) -> None:
-    """Draws the two strips, and the brakes behind the lines."""
+    """Draws the two strips, and the brakes after the lines."""
     for first, last, brake in spans(table, x, "brake"):
         if brake == "none":
             continue
@@ -235,7 +235,7 @@ def finish(main: Any, last: Any, picture: Picture, table: pd.DataFrame, reach: t
 
 
 def described(table: pd.DataFrame) -> str:
-    """What a picture shows, for who doesn't see it. The table of events tells the same as its circles do."""
+    """What a picture shows, for who doesn't see it. The table of events reports the same as its circles do."""
     brake, speed = table["brake"], table["speed_kmh"].dropna()
     fast = f"; speed at most {float(speed.max()):.1f} km/h" if len(speed) else ""
     return (f"Events {table['event'].iat[0]} to {table['event'].iat[-1]}; modes {', '.join(dict.fromkeys(table['mode']))}{fast}; "

@@ -28,7 +28,7 @@ EVENT = (
 ).split() + list(tables.SHOWS)
 BEFORE = {"mode_before": "mode", "level_before": "level", "brake_before": "brake", "speed_before_m_per_h": "speed_m_per_h"}
 NEXT = {"next_event": "event", "next_ms": "time_ms", "next_cm": "place_cm"}
-"""What of the record before and of the next one of its stretch stands beside a record, so that no view has to look for them."""
+"""What of the record before and of the next one of its stretch stands along with a record, so that no view has to look for them."""
 SLOT = ("slot state block first_sector last_sector format life first_event last_event gate_is_own in_journal field record "
         "byte").split()
 WHY = ("brake limit_m_per_h speed_m_per_h backward_cm allowed_backward_cm trip_cause trip_cause_event trip_cause_section "
@@ -205,7 +205,7 @@ def packets_in(rows: list[tuple[int, int, str, Json]]) -> Iterator[tuple[int, in
 
 
 def add_causes(connection: sqlite3.Connection, image: int, table: pd.DataFrame) -> None:
-    """Adds what is told of events, and the causes of their brakes."""
+    """Adds what is reported of events, and the causes of their brakes."""
     for name in ("why", "held"):
         told = tables.some_of(table, table[name].notna(), ("block", "event", name))
         rows = zip(plain(told["block"]), plain(told["event"]), told[name])

@@ -1,5 +1,5 @@
 """A journal that is read as it grows. No lock is taken and nothing is written, so the unit never waits: each slot is read between two
-looks at its gate (`archive.Ring`), and `etcs_lab` tells what is in it."""
+looks at its gate (`archive.Ring`), and `etcs_lab` says what is in it."""
 import contextlib
 import os
 import tempfile
@@ -14,7 +14,7 @@ from .reading import Json, objects
 from .wording import MODES, event_text, exact, kmh
 
 MOST_BLOCKS = 256
-"""So many blocks are told at once."""
+"""So many blocks are reported at once."""
 POLL_SECONDS = 0.1
 PROC = Path("/proc")
 
@@ -44,7 +44,7 @@ def is_held(ring: Ring) -> bool:
 
 
 def records(ring: Ring, blocks: dict[int, bytes]) -> list[Json]:
-    """The records of some blocks, as `etcs_lab events` tells them of the image."""
+    """The records of some blocks, as `etcs_lab events` reports them of the image."""
     found: list[Json] = []
 
     def step(told: Json) -> None:
@@ -64,8 +64,8 @@ def records(ring: Ring, blocks: dict[int, bytes]) -> list[Json]:
 
 
 def tell_new(ring: Ring, behind: int, step: Callable[[Json], None]) -> int:
-    """Hands on the records of the blocks behind one; answers the last block that was told. Blocks that were overwritten before
-    they were read are told by their numbers."""
+    """Hands on the records of the blocks after one; answers the last block that was reported. Blocks that were overwritten before
+    they were read are reported by their numbers."""
     run: dict[int, bytes] = {}
 
     def tell() -> None:

@@ -1,5 +1,5 @@
 """Where the slots of an image lie (docs/reference/format.md): sizes, gates and the numbers of blocks, and nothing of what a block says,
-which `etcs_lab` tells."""
+which `etcs_lab` reports."""
 SECTOR, SLOT_SECTORS = 512, 6
 SLOT = SECTOR * SLOT_SECTORS
 MARK, GATE_MARK, ARCHIVE_MARK = b"ETCSJRU1", b"ETCSGATE", b"ETCSKEPT"
@@ -21,7 +21,7 @@ def archive_sector() -> bytes:
 
 
 def slots_told(first: bytes) -> int | None:
-    """How many slots a first sector tells; None where it is none."""
+    """How many slots a first sector says; None where it is none."""
     slots = int.from_bytes(first[12:16], "big")
     is_one = len(first) >= SECTOR and first.startswith(MARK) and int.from_bytes(first[8:12], "big") in (1, VERSION) and not any(first[16:SECTOR])
     return slots if is_one and LEAST_SLOTS <= slots <= MOST_SLOTS else None
@@ -49,6 +49,6 @@ def number_of_head(slot: bytes) -> int:
 
 
 def block_in(slot: bytes) -> int | None:
-    """The number of the block that lies in the bytes of a slot behind its own gate; None where there is none."""
+    """The number of the block that lies in the bytes of a slot after its own gate; None where there is none."""
     number = number_of_gate(slot)
     return number if number is not None and len(slot) == SLOT and number_of_head(slot) == number else None

@@ -1,6 +1,6 @@
-"""What no replay finds but physics does: movement over time against the speeds that were told, speeds that jump, movement at standstill, and
-a group that was read at another place than before. What is told is implausible, and never forged: wheels slip, clocks stop, and a scenario
-may tell no moments at all. Over the records that `etcs_lab events` tells.
+"""What no replay finds but physics does: movement over time against the speeds that were reported, speeds that jump, movement at standstill, and
+a group that was read at another place than before. What is reported is implausible, and never forged: wheels slip, clocks stop, and a scenario
+may say no moments at all. Over the records that `etcs_lab events` reports.
 """
 from collections.abc import Iterable, Iterator
 from dataclasses import asdict, dataclass, field
@@ -26,9 +26,9 @@ class Thresholds:
     acceleration_cm_per_s2: int = 300
     """So fast a speed may rise or fall .."""
     jump_m_per_h: int = 5_000
-    """.. beside so much at once."""
+    """.. along with so much at once."""
     place_cm: int = 1_000
-    """By so much a group may be read at another place, beside the uncertainties that were told .."""
+    """By so much a group may be read at another place, along with the uncertainties that were reported .."""
     place_percent: int = 5
     """.. and so much of the way between two groups."""
 
@@ -40,13 +40,13 @@ class Thresholds:
 
 @dataclass(frozen=True)
 class Stretch:
-    """The readings of one moment, which came there or behind it, before the next moment of the life."""
+    """The readings of one moment, which came there or after it, before the next moment of the life."""
 
     first_event: int
     last_event: int
     time_ms: int
     next_ms: int | None
-    """The next moment; None where the life tells none."""
+    """The next moment; None where the life reports none."""
     path_cm: int
     low: int
     high: int
@@ -63,7 +63,7 @@ class Found:
     findings: list[Json] = field(default_factory=list)
     lives: int = 0
     timed: int = 0
-    """Lives that tell moments."""
+    """Lives that say moments."""
     readings: int = 0
     groups: int = 0
 
@@ -73,12 +73,12 @@ class Sum:
     """A sum over stretches, of which each run that is above a bound is found once."""
 
     since: int
-    """The stretch behind which the greatest run up to now begins."""
+    """The stretch after which the greatest run up to now begins."""
     total: float = 0.0
     least: float = 0.0
 
     def add(self, amount: float, bound: float, place: int) -> int | None:
-        """Adds what a stretch has; where the greatest run that ends there is above the bound, answers behind which stretch it
+        """Adds what a stretch has; where the greatest run that ends there is above the bound, answers after which stretch it
         begins, and begins anew."""
         self.total += amount
         found = self.since if self.total - self.least > bound else None
@@ -102,7 +102,7 @@ def stretches(records: list[Json]) -> list[Stretch]:
 
 def path(life: int, told: list[Stretch], limits: Thresholds) -> Iterator[Json]:
     """Runs of readings whose movement is more, or less, than speeds and moments allow. Between two readings the speed is taken to be
-    between those that they tell. Each reading may have come as late as the next moment; where none follows, it isn't judged."""
+    between those that they say. Each reading may have come as late as the next moment; where none follows, it isn't judged."""
     share = limits.path_percent / 100
     much, little = Sum(0), Sum(0)
     for at in range(1, len(told)):
@@ -125,7 +125,7 @@ def standing(life: int, records: list[Json], limits: Thresholds) -> Iterator[Jso
     """Runs of readings that say standstill, and that moved further than the movement may be off."""
     readings = [one for one in records if one["kind"] == "odometer"]
     for is_standing, told in groupby(readings, lambda one: bool(one["speed_m_per_h"] == 0)):
-        some = list(told)[1:]  # (the first one tells the movement before it stood)
+        some = list(told)[1:]  # (the first one reports the movement before it stood)
         moved = sum(abs(one["movement_cm"]) for one in some)
         if is_standing and moved > limits.path_cm:
             yield {"implausible": "standing", "life": life, "first_event": some[0]["event"], "last_event": some[-1]["event"], "moved_cm": moved}
@@ -182,7 +182,7 @@ def told_of_group(word: str, one: Json, other: Json, off: int) -> Json:
 
 
 def judge(records: Iterable[Json], limits: Thresholds = Thresholds()) -> Found:
-    """What of the records of a journal is implausible. Moments are judged of lives that tell some."""
+    """What of the records of a journal is implausible. Moments are judged of lives that say some."""
     found, groups = Found(), list[list[Json]]()
     for life, told in groupby(records, itemgetter("life")):
         of_life = list(told)
@@ -198,7 +198,7 @@ def judge(records: Iterable[Json], limits: Thresholds = Thresholds()) -> Found:
     return found
 
 
-# ---- how it is told
+# ---- how it is reported
 
 def text(line: Json) -> str:
     """A finding, for people."""

@@ -1,4 +1,4 @@
-"""A journal as `etcs_lab` tells it: the examination of its image, its records and their replay."""
+"""A journal as `etcs_lab` says it: the examination of its image, its records and their replay."""
 import contextlib
 import gc
 import itertools
@@ -19,7 +19,7 @@ if TYPE_CHECKING:
 
 Json = dict[str, Any]
 Progress = Callable[[str, int, int], None]
-"""What is told while it goes on: what is done, how much of it, and of how much (0 where that isn't known)."""
+"""What is reported while it goes on: what is done, how much of it, and of how much (0 where that isn't known)."""
 
 
 AT_ONCE, PACK, MOST_UNPACKED, MOST_SMALL = 512, 512, 1 << 15, 1 << 20
@@ -28,11 +28,11 @@ bytes of an image at the most of which all lines are taken at once."""
 
 
 def silent(what: str, done: int, whole: int) -> None:
-    """Tells nothing."""
+    """Reports nothing."""
 
 
 class Records(Sequence[Json]):
-    """Records in the order in which they were told. Of a long journal they are kept packed, by so many at once: a tenth of the
+    """Records in the order in which they were reported. Of a long journal they are kept packed, by so many at once: a tenth of the
     room, and a few microseconds for each one that is looked at. What is changed in one that was read is not kept."""
 
     def __init__(self) -> None:
@@ -90,16 +90,16 @@ class Journal:
     replay: list[Json] = field(default_factory=list)
     """The lines of a replay; none where it was refused or not asked for."""
     why: list[Json] = field(default_factory=list)
-    """What `etcs_lab why` tells of events, with the causes of their brakes; none where it was refused or not asked for."""
+    """What `etcs_lab why` says about events, with the causes of their brakes; none where it was refused or not asked for."""
     why_refusal: str | None = None
-    """Why it tells nothing."""
+    """Why it says nothing."""
     refusal: str | None = None
-    """Why no record can be told, although the image was examined."""
+    """Why no record can be reported, although the image was examined."""
     strays: list[Json] = field(default_factory=list)
     """Records of blocks in a wrong slot and of damaged ones, where they were asked for. They are in no other list: an event
     may stand twice there, and of a damaged block the life isn't known."""
     times: "Times | None" = None
-    """The marks of the time of day beside it, where there are any. No part of the journal, and of nothing that `etcs_lab` tells."""
+    """The marks of the time of day next to it, where there are any. No part of the journal, and of nothing that `etcs_lab` reports."""
 
     @property
     def name(self) -> str:
@@ -140,7 +140,7 @@ class Journal:
 
     @property
     def differences(self) -> list[Json]:
-        """What the replay found otherwise than the journal tells it."""
+        """What the replay found otherwise than the journal says it."""
         return [line for line in self.replay if line.get("replay") in ("record_differs", "head_differs")]
 
     @property
@@ -162,7 +162,7 @@ def parsed(line: str, what: str) -> Json:
 
 def parsed_all(lines: Sequence[str], what: str) -> list[Json]:
     """The objects on some lines. They are read as one list, which takes half of the time; where that isn't a list of so many
-    objects, line by line, so that what is wrong is told."""
+    objects, line by line, so that what is wrong is reported."""
     try:
         told = json.loads(f"[{','.join(lines)}]")
     except ValueError:
@@ -209,7 +209,7 @@ def is_small(path: Path) -> bool:
 
 
 def examine(path: Path) -> Json:
-    """What `etcs_lab examine` tells."""
+    """What `etcs_lab examine` reports."""
     told: list[Json] = []
     run = objects(["examine", "--json"], path, told.append)
     if run.status not in (WHOLE, NOT_WHOLE) or len(told) != 1:
@@ -218,7 +218,7 @@ def examine(path: Path) -> Json:
 
 
 def check(path: Path, progress: Progress) -> tuple[Json, list[Json]]:
-    """What `etcs_lab check` tells: the examination, and the lines of the replay; none where that was refused."""
+    """What `etcs_lab check` reports: the examination, and the lines of the replay; none where that was refused."""
     told: list[Json] = []
 
     def step(line: Json) -> None:
@@ -240,12 +240,12 @@ STRAY = ("misplaced", "damaged")
 
 
 def listing(other_blocks: bool, strays: bool) -> list[str]:
-    """The words by which `etcs_lab` tells the records that are asked for, and perhaps more."""
+    """The words by which `etcs_lab` reports the records that are asked for, and perhaps more."""
     return ["events", *(["--all"] if other_blocks or strays else [])]
 
 
 def tell_events(journal: Journal, other_blocks: bool, strays: bool, progress: Progress) -> None:
-    """Takes what `etcs_lab events` tells."""
+    """Takes what `etcs_lab events` reports."""
     extent = journal.examination["journal"] or {}
     last, first = extent.get("last_event"), extent.get("first_event")
     whole = 0 if last is None or first is None else last - first + 1
@@ -278,7 +278,7 @@ def tell_events(journal: Journal, other_blocks: bool, strays: bool, progress: Pr
 
 
 def tell_why(journal: Journal, progress: Progress) -> None:
-    """Takes what `etcs_lab why` tells of changes. What it leaves out the replay tells too."""
+    """Takes what `etcs_lab why` says about changes. What it leaves out the replay reports too."""
     progress("causes", 0, 0)
 
     def step(told: Json) -> None:
@@ -294,7 +294,7 @@ def tell_why(journal: Journal, progress: Progress) -> None:
 
 def read(path: str | Path, other_blocks: bool = False, replay: bool = False, why: bool = False,
          progress: Progress = silent, strays: bool = False, is_own: bool = False) -> Journal:
-    """The journal in a file. An image that isn't formatted is an error; of one that is damaged all is told that can be.
+    """The journal in a file. An image that isn't formatted is an error; of one that is damaged all is reported that can be.
     Causes are known only with a replay. Where the file `is_own`, nothing else writes to it, so that isn't looked at."""
     path = Path(path)
     if not path.exists():

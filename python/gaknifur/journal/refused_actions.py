@@ -6,8 +6,8 @@ accepted"; this project's profile). A record shows mode and speed before the act
 - `excluded`: in this mode, or while moving, the action isn't accepted.
 - `without_effect`: an accepted action of this kind always shows in its own record, and nothing shows.
 
-Of the others a record can't tell: what was entered, chosen or confirmed shows nowhere. Then `refused` is missing, as
-it is where the record before isn't there. Once `etcs_lab` tells which actions were accepted, this module gives way.
+Of the others a record can't report: what was entered, chosen or confirmed shows nowhere. Then `refused` is missing, as
+it is where the record before isn't there. Once `etcs_lab` says which actions were accepted, this module gives way.
 """
 from typing import Any
 
@@ -30,7 +30,7 @@ CHANGE_MODE = ("start", "choose_shunting", "leave_shunting", "close_desk")
 
 
 def is_refused(action: str, subject: str | None, was: dict[str, Any], now: dict[str, Any]) -> bool | None:
-    """Whether an action can't have been accepted, by the records before and behind it; None where they don't tell."""
+    """Whether an action can't have been accepted, by the records before and after it; None where they don't report."""
     moves = was["speed_m_per_h"] is not pd.NA and was["speed_m_per_h"] != 0
     if action in STANDING and (was["mode"] not in STANDING[action] or moves):
         return True
@@ -52,7 +52,7 @@ NEEDED = ("mode", "speed_m_per_h", "shows_trip", "shows_on_sight", "shows_shunti
 
 
 def refused(table: pd.DataFrame) -> Any:
-    """Of each row whether it is an action that can't have been accepted; missing where that isn't told."""
+    """Of each row whether it is an action that can't have been accepted; missing where that isn't reported."""
     answers: list[bool | None] = [None] * len(table)
     stretch = table["stretch"].to_numpy()
     for row in np.flatnonzero(table["kind"].to_numpy(object) == "driver"):

@@ -22,7 +22,7 @@ FIRST_TOLD = 20
 
 @dataclass
 class Life:
-    """What the page tells of a life."""
+    """What the page says about a life."""
 
     life: int
     table: pd.DataFrame
@@ -39,7 +39,7 @@ class Life:
 
 
 def lives_of(table: pd.DataFrame) -> list[Life]:
-    """The lives of a table, from the first one on. Where all records of each are beside one another, no column is copied."""
+    """The lives of a table, from the first one on. Where all records of each are along with one another, no column is copied."""
     life = table["life"].to_numpy()
     firsts = np.flatnonzero(np.diff(life, prepend=-1))
     if len(firsts) != len(np.unique(life)):
@@ -56,7 +56,7 @@ def groups_of(part: pd.DataFrame) -> list[tuple[int, str]]:
 
 
 def ends_of(part: pd.DataFrame) -> list[tuple[int, str]]:
-    """Where authorities end, as their telegrams announce it. Whether one came into force `etcs_lab` doesn't tell yet."""
+    """Where authorities end, as their telegrams announce it. Whether one came into force `etcs_lab` doesn't report yet."""
     heard = tables.some_of(part, (part["kind"] == "telegram") & part["place_cm"].notna(), ("event", "place_cm", "decoded"))
     found = []
     for event, place, decoded in zip(heard["event"], heard["place_cm"], heard["decoded"]):
@@ -76,7 +76,7 @@ def marks_of(part: pd.DataFrame, shown: set[int]) -> list[int]:
 
 
 def draw_life(life: Life, shown: set[int], anchors: set[int]) -> None:
-    """The pictures of a life: over distance and over time, or over events where neither tells anything."""
+    """The pictures of a life: over distance and over time, or over events where neither reports anything."""
     part = life.table
     if len(part) < 2:
         return
@@ -163,7 +163,7 @@ def top_of(table: pd.DataFrame, name: str) -> Json | None:
 
 
 def limit_text(table: pd.DataFrame, row: Any) -> str:
-    """What decides the limit at a row, where it is told."""
+    """What decides the limit at a row, where it is reported."""
     line = table["why"].at[row]
     return causes.limit_text(line) if line else ""
 

@@ -90,7 +90,7 @@ CREATE TABLE replay (
 CREATE TABLE block (
     image INTEGER NOT NULL REFERENCES image ON DELETE CASCADE,
     block INTEGER NOT NULL,
-    source TEXT NOT NULL CHECK (source IN ('journal', 'behind_gap', 'replaced', 'unwritten')),
+    source TEXT NOT NULL CHECK (source IN ('journal', 'after_gap', 'replaced', 'unwritten')),
     first_event INTEGER NOT NULL,
     last_event INTEGER NOT NULL,
     PRIMARY KEY (image, block)
@@ -344,7 +344,7 @@ JOIN step AS last ON (last.image, last.block, last.event) = (extent.image, exten
 
 -- Each cause of an intervention: since which event it holds, and the last event of which it is told that it holds.
 CREATE VIEW intervention_cause AS
-SELECT run.image, intervention, run.life, first_event, last_event, cause, since_event, MAX(cause.event) AS told_until_event,
+SELECT run.image, intervention, run.life, first_event, last_event, cause, since_event, MAX(cause.event) AS held_until_event,
     says, ends
 FROM brake_intervention AS run
 JOIN cause ON cause.image = run.image AND cause.block BETWEEN first_block AND last_block

@@ -11,14 +11,14 @@ from .reading import Journal, Json
 
 MOST_TRIPS = 12
 LAST = ("event", "life", "mode", "level", "brake", "place_cm", "time_ms", "speed_kmh")
-"""What is told of the last record."""
+"""What is reported of the last record."""
 OVERWRITTEN = "before_oldest_block"
 """Why a life isn't replayed whose beginning was written over, as a ring does: nothing is lost by that."""
 
 
 def faults(journal: Journal) -> list[str]:
     """What of a journal isn't whole or differs from what the kernel answers; nothing where `etcs_lab examine` and
-    `etcs_lab replay` both have nothing to tell."""
+    `etcs_lab replay` both have nothing to report."""
     found = []
     if journal.refusal is not None:
         found.append(f"no event can be told: {journal.refusal}")
@@ -56,7 +56,7 @@ def implausible(found: list[Json]) -> list[str]:
 
 
 def unreplayed(journal: Journal) -> list[str]:
-    """What else a replay has to tell of an image that is whole, and of which nothing differs."""
+    """What else a replay has to say about an image that is whole, and of which nothing differs."""
     left = [line for line in journal.not_replayed if line["reason"] != OVERWRITTEN]
     if left:
         more = f", and {len(left) - 1} more runs" if len(left) > 1 else ""
@@ -108,7 +108,7 @@ class Brief:
     last: Json | None
     """The last record, with the speed that holds."""
     first_event: int | None
-    """The first event of the last life that is told."""
+    """The first event of the last life that is reported."""
     intervention: Json | None
     """The last brake intervention that no power-up began."""
     trips: list[Json]

@@ -8,21 +8,21 @@ Columns of `frame`, in their order:
 - `place_cm`, `uncertainty_cm`, `min_safe_front_cm`, `max_safe_front_cm`, `limit_m_per_h`, `limit_kmh`.
 - `movement_cm`, `reading_m_per_h`: of a reading of the odometer.
 - `speed_m_per_h`, `speed_kmh`, `over_limit_kmh`: the speed of the last reading, which holds until the next one of its
-  stretch (0 from a power-up on), and by how much it is above the limit behind the event.
+  stretch (0 from a power-up on), and by how much it is above the limit after the event.
 - `word`, `now_ms`, `action` and the driver's entries; `refused`: whether the action can't have been accepted.
 - `nid_c`, `nid_bg`, `n_pig`, `n_total`, `m_dup`, `m_mcount`, `q_link`, `packets`, `fault`, `telegram`, `decoded`;
   `not_obeyed`: those of its packets that the unit uses in no mode and in no direction, each with why (module `unused_packets`);
-  `unused`: the same as the record tells them.
+  `unused`: the same as the record says them.
 - `causes`: the causes of its brake, and the event since which each holds; `causes_not_known`: why they aren't known;
   `trip_cause`, `trip_cause_event`: while a trip is owed, why it was entered and by which event; `limit_cause`: the kind of
   what decides the limit; `held`: the causes as a dictionary; `trip`: the trip that is owed; `why`: the line of `etcs_lab
-  why` (module `causes`). They are missing where they aren't told.
-- `utc_by_marks`, `utc_uncertainty_ms`: the time of day of `time_ms`, and how far off it may be, by marks beside the journal
+  why` (module `causes`). They are missing where they aren't reported.
+- `utc_by_marks`, `utc_uncertainty_ms`: the time of day of `time_ms`, and how far off it may be, by marks along with the journal
   (module `evidence.times`). They are outside the journal and outside the proof, and missing where there are no marks.
 
 Columns of `strays`, the records of blocks in a wrong slot and of damaged ones: `source`, `slot` and `byte`, where a record
-stands in the image, and of those above what it tells by itself. Of a damaged block the life is missing, and the block where
-its head tells none.
+stands in the image, and of those above what it says by itself. Of a damaged block the life is missing, and the block where
+its head says none.
 """
 import itertools
 from collections.abc import Callable, Iterable, Iterator, Sequence
@@ -93,7 +93,7 @@ def decoded_columns(decoded: Sequence[Json | None]) -> dict[str, Any]:
 
 def cause_columns(journal: Journal, records: Iterable[causes.Row]) -> dict[str, Any]:
     """The causes of each record's brake, why they aren't known, the trip that is owed, what decides its limit, and the line that
-    tells them."""
+    reports them."""
     found: dict[str, list[Any]] = {name: [] for name in ("causes_not_known", "limit_cause", "held", "trip", "why")}
     for one in causes.known(journal, records):
         for name, value in zip(found, (one.reason, one.limit, one.held, one.trip, one.line)):
@@ -191,7 +191,7 @@ ORDER = ("block", "event", "life", "stretch", "kind", "time_ms", "mode", "level"
 
 
 def frame(journal: Journal) -> pd.DataFrame:
-    """One row a record, in the order in which `etcs_lab events` tells them."""
+    """One row a record, in the order in which `etcs_lab events` reports them."""
     told = all_columns(journal.records)
     told["stretch"] = stretches(told["event"], told["life"], told["source"])
     told["limit_kmh"] = told["limit_m_per_h"].astype("Float64") / 1000
@@ -223,7 +223,7 @@ def interventions(table: pd.DataFrame) -> pd.DataFrame:
     """One row for each run of records of a stretch that command a brake, in their order.
 
     `first_row` and `last_row` are rows of the table. `steps` are the commands in their order, as "service emergency".
-    `goes_on` tells that the last record told of its stretch still commands it. `causes` is a list of `causes.Held`, `trips`
+    `goes_on` says that the last record reported of its stretch still commands it. `causes` is a list of `causes.Held`, `trips`
     one of `causes.Trip`.
     """
     brake, stretch = table["brake"].to_numpy(object), table["stretch"].to_numpy()
@@ -296,7 +296,7 @@ def slot_of(record: Json) -> int:
 
 
 def strays(journal: Journal) -> pd.DataFrame:
-    """One row for each record of a block in a wrong slot or of a damaged one, in the order in which `etcs_lab events` tells
+    """One row for each record of a block in a wrong slot or of a damaged one, in the order in which `etcs_lab events` reports
     them."""
     records = journal.strays
     some = by_kind(records)

@@ -1,4 +1,4 @@
-"""Packets that a track sent and the unit uses in no mode and in no direction, as `etcs_lab events` tells them of each telegram (its
+"""Packets that a track sent and the unit uses in no mode and in no direction, as `etcs_lab events` reports them of each telegram (its
 member `unused`; docs/reference/json.md, docs/reference/packets.md).
 
 Nothing is worked out here but sums. Not among them are packets that a mode, a direction or their group kept from being used.
@@ -30,7 +30,7 @@ def text(unused: Iterable[Json]) -> str:
 
 
 def column(told: Iterable[list[Json] | None]) -> list[str | None]:
-    """Of each telegram such packets with why, as a column tells them: `137 not_known, 12 infill`; None where there is none, or no
+    """Of each telegram such packets with why, as a column reports them: `137 not_known, 12 infill`; None where there is none, or no
     telegram."""
     return [", ".join(f"{one['packet']} {one['why']}" for one in unused) or None if unused else None for unused in told]
 

@@ -2,7 +2,7 @@
 
 A job is data alone: the bytes of its files. Who plays it needs this package and the two programs, and no common folder.
 A job whose worker is lost is played again, and what is in the table already isn't: a campaign that was interrupted
-goes on where it was. A row tells the same whoever plays it, but for `seconds` and `worker`.
+goes on where it was. A row reports the same whoever plays it, but for `seconds` and `worker`.
 """
 import gc
 import hashlib

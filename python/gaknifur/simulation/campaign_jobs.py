@@ -1,4 +1,4 @@
-"""How a job of a campaign is played, and what its row tells: what a process loads that plays, and who hands out jobs doesn't need."""
+"""How a job of a campaign is played, and what its row reports: what a process loads that plays, and who hands out jobs doesn't need."""
 import os
 import socket
 import tempfile
@@ -14,14 +14,14 @@ from .campaign import Job, Row, row_without
 
 
 def play(job: Job, room: Path) -> Row:
-    """Plays a job in a folder, in which another one may have been played, and answers its row. Whatever goes wrong is told there."""
+    """Plays a job in a folder, in which another one may have been played, and answers its row. Whatever goes wrong is reported there."""
     begun = time.perf_counter()
     row = row_without(job, "carried out")
     try:
         row |= play_case(job, room) if job.kind == "case" else play_scenario(job, room)
     except Failed as failed:
         row |= {"ended": f"failed: {failed}", "sound": 0}
-    except Exception as error:  # a row tells of it, and the campaign goes on
+    except Exception as error:  # a row says about it, and the campaign goes on
         row |= {"ended": f"failed: {type(error).__name__}: {error}", "sound": 0}
     return row | {"seconds": round(time.perf_counter() - begun, 4), "worker": player()}
 

@@ -133,7 +133,7 @@ def write_csv(path: Path, out: files.Out) -> None:
 
 
 def differences(one: Path, other: Path) -> Iterator[str]:
-    """What two campaigns tell otherwise, a line for each row."""
+    """What two campaigns report otherwise, a line for each row."""
     first, second = rows_of(one), rows_of(other)
     for name in sorted(first.keys() | second.keys()):
         if name not in second or name not in first:

@@ -34,14 +34,14 @@ def check_library() -> None:
 
 
 def over_image(data: bytes, scenario: scenarios.Scenario, drive: Drive) -> tuple[driving.Driven, bytes]:
-    """A life on an image: what came of the drive, and the image behind it."""
+    """A life on an image: what came of the drive, and the image after it."""
     medium = MemoryMedium(data)
     driven = on_medium(medium, scenario, drive)
     return driven, medium.read()
 
 
 def on_medium(medium: Medium, scenario: scenarios.Scenario, drive: Drive) -> driving.Driven:
-    """A life on a medium: each write and sync in the order in which the unit asks for them, and outputs behind them."""
+    """A life on a medium: each write and sync in the order in which the unit asks for them, and outputs after them."""
     check_library()
     try:
         with Unit(medium, Cold(scenario.cold)) as unit:

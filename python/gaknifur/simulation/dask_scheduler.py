@@ -1,6 +1,6 @@
 """Plays the jobs of a campaign by the workers of a scheduler of Dask.
 
-A life takes milliseconds, so what Dask does beside it is kept small: its client loads nothing that a campaign doesn't
+A life takes milliseconds, so what Dask does next to it is kept small: its client loads nothing that a campaign doesn't
 need, and jobs and rows go as bytes, since Dask looks through each part of a list by itself.
 """
 import gc
@@ -24,7 +24,7 @@ UNUSED: dict[str, ModuleType | None] = {"jinja2": None, "numpy": None, "distribu
 """What Dask loads where it is there, for its pages, for large arrays, and for networks of InfiniBand; and what it always loads, for
 connections by WebSocket."""
 TOLD = ("numpy", "pandas")
-"""The packages that a client loads to tell their versions."""
+"""The packages that a client loads to report their versions."""
 NO_CERTIFICATES = {"SSL_CERT_FILE": os.devnull, "SSL_CERT_DIR": os.devnull}
 """Those of the system are read for connections to web servers, of which there are none."""
 SETTINGS = {"distributed.diagnostics.computations.ignore-modules": ["."], "distributed.comm.tcp.backend": "asyncio"}
@@ -91,7 +91,7 @@ def libyaml() -> Iterator[None]:
 
 
 def version_alone(name: str) -> ModuleType | None:
-    """A module that tells the version of a package, and nothing else; None where there is none."""
+    """A module that says the version of a package, and nothing else; None where there is none."""
     module = ModuleType(name)
     try:
         module.__dict__["__version__"] = metadata.version(name)

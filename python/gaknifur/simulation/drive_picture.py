@@ -1,4 +1,4 @@
-"""The picture of a drive: speed and limit over the train's place, the brakes behind them, and where it has to stand."""
+"""The picture of a drive: speed and limit over the train's place, the brakes after them, and where it has to stand."""
 import io
 from typing import Any
 
@@ -26,7 +26,7 @@ def shade(axes: Any, driven: Driven) -> None:
 
 
 def runs(driven: Driven) -> list[tuple[int, int]]:
-    """First row and the row behind the last one of each run of one command."""
+    """First row and the row after the last one of each run of one command."""
     brakes = [row.brake for row in driven.rows]
     starts = [at for at, brake in enumerate(brakes) if not at or brake != brakes[at - 1]]
     return list(zip(starts, [*starts[1:], len(brakes) - 1]))

@@ -1,6 +1,6 @@
 """What a drive in a closed loop is: a train, its driver, a time step, in YAML. docs/howto/closed-loop.md has its keys.
 
-It stands beside the steps of a life, which are played before the train moves. `driving` plays it.
+It stands along with the steps of a life, which are played before the train moves. `driving` plays it.
 """
 import re
 from dataclasses import dataclass, field
@@ -30,7 +30,7 @@ MOST_ERROR_CM, MOST_ANTENNA_CM = 1_000, 10_000
 
 @dataclass(frozen=True)
 class Train:
-    """How a train moves, in cm/s2 and ms. Commands reach its brakes behind the reaction time; from there the brakes come, and
+    """How a train moves, in cm/s2 and ms. Commands reach its brakes after the reaction time; from there the brakes come, and
     let go, evenly within the build-up time."""
 
     acceleration: int
@@ -40,13 +40,13 @@ class Train:
     reaction_ms: int = 0
     build_up_ms: int = 0
     odometer: Decimal = Decimal(1)
-    """What its odometer tells of its way."""
+    """What its odometer says about its way."""
     speedometer: Decimal = Decimal(1)
-    """What it tells of its speed."""
+    """What it says about its speed."""
     reading_error_cm: int = 0
-    """By how much a reading's place is off, ahead in one time step and behind in the next; it doesn't add up."""
+    """By how much a reading's place is off, ahead in one time step and after in the next; it doesn't add up."""
     antenna_cm: int = 0
-    """How far its antenna lies behind its front."""
+    """How far its antenna lies beyond its front."""
     rates: tuple[tuple[str, Rates], ...] = ()
     """Acceleration, service and emergency, by their names, where they depend on the speed."""
     adhesion: tuple[tuple[Decimal, int, int | None], ...] = ()
@@ -72,7 +72,7 @@ class Train:
 
 @dataclass(frozen=True)
 class When:
-    """What has to be so at once: the train's place and the moment at least, mode and indication as they were told last."""
+    """What has to be so at once: the train's place and the moment at least, mode and indication as they were reported last."""
 
     place_cm: int | None = None
     time_ms: int | None = None
@@ -83,7 +83,7 @@ class When:
 
 @dataclass(frozen=True)
 class Act:
-    """What a driver does, once: so many ms behind the first moment at which all is so."""
+    """What a driver does, once: so many ms after the first moment at which all is so."""
 
     when: When
     after_ms: int
@@ -102,7 +102,7 @@ class Driver:
     late_ms: int = 0
     """How long ago it was what he goes by."""
     acknowledges_ms: int | None = None
-    """How long behind what is shown he acknowledges it; never where it isn't told."""
+    """How long after what is shown he acknowledges it; never where it isn't reported."""
 
 
 @dataclass(frozen=True)

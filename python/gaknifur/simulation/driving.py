@@ -1,8 +1,8 @@
-"""A train in a closed loop with an onboard unit: the train moves, the unit is told, its commands move the train.
+"""A train in a closed loop with an onboard unit: the train moves, the unit is given, its commands move the train.
 
 In each time step the driver decides by what he was shown last, the train moves by his and the unit's commands, and the
-unit is told the moment, the odometer and each balise that was passed; then the driver does what else he does. The train
-is a point that moves on level track, whose antenna may lie behind it: what it does between two steps is worked out, and
+unit is given the moment, the odometer and each balise that was passed; then the driver does what else he does. The train
+is a point that moves on level track, whose antenna may lie beyond it: what it does between two steps is worked out, and
 nothing of it is proved. The unit is anything with the calls of `unit.Unit`.
 """
 from collections.abc import Iterable
@@ -66,7 +66,7 @@ class Motion:
         self.asked: list[tuple[int, float]] = [(0, 0.0)]
         """What was asked of the brakes, each from some moment on."""
         self.stands = True
-        """Whether it hasn't moved in the last time step: then the unit was told so."""
+        """Whether it hasn't moved in the last time step: then the unit was given so."""
 
     def ask(self, moment: int, braking: float) -> None:
         """From this moment on the brakes are asked for so much."""
@@ -202,7 +202,7 @@ class Driven:
     rows: list[Row] = field(default_factory=list)
     outputs: list[Output] = field(default_factory=list)
     steps: list[dict[str, Any]] = field(default_factory=list)
-    """What the unit was told, as steps of a scenario."""
+    """What the unit was given, as steps of a scenario."""
     heard: list[tuple[float, str]] = field(default_factory=list)
     """Each telegram, and from where its distances count."""
 
@@ -226,12 +226,12 @@ class Loop:
         self.motion = Motion(drive.train)
         self.told_cm, self.share = 0, 1.0
         self.base: tuple[float, int] = 0.0, 0
-        """From where on the odometer tells that share of the way, and what it had told then."""
+        """From where on the odometer says that share of the way, and what it had reported then."""
         self.error_cm = 0
         """By how much the readings of a time step are off."""
 
     def accept(self, step: dict[str, Any], origin_cm: float | None = None) -> None:
-        """Hands the unit one event, told as the step of a scenario; of a telegram it may be told where its group begins. Where
+        """Hands the unit one event, reported as the step of a scenario; of a telegram it may be reported where its group begins. Where
         no more may be pending, what is pending is recorded first."""
         if self.pending == OUTPUTS:
             self.flush()
@@ -274,7 +274,7 @@ class Loop:
         self.pending = 0
 
     def pass_to(self, end_cm: float, speed: int) -> None:
-        """The unit is told of a way up to a place, and of the balises on it."""
+        """The unit is given of a way up to a place, and of the balises on it."""
         begun, is_told = self.motion.place, False
         for place, origin, digits in self.balises:
             if begun < place <= end_cm:
@@ -286,7 +286,7 @@ class Loop:
         self.read(speed, not is_told or self.told_here() != self.told_cm)
 
     def told_here(self) -> int:
-        """What the odometer tells of the whole way up to where the train is. With an error it neither goes back, nor on while
+        """What the odometer says about the whole way up to where the train is. With an error it neither goes back, nor on while
         the train stands."""
         place, told = self.base
         here = told + round((self.motion.place - place) * self.share)
@@ -304,7 +304,7 @@ class Loop:
             is_wanted = self.told_cm != told
 
     def begin(self) -> None:
-        """Plays the steps that stand before the drive. What they drive is told as it is."""
+        """Plays the steps that stand before the drive. What they drive is reported as it is."""
         for step in self.scenario.steps:
             if "drive" in step:
                 way, speed = step["drive"]

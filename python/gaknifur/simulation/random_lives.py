@@ -1,5 +1,5 @@
 """Random lives for campaigns: scenarios that a unit accepts, of a train that mostly drives forward and heeds most of what
-it is told. The same numbers give the same life.
+it is reported. The same numbers give the same life.
 """
 import functools
 import json

@@ -1,6 +1,6 @@
-"""Plays a test case on the programs, and judges its expected results by the records that `etcs_lab events` tells.
+"""Plays a test case on the programs, and judges its expected results by the records that `etcs_lab events` reports.
 
-A journal is judged only where each life ended as told, each output that was released is that of its record, the image
+A journal is judged only where each life ended as reported, each output that was released is that of its record, the image
 is whole, and a replay by the kernel agrees with all of it.
 """
 from collections.abc import Callable, Sequence
@@ -32,13 +32,13 @@ class Played:
     marks: dict[str, int]
     """Of each mark the index of its record."""
     journal: Journal | None = None
-    """The journal that they are of, as `etcs_lab` told it."""
+    """The journal that they are of, as `etcs_lab` reported it."""
 
 
 # ---- playing
 
 def run_life(case: Case, life: Life, image: Path, folder: Path) -> list[str]:
-    """Runs a life, and answers the lines that it printed. It has to end as told."""
+    """Runs a life, and answers the lines that it printed. It has to end as reported."""
     scenario = life.path
     if life.scenario:
         scenario = folder / "scenario.json"
@@ -64,7 +64,7 @@ def place_of(life: Life, ended: str) -> str:
 
 def play(case: Case, keep: Keep | None = None, why: bool = False) -> Played:
     """Plays the lives of a case in turn on one image, and reads what was recorded, with `why` the causes of brakes and limits too.
-    The image is handed to `keep`, also where the lives didn't end as told."""
+    The image is handed to `keep`, also where the lives didn't end as reported."""
     with program.room(case.slots) as room:
         folder, image = Path(room), Path(room) / "image"
         program.format_image(image, case.slots)
@@ -112,7 +112,7 @@ def location_of(driven: Driven) -> int | None:
 
 
 def with_speeds(records: Sequence[Json]) -> list[Json]:
-    """The records with the speed that holds behind each: that of the life's last reading, 0 before the first one; unknown
+    """The records with the speed that holds after each: that of the life's last reading, 0 before the first one; unknown
     where the beginning of the life was written over."""
     found: list[Json] = []
     speed: int | None = None
@@ -165,7 +165,7 @@ def first_met(condition: Condition, played: Played, start: int = 0) -> int:
 
 
 def check(condition: Condition, record: Json) -> None:
-    """The record is as the condition asks; else the first name that isn't is told."""
+    """The record is as the condition asks; else the first name that isn't is reported."""
     for name, test in condition.tests.items():
         found = record.get(name)
         if not test.holds(found):

@@ -1,7 +1,7 @@
 """Test cases in the words of SUBSET-076: what a case tests, how it starts, its lives, and the results that it expects.
 
 docs/reference/test-cases.md has each key. A word that isn't there is a fault with its file, line and column, and so is a
-key told twice; nothing is left out in silence.
+key reported twice; nothing is left out in silence.
 """
 import re
 from collections import Counter
@@ -36,7 +36,7 @@ EXPECTED = ("note", "sections", "rule", "at", "expect", "row", "from", "until", 
 CASE = ("test_case", "feature", "sections", "rule", "starting_conditions", "lives")
 MORE = ("slots", "expected", "include", "telegrams", "parts", "shows")
 ADVICE, MOST_ITEM = "advice", 999
-"""What a case may say to show, beside items of docs/explain/safety.md: what `etcs_lab lint` advises."""
+"""What a case may say to show, along with items of docs/explain/safety.md: what `etcs_lab lint` advises."""
 END = "end"
 ROW = re.compile(r"([0-9]{1,4})(?: from ([A-Z]{2}))?")
 MOST_SLOTS, USUAL_SLOTS = 4096, 64
@@ -109,7 +109,7 @@ class Life:
     path: Path | None
     ends: str | None
     drive: drives.Drive | None = None
-    """How it goes on in a closed loop behind its steps."""
+    """How it goes on in a closed loop after its steps."""
 
 
 @dataclass(frozen=True)
@@ -126,7 +126,7 @@ class Case:
     lives: list[Life]
     expected: list[Expected] = field(default_factory=list)
     shows: list[Value] = field(default_factory=list)
-    """The items of docs/explain/safety.md that it is there to show, so that `lab lint` doesn't tell them."""
+    """The items of docs/explain/safety.md that it is there to show, so that `lab lint` doesn't report them."""
 
     @property
     def path(self) -> Path:
@@ -289,7 +289,7 @@ def life_of(at: Value, shared: scenarios.Shared) -> Life:
 
 
 def slots_of(lives: list[Life]) -> int:
-    """How many slots an image has where none are told: drives need one for each time step."""
+    """How many slots an image has where none are reported: drives need one for each time step."""
     needed = sum(drives.slots_for(life.scenario, life.drive) for life in lives if life.scenario and life.drive)
     for life in lives:
         if needed >= drives.MOST_SLOTS and life.drive:
@@ -345,7 +345,7 @@ def read(path: Path) -> list[Case]:
 
 
 def derived(record: dict[str, Any]) -> dict[str, Any]:
-    """A record with the values that follow from those that are told."""
+    """A record with the values that follow from those that are reported."""
     found = dict(record)
     for name, source, part in (("place_m", "place_cm", 100), ("limit_kmh", "limit_m_per_h", 1000),
                                ("speed_kmh", "speed_m_per_h", 1000)):

@@ -1,7 +1,7 @@
 """The course of a scenario: each event of its lives with its record, the place in the scenario that asks for it, and where
 the front really is on the track.
 
-The lives are played on an image of their own, and `etcs_lab events` tells their records; so modes, fronts and limits are
+The lives are played on an image of their own, and `etcs_lab events` reports their records; so modes, fronts and limits are
 the kernel's own.
 """
 import json
@@ -26,7 +26,7 @@ DRIVE = "/drive"
 
 @dataclass(frozen=True)
 class Life:
-    """A life of a case or of a scenario: its steps, of YAML or in a file of JSON, and the drive behind them."""
+    """A life of a case or of a scenario: its steps, of YAML or in a file of JSON, and the drive after them."""
 
     at: Value | None
     scenario: Scenario | None
@@ -42,7 +42,7 @@ def of_case(life: cases.Life) -> Life:
 
 @dataclass(frozen=True)
 class Event:
-    """An event of a life: the JSON pointer of what asks for it, where the front really is behind it, and its record."""
+    """An event of a life: the JSON pointer of what asks for it, where the front really is after it, and its record."""
 
     pointer: str
     place_cm: int
@@ -66,7 +66,7 @@ def balises_of(scenario: Scenario) -> list[tuple[int, str, str]]:
 
 
 def asked(scenario: Scenario) -> Iterator[tuple[str, int]]:
-    """What asks for each event of a scenario, and where the front is behind it."""
+    """What asks for each event of a scenario, and where the front is after it."""
     balises, front = balises_of(scenario), 0
     places = [place for place, _, _ in balises]
     for number, step in enumerate(scenario.steps):
@@ -85,7 +85,7 @@ def asked(scenario: Scenario) -> Iterator[tuple[str, int]]:
 
 
 def readings(front: int, end: int) -> Iterator[int]:
-    """Where the front is behind each reading of a way forward."""
+    """Where the front is after each reading of a way forward."""
     while front < end:
         front = min(front + LONGEST_CM, end)
         yield front

@@ -1,7 +1,7 @@
 """Which sections of SUBSET-026 and which rows of the mode table the cases of a folder are about.
 
 The sections that the product covers are read from the tables of docs/explain/conformance.md, the rows from the page of tables. A
-section or a row without a case is told with its reason, from `without_cases.yaml` of the folder; one without a case
+section or a row without a case is reported with its reason, from `without_cases.yaml` of the folder; one without a case
 and without a reason is a fault, and so is a reason that is no longer needed.
 """
 import re

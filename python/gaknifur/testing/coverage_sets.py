@@ -2,7 +2,7 @@
 
 No list stands here: the members are read from the page of tables, which `tools/tables` makes of the definitions, from the
 numbers of `include/` (`_header`), and from the words of `etcs_lab why` (`causes`). A row of a table that nothing here
-recognises is a fault, so that a further row is counted, or told.
+recognises is a fault, so that a further row is counted, or reported.
 """
 import enum
 import functools
@@ -17,7 +17,7 @@ from .mode_table import mode_table, table_rows, tables, transitions
 
 EVERY_MODE = "all"
 IN_ANOTHER_MODE, NOT_STANDING = "in another mode", "not at standstill"
-"""Why an action is refused, beside what it needs."""
+"""Why an action is refused, along with what it needs."""
 Q_DIR, REACTIONS = (0, 1, 2), (0, 1, 2)
 """Reverse, nominal, both; trip, service brake, none (SUBSET-026, 7.5.1)."""
 BOTH = 2
@@ -33,7 +33,7 @@ PLACES = ("Item", "Packet", "Place", "Group")
 """What may end a fact of the track."""
 ITEM = PLACES[0]
 FREE, REACTION, SECOND = "the track is free", "Q_LINKREACTION", "the second miss in turn"
-"""What the table of balise groups tells of a row beside its group."""
+"""What the table of balise groups says about a row along with its group."""
 
 
 def known(name: str, names: Iterable[str], where: str) -> str:

@@ -1,4 +1,4 @@
-"""pytest's results in XML, written beside their name and put under it once they are whole."""
+"""pytest's results in XML, written along with their name and put under it once they are whole."""
 import contextlib
 import tempfile
 from collections.abc import Iterator
@@ -16,7 +16,7 @@ def writers(session: pytest.Session) -> list[Any]:
 
 
 class Results:
-    """A plugin of pytest: what it wrote into a folder of its own goes under the name, which it then tells. A property of all
+    """A plugin of pytest: what it wrote into a folder of its own goes under the name, which it then reports. A property of all
     results says that they are this package's."""
 
     def __init__(self, out: files.Out, made: Path) -> None:

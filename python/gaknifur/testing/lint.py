@@ -37,7 +37,7 @@ class Subject:
 
 @dataclass(frozen=True)
 class Line:
-    """What is told: where, and what."""
+    """What is reported: where, and what."""
 
     subject: Subject
     life: int | None
@@ -73,7 +73,7 @@ class Line:
 # ---- where
 
 def located(life: Life, pointer: str, is_told: bool = False) -> Value | None:
-    """Where a pointer of a life leads: in the YAML, else in the JSON; None where that can't be read so, or `etcs_lab lint` told
+    """Where a pointer of a life leads: in the YAML, else in the JSON; None where that can't be read so, or `etcs_lab lint` reported
     line and column."""
     if life.scenario is None:
         if is_told:
@@ -96,7 +96,7 @@ def located(life: Life, pointer: str, is_told: bool = False) -> Value | None:
 # ---- etcs_lab lint
 
 def advice(life: Life) -> list[Json]:
-    """What `etcs_lab lint` tells of a scenario."""
+    """What `etcs_lab lint` says about a scenario."""
     found: list[Json] = []
     with tempfile.TemporaryDirectory(prefix="gaknifur-") as room:
         path = life.path
@@ -117,7 +117,7 @@ def advice_text(told: Json) -> str:
     if "fault" in told:
         return f"{pointer}: refused {told['fault']} {told['name']}; wanted: {told['wanted']}"
     if "repeated" in told:
-        return f"{pointer}: told again, first at line {told['first_line']}, column {told['first_column']}; the last one counts"
+        return f"{pointer}: repeated, first at line {told['first_line']}, column {told['first_column']}; the last one counts"
     return f"{pointer}: {told['advice']}"
 
 
@@ -138,7 +138,7 @@ def is_of_a_fresh_life(told: Json, life: Life, number: int) -> bool:
 # ---- judging
 
 def lines_of(subject: Subject) -> Iterator[Line]:
-    """All that is told of a subject. A scenario with faults isn't judged further."""
+    """All that is reported of a subject. A scenario with faults isn't judged further."""
     lives = [life for life in subject.lives if not (life.ends or "").startswith("refused")]
     is_faulty = False
     for number, life in enumerate(lives, 1):

@@ -128,7 +128,7 @@ def reasons_of(at: Value, members: Iterable[str]) -> dict[str, str]:
 
 
 def check_floors(found: Measured) -> None:
-    """Tells what is below a floor, and which reasons aren't needed."""
+    """Reports what is below a floor, and which reasons aren't needed."""
     for name, floor in found.floors.items():
         if floor == ALL:
             found.faults += [f"{name}: {member}: no case reaches it, and there is no reason why" for member in found.missing(name)

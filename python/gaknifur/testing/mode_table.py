@@ -55,7 +55,7 @@ def transitions(table: Table) -> list[str]:
 
 
 def row_name(number: int, source: str | None, table: Table) -> str | None:
-    """The transition of a row; None where there is none, or where a row of several modes tells no mode."""
+    """The transition of a row; None where there is none, or where a row of several modes says no mode."""
     if number not in table:
         return None
     sources, _ = table[number]

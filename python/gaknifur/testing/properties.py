@@ -2,7 +2,7 @@
 the words.
 
 The conditions are those of test cases (`cases`), with a few names more for which records are looked at. A property that
-no record was looked at for says nothing, so how many there were is always told.
+no record was looked at for says nothing, so how many there were is always reported.
 """
 from collections.abc import Iterator
 from dataclasses import dataclass

@@ -3,7 +3,7 @@
 `lab test FOLDER` is pytest with this plugin. A test stands below its case, and is named by its sections, its case and its
 note. `--section` and `--feature` select; `--keep FOLDER` keeps the image and the report of each case of which a test failed;
 `--against COMMAND` puts each case to another unit too (docs/howto/oracle.md), and judges its answers; `-k`, `-x`, `--lf`,
-`--junitxml=FILE` and the others are pytest's own. In the JUnit XML the class of a test is its case, behind its file, and each
+`--junitxml=FILE` and the others are pytest's own. In the JUnit XML the class of a test is its case, after its file, and each
 test has the properties `case`, `feature` and `sections`.
 """
 import re
@@ -79,7 +79,7 @@ class CaseTests(pytest.Collector):
         self.case, self.table = case, table
 
     def collect(self) -> Iterator[pytest.Item]:
-        """An item for each expected result, behind one that the case can be judged at all, and one for another unit."""
+        """An item for each expected result, after one that the case can be judged at all, and one for another unit."""
         player = Player(self.case, folder_of(self.config), self.config.stash.get(REACHES, None),
                         self.config.getoption("--against"), self.config.getoption("--answer-within"))
         yield Item.from_parent(self, name=name_of(self.case, FIRST), player=player, expected=None, table=self.table)

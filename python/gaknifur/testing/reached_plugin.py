@@ -1,4 +1,4 @@
-"""A plugin of pytest that notes what the cases reach which `lab test` plays, and writes it into a file behind the last one."""
+"""A plugin of pytest that notes what the cases reach which `lab test` plays, and writes it into a file after the last one."""
 import pytest
 
 from .. import files

@@ -1,7 +1,7 @@
 """What the records of a journal reach of the sets of `coverage_sets`: rows, causes, packets, refusals, acknowledgements, facts, groups.
 
-Modes, brakes, limits, places and causes are the kernel's own, as `etcs_lab events` and `etcs_lab why` tell them. Which
-messages were used, which facts of the track they ended, and which actions were accepted no record tells; that is
+Modes, brakes, limits, places and causes are the kernel's own, as `etcs_lab events` and `etcs_lab why` report them. Which
+messages were used, which facts of the track they ended, and which actions were accepted no record says; that is
 followed along the records (`messages`, and the page of tables). Only journals count whose replay agrees.
 """
 from collections.abc import Callable, Iterator, Sequence
@@ -114,7 +114,7 @@ class Follow(Walk):
         self.states: dict[str, str | None] = dict.fromkeys(ACKNOWLEDGED, "nothing")
 
     def event(self, number: int, event: Event) -> None:
-        """One event: the action before it has an effect, the rest behind it."""
+        """One event: the action before it has an effect, the rest after it."""
         record, self.accepted = event.record, ""
         if record["kind"] == "driver":
             self.act(record)
@@ -279,7 +279,7 @@ class Follow(Walk):
     # ---- modes
 
     def row(self, record: Json, mode: str, entered: str) -> int | None:
-        """The row of the mode table that was taken; None where that can't be told."""
+        """The row of the mode table that was taken; None where that can't be reported."""
         rows = {row for row, (sources, target) in mode_table().items() if mode in sources and target == entered}
         by_action = set(coverage_sets.actions()[self.accepted].rows) if self.accepted else set()
         rows = rows & by_action or rows - {row for action in coverage_sets.actions().values() for row in action.rows}
@@ -395,7 +395,7 @@ WAYS: dict[str, Way] = {
     "a mode deletes it": lambda was, now: is_deleted(was, now),
     "a further transition begins it anew": lambda was, now: now["kind"] != "driver" and not is_deleted(was, now),
 }
-"""How a cause of the brake may end, by the words of `etcs_lab why`: whether the record before and that of the end tell it."""
+"""How a cause of the brake may end, by the words of `etcs_lab why`: whether the record before and that of the end say it."""
 
 
 def ways_of(cause: str, was: Json, now: Json) -> Iterator[str]:

@@ -1,7 +1,7 @@
 """A scenario in YAML, and the JSON that `etcs run` reads. docs/reference/test-cases.md has its keys.
 
-Faults are told by their place in the YAML. The limits are those of `crates/simulator/README.md`; `etcs run` looks at
-them again. Each telegram that is told by its variables is compared with what `etcs decode` finds in its bytes.
+Faults are reported by their place in the YAML. The limits are those of `crates/simulator/README.md`; `etcs run` looks at
+them again. Each telegram that is reported by its variables is compared with what `etcs decode` finds in its bytes.
 """
 import json
 import re
@@ -109,7 +109,7 @@ def told_quantity(at: Value, kind: str, least: int, most: int) -> int:
 
 def shared_of(members: dict[str, Value], path: Path, within: tuple[Path, ...] = (),
               known: dict[Path, Shared] | None = None) -> Shared:
-    """The telegrams and parts of a file, behind those that it includes; `known` has those of files that were read before."""
+    """The telegrams and parts of a file, after those that it includes; `known` has those of files that were read before."""
     found, read_before = Shared(), {} if known is None else known
     if "include" in members:
         for name in [members["include"]] if members["include"].is_text() else members["include"].elements():
@@ -161,7 +161,7 @@ def digits_of(at: Value, shared: Shared) -> str:
 
 
 def of_track(at: Value, members: dict[str, Value]) -> str:
-    """The digits of what a unit is handed in place of a telegram of an installed track, which is told by its variables or in hex."""
+    """The digits of what a unit is handed in place of a telegram of an installed track, which is reported by its variables or in hex."""
     if len(members) > 1:
         raise at.fault("nothing else is allowed next to `installed`")
     told = members["installed"]
@@ -193,7 +193,7 @@ def checked_size(digits: str, at: Value) -> str:
 
 
 def written(text: str, at: Value, refused: str | None) -> str:
-    """The digits of a telegram by its variables, which `etcs decode` has to find in them, or to refuse as it is told."""
+    """The digits of a telegram by its variables, which `etcs decode` has to find in them, or to refuse as it is reported."""
     try:
         told = telegrams.telegram(text)
         digits = told.digits
@@ -209,7 +209,7 @@ def written(text: str, at: Value, refused: str | None) -> str:
 
 
 def compared(told: telegrams.Telegram, found: list[str], at: Value) -> None:
-    """Whether `etcs decode` finds the telegram that is told; else that is a fault."""
+    """Whether `etcs decode` finds the telegram that is reported; else that is a fault."""
     if found[0].startswith("refused"):
         raise at.fault(f"etcs decode says of this telegram: {found[0]}")
     for wanted, line in zip(told.lines(), found[:-1], strict=False):
@@ -227,7 +227,7 @@ class Builder:
         self.places: list[int] = []
         """The places of the balises, from the first to the last."""
         self.digits: dict[int, str] = {}
-        """The digits of telegrams that were told before, by their places in the YAML."""
+        """The digits of telegrams that were reported before, by their places in the YAML."""
         self.taken = 0
 
     def build(self, members: dict[str, Value]) -> Scenario:

@@ -1,7 +1,7 @@
 """Looks through random scenarios for one that breaks a property, and makes it small. docs/howto/searching.md says how it is
 used.
 
-A scenario is played on the programs, and judged by the records that `etcs_lab events` tells, or by another unit's
+A scenario is played on the programs, and judged by the records that `etcs_lab events` reports, or by another unit's
 answers to them. What breaks a property is made small by hypothesis, and then each step is left out without which it
 breaks it too. It is kept as a test case.
 """
@@ -88,7 +88,7 @@ def recorded(scenarios: Lives) -> list[Json]:
 
 
 def answered(scenarios: Lives, other: Other) -> list[Json]:
-    """The records of lives with another unit's answers. One that breaks the protocol is told, with the lives."""
+    """The records of lives with another unit's answers. One that breaks the protocol is reported, with the lives."""
     asked = oracle.ask(other.command, "search", recorded(scenarios), other.within_s)
     if asked.broken:
         raise Failed(f"the unit broke the protocol: {asked.broken}; scenarios: {' '.join(scenarios)}", REFUSED)
@@ -143,7 +143,7 @@ class Search:
         return broken
 
     def tell(self, scenarios: Lives) -> Found:
-        """What there is to tell of lives that break the property."""
+        """What there is to say about lives that break the property."""
         records = self.records(scenarios)
         try:
             properties.judge(self.of, records)

@@ -2,7 +2,7 @@
 and what is expected. docs/howto/sequences.md has the words.
 
 What the texts of a table mean, no file of this product says: a laboratory owns a mapping file, in which patterns stand
-for steps and for expected results. What no pattern fits is told by its row, and is never guessed.
+for steps and for expected results. What no pattern fits is reported by its row, and is never guessed.
 """
 import contextlib
 import csv
@@ -37,7 +37,7 @@ class Row:
 
 @dataclass(frozen=True)
 class Pattern:
-    """What a text means on an interface, where it is told: steps, or what is expected; or why it is left out."""
+    """What a text means on an interface, where it is reported: steps, or what is expected; or why it is left out."""
 
     at: Value
     interface: str | None
@@ -64,7 +64,7 @@ class Mapping:
 
 @dataclass
 class Made:
-    """The cases of a table, and what is told of its rows."""
+    """The cases of a table, and what is reported of its rows."""
 
     cases: list[str] = field(default_factory=list)
     unmapped: list[str] = field(default_factory=list)
@@ -134,7 +134,7 @@ def of_workbook(path: Path, file: BinaryIO) -> Iterator[list[str]]:
             for has_values in (True, False):
                 book = books.enter_context(contextlib.closing(openpyxl.load_workbook(file, read_only=True, data_only=has_values)))
                 sheets.append(book.worksheets[0])
-                sheets[-1].reset_dimensions()  # what a sheet tells of its own size isn't always so
+                sheets[-1].reset_dimensions()  # what a sheet says about its own size isn't always so
             for row, formulas in zip(sheets[0].iter_rows(), sheets[1].iter_rows()):
                 check_saved(path, row, formulas)
                 yield [text_of(cell.value) for cell in row]
@@ -162,7 +162,7 @@ def text_of(cell: object) -> str:
 
 
 def table(path: Path, columns: dict[str, str]) -> list[Row]:
-    """The rows of a table that say something, behind the one that names its columns."""
+    """The rows of a table that say something, after the one that names its columns."""
     rows = [(number, [" ".join(cell.split()) for cell in row]) for number,
             row in enumerate(itertools.islice(cells(path), MOST_ROWS + 1), 1)]
     if len(rows) > MOST_ROWS:
@@ -186,7 +186,7 @@ class Case:
         self.expected: list[str] = []
 
     def meaning(self, row: Row, name: str, patterns: list[Pattern]) -> tuple[Pattern, dict[str, str]] | None:
-        """What a text of a row means; where nothing fits, or it is left out, that is told."""
+        """What a text of a row means; where nothing fits, or it is left out, that is reported."""
         text, interface = row.texts[name], row.texts["interface"]
         if not text:
             return None

@@ -1,4 +1,4 @@
-"""Whether a journal is sound: the image is whole, the kernel answers as it tells, and what was released is what it tells."""
+"""Whether a journal is sound: the image is whole, the kernel answers as it says, and what was released is what it says."""
 import re
 from collections.abc import Iterable, Sequence
 
@@ -37,7 +37,7 @@ def record_text(record: Json) -> str:
 
 
 def check_image(journal: Journal) -> None:
-    """The image is whole, and the kernel answers as the journal tells."""
+    """The image is whole, and the kernel answers as the journal reports."""
     if journal.refusal is not None:
         raise Missed("a journal that can be read", journal.refusal)
     if not journal.is_whole:
@@ -47,7 +47,7 @@ def check_image(journal: Journal) -> None:
 
 
 def check_replay(lines: Sequence[Json]) -> None:
-    """The kernel answers as the journal tells, by the lines of a replay."""
+    """The kernel answers as the journal reports, by the lines of a replay."""
     if not lines:
         raise Missed("a replay of the journal", "etcs_lab replay refused it")
     for line in lines:

@@ -1,6 +1,6 @@
 """What random scenarios are made of: tracks, trains, drivers and losses of power, as strategies of hypothesis.
 
-A file of properties may say what its scenarios are made of (docs/howto/searching.md); what it doesn't say is told here. What
+A file of properties may say what its scenarios are made of (docs/howto/searching.md); what it doesn't say is reported here. What
 stands first is the simplest, so a scenario that is made small goes that way. Forward drives prevail: lives in which all
 steps are as frequent stay near their beginning.
 """
@@ -31,7 +31,7 @@ TELEGRAMS = {
                 "L_MAMODE 32767, L_ACKMAMODE 100",
     "stop": "NID_BG 14; 12: V_MAIN 0, L_ENDSECTION 100",
 }
-"""The telegrams of a track that isn't told: the first two are heard where a life begins ready."""
+"""The telegrams of a track that isn't reported: the first two are heard where a life begins ready."""
 WAYS_CM, BACK_CM = (100, 1_000, 5_000, 10_000), (100, 300)
 SPEEDS, BACK_SPEED = (5_000, 20_000, 40_000, 90_000), 1_000
 WAITS_MS = (1_000, 5_000, 60_000)
@@ -57,7 +57,7 @@ class Made:
     track_cm: int = TRACK_CM
     most: dict[str, int] = field(default_factory=lambda: dict(MOST))
     texts: dict[str, tuple[str, str]] = field(default_factory=dict)
-    """Of a telegram its name, and how it is told by its variables."""
+    """Of a telegram its name, and how it is reported by its variables."""
 
 
 def ready(telegram: str, train: list[int]) -> list[Step]:
@@ -66,23 +66,23 @@ def ready(telegram: str, train: list[int]) -> list[Step]:
 
 
 def begins_of(digits: list[str], train: list[int]) -> list[list[Step]]:
-    """How a life begins: ready, tripped behind 100 m, and in Unfitted."""
+    """How a life begins: ready, tripped after 100 m, and in Unfitted."""
     short, long = (ready(one, train) for one in digits[:2])
     return [short, long, [*short, *({"drive": told} for told in ([10_000, 20_000], [5_000, 20_000], [0, 0]))],
             [{"driver": action} for action in ([1, "IC 704"], [4, 0], [3, *train], [6])]]
 
 
 def usual() -> Made:
-    """What scenarios are made of where nothing is told."""
+    """What scenarios are made of where nothing is reported."""
     texts = {telegrams.telegram(text).digits: (name, text) for name, text in TELEGRAMS.items()}
     digits = list(texts)
     return Made(digits, begins_of(digits, TRAIN), texts=texts)
 
 
-# ---- what a file tells
+# ---- what a file reports
 
 def telegrams_of(at: Value, shared: Shared) -> dict[str, tuple[str, str]]:
-    """The telegrams that are told: by their digits names and texts."""
+    """The telegrams that are reported: by their digits names and texts."""
     found = {}
     for number, one in enumerate(at.elements(), 1):
         name = one.text() if one.is_text() else ""
@@ -157,7 +157,7 @@ def drive(way: int, speed: int) -> Step:
 
 
 def steps(made: Made) -> st.SearchStrategy[Step]:
-    """A step. A wait is told by how long it is."""
+    """A step. A wait is reported by how long it is."""
     forward = st.builds(drive, st.sampled_from(made.ways), st.sampled_from(made.speeds))
     stands, answers = of("drive", [[0, 0]]), of("driver", ANSWERS)
     return st.one_of(*[forward] * FORWARD, stands, stands, answers, answers, answers, of("driver", entries(made)),

@@ -18,7 +18,7 @@ WORDS = {"none": "#ffffff", "service": "#E69F00", "emergency": "#b84c00"}
 
 
 def text_of(cell: Cell) -> str:
-    """A cell, for people and for CSV; nothing where no record tells it."""
+    """A cell, for people and for CSV; nothing where no record says it."""
     if isinstance(cell, bool):
         return "true" if cell else "false"
     if isinstance(cell, Decimal):
@@ -27,13 +27,13 @@ def text_of(cell: Cell) -> str:
 
 
 def columns(sweep: Sweep, told: Sequence[Told]) -> list[str]:
-    """The names of what is told: of outcomes, and where there are any, of expected results that didn't come and of faults."""
+    """The names of what is reported: of outcomes, and where there are any, of expected results that didn't come and of faults."""
     names = list(dict.fromkeys(name for one in told for name in one.cells))
     return [*names, *([MISSED] if any(one.missed for one in told) else []), *([FAULT] if any(one.fault for one in told) else [])]
 
 
 def cell(one: Told, name: str) -> Cell:
-    """What is told of a point by a name."""
+    """What is reported of a point by a name."""
     if name == MISSED:
         return "; ".join(one.missed)
     return one.fault if name == FAULT else one.cells.get(name)

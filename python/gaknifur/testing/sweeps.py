@@ -1,4 +1,4 @@
-"""A sweep: a case with parameters, played at each of their values, and what is told of it. docs/howto/testing-a-train.md has its words.
+"""A sweep: a case with parameters, played at each of their values, and what is reported of it. docs/howto/testing-a-train.md has its words.
 
 `$name` in a text stands for the value of a parameter. What comes of a point is read off its records, as the expected
 results of a case are. Points are played side by side, each on an image of its own.
@@ -29,13 +29,13 @@ MOST_POINTS = 10_000
 SWEEP, MORE = ("sweep", "for", "tell", "lives"), ("expected", "slots", *scenarios.SHARED)
 VALUES = tuple(name for name in CONDITION if name != "indications")
 Point = dict[str, str]
-"""The values of the parameters, as they are told."""
+"""The values of the parameters, as they are reported."""
 Cell = Decimal | str | bool | int | None
 
 
 @dataclass(frozen=True)
 class Outcome:
-    """What is told of a point: a value of the first record that is as WHEN says, the most or the least of a value, or how many
+    """What is reported of a point: a value of the first record that is as WHEN says, the most or the least of a value, or how many
     records are as WHAT says."""
 
     name: str
@@ -46,7 +46,7 @@ class Outcome:
 
 @dataclass(frozen=True)
 class Sweep:
-    """A sweep: its parameters with their values, and what is told of each point."""
+    """A sweep: its parameters with their values, and what is reported of each point."""
 
     at: Value
     name: str
@@ -59,7 +59,7 @@ class Sweep:
 
 @dataclass(frozen=True)
 class Told:
-    """What came of a point: what is told by its names, which expected results didn't come, and why it can't be judged."""
+    """What came of a point: what is reported by its names, which expected results didn't come, and why it can't be judged."""
 
     point: Point
     cells: dict[str, Cell]
@@ -138,10 +138,10 @@ class Filling:
         return self.point[name]
 
 
-# ---- what is told
+# ---- what is reported
 
 def outcome_of(at: Value, marks: Sequence[str], is_driven: bool) -> Outcome:
-    """What is told of each point."""
+    """What is reported of each point."""
     told = at.members(("name",), ("at", "value", "most", "least", "count", "where"))
     way = [word for word in ("at", "most", "least", "count") if word in told]
     if len(way) != 1 or ("value" in told) != (way == ["at"]) or "where" in told and way[0] not in ("most", "least"):
@@ -157,7 +157,7 @@ def outcome_of(at: Value, marks: Sequence[str], is_driven: bool) -> Outcome:
 
 
 def cell_of(outcome: Outcome, played: case_runner.Played) -> Cell:
-    """What is told of a point that was played; None where no record is there for it."""
+    """What is reported of a point that was played; None where no record is there for it."""
     condition = outcome.condition
     met = [index for index in range(len(played.records)) if condition is None or case_runner.is_met(condition, played, index)]
     if outcome.way == "count":
@@ -196,7 +196,7 @@ def mapping_of(members: dict[str, yaml.Node], beside: yaml.Node) -> yaml.Node:
 
 
 def of_train(path: Path, word: str, values: list[str], tell: str) -> Sweep:
-    """The sweep of a file with a drive over values of a word of its train; `tell` is what is told of each, as YAML."""
+    """The sweep of a file with a drive over values of a word of its train; `tell` is what is reported of each, as YAML."""
     at = document(path)
     told = {name: value.node for name, value in at.entries().items()}
     drive = {name: value.node for name, value in Value(path, told["drive"]).entries().items()}
@@ -211,7 +211,7 @@ def of_train(path: Path, word: str, values: list[str], tell: str) -> Sweep:
 
 
 def at_point(sweep: Sweep, point: Point) -> tuple[Case, list[Outcome], set[str]]:
-    """The case at a point, what is told of it, and which parameters stand in it."""
+    """The case at a point, what is reported of it, and which parameters stand in it."""
     filling = Filling(sweep.at.path, point)
     told = {name: value if name == "for" else Value(value.path, filling.node(value.node)) for name, value in sweep.at.entries().items()}
     shared = scenarios.shared_of({name: told[name] for name in scenarios.SHARED if name in told}, sweep.at.path)

@@ -1,13 +1,13 @@
 """Telegrams by the variables of SUBSET-026, 7.5.1, and the bits that they come to.
 
-A telegram is told as its header and its packets, one behind another:
+A telegram is reported as its header and its packets, one after another:
 
     NID_BG 2; 12: V_MAIN 24, L_ENDSECTION 300; 65: NID_TSR 7, D_TSR 100, L_TSR 50, Q_FRONT 1, V_TSR 4
 
 The variables of a packet stand in the order of its layout (docs/explain/conformance.md). What follows from the others is worked
-out where it isn't told: L_PACKET, a counter, and a Q_ that says whether further variables follow. `USUAL` is what stands
-for other variables that aren't told. A packet that the kernel skips has the layout of docs/reference/packets.md; one without a
-layout has its head and any variables behind it.
+out where it isn't reported: L_PACKET, a counter, and a Q_ that says whether further variables follow. `USUAL` is what stands
+for other variables that aren't reported. A packet that the kernel skips has the layout of docs/reference/packets.md; one without a
+layout has its head and any variables after it.
 """
 import re
 from collections.abc import Iterator, Sequence
@@ -20,7 +20,7 @@ Pairs = list[tuple[str, int]]
 
 HEADER = {"Q_UPDOWN": 1, "M_VERSION": 16, "Q_MEDIA": 0, "N_PIG": 0, "N_TOTAL": 0, "M_DUP": 0, "M_MCOUNT": 255, "NID_C": 1,
           "NID_BG": None, "Q_LINK": 1}
-"""The header of SUBSET-026, 8.4.2.1, in its order, with what stands where a variable isn't told."""
+"""The header of SUBSET-026, 8.4.2.1, in its order, with what stands where a variable isn't reported."""
 HEAD = ("Q_DIR", "L_PACKET", "Q_SCALE")
 USUAL = {"Q_DIR": 2, "Q_SCALE": 1, "V_LOA": 0, "T_LOA": 1023}
 WITHOUT_SCALE = (66,)
@@ -154,7 +154,7 @@ def first_of(element: tuple[Part, ...]) -> str:
 
 
 def begins(element: tuple[Part, ...]) -> set[str]:
-    """The names that may be told first of an element: what a qualifier that isn't told decides, too."""
+    """The names that may be reported first of an element: what a qualifier that isn't reported decides, too."""
     found = {first_of(element)}
     for part in element[1:]:
         if not isinstance(part, Choice):
@@ -164,7 +164,7 @@ def begins(element: tuple[Part, ...]) -> set[str]:
 
 
 def answer_of(name: str, rest: Sequence[Part], comes: str | None) -> int | None:
-    """What a qualifier that isn't told has to be: the number of the choice behind it whose first variable is told."""
+    """What a qualifier that isn't reported has to be: the number of the choice after it whose first variable is reported."""
     choices = [part for part in rest if isinstance(part, Choice) and part.name == name]
     told = [part.number for part in choices if part.parts and first_of(part.parts) == comes]
     spare = [number for number in (0, 1) if number not in {part.number for part in choices}]
@@ -173,18 +173,18 @@ def answer_of(name: str, rest: Sequence[Part], comes: str | None) -> int | None:
 
 @dataclass
 class Told:
-    """The variables of a packet as they are told, taken one by one in the order of its layout."""
+    """The variables of a packet as they are reported, taken one by one in the order of its layout."""
 
     packet: int
     left: Pairs
     written: Pairs = field(default_factory=list)
 
     def comes(self) -> str | None:
-        """The name that is told next."""
+        """The name that is reported next."""
         return self.left[0][0] if self.left else None
 
     def take(self, name: str, usual: int | None) -> int:
-        """Writes a variable: the number that is told, or what stands for it."""
+        """Writes a variable: the number that is reported, or what stands for it."""
         if self.comes() == name:
             number = self.left.pop(0)[1]
         elif usual is not None:
@@ -212,7 +212,7 @@ class Told:
                 self.write_list(part)
 
     def write_list(self, part: Repeated) -> None:
-        """Writes a list; its count is worked out where it isn't told."""
+        """Writes a list; its count is worked out where it isn't reported."""
         if part.is_more:
             self.write(part.element)
         at, written, left = len(self.written), 0, None
@@ -288,7 +288,7 @@ class Telegram:
 
     @property
     def digits(self) -> str:
-        """Its bytes in hex: the end mark stands behind the packets, and zeros fill the last byte."""
+        """Its bytes in hex: the end mark comes after the packets, and zeros fill the last byte."""
         bits = bits_of(self.header) + "".join(map(bits_of, self.packets)) + f"{END_MARK:08b}"
         bits += "0" * (-len(bits) % 8)
         if len(bits) > 8 * MOST_BYTES:
@@ -331,7 +331,7 @@ def packet_line(packet: Pairs) -> str:
 
 
 def telegram(text: str, of_track: bool = False) -> Telegram:
-    """The telegram that a text tells; `of_track`: as a track of issue 2.3.0 sends it."""
+    """The telegram that a text reports; `of_track`: as a track of issue 2.3.0 sends it."""
     if len(text) > MOST_TEXT:
         raise Wrong(f"a telegram is told in at most {MOST_TEXT:,} characters, and this has {len(text):,}")
     first, *rest = text.split(";")

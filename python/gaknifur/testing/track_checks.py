@@ -94,7 +94,7 @@ def is_under(start: int, end: int | None, record: Json, length_cm: int) -> bool:
 
 
 def is_left(end: int | None, record: Json) -> bool:
-    """Whether a stretch isn't behind the minimum safe front."""
+    """Whether a stretch isn't after the minimum safe front."""
     return end is None or end > record["min_safe_front_cm"]
 
 
@@ -113,7 +113,7 @@ def packets_sent(record: Json) -> Iterator[tuple[int, str]]:
 
 @item(1)
 def timers_that_start_late(judged: Judged) -> Iterator[Finding]:
-    """An authority with timers of a group that closes behind its last balise."""
+    """An authority with timers of a group that closes after its last balise."""
     for message, packet in judged.authorities:
         has_loa = (packet.get("V_LOA") or 0) > 0 and packet.get("T_LOA") != NEVER_S
         if message.closed != message.reads[-1].event and (has_loa or any(
@@ -394,7 +394,7 @@ def nothing_ahead_is_braked_for(judged: Judged) -> Iterator[Finding]:
 # ---- ends of authority
 
 def after_the_end(packet: Packet, national: National) -> dict[str, tuple[int, int]]:
-    """Of danger point and overlap the distance behind the end, and the release speed (0 where there is none)."""
+    """Of danger point and overlap the distance beyond the end, and the release speed (0 where there is none)."""
     found: dict[str, tuple[int, int]] = {}
     for name, distance, release in (("danger point", "D_DP", "V_RELEASEDP"), ("overlap", "D_OL", "V_RELEASEOL")):
         way, fast = packet.get(distance), packet.get(release)
@@ -410,7 +410,7 @@ def greatest_limit(message: Message, packet: Packet, train: Train) -> int:
 
 
 def least_deceleration(message: Message, train: Train) -> int:
-    """What the train brakes with on the steepest fall that the message tells."""
+    """What the train brakes with on the steepest fall that the message reports."""
     gradients = [told["G_A"] if told["Q_GDIR"] else -told["G_A"] for one in message.packets if one.number == 21
                  for told in one.elements("D_GRADIENT") if told["G_A"] != UNKNOWN_GRADIENT]
     return train.deceleration + min(981 * gradient // 1000 for gradient in gradients or [0])
@@ -424,7 +424,7 @@ def train_at(judged: Judged, message: Message) -> Train | None:
 
 @item(14)
 def ends_and_margins(judged: Judged) -> Iterator[Finding]:
-    """A danger point or an overlap nearer behind the end than a braked train overruns."""
+    """A danger point or an overlap nearer beyond the end than a braked train overruns."""
     for message, packet in judged.authorities:
         train = train_at(judged, message)
         if train is None:
@@ -478,7 +478,7 @@ def uncertainty_at(message: Message, packet: Packet, links: tuple[Link, ...]) ->
 
 @item(16)
 def creeping_past_the_end(judged: Judged) -> Iterator[Finding]:
-    """A danger point nearer behind the end than twice the uncertainty."""
+    """A danger point nearer beyond the end than twice the uncertainty."""
     for message, packet in judged.authorities:
         train = train_at(judged, message)
         behind = after_the_end(packet, message.before.national)
@@ -495,7 +495,7 @@ def creeping_past_the_end(judged: Judged) -> Iterator[Finding]:
 
 
 def gradients_of(packet: Packet) -> list[tuple[int, int]]:
-    """Of a packet 21 where each gradient begins, from the group on, and its per mille; none where its end is told."""
+    """Of a packet 21 where each gradient begins, from the group on, and its per mille; none where its end is reported."""
     place, found = 0, []
     for told in packet.elements("D_GRADIENT"):
         place += packet.cm(told["D_GRADIENT"])
@@ -507,7 +507,7 @@ def gradients_of(packet: Packet) -> list[tuple[int, int]]:
 
 @item(38)
 def slope_under_the_rear(judged: Judged) -> Iterator[Finding]:
-    """A slope that is told over less than the train's length: then it isn't told of the places that the front reaches while the
+    """A slope that is reported over less than the train's length: then it isn't reported of the places that the front reaches while the
     train is still on it."""
     for message in judged.walked.messages:
         train = train_at(judged, message)

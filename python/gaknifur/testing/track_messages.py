@@ -1,4 +1,4 @@
-"""What the track says along a course: balise groups, their messages, and what is known of the track behind each event.
+"""What the track says along a course: balise groups, their messages, and what is known of the track after each event.
 
 It follows docs/explain/conformance.md as far as the checks of a track ask for it. Where the front is thought to be, and which mode
 holds, is read off the records of the kernel.
@@ -33,7 +33,7 @@ def rounded_up(part: int, whole: int) -> int:
 
 
 def uncertainty(fixed_cm: int, fixed_path_cm: int, path_cm: int) -> int:
-    """The uncertainty behind a path: that of the last fix, and a 20th of the path since."""
+    """The uncertainty after a path: that of the last fix, and a 20th of the path since."""
     return fixed_cm + rounded_up(path_cm - fixed_path_cm, 20)
 
 
@@ -146,7 +146,7 @@ class National:
 
 @dataclass(frozen=True)
 class Known:
-    """What is known behind an event."""
+    """What is known after an event."""
 
     links: tuple[Link, ...] = ()
     restrictions: tuple[Restriction, ...] = ()
@@ -168,7 +168,7 @@ class Known:
 
 @dataclass(frozen=True)
 class Read:
-    """A telegram that was read: at which event of the life, behind which path, and where really."""
+    """A telegram that was read: at which event of the life, after which path, and where really."""
 
     event: int
     path_cm: int
@@ -264,7 +264,7 @@ class Message:
 
     @property
     def nominal(self) -> int | None:
-        """The direction in which it was passed, where two balises tell it."""
+        """The direction in which it was passed, where two balises say it."""
         if len(self.reads) < 2:
             return None
         return int(self.reads[0].header["N_PIG"] < self.reads[1].header["N_PIG"])
@@ -303,7 +303,7 @@ class Lost:
 
 @dataclass
 class Walked:
-    """What a life came to: its events, what is known behind each, and the groups in their order."""
+    """What a life came to: its events, what is known after each, and the groups in their order."""
 
     events: list[Event]
     known: list[Known] = field(default_factory=list)
@@ -477,7 +477,7 @@ def national_of(packet: Packet, country: int) -> National:
 
 
 def links_of(packet: Packet, country: int, place: int) -> Iterable[Link]:
-    """The groups that a packet 5 announces. Each distance counts from the one before; so does a country that isn't told."""
+    """The groups that a packet 5 announces. Each distance counts from the one before; so does a country that isn't reported."""
     for told in packet.elements("D_LINK"):
         place += packet.cm(told["D_LINK"])
         country = told.get("NID_C", country)

@@ -169,7 +169,7 @@ class BrakeCause(enum.IntEnum):
     OWES_TRIP = 3
     FAR_TOO_FAST = 4
     ROLLED_TOO_FAR = 5
-    ASKED_FOR_SERVICE = 6
+    SERVICE_BRAKE_REQUESTED = 6
     TOO_FAST = 7
     MUST_STAND = 8
     OWES_TOO_LONG = 9
@@ -287,9 +287,9 @@ class Verdict(enum.IntEnum):
     RECORD_DIFFERS = 2
     HEAD_DIFFERS = 3
     BEFORE_OLDEST = 4
-    BEHIND_GAP = 5
+    AFTER_GAP = 5
     WITHIN_BLOCK = 6
-    BEHIND_DIFFERENCE = 7
+    AFTER_DIFFERENCE = 7
 
 
 class RecordField(enum.IntEnum):
@@ -391,7 +391,7 @@ class etcs_unit_output(Structure):
                 ("brake", c_uint8), ("indications", c_uint8)]
 
 
-class etcs_unit_request_told(Structure):
+class etcs_unit_request_info(Structure):
     _fields_ = [("sector", c_uint64), ("sectors", c_uint64), ("kind", c_uint64)]
 
 
@@ -400,13 +400,13 @@ class etcs_train_data(Structure):
                 ("reaction_ms", c_uint32), ("category", c_uint32)]
 
 
-class etcs_unit_state_told(Structure):
+class etcs_unit_state_info(Structure):
     _fields_ = [("last", etcs_unit_output), ("requests", c_uint64), ("done", c_uint64), ("held", c_uint64),
                 ("has_failed", c_uint64), ("pending", c_uint64), ("moment_ms", c_uint64), ("front_cm", c_int64),
                 ("uncertainty_cm", c_uint64)]
 
 
-class etcs_unit_why_told(Structure):
+class etcs_unit_why_info(Structure):
     _fields_ = [("output", etcs_unit_output), ("backward_cm", c_uint64), ("allowed_backward_cm", c_uint64),
                 ("limit_cause_cm", c_int64), ("restriction", c_uint64), ("target_distance_cm", c_uint64),
                 ("on_sight_ms", c_uint64), ("shunting_ms", c_uint64), ("level_0_ms", c_uint64),
@@ -520,14 +520,14 @@ CALLS: dict[str, tuple[object, ...]] = {
     "etcs_unit_wanted_": (POINTER(etcs_unit), POINTER(c_uint64)),
     "etcs_unit_provide_": (POINTER(etcs_unit), c_uint64, c_char_p, c_uint64),
     "etcs_unit_prepare_": (POINTER(etcs_unit),),
-    "etcs_unit_request_": (POINTER(etcs_unit), c_uint32, POINTER(etcs_unit_request_told), c_char_p, c_uint64),
+    "etcs_unit_request_": (POINTER(etcs_unit), c_uint32, POINTER(etcs_unit_request_info), c_char_p, c_uint64),
     "etcs_unit_done_": (POINTER(etcs_unit), c_uint32),
     "etcs_unit_fail_": (POINTER(etcs_unit),),
     "etcs_unit_release_": (POINTER(etcs_unit), POINTER(etcs_unit_output), c_uint64, POINTER(c_uint32)),
-    "etcs_unit_state_": (POINTER(etcs_unit), POINTER(etcs_unit_state_told)),
-    "etcs_unit_why_": (POINTER(etcs_unit), POINTER(etcs_unit_why_told)),
+    "etcs_unit_state_": (POINTER(etcs_unit), POINTER(etcs_unit_state_info)),
+    "etcs_unit_why_": (POINTER(etcs_unit), POINTER(etcs_unit_why_info)),
     "etcs_unit_close_": (POINTER(etcs_unit),),
-    "etcs_unit_format_request_": (c_uint32, c_uint32, POINTER(etcs_unit_request_told), c_char_p, c_uint64),
+    "etcs_unit_format_request_": (c_uint32, c_uint32, POINTER(etcs_unit_request_info), c_char_p, c_uint64),
     "etcs_telegram_adapt_": (c_char_p, c_uint64, c_char_p, c_uint64, POINTER(etcs_adapted)),
     "etcs_telegram_dropped_": (c_char_p, c_uint64, c_uint32, POINTER(etcs_value_dropped)),
     "etcs_telegram_unused_": (c_char_p, c_uint64, c_uint32, c_uint32, c_uint32, POINTER(etcs_packet_unused)),

@@ -1,8 +1,8 @@
-"""Another unit beside the proved one: each event of a journal is put to it, and its answers are compared record by
+"""Another unit along with the proved one: each event of a journal is put to it, and its answers are compared record by
 record.
 
-What is told is told as `etcs_lab replay` tells it: of each life the events that agree, and the first one that differs,
-with both answers. Events behind that aren't compared, since then both units know different things. docs/howto/oracle.md has
+What is reported is reported as `etcs_lab replay` says it: of each life the events that agree, and the first one that differs,
+with both answers. Events after that aren't compared, since then both units know different things. docs/howto/oracle.md has
 the lines.
 """
 import itertools
@@ -35,7 +35,7 @@ class Asked:
 
     @property
     def tells(self) -> tuple[str, ...]:
-        """The members that it tells."""
+        """The members that it says."""
         return self.greeting.tells if self.greeting else ()
 
     @property
@@ -70,7 +70,7 @@ def difference(record: Json, answer: Json, tells: tuple[str, ...]) -> str | None
                 None)
 
 
-# ---- what is told
+# ---- what is reported
 
 @dataclass(frozen=True)
 class Line:
@@ -86,7 +86,7 @@ def stretch(life: int, first: int, last: int, is_compared: bool) -> Line:
     told = {"life": life, "first_event": first, "last_event": last, "against": "agrees" if is_compared
             else "not_compared"}
     return Line(f"life {life} events {first}..{last} {said}",
-                told | ({} if is_compared else {"reason": "behind_difference"}))
+                told | ({} if is_compared else {"reason": "after_difference"}))
 
 
 def differing(record: Json, answer: Json, name: str, tells: tuple[str, ...]) -> Line:
@@ -100,7 +100,7 @@ def differing(record: Json, answer: Json, name: str, tells: tuple[str, ...]) -> 
 
 
 def of_life(life: int, pairs: list[tuple[Json, Json]], tells: tuple[str, ...]) -> Iterator[Line]:
-    """What is told of a life's answers."""
+    """What is reported of a life's answers."""
     names = [difference(record, answer, tells) for record, answer in pairs]
     at = next((index for index, name in enumerate(names) if name), len(pairs))
     events = [record["event"] for record, _ in pairs]
@@ -113,7 +113,7 @@ def of_life(life: int, pairs: list[tuple[Json, Json]], tells: tuple[str, ...]) -
 
 
 def lines(asked: Asked) -> Iterator[Line]:
-    """All that is told."""
+    """All that is reported."""
     if asked.greeting:
         left = asked.greeting.leaves_out
         yield Line(f"the unit {shown(asked.greeting.unit)}" + (f"; it doesn't tell {', '.join(left)}" if left else ""),
@@ -132,7 +132,7 @@ def lines(asked: Asked) -> Iterator[Line]:
 # ---- its answers in place of the proved unit's
 
 def untold(names: set[str], tells: tuple[str, ...]) -> list[str]:
-    """Of the values that a result asks for those that the unit doesn't tell."""
+    """Of the values that a result asks for those that the unit doesn't report."""
     def is_told(name: str) -> bool:
         if name.startswith("shows_"):
             return "indications" in tells
@@ -150,5 +150,5 @@ def with_answer(record: Json, answer: Json) -> Json:
 
 
 def answered(asked: Asked) -> list[Json]:
-    """The records with the answers of another unit in place of the proved one's; what it doesn't tell stays."""
+    """The records with the answers of another unit in place of the proved one's; what it doesn't report stays."""
     return [with_answer(record, answer) for record, answer in zip(asked.records, asked.answers, strict=True)]

@@ -2,7 +2,7 @@
 
 It is started once for each case or image, asked event by event, and ended. Whatever it does, each call comes back
 within the time that it has: what breaks the protocol, is late or ends before its time raises `Broken`, and no process
-of it stays behind. What it may use is limited (module `sandbox`).
+of it stays after. What it may use is limited (module `sandbox`).
 """
 import contextlib
 import os
@@ -20,14 +20,14 @@ from .protocol import MOST_LINE, PROTOCOL, Greeting, Wrong, checked, greeting_of
 from .sandbox import Confined
 
 WITHIN_S = 10.0
-"""How long a unit has for an answer, where nothing else is told."""
+"""How long a unit has for an answer, where nothing else is reported."""
 MOST_SAID, MOST_READS, LOOK_S = 4_096, 64, 0.001
 """The last bytes of standard error that are kept; how often a stream is read that has ended or is given up; and how often
 it is looked whether a process has ended."""
 
 
 class Broken(Exception):
-    """A unit that broke the protocol: behind how many answers, and how."""
+    """A unit that broke the protocol: after how many answers, and how."""
 
     def __init__(self, said: str, answers: int) -> None:
         super().__init__(said)
@@ -79,7 +79,7 @@ class Streams:
             self.unsent = self.unsent[os.write(self.into.fileno(), self.unsent):]
         except BlockingIOError:
             return
-        except BrokenPipeError:  # (its standard output then tells how it ended)
+        except BrokenPipeError:  # (its standard output then says how it ended)
             self.unsent = b""
         if not self.unsent:
             self.ready.unregister(self.into)
@@ -161,7 +161,7 @@ class OtherUnit:
         return self.broken(f"{where}: a line that nobody asked for: {short(self.streams.received.decode('utf-8', 'replace'))}")
 
     def ended(self, deadline: float) -> str:
-        """How its process ended, behind the end of its standard output."""
+        """How its process ended, beyond the end of its standard output."""
         while (status := self.confined.status()) is None and (now := time.monotonic()) < deadline:
             self.streams.move(min(deadline, now + LOOK_S))
         if status is None:
@@ -194,7 +194,7 @@ class OtherUnit:
     # ---- the protocol
 
     def greet(self, name: str) -> Greeting:
-        """The greeting: which unit it is, and what it tells."""
+        """The greeting: which unit it is, and what it says."""
         line = self.asked({"protocol": PROTOCOL, "case": name}, "greeting")
         try:
             self.greeting = greeting_of(line)

@@ -1,7 +1,7 @@
 """The proved unit under the protocol of docs/howto/oracle.md: the library of `unit`, over a journal in memory.
 
 Each event is flushed by itself, so that each has its answer at once. The output of a power-up is never released; its
-record tells it.
+record says it.
 """
 import os
 import sys
@@ -106,7 +106,7 @@ class OwnUnit:
 
 
 def answered(own: OwnUnit, line: bytes, is_first: bool) -> Json:
-    """The answer to a line: the greeting behind the first one."""
+    """The answer to a line: the greeting after the first one."""
     message = protocol.object_of(line)
     if is_first:
         if message.get("protocol") != protocol.PROTOCOL:

@@ -1,7 +1,7 @@
 """What a unit is asked, and what it answers, as docs/howto/oracle.md has it: the messages of the protocol, and whether a line
 is one.
 
-An event is told by the members of a record of `etcs_lab events` that say what came (docs/reference/json.md); an answer has those
+An event is reported by the members of a record of `etcs_lab events` that say what came (docs/reference/json.md); an answer has those
 that say what the unit makes of it.
 """
 import json
@@ -15,7 +15,7 @@ PROTOCOL = 1
 ANSWER = ("mode", "level", "brake", "indications", "place_cm", "uncertainty_cm", "limit_m_per_h")
 """The members of an answer, in the order in which they are compared."""
 NEEDED = ("mode", "brake")
-"""Those that each unit has to tell."""
+"""Those that each unit has to report."""
 CAME = {"powerup": ("word",), "telegram": ("telegram",), "odometer": ("movement_cm", "speed_m_per_h"),
         "clock": ("now_ms",),
         "driver": ("action",)}
@@ -36,7 +36,7 @@ def line_of(told: Json) -> str:
 
 
 def event_of(record: Json) -> Json:
-    """What a unit is told of a record: all but the answer."""
+    """What a unit is given of a record: all but the answer."""
     names = ("life", "event", "kind", *CAME[record["kind"]], *DONE.get(record.get("action", ""), ()))
     return {name: record[name] for name in names}
 
@@ -114,14 +114,14 @@ def check_members(told: Json, names: tuple[str, ...]) -> None:
 
 @dataclass(frozen=True)
 class Greeting:
-    """What a unit says of itself: its name, and which members it tells."""
+    """What a unit says of itself: its name, and which members it says."""
 
     unit: str
     tells: tuple[str, ...]
 
     @property
     def leaves_out(self) -> tuple[str, ...]:
-        """The members that it doesn't tell."""
+        """The members that it doesn't report."""
         return tuple(name for name in ANSWER if name not in self.tells)
 
 

@@ -138,7 +138,7 @@ def parts_of(layout: tuple[Part, ...]) -> str:
 
 
 def part_of(part: Part) -> str:
-    """A part in Lua: a name, a variable behind which others follow, or a list."""
+    """A part in Lua: a name, a variable after which others follow, or a list."""
     if isinstance(part, str):
         return text_of(part)
     if isinstance(part, Where):

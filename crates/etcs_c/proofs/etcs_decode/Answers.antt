@@ -1,6 +1,6 @@
 use Rattle.std.proofs.Common.{◌∙◌, ap, arith, refl, sym, subst}
 use Rattle.bits.proofs.Laws.{err_same}
-use Rattle.etcs_c.proofs.Telling.{number_once, number_some, walk_of}
+use Rattle.etcs_c.proofs.Description.{number_once, number_some, walk_of}
 use Rattle.telegram.specs.Faults.{number_of_fault}
 use Rattle.telegram.specs.Telegrams.{RefusesBytes}
 use Rattle.telegram.specs.declared.fault.TelegramFault.{TelegramFault}

@@ -1,5 +1,5 @@
 use Rattle.std.proofs.Common.{◌∙◌, refl}
-use Rattle.etcs_c.proofs.Telling.{walk_length, walk_of}
+use Rattle.etcs_c.proofs.Description.{walk_length, walk_of}
 use Rattle.etcs_c.proofs.etcs_packet_count.Goals as goal
 
 pub returns-in-Ok-clause-carried : goal.returns-in-Ok-clause-carried

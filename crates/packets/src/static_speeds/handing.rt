@@ -17,14 +17,14 @@ fn first_step<'a>(steps: &'a [StaticStep], other: &'a StaticStep) -> &'a StaticS
     }
 }
 
-/// The steps behind the first.
+/// The steps after the first.
 fn other_steps(steps: &[StaticStep]) -> &[StaticStep]
     ensures { result.now ≡ drop 1 steps.now }
 {
     &steps[steps.len().min(1)..]
 }
 
-/// The step's own of the differences that are left, and those behind them.
+/// The step's own of the differences that are left, and those after them.
 fn split_own<'a>(step: &StaticStep, left: &'a [Difference]) -> (&'a [Difference], &'a [Difference])
     ensures own { result.0.now ≡ take step.now.differences left.now }
     ensures others { result.1.now ≡ drop step.now.differences left.now }

@@ -55,16 +55,16 @@ fn read_steps(
     Ok(())
 }
 
-/// Reads packet 27 behind its number, into the place of another packet; answers its L_PACKET, in bits. The error is the
+/// Reads packet 27 after its number, into the place of another packet; answers its L_PACKET, in bits. The error is the
 /// first fault in the order of the bits.
-#[tactic(auto, unfolding(crate::specs::Layouts::static_speeds_telling))]
+#[tactic(auto, unfolding(crate::specs::Layouts::static_speeds_description))]
 pub fn read_static_speeds<'a>(
     reader: &mut BitReader<'a>,
     out: &mut Packet<'a>,
 ) -> Result<PacketLength, PacketFault>
-    ensures { Gives (λ told. (told, out.new)) result reader.new (read (kind (as_packet packets.StaticSpeeds) as_static_speeds static_speeds) reader.old) }
+    ensures { Gives (λ reported. (reported, out.new)) result reader.new (read (kind (as_packet packets.StaticSpeeds) as_static_speeds static_speeds) reader.old) }
 {
-    let (direction, told, scale) = ok!(read_head(reader));
+    let (direction, reported, scale) = ok!(read_head(reader));
     *out = Packet::StaticSpeeds(StaticSpeeds {
         direction,
         scale,
@@ -77,5 +77,5 @@ pub fn read_static_speeds<'a>(
     ok!(read_step(reader, speeds));
     let more: Iterations = ok!(field(reader));
     ok!(read_steps(reader, speeds, more.count()));
-    Ok(told)
+    Ok(reported)
 }

@@ -2,7 +2,7 @@
 ghost use Rattle.std.specs.Prelude.{◌≡◌};
 ghost use Rattle.std.specs.Iterator.{at_most};
 ghost use Rattle.speed_profile.specs.Ahead.{over_ahead, area_targets};
-ghost use Rattle.speed_profile.specs.Targets.{Tells};
+ghost use Rattle.speed_profile.specs.Targets.{Describes};
 
 use crate::starts::first_in_area;
 use areas::{Area, Areas, NationalSpeeds};
@@ -45,7 +45,7 @@ impl<'a> AreaTargets<'a> {
 impl<'a> Iterator for AreaTargets<'a> {
     type Item = Target;
 
-    ghost next_gives = { Tells };
+    ghost next_gives = { Describes };
 
     ghost remaining = { λ left. at_most left.most };
 

@@ -4,7 +4,7 @@ ghost use Rattle.std.specs.Iterator.{at_most};
 ghost use Rattle.track_store.specs.Profiles.{listed};
 ghost use Rattle.speed_profile.specs.Ahead.{over_ahead, restriction_targets, area_targets};
 ghost use Rattle.speed_profile.specs.Track.{speeds_along};
-ghost use Rattle.speed_profile.specs.Targets.{Tells};
+ghost use Rattle.speed_profile.specs.Targets.{Describes};
 
 use super::inside::AreaTargets;
 use super::restricted::RestrictionTargets;
@@ -59,7 +59,7 @@ impl<'a> OtherTargets<'a> {
 impl<'a> Iterator for OtherTargets<'a> {
     type Item = Target;
 
-    ghost next_gives = { Tells };
+    ghost next_gives = { Describes };
 
     ghost remaining = { λ left. at_most left.most };
 

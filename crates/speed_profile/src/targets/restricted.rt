@@ -2,7 +2,7 @@
 ghost use Rattle.std.specs.Prelude.{◌≡◌};
 ghost use Rattle.std.specs.Iterator.{at_most};
 ghost use Rattle.speed_profile.specs.Ahead.{over_ahead, restriction_targets};
-ghost use Rattle.speed_profile.specs.Targets.{Tells};
+ghost use Rattle.speed_profile.specs.Targets.{Describes};
 
 use crate::starts::first_target;
 use braking::Target;
@@ -45,7 +45,7 @@ impl<'a> RestrictionTargets<'a> {
 impl<'a> Iterator for RestrictionTargets<'a> {
     type Item = Target;
 
-    ghost next_gives = { Tells };
+    ghost next_gives = { Describes };
 
     ghost remaining = { λ left. at_most left.most };
 

@@ -3,7 +3,7 @@ ghost use Rattle.std.specs.Prelude.{◌≡◌, ◌<◌, [], ◌++◌, None, IfSo
 ghost use Rattle.std.specs.Iterator.{at_most};
 ghost use Rattle.track_store.specs.Profiles.{listed};
 ghost use Rattle.speed_profile.specs.Ahead.{over_ahead, static_targets};
-ghost use Rattle.speed_profile.specs.Targets.{Tells, AskTheSame, AskTheSameBeyond};
+ghost use Rattle.speed_profile.specs.Targets.{Describes, AskTheSame, AskTheSameBeyond};
 
 use crate::starts::{next_after, static_target};
 use crate::{Bounds, CategorySpeeds};
@@ -79,7 +79,7 @@ impl<'a, S: Profile<CategorySpeeds>> SpeedTargets<'a, S> {
 impl<'a, S: Profile<CategorySpeeds>> Iterator for SpeedTargets<'a, S> {
     type Item = Target;
 
-    ghost next_gives = { Tells };
+    ghost next_gives = { Describes };
 
     ghost remaining = { λ left. at_most left.most };
 

@@ -15,14 +15,14 @@ use units::{Cm, Permille};
 /// replacement.
 pub fn take<G: ProfileStore<Permille>>(store: &mut G, mark: Cm, packet: &Packet<'_>, used: &Use)
     requires { 1 ≤ G.room store.old }
-    ensures profile { (told : MarkedFacts ℤ) → told.mark ≡ mark → profile_with G.value store.old ≡ profile_of told
-        → profile_with G.value store.new ≡ profile_of (record told { facts = after_gradients (fact_of used.now packet.now) told.facts }) }
+    ensures profile { (reported : MarkedFacts ℤ) → reported.mark ≡ mark → profile_with G.value store.old ≡ profile_of reported
+        → profile_with G.value store.new ≡ profile_of (record reported { facts = after_gradients (fact_of used.now packet.now) reported.facts }) }
     ensures room { G.room store.old ≤ G.room store.new + 1 }
 {
     let Packet::Gradients(packet) = packet else {
         return;
     };
-    let told = gradients(packet, used.place);
-    store.replace_reserved(told.start, told.steps.as_slice());
+    let reported = gradients(packet, used.place);
+    store.replace_reserved(reported.start, reported.steps.as_slice());
     store.drop_behind(mark);
 }

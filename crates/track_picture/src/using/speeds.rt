@@ -1,6 +1,6 @@
 //! Static speeds (packet 27).
 ghost use Rattle.std.specs.Prelude.{◌≡◌, ◌≤◌, ◌+◌};
-ghost use Rattle.speed_profile.specs.declared.told.CategorySpeeds.{CategorySpeeds};
+ghost use Rattle.speed_profile.specs.declared.reported.CategorySpeeds.{CategorySpeeds};
 ghost use Rattle.track_store.specs.Facts.{MarkedFacts, profile_of};
 ghost use Rattle.track_store.specs.Profiles.{profile_with};
 ghost use Rattle.track_picture.specs.Columns.{after_speeds};
@@ -21,14 +21,14 @@ pub fn take<S: ProfileStore<CategorySpeeds>>(
     used: &Use,
 )
     requires { 1 ≤ S.room store.old }
-    ensures profile { (told : MarkedFacts CategorySpeeds) → told.mark ≡ mark → profile_with S.value store.old ≡ profile_of told
-        → profile_with S.value store.new ≡ profile_of (record told { facts = after_speeds (fact_of used.now packet.now) told.facts }) }
+    ensures profile { (reported : MarkedFacts CategorySpeeds) → reported.mark ≡ mark → profile_with S.value store.old ≡ profile_of reported
+        → profile_with S.value store.new ≡ profile_of (record reported { facts = after_speeds (fact_of used.now packet.now) reported.facts }) }
     ensures room { S.room store.old ≤ S.room store.new + 1 }
 {
     let Packet::StaticSpeeds(packet) = packet else {
         return;
     };
-    let told = static_speeds(packet, used.place);
-    store.replace_reserved(told.start, told.steps.as_slice());
+    let reported = static_speeds(packet, used.place);
+    store.replace_reserved(reported.start, reported.steps.as_slice());
     store.drop_behind(mark);
 }

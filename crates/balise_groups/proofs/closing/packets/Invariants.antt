@@ -4,6 +4,6 @@ use Rattle.balise_groups.proofs.closing.packets.Given as goal
 
 abbrev pub invariant-loop-place : goal.invariant-loop-place
 invariant-loop-place l = record {
-  told : l.telegrams ≡ map (λ t. t.packets.items) (telegrams_below l.place l.readings);
+  reported : l.telegrams ≡ map (λ t. t.packets.items) (telegrams_below l.place l.readings);
   few : length l.telegrams ≤ l.place;
 }

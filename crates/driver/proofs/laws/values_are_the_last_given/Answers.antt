@@ -1,16 +1,16 @@
-use Rattle.driver.specs.Telling.{identity_told, running_number_told, train_data_told, level_told}
+use Rattle.driver.specs.Description.{identity_reported, running_number_reported, train_data_reported, level_reported}
 use Rattle.driver.proofs.Columns.{identity_stays, running_number_stays, train_data_stay, level_stays}
 use Rattle.driver.proofs.Giving.{value_so}
 use Rattle.driver.proofs.laws.values_are_the_last_given.Goals as goal
 
 pub returns-clause-identity : goal.returns-clause-identity
-returns-clause-identity c = value_so identity_told identity_stays
+returns-clause-identity c = value_so identity_reported identity_stays
 
 pub returns-clause-running_number : goal.returns-clause-running_number
-returns-clause-running_number c = value_so running_number_told running_number_stays
+returns-clause-running_number c = value_so running_number_reported running_number_stays
 
 pub returns-clause-train_data : goal.returns-clause-train_data
-returns-clause-train_data c = value_so train_data_told train_data_stay
+returns-clause-train_data c = value_so train_data_reported train_data_stay
 
 pub returns-clause-level : goal.returns-clause-level
-returns-clause-level c = value_so level_told level_stays
+returns-clause-level c = value_so level_reported level_stays

@@ -10,8 +10,8 @@ write-requires-clause-room c =
     ap length c.reader_of-bits.ensures ∙ c.in-One.ensures.whole ∙ length-bits_of c.args.bytes.now in
     omega (arith, long, c.requires)
 
-pub returns-in-One-clause-told : goal.returns-in-One-clause-told
-returns-in-One-clause-told c =
+pub returns-in-One-clause-reported : goal.returns-in-One-clause-reported
+returns-in-One-clause-reported c =
     let place = c.args.place in
     let n = c.in-One.countries in
     let got = bits_of (take (length c.args.bytes.now) c.order.new.sent) in

@@ -2,7 +2,7 @@ use Rattle.std.proofs.Common.{◌≡◌, ◌⊎◌, inl, inr, Bool, List, None, 
 use Rattle.std.specs.List.{slice_get}
 use Rattle.bits.specs.Bits.{bits_of}
 use Rattle.track_packets.specs.declared.listing.PacketPlace.{PacketPlace}
-use Rattle.installed_values.specs.Dropping.{TellsDropped, values_dropped}
+use Rattle.installed_values.specs.Dropping.{DescribesDropped, values_dropped}
 use Rattle.installed_values.specs.Ordering.{Answers, FitsBoth, FitsNeither}
 use Rattle.installed_values.specs.declared.finding.Found.{Found}
 use Rattle.installed_values.specs.declared.ordering.Ordered.{Ordered}
@@ -14,8 +14,8 @@ not_one : (place : PacketPlace) (bits sent : List Bool) (o : Ordered) → Answer
 not_one place bits sent o answers (inl neither) = inr (subst (λ (r : Ordered). Answers place bits sent r) neither answers)
 not_one place bits sent o answers (inr both) = inl (subst (λ (r : Ordered). Answers place bits sent r) both answers)
 
-pub returns-in-One-order-clause-told : goal.returns-in-One-order-clause-told
-returns-in-One-order-clause-told c =
+pub returns-in-One-order-clause-reported : goal.returns-in-One-order-clause-reported
+returns-in-One-order-clause-reported c =
     let place = c.in-One.place in
     let bits = bits_of c.args.bytes.now in
     let i = c.args.index in
@@ -24,7 +24,7 @@ returns-in-One-order-clause-told c =
     let value = c.dropped_there.ensures
     ∙ ap (λ b. slice_get (values_dropped n place b) i) c.reader_of-bits.ensures
     ∙ ap (λ k. slice_get (values_dropped k place got) i) c.in-One-order.ensures.counter in
-    λ le. subst (λ (f : Found). TellsDropped f bits i c.dropped_there.result) c.in-One.ensures (inl (got, c.in-One-order.ensures.ordered, value))
+    λ le. subst (λ (f : Found). DescribesDropped f bits i c.dropped_there.result) c.in-One.ensures (inl (got, c.in-One-order.ensures.ordered, value))
 
 pub returns-in-Neither : goal.returns-in-Neither
 returns-in-Neither c =
@@ -33,6 +33,6 @@ returns-in-Neither c =
     let sent = bits_of (take (length c.args.bytes.now) c.order.new.sent) in
     record {
       long = λ gt. refl;
-      told = λ le. subst (λ (f : Found). TellsDropped f bits c.args.index None) c.in-One.ensures
+      reported = λ le. subst (λ (f : Found). DescribesDropped f bits c.args.index None) c.in-One.ensures
           (inr (not_one place bits sent c.order.result c.order.ensures c.in-Neither.is, refl));
     }

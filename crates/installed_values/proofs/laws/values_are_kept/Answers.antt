@@ -7,6 +7,6 @@ use Rattle.installed_values.proofs.Written.{was_written}
 use Rattle.installed_values.proofs.laws.values_are_kept.Goals as goal
 
 pub returns : goal.returns
-returns c = λ bytes old new n p sent tells ordered.
-    let w = was_written bytes old new n p tells in
+returns c = λ bytes old new n p sent describes ordered.
+    let w = was_written bytes old new n p describes in
     subst (λ (s : List Bool). ValuesStay p s (bits_of (take n new))) (one_order p (bits_of bytes) w.2.sent sent w.2.ordered ordered) (values_stay p bytes (take n new) w.0 w.1 w.2)

@@ -6,5 +6,5 @@ use Rattle.lab_examine.proofs.image_lines.size_pieces.Goals as goal
 pub returns : goal.returns
 returns c = λ form.
     let it = c.args.survey in
-    ap (λ slots. sizes_text form c.args.bytes it.sectors slots it.whole c.behind_of.result) (c.known.ensures form)
-    ∙ ap (λ behind. sizes_text form c.args.bytes it.sectors (known_text form it.slots) it.whole behind) c.behind_of.ensures
+    ap (λ slots. sizes_text form c.args.bytes it.sectors slots it.whole c.after_of.result) (c.known.ensures form)
+    ∙ ap (λ behind. sizes_text form c.args.bytes it.sectors (known_text form it.slots) it.whole behind) c.after_of.ensures

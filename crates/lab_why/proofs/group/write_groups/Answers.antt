@@ -13,9 +13,9 @@ use Rattle.lab_why.proofs.group.write_groups.Goals.{else-is_none-via-then-is_non
 pub returns : goal.returns
 returns g c =
     let form = c.args.form in
-    let mode = c.args.told.now.mode in
-    let ended = c.args.told.now.closings.ended in
-    let whole = c.args.told.now.closings.whole in
+    let mode = c.args.reported.now.mode in
+    let ended = c.args.reported.now.closings.ended in
+    let whole = c.args.reported.now.closings.whole in
     let there : written form mode ended whole ≡ groups_text form mode (listed ended ++ listed whole) =
     elim c.else-is_none.branch [
       | else-is_none-via-then-is_none+else-is_none-2 w ↦ whole_there form mode ended whole (c.is_none.ensures ∙ ap not w.if-is_none.true) (w.is_none-then-is_none.ensures ∙ ap not w.if-is_none-2.false)

@@ -10,8 +10,8 @@ pub returns : goal.returns
 returns c story stands =
     let knows = subst (λ k. StandsAt segment_stores k (past_at story)) (sym c.state.ensures) stands.knows in
     let back = to_z-of_z w64 c.get.result (first_of (search rules, assumption c.get.type_inv, grind (arith, common_steps))) in
-    let place = back ∙ c.get.ensures.value ∙ c.place_behind-place.ensures.estimate (past_at story).life knows.life_is in
-    let uncertainty = c.place_behind-place.ensures.uncertainty (past_at story).life knows.life_is in
+    let place = back ∙ c.get.ensures.value ∙ c.place_after-place.ensures.estimate (past_at story).life knows.life_is in
+    let uncertainty = c.place_after-place.ensures.uncertainty (past_at story).life knows.life_is in
     let output = c.output-output.ensures in
     λ i. record {
       step = c.args.step;

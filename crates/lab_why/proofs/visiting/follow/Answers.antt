@@ -1,5 +1,5 @@
 use Rattle.std.proofs.Common.{Option, Some, sym, subst}
-use Rattle.reasons.specs.Told.{Reasoned}
+use Rattle.reasons.specs.Reported.{Reasoned}
 use Rattle.lab_why.specs.Courses.{Follows}
 use Rattle.lab_why.proofs.visiting.follow.Goals as goal
 

@@ -1,7 +1,7 @@
 use Rattle.std.proofs.Common.{◌≡◌, List, [], ◌∷◌, refl, ap, ◌∙◌}
 use Rattle.driver.specs.declared.datum.Datum.{Datum}
 use Rattle.driver.specs.Data.{met_by}
-use Rattle.driver.specs.Telling.{datum_after, level_told}
+use Rattle.driver.specs.Description.{datum_after, level_reported}
 use Rattle.events.specs.declared.input.Event.{Event}
 use Rattle.events.specs.declared.input.Event.TheVariants.{PowerUp, Input}
 use Rattle.events.specs.Kept.{PositionFrom}
@@ -26,9 +26,9 @@ level_is (Input input ∷ events) =
     let life = life_of events in
     let kept : Datum TrainLevel = (left_at_power_up life).level in
     let now = deeds (entry_of life input ∷ []) in
-    ap (datum_after level_told kept) (one_entry (entry_of life input) life.entries)
-    ∙ in_turn level_told kept now (deeds life.entries)
-    ∙ ap (λ (before : Datum TrainLevel). datum_after level_told before now) (level_is events)
+    ap (datum_after level_reported kept) (one_entry (entry_of life input) life.entries)
+    ∙ in_turn level_reported kept now (deeds life.entries)
+    ∙ ap (λ (before : Datum TrainLevel). datum_after level_reported before now) (level_is events)
 
 -- ---- the position
 

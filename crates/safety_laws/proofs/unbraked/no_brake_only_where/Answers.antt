@@ -20,7 +20,7 @@ use Rattle.mode_control.specs.History.{tracks, deeds, on_sight_of, shunting_of, 
 use Rattle.mode_control.specs.Life.{Life, left_at_power_up}
 use Rattle.mode_control.specs.Sentences.{values_of}
 use Rattle.speed_supervision.specs.Limit.{limit}
-use Rattle.kernel.specs.Brake.{train_stood, was_within_limit, is_above_limit_by, asked_for_service, rolled_backward, has_begun, is_in, is_not_revalidated, owes_trip, has_rolled_too_far, must_stand, owes_too_long}
+use Rattle.kernel.specs.Brake.{train_stood, was_within_limit, is_above_limit_by, service_brake_requested, rolled_backward, has_begun, is_in, is_not_revalidated, owes_trip, has_rolled_too_far, must_stand, owes_too_long}
 use Rattle.kernel.specs.Lives.{life_of}
 use Rattle.kernel.proofs.Items.{trip_so}
 use Rattle.safety_laws.specs.Brakes.{since_standstill, speed_at}
@@ -64,7 +64,7 @@ returns c events none =
     let r4 = not_emergency (owes_trip life) _ r3.1 in
     let r5 = not_emergency (has_begun (is_above_limit_by 10_000) train_stood life) _ r4.1 in
     let r6 = not_emergency (has_rolled_too_far life) _ r5.1 in
-    let r7 = not_service (has_begun asked_for_service train_stood life) _ r6.1 in
+    let r7 = not_service (has_begun service_brake_requested train_stood life) _ r6.1 in
     let r8 = not_service (has_begun (is_above_limit_by 5_000) was_within_limit life) _ r7.1 in
     let r9 = not_service (must_stand life) _ r8.1 in
     let r10 = not_service (owes_too_long life) _ r9.1 in
@@ -87,5 +87,5 @@ returns c events none =
         | kinds.Shunting ↦ λ from is. owed_not_long now from (shunting_of life.entries) t.1 is
         | kinds.Level0 ↦ λ from is. owed_not_long now from (level_0_of life.entries) s.1 is
       ];
-      asked_nothing = λ snapshot there. none_of asked_for_service (since_standstill life) r7.0 snapshot there;
+      asked_nothing = λ snapshot there. none_of service_brake_requested (since_standstill life) r7.0 snapshot there;
     }

@@ -1,4 +1,4 @@
-use Rattle.sessions.proofs.Telling.{all_printed, told_whole, no_want}
+use Rattle.sessions.proofs.Description.{all_printed, reported_whole, no_want}
 use Rattle.sessions.proofs.lives.run_life.Goals as goal
 
 pub returns-in-Ok-clause-session : goal.returns-in-Ok-clause-session
@@ -14,9 +14,9 @@ returns-in-Ok-clause-session g c whole_from durable accepted honest ready =
       unflushed = it.6;
       last = it.7;
       stopped = c.live_into-disk.ensures.stopped;
-      told = told_whole c.tell_end-status.result c.live_into-disk.result.1 _ _ _ it.2
-          (all_printed _ _ c.in-Ok.is _ _ _ it.2 it.3) c.tell_end-status.ensures.status c.tell_end-status.ensures.line;
-      roomy = no_want c.tell_end-status.result c.live_into-disk.result.1 _ _ c.in-Ok.is c.live_into-disk.ensures.full;
+      reported = reported_whole c.describe_end-status.result c.live_into-disk.result.1 _ _ _ it.2
+          (all_printed _ _ c.in-Ok.is _ _ _ it.2 it.3) c.describe_end-status.ensures.status c.describe_end-status.ensures.line;
+      roomy = no_want c.describe_end-status.result c.live_into-disk.result.1 _ _ c.in-Ok.is c.live_into-disk.ensures.full;
     }
 
 pub returns-in-Err-clause-session : goal.returns-in-Err-clause-session
@@ -32,6 +32,6 @@ returns-in-Err-clause-session g c whole_from durable accepted honest ready =
       unflushed = it.6;
       last = it.7;
       stopped = c.live_into-disk.ensures.stopped;
-      told = tt;
+      reported = tt;
       roomy = tt;
     }

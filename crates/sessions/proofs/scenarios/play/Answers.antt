@@ -1,22 +1,22 @@
-use Rattle.sessions.proofs.Telling.{said}
+use Rattle.sessions.proofs.Description.{said}
 use Rattle.sessions.proofs.scenarios.play.Goals as goal
 
 pub returns-in_default : goal.returns-in_default
 returns-in_default g c = record {
-  told = (
+  reported = (
     c.in-Ok.life.0,
     c.in-Ok.life.1.items,
     c.in-Ok.ensures.ok,
     (
       c.in_default.ensures,
-      said _ c.tell-status.result _ _ _ c.tell-status.ensures.status c.tell-status.ensures.line,
+      said _ c.describe-status.result _ _ _ c.describe-status.ensures.status c.describe-status.ensures.line,
     ),
   );
 }
 
 pub returns : goal.returns
 returns g c = record {
-  told = (
+  reported = (
     c.in-Ok.life.0,
     c.in-Ok.life.1.items,
     c.in-Ok.ensures.ok,

@@ -1,6 +1,6 @@
 use Rattle.std.proofs.Common.{◌≡◌, ℕ, List, [], ◌∷◌, ◌++◌, length, sym, ap, ◌∙◌, arith}
 use Rattle.std.proofs.lemmas.Int.{ints}
-use Rattle.json_values.specs.Looking.{told, told_items}
+use Rattle.json_values.specs.Looking.{reported, reported_items}
 use Rattle.simulator.specs.Values.{◌>>=◌}
 use Rattle.simulator.specs.Passing.{passed}
 use Rattle.simulator.specs.Course.{run_of, taken}
@@ -19,15 +19,15 @@ loop-item-preserved c =
     let ahead = passed c.args.track.now.balises.items in
     let run = run_of c.loop-item.course in
     let so_far = c.loop-item.ends.items in
-    let more : ends_by ahead (told_items c.loop-item.left) run so_far
-    ≡ (asked (told c.in-Some.item) >>= λ step. ends_by ahead (told_items c.in-Some.rest) (taken ahead step run) (so_far ++ length (taken ahead step run).steps ∷ [])) =
+    let more : ends_by ahead (reported_items c.loop-item.left) run so_far
+    ≡ (asked (reported c.in-Some.item) >>= λ step. ends_by ahead (reported_items c.in-Some.rest) (taken ahead step run) (so_far ++ length (taken ahead step run).steps ∷ [])) =
     ap (λ ds. ends_by ahead ds run so_far) c.in-Some.ensures in
     let one = c.in_ok-asked.ensures.ok in
     let next = c.in_ok-take.ensures.ok in
     record {
       fits = grind arith;
       so_far =
-          ap (λ (ends : List ℕ). ends_by ahead (told_items c.in-Some.rest) (run_of c.take.new.self) ends) c.in_ok-note.ensures.ok
+          ap (λ (ends : List ℕ). ends_by ahead (reported_items c.in-Some.rest) (run_of c.take.new.self) ends) c.in_ok-note.ensures.ok
           ∙ sym (rw (one, ← next) at more) ∙ c.loop-item.invariant.so_far;
       low = omega (arith, ints, c.loop-item.invariant.low, c.in_ok-take.ensures.least);
       high = omega (arith, ints, c.loop-item.invariant.high, c.in_ok-take.ensures.most);

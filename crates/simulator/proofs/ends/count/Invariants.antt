@@ -1,5 +1,5 @@
 use Rattle.std.proofs.Common.{◌≡◌, ◌*◌, pos, neg_ℤ, ◌≤ℤ◌, ◌≤◌, length}
-use Rattle.json_values.specs.Looking.{told_items, listed}
+use Rattle.json_values.specs.Looking.{reported_items, listed}
 use Rattle.simulator.specs.Passing.{passed}
 use Rattle.simulator.specs.Course.{run_of}
 use Rattle.simulator.specs.Lives.{ends_by}
@@ -8,10 +8,10 @@ use Rattle.simulator.proofs.ends.count.Given as goal
 abbrev pub invariant-loop-item : goal.invariant-loop-item
 invariant-loop-item l = record {
   fits : l.taken ≤ 18_446_744_073_709_551_615;
-  so_far : ends_by (passed l.track.balises.items) (told_items l.left) (run_of l.course) l.ends.items ≡ ends_by (passed l.track.balises.items) (listed l.items) (run_of l.fn.course) l.fn.ends.items;
+  so_far : ends_by (passed l.track.balises.items) (reported_items l.left) (run_of l.course) l.ends.items ≡ ends_by (passed l.track.balises.items) (listed l.items) (run_of l.fn.course) l.fn.ends.items;
   low : neg_ℤ (pos (1_000_000 * l.taken)) ≤ℤ l.course.front;
   high : l.course.front ≤ℤ pos (1_000_000 * l.taken);
 }
 
 abbrev pub decreases-loop-item : goal.decreases-loop-item
-decreases-loop-item l = length (told_items l.left)
+decreases-loop-item l = length (reported_items l.left)

@@ -1,4 +1,4 @@
-use Rattle.speed_profile.proofs.Held.{alone_asks, known_asks, told_asks}
+use Rattle.speed_profile.proofs.Held.{alone_asks, known_asks, reported_asks}
 use Rattle.speed_profile.proofs.nearest.more_asking.Goals as goal
 
 pub returns-in_default : goal.returns-in_default
@@ -11,5 +11,5 @@ returns-then-is_no_nearer c =
 
 pub returns-then-is_no_nearer-2 : goal.returns-then-is_no_nearer-2
 returns-then-is_no_nearer-2 c =
-    told_asks c.args.known.now c.in-Some.known c.args.target.now c.in-Some.is
+    reported_asks c.args.known.now c.in-Some.known c.args.target.now c.in-Some.is
     (record { place = c.is_no_nearer-2.ensures.place c.if-is_no_nearer-2.true; speed = c.is_no_nearer-2.ensures.speed c.if-is_no_nearer-2.true })

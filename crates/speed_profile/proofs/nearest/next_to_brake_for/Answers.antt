@@ -8,8 +8,8 @@ returns-then-not-surely_fits-clause-asked g c =
     let value = g.G.Profile.value in
     let course = c.args.approach.now in
     let before = c.loop-target.others.targets in
-    let told = c.in-Some.target ∷ c.next.new.self.targets in
-    of_through value c.args.others.now.targets before told course c.loop-target.invariant (of_all value before told course c.in-Some.ensures.steps)
+    let reported = c.in-Some.target ∷ c.next.new.self.targets in
+    of_through value c.args.others.now.targets before reported course c.loop-target.invariant (of_all value before reported course c.in-Some.ensures.steps)
 
 pub loop-target-preserved : goal.loop-target-preserved
 loop-target-preserved g c =

@@ -3,7 +3,7 @@ use Rattle.std.specs.Prelude.{find}
 use Rattle.std.specs.Int.{int_max}
 use Rattle.std.proofs.lemmas.Int.{ints}
 use Rattle.restriction.specs.declared.restriction.Restriction.{Restriction}
-use Rattle.speed_supervision.proofs.Naming.{limits_so, restriction_told, none_restricts}
+use Rattle.speed_supervision.proofs.Naming.{limits_so, restriction_reported, none_restricts}
 use Rattle.speed_supervision.proofs.over.restriction_over.Goals as goal
 
 pub returns-clause-over : goal.returns-clause-over
@@ -13,7 +13,7 @@ returns-clause-over c =
     let limit = c.args.limit in
     let first : c.max-first.result ≡ int_max track.mark train.rear = grind (arith, ints) in
     let is = c.first_met.ensures ∙ ap (λ (rs : List Restriction). find (limits_so track train limit c.max-first.result) rs) c.as_slice.ensures in
-    restriction_told track train limit c.max-first.result c.first_met.result first is
+    restriction_reported track train limit c.max-first.result c.first_met.result first is
 
 pub returns-clause-none : goal.returns-clause-none
 returns-clause-none c =

@@ -4,7 +4,7 @@ use Rattle.std.proofs.lemmas.Int.{ints}
 use Rattle.track_store.specs.Profiles.{Lasts}
 use Rattle.track_store.proofs.Jumps.{fewer_left}
 use Rattle.speed_supervision.specs.Over.{IsStaticSpeedOver}
-use Rattle.speed_supervision.proofs.Finding.{some_told, none_told}
+use Rattle.speed_supervision.proofs.Finding.{some_reported, none_reported}
 use Rattle.speed_supervision.proofs.Naming.{NoneOn, IsOn, farther, to_the_end, none_under, found_on}
 use Rattle.speed_supervision.proofs.over.static_speed_over.Goals as goal
 
@@ -26,12 +26,12 @@ loop-category-preserved g c =
     let train = c.args.train.now in
     let place : ℤ = c.loop-category.place in
     let lasts : Lasts value place (Some c.in-Some.next) = rw c.in-Some.is at c.piece-here.ensures.next in
-    let untold : NoneOn value c.args.category train c.args.limit place c.piece-here.result.next c.piece-here.result.value =
-    none_told c.limited_on-found.result (NoneOn value c.args.category train c.args.limit place c.piece-here.result.next c.piece-here.result.value)
+    let unreported : NoneOn value c.args.category train c.args.limit place c.piece-here.result.next c.piece-here.result.value =
+    none_reported c.limited_on-found.result (NoneOn value c.args.category train c.args.limit place c.piece-here.result.next c.piece-here.result.value)
     (IsOn value c.args.category train c.args.limit place c.piece-here.result.next c.piece-here.result.value)
     (sym c.is_some.ensures ∙ c.if-is_some.false) c.limited_on-found.ensures in
     let none : NoneOn value c.args.category train c.args.limit place (Some c.in-Some.next) c.piece-here.result.value =
-    subst (λ (next : Option ℤ). NoneOn value c.args.category train c.args.limit place next c.piece-here.result.value) c.in-Some.is untold in (
+    subst (λ (next : Option ℤ). NoneOn value c.args.category train c.args.limit place next c.piece-here.result.value) c.in-Some.is unreported in (
       omega (arith, ints, lasts.0, c.loop-category.invariant.0),
       farther value c.args.category train c.args.limit place c.in-Some.next c.piece-here.result.value c.piece-here.ensures.value lasts none
           c.loop-category.invariant.1,
@@ -43,12 +43,12 @@ returns-in-None g c =
     let train = c.args.train.now in
     let place : ℤ = c.loop-category.place in
     let lasts : Lasts value place None = rw c.in-None.is at c.piece-here.ensures.next in
-    let untold : NoneOn value c.args.category train c.args.limit place c.piece-here.result.next c.piece-here.result.value =
-    none_told c.limited_on-found.result (NoneOn value c.args.category train c.args.limit place c.piece-here.result.next c.piece-here.result.value)
+    let unreported : NoneOn value c.args.category train c.args.limit place c.piece-here.result.next c.piece-here.result.value =
+    none_reported c.limited_on-found.result (NoneOn value c.args.category train c.args.limit place c.piece-here.result.next c.piece-here.result.value)
     (IsOn value c.args.category train c.args.limit place c.piece-here.result.next c.piece-here.result.value)
     (sym c.is_some.ensures ∙ c.if-is_some.false) c.limited_on-found.ensures in
     let none : NoneOn value c.args.category train c.args.limit place None c.piece-here.result.value =
-    subst (λ (next : Option ℤ). NoneOn value c.args.category train c.args.limit place next c.piece-here.result.value) c.in-None.is untold in
+    subst (λ (next : Option ℤ). NoneOn value c.args.category train c.args.limit place next c.piece-here.result.value) c.in-None.is unreported in
     to_the_end value c.args.category train c.args.limit place c.piece-here.result.value c.piece-here.ensures.value lasts none c.loop-category.invariant.1
 
 pub returns-then-is_some : goal.returns-then-is_some
@@ -58,7 +58,7 @@ returns-then-is_some g c =
     let place : ℤ = c.loop-category.place in
     let next = c.piece-here.result.next in
     let here = c.piece-here.result.value in
-    some_told c.limited_on-found.result (NoneOn value c.args.category train c.args.limit place next here)
+    some_reported c.limited_on-found.result (NoneOn value c.args.category train c.args.limit place next here)
     ((there : ℤ) → IsStaticSpeedOver value c.args.category train c.args.limit there → ⊥)
     (IsOn value c.args.category train c.args.limit place next here) (IsStaticSpeedOver value c.args.category train c.args.limit)
     (sym c.is_some.ensures ∙ c.if-is_some.true) c.limited_on-found.ensures

@@ -5,7 +5,7 @@ use Rattle.telegram.specs.Telegrams.{RefusesPackets}
 use Rattle.telegram.specs.declared.fault.TelegramFault.{TelegramFault}
 use Rattle.telegram.proofs.decoding.read_packets.Given as goal
 
--- what comes of the bits that are left comes of all, behind the packets so far
+-- what comes of the bits that are left comes of all, after the packets so far
 abbrev pub invariant-packets : goal.invariant-packets
 invariant-packets l = record {
   begins : (ps : List Packet) (rest : List Bool) → BeginsPackets ps l.reader rest → BeginsPackets (l.packets.items ++ ps) l.fn.reader rest;

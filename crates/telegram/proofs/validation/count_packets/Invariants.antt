@@ -5,7 +5,7 @@ use Rattle.telegram.specs.Telegrams.{RefusesPackets}
 use Rattle.telegram.specs.declared.fault.TelegramFault.{TelegramFault}
 use Rattle.telegram.proofs.validation.count_packets.Given as goal
 
--- some packets were read, and what comes of the bits that are left comes of all, behind them
+-- some packets were read, and what comes of the bits that are left comes of all, after them
 abbrev pub invariant-packets : goal.invariant-packets
 invariant-packets l = record {
   front : List Packet;

@@ -7,8 +7,8 @@ use Rattle.telegram_objects.proofs.Jsons.{next_pair}
 use Rattle.telegram_objects.proofs.putting.+widths_of.Goals as goal
 
 pub returns-in-Some : goal.returns-in-Some
-returns-in-Some t c = λ fields told widths small.
-    let m = next_pair (view c.in-Some.item.now) (map view c.in-Some.items.now) fields (sym (ap (map view) c.in-Some.ensures.cases.0) ∙ told) in
+returns-in-Some t c = λ fields reported widths small.
+    let m = next_pair (view c.in-Some.item.now) (map view c.in-Some.items.now) fields (sym (ap (map view) c.in-Some.ensures.cases.0) ∙ reported) in
     let have = subst (λ (l : List FieldValue). HaveWidths l) m.fields_are widths in
     let sum : fields_size fields ≡ m.first.width + fields_size m.others = ap fields_size m.fields_are in
     let first : c.width_at.result ≡ m.first.width = c.width_at.ensures m.first m.first_is have.0 in

@@ -4,7 +4,7 @@ use Rattle.std.proofs.lemmas.Bool.{eqb-true, eqb-false}
 use Rattle.std.proofs.lemmas.List.{length-map}
 use Rattle.serde_json.specs.View.{view}
 use Rattle.telegram_objects.specs.Laying.{BeginWithOther}
-use Rattle.telegram_objects.specs.Telling.{pair_of}
+use Rattle.telegram_objects.specs.Description.{pair_of}
 use Rattle.decoding.specs.declared.fields.FieldValue.{FieldValue}
 use Rattle.telegram_objects.proofs.putting.body_bits.Goals as goal
 

@@ -8,7 +8,7 @@ returns-then-put_pair c = λ f g first second first_width second_width room.
     let one = c.put_pair.ensures f first first_width (omega arith) in
     let long : length c.put_pair.new.writer ≡ length c.args.writer.now + f.width = omega (arith, ap length one.1, length-append c.args.writer.now (number_bits f.width f.number), length-number_bits f.width f.number) in
     let two = c.put_second.ensures g second second_width (omega arith) in
-    (two.0, two.1 ∙ ap (λ (t : List Bool). (t ++ number_bits g.width g.number) ++ number_bits 13 c.args.told) one.1)
+    (two.0, two.1 ∙ ap (λ (t : List Bool). (t ++ number_bits g.width g.number) ++ number_bits 13 c.args.reported) one.1)
 
 pub returns-else-put_pair : goal.returns-else-put_pair
 returns-else-put_pair c = λ f g first second first_width second_width room.

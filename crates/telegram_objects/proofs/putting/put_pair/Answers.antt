@@ -17,8 +17,8 @@ small (row ∷ rows) text n all =
     cond_both _ _ _ (λ (o : Option ℕ). o ≡ Some n → n < 64) (λ _. here) (λ _. small rows text n both.1)
 
 pub returns-in-Some-width_of : goal.returns-in-Some-width_of
-returns-in-Some-width_of c = λ f told has room.
-    let p = c.in-Some.ensures f told in
+returns-in-Some-width_of c = λ f reported has room.
+    let p = c.in-Some.ensures f reported in
     let is : width_in widths c.in-Some.name.now ≡ Some c.in-Some-width_of.width =
     sym c.width_of.ensures ∙ c.in-Some-width_of.is in
     let w = same_Some _ _ (sym is ∙ ap (λ (text : List ℕ). width_in widths text) p.0 ∙ has) in

@@ -8,7 +8,7 @@ returns-then-put_pair c = λ g second width room.
     let one = c.put_pair.ensures g second width (omega arith) in
     let long : length c.put_pair.new.writer ≡ length c.args.writer.now + g.width = omega (arith, ap length one.1, length-append c.args.writer.now (number_bits g.width g.number), length-number_bits g.width g.number) in
     let two = c.put_low.ensures (omega arith) (omega arith) in
-    (two.0, two.1 ∙ ap (λ (t : List Bool). t ++ number_bits 13 c.args.told) one.1)
+    (two.0, two.1 ∙ ap (λ (t : List Bool). t ++ number_bits 13 c.args.reported) one.1)
 
 pub returns-else-put_pair : goal.returns-else-put_pair
 returns-else-put_pair c = λ g second width room.

@@ -2,7 +2,7 @@ use Rattle.std.proofs.Common.{◌≡◌, ◌∷◌, List, map, true≢false, inl
 use Rattle.serde_json.specs.Data.{Data}
 use Rattle.serde_json.specs.View.{view}
 use Rattle.telegram_objects.specs.Laying.{length_field}
-use Rattle.telegram_objects.specs.Telling.{pair_of}
+use Rattle.telegram_objects.specs.Description.{pair_of}
 use Rattle.telegram_objects.proofs.putting.without_length.Goals as goal
 
 heads : (x y : Data) (xs ys : List Data) → x ∷ xs ≡ y ∷ ys → x ≡ y

@@ -1,7 +1,7 @@
 use Rattle.std.proofs.Common.{◌≡◌, ◌∷◌, map}
 use Rattle.std.proofs.lemmas.Result.{on_ok_weaker}
 use Rattle.serde_json.specs.View.{items_of}
-use Rattle.telegram_objects.specs.Telling.{pair_of}
+use Rattle.telegram_objects.specs.Description.{pair_of}
 use Rattle.telegram_objects.proofs.PieceTexts.{appended}
 use Rattle.telegram_objects.proofs.text.+write_pairs.Goals as goal
 

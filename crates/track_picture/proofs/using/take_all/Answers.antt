@@ -29,12 +29,12 @@ pub packets-preserved : goal.packets-preserved
 packets-preserved g c =
     let next : c.packets.walk ≡ c.next_into.new.item.packet ∷ c.next_into.new.self = rw c.packets-test.true at c.next_into.ensures.some in
     let one : length c.packets.walk ≡ length c.next_into.new.self + 1 = rw add-one (ap length next) in (
-      λ told s. (let before = c.packets.invariant.0 told s in
+      λ reported s. (let before = c.packets.invariant.0 reported s in
           let used = c.args.used.now in
           let rest = c.next_into.new.self in
           let packet = c.packet.result.now in (
             _,
-            c.take_one.ensures.told before.0 before.1,
+            c.take_one.ensures.reported before.0 before.1,
             sym (one_packet g.W.Walk.after used packet rest before.0)
                 ∙ ap (λ (p : Packet). after_facts g.W.Walk.after (facts used (p ∷ rest)) before.0) c.packet.ensures
                 ∙ sym (ap (λ (ps : List Packet). after_facts g.W.Walk.after (facts used ps) before.0) next)

@@ -6,12 +6,12 @@ use Rattle.track_picture.specs.Steps.{facts}
 use Rattle.track_picture.specs.Happenings.{comes_later}
 use Rattle.track_picture.proofs.using.take_all.Given as goal
 
--- what the packets still to come make of what was told now is what all of them make of what was told before; the room
+-- what the packets still to come make of what was reported now is what all of them make of what was reported before; the room
 -- that is left is for them; those met so far and those to come are all; and without packets nothing changes
 abbrev pub invariant-packets : goal.invariant-packets
 invariant-packets g l =
-    ((told : g.W.Walk.Told) → g.W.Walk.IsTold l.fn.state told → (now : g.W.Walk.Told) × (g.W.Walk.IsTold l.state now)
-    × (after_facts g.W.Walk.after (facts l.used l.walk) now ≡ after_facts g.W.Walk.after (facts l.used l.fn.packets) told))
+    ((reported : g.W.Walk.Reported) → g.W.Walk.IsReported l.fn.state reported → (now : g.W.Walk.Reported) × (g.W.Walk.IsReported l.state now)
+    × (after_facts g.W.Walk.after (facts l.used l.walk) now ≡ after_facts g.W.Walk.after (facts l.used l.fn.packets) reported))
     × ((behind : ℕ) → g.W.Walk.HasRoom (length l.fn.packets) behind l.fn.state → g.W.Walk.HasRoom (length l.walk) behind l.state)
     × (list_any comes_later l.fn.packets ≡ (l.later || list_any comes_later l.walk))
     × (length l.walk ≤ length l.fn.packets)

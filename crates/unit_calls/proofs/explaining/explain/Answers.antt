@@ -1,16 +1,16 @@
 use Rattle.std.proofs.Common.{rules, ◌≡◌, Some, None, refl}
-use Rattle.unit_calls.proofs.Untold.{untold, is_told, of_released}
+use Rattle.unit_calls.proofs.Unreported.{unreported, is_reported, of_released}
 use Rattle.unit_calls.proofs.explaining.explain.Goals as goal
 
 pub returns-in-None : goal.returns-in-None
 returns-in-None c =
     let none : c.released_state.result ≡ None = search rules in
-    untold _ c.released_state.result c.args.opened.now.unit.moored _ _ none c.released_state.ensures.exact (refl, refl)
+    unreported _ c.released_state.result c.args.opened.now.unit.moored _ _ none c.released_state.ensures.exact (refl, refl)
 
 pub returns-in-Some : goal.returns-in-Some
 returns-in-Some c =
     let state = c.in-Some.state in
     let some : c.released_state.result ≡ Some state = search rules in
-    is_told _ c.released_state.result c.args.opened.now.unit.moored _ _ state some c.released_state.ensures.exact
+    is_reported _ c.released_state.result c.args.opened.now.unit.moored _ _ state some c.released_state.ensures.exact
     (of_released (λ s. s.now) c.args.opened.now.unit.moored c.released_state.result state c.events.result c.saturating_sub-event.result _ _ some c.saturating_sub-event.ensures refl
-    c.events.ensures c.released_state.ensures.released c.why_told.ensures)
+    c.events.ensures c.released_state.ensures.released c.why_reported.ensures)

@@ -11,7 +11,7 @@ use Rattle.whole_lives.proofs.Onward.{stepped, stopped}
 use Rattle.whole_lives.proofs.Stopping.{stood_on, stopped_here, done_before}
 use Rattle.unit_start.specs.UnitState.{UnitState}
 use Rattle.onboard.specs.Progress.{progress_of}
-use Rattle.whole_lives.specs.Stops.{AllStand, AreBehind}
+use Rattle.whole_lives.specs.Stops.{AllStand, AreAfter}
 use Rattle.whole_lives.proofs.RunEnds.{going_first, finished, unflushed}
 use Rattle.whole_lives.proofs.steps.run_into.Goals as goal
 
@@ -82,7 +82,7 @@ returns-clause-ran g c = λ whole_from s honest opened ahead.
     let so = c.loop-k.invariant.going whole_from s honest opened ahead in
     let end = finished whole_from s c.args.steps.now c.loop-k.k (g.D.WriteDisk.state c.args.unit.now.disk) (g.D.WriteDisk.state c.loop-k.unit.disk) c.loop-k.unit.journal c.loop-k.unit.life so.0 so.2 in
     let all = take_all c.loop-k.k c.args.steps.now (search rules) in
-    (so.0, so.1, end.0, (end.1 ∙ search rules, subst (λ (l : List Step). AreBehind s l end.0.durable_at_end end.0.accepted_at_end end.0.released) all end.2), tt)
+    (so.0, so.1, end.0, (end.1 ∙ search rules, subst (λ (l : List Step). AreAfter s l end.0.durable_at_end end.0.accepted_at_end end.0.released) all end.2), tt)
 
 pub returns-in-Err-clause-stopped : goal.returns-in-Err-clause-stopped
 returns-in-Err-clause-stopped g c = stopped_here (progress_of c.args.unit.now.journal c.args.unit.now.life) (progress_of c.loop-k.unit.journal c.loop-k.unit.life) c.args.steps.now c.loop-k.k c.loop-k-test.true c.index-steps-k.result _ c.index-steps-k.is

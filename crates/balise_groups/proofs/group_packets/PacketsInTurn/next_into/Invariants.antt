@@ -1,6 +1,6 @@
 use Rattle.std.proofs.Common.{◌≡◌, ◌++◌, length}
 use Rattle.telegram.specs.Walks.{packets_of}
-use Rattle.balise_groups.specs.Telling.{before_infill, used_of}
+use Rattle.balise_groups.specs.Description.{before_infill, used_of}
 use Rattle.balise_groups.proofs.group_packets.PacketsInTurn.next_into.Given as goal
 
 abbrev pub invariant-telegrams : goal.invariant-telegrams

@@ -10,7 +10,7 @@ returns-clause-len g c =
     let long : length c.args.self.now ≡ 8 * length c.self.inside.bytes.items + c.self.inside.held = sym (ap length c.self.view_is) ∙ length-written c.self.inside.bytes.items c.self.inside.held c.self.inside.word in
     omega arith
 
--- the bytes of `out`: those of the writer, the last ones, and what stood behind them
+-- the bytes of `out`: those of the writer, the last ones, and what stood after them
 all_of : (g : Over) (c : goal.After-out-2-1 g) → c.write_over-2.new.out ≡ (c.self.inside.bytes.items ++ take c.last_bytes-more.result.1 c.last_bytes-more.result.0) ++ drop (c.len-whole.result + length (take c.last_bytes-more.result.1 c.last_bytes-more.result.0)) c.args.out.now
 all_of g c =
     let same : c.as_slice.result.now ≡ c.self.inside.bytes.items = c.as_slice.ensures.value in

@@ -10,7 +10,7 @@ use Rattle.braking.proofs.Naturals.{parts}
 use Rattle.braking.proofs.Braked.{IsEven, begun_summed, begun_little}
 use Rattle.braking.proofs.stretch.Stretch.before.Goals as goal
 
--- a stretch behind a place that lies near enough may be begun
+-- a stretch after a place that lies near enough may be begun
 may_begin : (gradient : ℤ → Option ℤ) (deceleration slowing : ℕ) (sum : Summed) (least from : ℤ) → IsSummed gradient deceleration sum → slowing ≤ 549 →
     least ≤ℤ from → from <ℤ sum.from → natural (sum.to -ℤ least) ≤ 2 ^ 43 → IsEvenBefore slowing from sum
 may_begin gradient deceleration slowing sum least from summed small within before near =

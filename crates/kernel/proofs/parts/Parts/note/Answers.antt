@@ -1,11 +1,11 @@
 use Rattle.std.proofs.Common.{ap, ◌∙◌}
 use Rattle.kernel.specs.declared.sight.Sight.{Sight}
-use Rattle.kernel.specs.StandsFor.{KnownBeside}
+use Rattle.kernel.specs.StandsFor.{KnownAlongside}
 use Rattle.kernel.proofs.parts.Parts.note.Goals as goal
 
 pub returns : goal.returns
 returns c life entry s shown =
     let parts = c.self.view_is ∙ s in
-    let window = c.after-self-inside.ensures life entry (ap (λ (k : KnownBeside). k.window) parts) shown in
+    let window = c.after-self-inside.ensures life entry (ap (λ (k : KnownAlongside). k.window) parts) shown in
     let limit = ap (λ (x : Sight). x.limit) shown in
     λ i. record (parts i) { window = window i; limit = limit i }

@@ -18,5 +18,5 @@ returns-in-Input-clause-closings g c =
     → all_of closings ≡ closings_by life c.in-Input.input)
     (λ (closings : Closings). (past : Past) → StandsAt g.T.ProfileStores.stores c.args.self.now past
     → all_of closings ≡ closings_after past c.args.event.now)
-    (λ closings told past s. told past.life (seen c.self.view_is s.life_is).supervision_is ∙ ap (closings_after past) (sym c.in-Input.is))
+    (λ closings reported past s. reported past.life (seen c.self.view_is s.life_is).supervision_is ∙ ap (closings_after past) (sym c.in-Input.is))
     c.closings_by.ensures.closings

@@ -2,4 +2,4 @@ use Rattle.std.proofs.lemmas.Result.{on_ok_weaker}
 use Rattle.lab_why.proofs.visiting.CourseVisit.goes_on.Goals as goal
 
 pub returns : goal.returns
-returns g c = on_ok_weaker c.tell.result (λ told. (c.follow.new.life, c.in_ok-follow.ensures, told)) c.tell.ensures
+returns g c = on_ok_weaker c.describe.result (λ reported. (c.follow.new.life, c.in_ok-follow.ensures, reported)) c.describe.ensures

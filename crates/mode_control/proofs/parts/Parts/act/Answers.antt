@@ -9,7 +9,7 @@ use Rattle.mode_control.specs.StandsFor.{KnownModes}
 use Rattle.mode_control.proofs.parts.Parts.act.Goals as goal
 
 pub returns : goal.returns
-returns c life told s =
+returns c life reported s =
     let parts = c.self.view_is ∙ s in
     let action = c.args.deed.now.action in
     let driver = c.act.ensures (left_at_power_up life) (deeds life.entries) (ap (λ (k : KnownModes). k.driver) parts) in

@@ -6,5 +6,5 @@ use Rattle.mode_control.specs.StandsFor.{parts_of}
 use Rattle.mode_control.proofs.parts.Parts.note.Goals as goal
 
 pub returns-in-Some : goal.returns-in-Some
-returns-in-Some c life told s =
-    c.act.ensures life told s ∙ ap (λ (d : Option Deed). parts_of (grown life (begun (record told { entered = None }) d))) (sym c.in-Some.is)
+returns-in-Some c life reported s =
+    c.act.ensures life reported s ∙ ap (λ (d : Option Deed). parts_of (grown life (begun (record reported { entered = None }) d))) (sym c.in-Some.is)

@@ -10,7 +10,7 @@ use Rattle.mode_control.specs.StandsFor.{KnownModes}
 use Rattle.mode_control.proofs.parts.Parts.turn.Goals as goal
 
 pub returns : goal.returns
-returns c life told deed level s path =
+returns c life reported deed level s path =
     let parts = c.self.view_is ∙ s in
     let entered = c.args.entered.now in
     let driver = c.turn_driver.ensures (left_at_power_up life) (after_level level (after_deed deed (deeds life.entries))) (ap (λ (k : KnownModes). k.driver) parts) in

@@ -19,6 +19,6 @@ returns-clause-closings g c =
     (λ (closings : Closings). (life : track_picture.Life) → track_picture.StandsForLife g.T.ProfileStores.stores c.self.inside.track life
     → all_of closings ≡ track.closings_by c.mode.result life.entries input)
     (λ (closings : Closings). (life : Life) → StandsForLife g.T.ProfileStores.stores c.args.self.now life → all_of closings ≡ closings_by life input)
-    (λ closings told life s. told (track_of life) (seen c.self.view_is s).track_is
+    (λ closings reported life s. reported (track_of life) (seen c.self.view_is s).track_is
     ∙ ap (λ (mode : Mode). track.closings_by mode (tracks life.entries) input) (c.mode.ensures ∙ ap (λ (k : KnownModes). k.mode) s.parts_are))
     c.closings_by.ensures.closings

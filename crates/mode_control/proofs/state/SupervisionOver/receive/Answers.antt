@@ -3,7 +3,7 @@ use Rattle.mode_table.specs.declared.level.TrainLevel.{TrainLevel}
 use Rattle.units.specs.Stretches.{Span}
 use Rattle.mode_control.specs.Entry.{SupervisionEntry, begun}
 use Rattle.mode_control.specs.Life.{Life, grown}
-use Rattle.mode_control.specs.Sentences.{told, deed_of, the_train_is_seen, the_mode_changes, the_calls_are_settled, written}
+use Rattle.mode_control.specs.Sentences.{reported, deed_of, the_train_is_seen, the_mode_changes, the_calls_are_settled, written}
 use Rattle.mode_control.specs.StandsFor.{StandsForLife}
 use Rattle.mode_control.proofs.state.SupervisionOver.receive.Goals as goal
 
@@ -16,7 +16,7 @@ turned_at life event x = written (the_mode_changes ∷ the_calls_are_settled ∷
 
 pub returns-clause-stands : goal.returns-clause-stands
 returns-clause-stands g c life s =
-    let t = told life c.args.input.now in
+    let t = reported life c.args.input.now in
     let deed = deed_of life c.args.input.now in
     let event : SupervisionEntry = begun t deed in
     let began = c.in_ok-begin.ensures.stands life s in

@@ -12,25 +12,25 @@ use Rattle.mode_control.proofs.Standing.{seen}
 use Rattle.mode_control.proofs.state.SupervisionOver.see.Goals as goal
 
 pub returns-clause-level : goal.returns-clause-level
-returns-clause-level g c life told deed s =
+returns-clause-level g c life reported deed s =
     let before = seen c.self.view_is s in
     let length = c.length-length.ensures ∙ ap (λ (k : KnownModes). length_by k.driver.train_data) before.parts_are in
-    let all : List TrackEntry = record told { train = None; entered = None } ∷ tracks life.entries in
-    c.look-level.ensures.level (track_of life) told before.track_is
+    let all : List TrackEntry = record reported { train = None; entered = None } ∷ tracks life.entries in
+    c.look-level.ensures.level (track_of life) reported before.track_is
     ∙ ap (λ (n : ℕ). coming (span_with n all).max_front (announced_level all)) length
 
 pub returns-clause-stands : goal.returns-clause-stands
-returns-clause-stands g c life told deed s =
+returns-clause-stands g c life reported deed s =
     let before = seen c.self.view_is s in
     let length = c.length-length.ensures ∙ ap (λ (k : KnownModes). length_by k.driver.train_data) before.parts_are in
-    let all : List TrackEntry = record told { train = None; entered = None } ∷ tracks life.entries in
-    let level = c.look-level.ensures.level (track_of life) told before.track_is
+    let all : List TrackEntry = record reported { train = None; entered = None } ∷ tracks life.entries in
+    let level = c.look-level.ensures.level (track_of life) reported before.track_is
     ∙ ap (λ (n : ℕ). coming (span_with n all).max_front (announced_level all)) length in
     subst (λ (x : ℕ × Option TrainLevel). StandsForLife g.T.ProfileStores.stores
     (record { parts = c.come_in.new.self; track = c.look-level.new.self })
-    (grown life (record (begun (record told { train = Some (span_with x.0 all); entered = None }) deed) { level = x.1 })))
+    (grown life (record (begun (record reported { train = Some (span_with x.0 all); entered = None }) deed) { level = x.1 })))
     (λ i. (length i, level i))
     (record {
-      parts_are = c.come_in.ensures life told (Some (span_with c.length-length.result all)) deed before.parts_are;
-      track_is = c.look-level.ensures.stands (track_of life) told before.track_is;
+      parts_are = c.come_in.ensures life reported (Some (span_with c.length-length.result all)) deed before.parts_are;
+      track_is = c.look-level.ensures.stands (track_of life) reported before.track_is;
     })

@@ -3,7 +3,7 @@ use Rattle.units.specs.Stretches.{Span}
 use Rattle.mode_control.specs.Entry.{SupervisionEntry, begun}
 use Rattle.mode_control.specs.History.{mode_of}
 use Rattle.mode_control.specs.Life.{Life, grown}
-use Rattle.mode_control.specs.Sentences.{told, deed_of, the_train_is_seen}
+use Rattle.mode_control.specs.Sentences.{reported, deed_of, the_train_is_seen}
 use Rattle.mode_control.specs.StandsFor.{KnownModes}
 use Rattle.mode_control.specs.Tripping.{leads_to_trip, trip_in}
 use Rattle.mode_control.proofs.Standing.{seen}
@@ -12,7 +12,7 @@ use Rattle.mode_control.proofs.state.SupervisionOver.trip_by.Goals as goal
 
 pub returns-clause-cause : goal.returns-clause-cause
 returns-clause-cause g c life s =
-    let t = told life c.args.input.now in
+    let t = reported life c.args.input.now in
     let deed = deed_of life c.args.input.now in
     let event : SupervisionEntry = begun t deed in
     let began = c.in_ok-begin.ensures.stands life (seen c.in_ok-next.ensures.value s) in
@@ -23,6 +23,6 @@ returns-clause-cause g c life s =
 pub returns-then-not-leads_to_trip-clause-cause : goal.returns-then-not-leads_to_trip-clause-cause
 returns-then-not-leads_to_trip-clause-cause g c life s =
     let none : c.leads_to_trip.result ≡ false = search rules in
-    let told : c.leads_to_trip.result ≡ leads_to_trip c.mode.result = c.leads_to_trip.ensures in
+    let reported : c.leads_to_trip.result ≡ leads_to_trip c.mode.result = c.leads_to_trip.ensures in
     let mode : c.args.self.now.parts.mode ≡ mode_of life.entries = ap (λ (k : KnownModes). k.mode) s.parts_are in
-    sym (untripped life c.args.input.now (ap leads_to_trip (sym mode ∙ sym c.mode.ensures) ∙ sym told ∙ none))
+    sym (untripped life c.args.input.now (ap leads_to_trip (sym mode ∙ sym c.mode.ensures) ∙ sym reported ∙ none))

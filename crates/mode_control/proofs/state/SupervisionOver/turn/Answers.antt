@@ -13,11 +13,11 @@ use Rattle.mode_control.proofs.Standing.{seen}
 use Rattle.mode_control.proofs.state.SupervisionOver.turn.Goals as goal
 
 pub returns-clause-stands : goal.returns-clause-stands
-returns-clause-stands g c life told deed s =
+returns-clause-stands g c life reported deed s =
     let before = seen c.self.view_is s in
     let train = c.args.seen.now.train in
     let level = c.args.seen.now.level in
-    let looked : TrackEntry = record told { train = Some train } in
+    let looked : TrackEntry = record reported { train = Some train } in
     let event : SupervisionEntry = record (begun (record looked { entered = None }) deed) { level = level } in
     let here : Life = grown life event in
     let mode = c.entered-entered.result in

@@ -4,9 +4,9 @@ use Rattle.events.specs.declared.kept.Kept.{Kept}
 use Rattle.kernel.specs.declared.causes.BrakeCause.TheVariants as cause
 use Rattle.kernel.specs.Causes.{is_among}
 use Rattle.kernel.specs.Lives.{onward, past_at}
-use Rattle.reasons.specs.Runs.{number_behind, causes_behind}
+use Rattle.reasons.specs.Runs.{number_after, later_causes}
 use Rattle.reasons.specs.Trips.{trip_held}
-use Rattle.reasons.proofs.Numbers.{one_more_behind}
+use Rattle.reasons.proofs.Numbers.{one_more_after}
 use Rattle.reasons.proofs.reasoning.Reasoning.begin.Goals as goal
 
 -- where no trip was entered and none was known
@@ -18,12 +18,12 @@ pub returns-clause-stands : goal.returns-clause-stands
 returns-clause-stands c = λ story left.
     let begun = onward story (PowerUp c.args.word) in
     let knows = c.power_up-state.ensures.begun (past_at story) left in
-    let number : c.args.kept.now.events ≡ number_behind story = ap (λ (k : Kept). k.events) left in
+    let number : c.args.kept.now.events ≡ number_after story = ap (λ (k : Kept). k.events) left in
     record {
       knows = knows;
-      numbered = omega (arith, number, one_more_behind story (PowerUp c.args.word));
+      numbered = omega (arith, number, one_more_after story (PowerUp c.args.word));
       runs_are = c.begun-runs.ensures story c.args.word (c.causes_in-causes.ensures (past_at begun).life knows.life_is) number;
-      trip_is = none_held (is_among cause.OwesTrip (causes_behind begun)) (number_behind story);
+      trip_is = none_held (is_among cause.OwesTrip (later_causes begun)) (number_after story);
       groups_are = record { mode_is = refl; closings_are = refl };
     }
 

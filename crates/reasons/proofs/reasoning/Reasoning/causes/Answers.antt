@@ -1,6 +1,6 @@
 use Rattle.std.proofs.Common.{sym, subst}
 use Rattle.kernel.specs.Lives.{past_at}
-use Rattle.reasons.specs.Told.{Reasoned, Reasons}
+use Rattle.reasons.specs.Reported.{Reasoned, Reasons}
 use Rattle.reasons.proofs.reasoning.Reasoning.causes.Goals as goal
 
 pub returns : goal.returns

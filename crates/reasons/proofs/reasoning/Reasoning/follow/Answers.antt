@@ -2,10 +2,10 @@ use Rattle.std.proofs.Common.{sym, subst, ap, ◌∙◌, arith}
 use Rattle.kernel.specs.declared.causes.BrakeCause.TheVariants as cause
 use Rattle.kernel.specs.Causes.{is_among}
 use Rattle.kernel.specs.Lives.{onward, past_at}
-use Rattle.reasons.specs.Told.{Reasoned, Reasons}
+use Rattle.reasons.specs.Reported.{Reasoned, Reasons}
 use Rattle.reasons.specs.Runs.{in_this_life}
 use Rattle.reasons.specs.Trips.{trip_held}
-use Rattle.reasons.proofs.Numbers.{one_more_behind}
+use Rattle.reasons.proofs.Numbers.{one_more_after}
 use Rattle.reasons.proofs.reasoning.Reasoning.follow.Goals as goal
 
 pub returns-clause-stands : goal.returns-clause-stands
@@ -19,7 +19,7 @@ returns-clause-stands c = λ story stands.
     let before = c.trip_before-before.ensures ∙ ap (in_this_life event) at.trip_is in
     record {
       knows = knows;
-      numbered = omega (arith, at.numbered, one_more_behind story event);
+      numbered = omega (arith, at.numbered, one_more_after story event);
       runs_are = c.after-self-inside.ensures story at.runs_are causes at.numbered;
       trip_is = c.trip_held-trip.ensures ∙ (λ i. trip_held (owes i) (entered i) (before i) (at.numbered i));
       groups_are = c.in-Ok-groups_by.ensures story stands;

@@ -3,7 +3,7 @@ use Rattle.events.specs.declared.input.Event.{Event}
 use Rattle.events.specs.declared.output.Output.{Output}
 use Rattle.kernel.specs.Lives.{past_at}
 use Rattle.reasons.specs.Closings.{mode_before}
-use Rattle.reasons.specs.Told.{Reasoned, Reasons}
+use Rattle.reasons.specs.Reported.{Reasoned, Reasons}
 use Rattle.reasons.proofs.reasoning.Reasoning.groups_by.Goals as goal
 
 pub returns-in_ok-closings_by-in-Input : goal.returns-in_ok-closings_by-in-Input

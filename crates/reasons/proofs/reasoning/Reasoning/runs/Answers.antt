@@ -1,5 +1,5 @@
 use Rattle.std.proofs.Common.{sym, subst}
-use Rattle.reasons.specs.Told.{Reasoned, Reasons}
+use Rattle.reasons.specs.Reported.{Reasoned, Reasons}
 use Rattle.reasons.proofs.reasoning.Reasoning.runs.Goals as goal
 
 pub returns : goal.returns

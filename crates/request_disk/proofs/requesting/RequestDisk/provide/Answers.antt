@@ -8,7 +8,7 @@ use Rattle.request_disk.specs.Medium.{with_sectors}
 use Rattle.request_disk.specs.Requesting.{Requesting, request_state, knows}
 use Rattle.request_disk.specs.declared.known.Known.{Known}
 use Rattle.request_disk.proofs.Carried.{put_size, put_other, put_one}
-use Rattle.request_disk.proofs.Holding.{has_added, or_right, unknown_held, told_put, told_others, same_medium}
+use Rattle.request_disk.proofs.Holding.{has_added, or_right, unknown_held, reported_put, reported_others, same_medium}
 use Rattle.request_disk.proofs.requesting.RequestDisk.provide.Goals as goal
 
 module _ (c : goal.After-add) where
@@ -67,16 +67,16 @@ returns-clause-same c = λ is.
     ap S (carries c ∙ same_medium (w c) c.args.sector c.args.bytes.now (below c) (size c) c.self.invariant.whole (unknown c) held)
     ∙ ap (λ (v : Requesting). request_state v) c.self.view_is
 
-pub returns-clause-told : goal.returns-clause-told
-returns-clause-told c = λ _.
+pub returns-clause-reported : goal.returns-clause-reported
+returns-clause-reported c = λ _.
     let s = c.args.sector in
     ap (λ (medium : List ℕ). contents_of (state_of (w c).sectors (w c).faults medium (w c).written (w c).requests) s) (carries c)
-    ∙ told_put (w c) s c.args.bytes.now (below c) (size c) c.self.invariant.whole (unknown c)
+    ∙ reported_put (w c) s c.args.bytes.now (below c) (size c) c.self.invariant.whole (unknown c)
 
 pub returns-clause-others : goal.returns-clause-others
 returns-clause-others c = λ s other.
     ap (λ (medium : List ℕ). contents_of (state_of (w c).sectors (w c).faults medium (w c).written (w c).requests) s) (carries c)
-    ∙ told_others (w c) c.args.sector c.args.bytes.now (below c) (size c) c.self.invariant.whole (unknown c) s other
+    ∙ reported_others (w c) c.args.sector c.args.bytes.now (below c) (size c) c.self.invariant.whole (unknown c) s other
     ∙ ap (λ (v : Requesting). contents_of (request_state v) s) c.self.view_is
 
 pub returns-clause-known : goal.returns-clause-known

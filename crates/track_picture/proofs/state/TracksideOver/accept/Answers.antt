@@ -6,11 +6,11 @@ use Rattle.track_picture.specs.History.{place_of}
 use Rattle.track_picture.specs.Sentences.{own_place, fix_of, place_by}
 use Rattle.track_picture.specs.Steps.{facts}
 use Rattle.track_picture.specs.StandsFor.{KnownTrack, grown, grown_so_far}
-use Rattle.track_picture.specs.Columns.{StandsForColumns, told_of}
+use Rattle.track_picture.specs.Columns.{StandsForColumns, description_of}
 use Rattle.track_picture.proofs.Idling.{same_seen}
 use Rattle.track_picture.proofs.SameParts.{by_facts}
-use Rattle.track_picture.proofs.Standing.{seen_columns as seen, told_as}
-use Rattle.track_picture.proofs.Telling.{up_to_groups, told_judged}
+use Rattle.track_picture.proofs.Standing.{seen_columns as seen, reported_as}
+use Rattle.track_picture.proofs.Description.{up_to_groups, reported_judged}
 use Rattle.track_picture.proofs.state.TracksideOver.accept.Goals as goal
 
 pub returns-clause-idle : goal.returns-clause-idle
@@ -28,12 +28,12 @@ returns-clause-stands g c life begun used s =
     let inside = seen c.self.view_is s in
     let free = c.is_free-free.ensures (grown life entry) (by_facts (grown life entry) s) in
     let fix = ap (λ b. fix_of here b m a) free in
-    let place = c.fix-place.ensures.answer life begun used (told_of (entry ∷ life.entries)) inside.parts_are ∙ ap (λ b. place_by (own_place here m) (fix_of here b m a)) free in
-    let fixed = c.fix-place.ensures.stands life begun used (told_of (entry ∷ life.entries)) inside.parts_are in
+    let place = c.fix-place.ensures.answer life begun used (description_of (entry ∷ life.entries)) inside.parts_are ∙ ap (λ b. place_by (own_place here m) (fix_of here b m a)) free in
+    let fixed = c.fix-place.ensures.stands life begun used (description_of (entry ∷ life.entries)) inside.parts_are in
     let moment = ap (λ (k : KnownTrack). k.moment) (ap (λ w. w.parts) c.self-inside.view_is ∙ fixed) in
     let direction = c.direction_by.ensures in
     subst (λ (o : Option Fix × List Fact). StandsForColumns g.T.ProfileStores.stores c.take_packets.new.self (grown_so_far life begun (added (Accepted m a o.0 o.1) used)))
     (λ i. (fix i, facts (record { mode = c.args.mode; group = m.group; place = place i; moment = moment i; direction = direction i }) m.packets))
     (c.take_packets.ensures.stands life begun used m a (fix_of here c.is_free-free.result m a)
-    (told_as (told_judged (Accepted m a None []) before ∙ sym (told_judged (Accepted m a (fix_of here c.is_free-free.result m a) []) before))
+    (reported_as (reported_judged (Accepted m a None []) before ∙ sym (reported_judged (Accepted m a (fix_of here c.is_free-free.result m a) []) before))
     (record { parts_are = fixed; restrictions_are = inside.restrictions_are; gradients_are = inside.gradients_are; speeds_are = inside.speeds_are })))

@@ -7,11 +7,11 @@ use Rattle.track_picture.specs.Entry.{blank, added, asking_for}
 use Rattle.track_picture.specs.Entry.Outcome.{Broken as NoMessage}
 use Rattle.track_picture.specs.Sentences.{after_group}
 use Rattle.track_picture.specs.StandsFor.{KnownTrack, grown_so_far}
-use Rattle.track_picture.specs.Columns.{StandsForColumns, told_in, after_breaking}
+use Rattle.track_picture.specs.Columns.{StandsForColumns, reported_in, after_breaking}
 use Rattle.track_picture.proofs.Chain.{links_are}
 use Rattle.track_picture.proofs.SameParts.{same_parts}
-use Rattle.track_picture.proofs.Standing.{seen_columns as seen, told_as}
-use Rattle.track_picture.proofs.Telling.{up_to_groups, told_judged}
+use Rattle.track_picture.proofs.Standing.{seen_columns as seen, reported_as}
+use Rattle.track_picture.proofs.Description.{up_to_groups, reported_judged}
 use Rattle.track_picture.proofs.state.TracksideOver.close_one.Goals as goal
 
 pub returns-in-Broken-clause-stands : goal.returns-in-Broken-clause-stands
@@ -27,8 +27,8 @@ returns-in-Broken-clause-stands g c life begun used s =
     (subst (λ (effect : Effect). StandsForColumns g.T.ProfileStores.stores (record { parts = c.give_up.new.self; restrictions = c.self.inside.restrictions; gradients = c.self.inside.gradients; speeds = c.self.inside.speeds })
     (grown_so_far life begun (added (NoMessage b) (asking_for effect used))))
     asked
-    (told_as (ap (λ (k : KnownLinks). after_breaking k b (told_in before)) links ∙ sym (told_judged (NoMessage b) before)) (record {
-      parts_are = c.give_up.ensures life begun used (told_in before) inside.parts_are;
+    (reported_as (ap (λ (k : KnownLinks). after_breaking k b (reported_in before)) links ∙ sym (reported_judged (NoMessage b) before)) (record {
+      parts_are = c.give_up.ensures life begun used (reported_in before) inside.parts_are;
       restrictions_are = inside.restrictions_are;
       gradients_are = inside.gradients_are;
       speeds_are = inside.speeds_are;

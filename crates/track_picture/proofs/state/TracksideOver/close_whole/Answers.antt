@@ -5,10 +5,10 @@ use Rattle.linking.specs.Judging.{judgement}
 use Rattle.track_picture.specs.Entry.{blank, added, asking_for}
 use Rattle.track_picture.specs.Sentences.{group_read, judged, outcome_at_first, outcome}
 use Rattle.track_picture.specs.StandsFor.{KnownTrack, grown, grown_so_far}
-use Rattle.track_picture.specs.Columns.{StandsForColumns, told_in, known_by, after_judging}
+use Rattle.track_picture.specs.Columns.{StandsForColumns, reported_in, known_by, after_judging}
 use Rattle.track_picture.proofs.SameParts.{same_parts}
-use Rattle.track_picture.proofs.Standing.{seen_columns as seen, told_as}
-use Rattle.track_picture.proofs.Telling.{up_to_groups, told_first}
+use Rattle.track_picture.proofs.Standing.{seen_columns as seen, reported_as}
+use Rattle.track_picture.proofs.Description.{up_to_groups, reported_first}
 use Rattle.track_picture.proofs.state.TracksideOver.close_whole.Goals as goal
 
 pub returns-clause-stands : goal.returns-clause-stands
@@ -21,9 +21,9 @@ returns-clause-stands g c life begun used s =
     let asking = asking_for j.effect used in
     let verdict = c.judge-verdict.ensures.answer ∙ ap (λ (x : Judgement). x.verdict) same in
     let before = up_to_groups (record blank { begun = begun; used = used }) life.entries in
-    let parts = subst (λ (x : Judgement). c.judge-verdict.new.self ≡ known_by (grown_so_far life begun (added (outcome_at_first m x.verdict) (asking_for x.effect used))) (after_judging x.verdict m (told_in before)))
-    same (c.judge-verdict.ensures.stands life begun used (told_in before) inside.parts_are) in
-    let now = told_as (sym (told_first j.verdict m before)) (record {
+    let parts = subst (λ (x : Judgement). c.judge-verdict.new.self ≡ known_by (grown_so_far life begun (added (outcome_at_first m x.verdict) (asking_for x.effect used))) (after_judging x.verdict m (reported_in before)))
+    same (c.judge-verdict.ensures.stands life begun used (reported_in before) inside.parts_are) in
+    let now = reported_as (sym (reported_first j.verdict m before)) (record {
       parts_are = parts;
       restrictions_are = inside.restrictions_are;
       gradients_are = inside.gradients_are;

@@ -16,7 +16,7 @@ returns-in-Telegram-clause-closings g c =
     → all_of closings ≡ closings_by c.args.mode life.entries (inputs.Telegram c.as_slice.result.now))
     (λ (closings : Closings). (life : Life) → StandsForLife g.T.ProfileStores.stores c.args.self.now life
     → all_of closings ≡ closings_by c.args.mode life.entries c.args.input.now)
-    (λ closings told life s. told life (by_columns life s)
+    (λ closings reported life s. reported life (by_columns life s)
     ∙ ap (λ (bytes : List ℕ). closings_by c.args.mode life.entries (inputs.Telegram bytes)) c.as_slice.ensures.value
     ∙ ap (closings_by c.args.mode life.entries) (sym c.in-Telegram.is))
     c.closings_heard.ensures.closings

@@ -39,14 +39,14 @@ returns-clause-closings g c =
     → all_of closings ≡ closings_in life.entries begun (with_closed c.args.mode life.entries begun c.hear.new.whole (with_closed c.args.mode life.entries begun c.hear.new.ended (record { groups = []; happened = happened }))).groups)
     (λ (closings : Closings). (life : Life) → StandsForColumns g.T.ProfileStores.stores c.args.self.now life
     → all_of closings ≡ closings_in life.entries (heard life.entries c.args.bytes.now) (with_groups c.args.mode life.entries (heard life.entries c.args.bytes.now) nothing_happened).groups)
-    (λ closings told life s. (let mode = c.args.mode in
+    (λ closings reported life s. (let mode = c.args.mode in
     let bytes = c.args.bytes.now in
     let begun = heard life.entries bytes in
     let at = c.copy-parts.ensures ∙ (seen c.self.view_is s).parts_are in
     let carried = carried_in _ _ ((c.in-Ok.ensures.found _).0 refl) in
     let ended = c.hear.ensures.ended life bytes at carried in
     let whole = c.hear.ensures.whole life bytes at carried in
-    told life begun nothing_happened s (c.hear.ensures.stands life bytes at carried)
+    reported life begun nothing_happened s (c.hear.ensures.stands life bytes at carried)
     ∙ (λ i. closings_in life.entries begun (with_closed mode life.entries begun (whole i) (with_closed mode life.entries begun (ended i) (record { groups = []; happened = nothing_happened }))).groups)))
     c.closings_of.ensures.closings
 

@@ -8,7 +8,7 @@ use Rattle.track_picture.specs.Sentences.{with_closed}
 use Rattle.track_picture.specs.StandsFor.{grown_so_far}
 use Rattle.track_picture.proofs.OneGroup.{alone, one_if}
 use Rattle.track_picture.proofs.Standing.{seen_columns as seen}
-use Rattle.track_picture.proofs.Telling.{told_missed}
+use Rattle.track_picture.proofs.Description.{reported_missed}
 use Rattle.track_picture.proofs.state.TracksideOver.closings_left.Goals as goal
 
 pub returns : goal.returns
@@ -19,7 +19,7 @@ returns g c life mode s =
     let begun = moved life.entries reading in
     let happened = happened_by life.entries reading in
     let left = c.leave-ended.ensures.stands life reading went
-    ∙ ap (known_by (grown_so_far life begun (after_moving life.entries reading))) (sym (told_missed begun.missed (Happening.Moved reading.movement ∷ happenings life.entries))) in
+    ∙ ap (known_by (grown_so_far life begun (after_moving life.entries reading))) (sym (reported_missed begun.missed (Happening.Moved reading.movement ∷ happenings life.entries))) in
     alone c.closing_if.result
     ∙ ap listed c.closing_if.ensures
     ∙ one_if mode life begun happened c.leave-ended.new.self c.leave-ended.result left

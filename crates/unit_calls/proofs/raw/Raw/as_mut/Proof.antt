@@ -46,12 +46,12 @@ stayed = (stay_dropped (mut_ref_to (0 ∷ []) tt (plain (λ _. Raw))) no, tt)
 abbrev Freed : Ptr → Fml
 Freed p = ghosts.dealloc_token the_heap (bare (lone U.mir)) p
 
--- the pointer with this behind it
+-- the pointer with this after it
 abbrev with_value : Raw.Denot → U.Denot → Raw.Denot
 with_value h w = record h { value = Some w }
 
 module _ {M : Type 1} {𝓤 : Ura M} (𝓛 : Logic 𝓤) (rb ro : ℕ) (h : Raw.Denot) (b o : ℕ) (at_b : h.at ≡ block_ptr b o) where
-  -- all but the value behind it
+  -- all but the value after it
   abbrev Rest : Fml
   Rest = fsep (Freed (block_ptr b o)) (cell_at full_share Raw.mir (one (vptr b o) ∷ []) rb ro)
 

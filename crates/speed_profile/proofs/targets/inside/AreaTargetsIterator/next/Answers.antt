@@ -6,7 +6,7 @@ use Rattle.track_store.specs.Profiles.{listed}
 use Rattle.speed_profile.specs.Ahead.{over_ahead, area_targets}
 use Rattle.speed_profile.specs.Starts.{first_in_area}
 use Rattle.speed_profile.specs.Targets.{AskTheSame}
-use Rattle.speed_profile.proofs.Asking.{asked_at, one_told, passed_over, nothing_by, through}
+use Rattle.speed_profile.proofs.Asking.{asked_at, one_reported, passed_over, nothing_by, through}
 use Rattle.speed_profile.proofs.Reaching.{area_asks, no_area_asks}
 use Rattle.speed_profile.proofs.targets.inside.AreaTargetsIterator.next.Goals as goal
 
@@ -18,7 +18,7 @@ returns-then-is_some-clause-steps c =
     let asked : AskTheSame (ahead self.left.now) (listed c.first_in_area-target.result ++ ahead others) =
     asked_at (ahead self.left.now) (ahead (c.in-Some.first.now ∷ others)) (ahead others) c.first_in_area-target.result (first_in_area self.front self.national c.in-Some.first.now)
     (ap ahead c.in-Some.ensures.cases.0) c.first_in_area-target.ensures (area_asks self.front self.national c.in-Some.first.now others) in
-    one_told c.args.self.now (record { targets = ahead others; most = length others; speeds_from = None }) (ahead self.left.now) c.first_in_area-target.result
+    one_reported c.args.self.now (record { targets = ahead others; most = length others; speeds_from = None }) (ahead self.left.now) c.first_in_area-target.result
     c.loop-first.invariant.0 asked (sym c.is_some.ensures ∙ c.if-is_some.true)
 
 pub loop-first-preserved : goal.loop-first-preserved

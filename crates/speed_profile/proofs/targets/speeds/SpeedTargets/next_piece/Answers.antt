@@ -15,10 +15,10 @@ returns-clause-asked g c =
     let targets = static_targets self.bounds.now profile in
     let place : ℤ = c.in_ok-place.place in
     let next = c.piece-here.result.next in
-    let told = c.static_target.result in
-    let is : told ≡ static_target self.bounds.now place (profile place) =
+    let reported = c.static_target.result in
+    let is : reported ≡ static_target self.bounds.now place (profile place) =
     c.static_target.ensures.value ∙ ap (static_target self.bounds.now place) c.piece-here.ensures.value in
-    let asked : AskTheSame (rest targets self.start) (listed told ++ rest targets next) =
-    asked_at (rest targets self.start) (rest targets (Some place)) (rest targets next) told (static_target self.bounds.now place (profile place))
+    let asked : AskTheSame (rest targets self.start) (listed reported ++ rest targets next) =
+    asked_at (rest targets self.start) (rest targets (Some place)) (rest targets next) reported (static_target self.bounds.now place (profile place))
     (ap (rest targets) c.in_ok-place.was) is (piece_asks self.bounds.now profile place c.static_target.ensures.within next c.piece-here.ensures.next) in
-    subst (λ (before : Left). AskTheSame before.targets (listed told ++ rest targets next)) c.self.view_is asked
+    subst (λ (before : Left). AskTheSame before.targets (listed reported ++ rest targets next)) c.self.view_is asked

@@ -1,13 +1,13 @@
 use Rattle.std.proofs.Common.{◌≡◌, [], ap, sym, ◌∙◌, arith}
 use Rattle.std.specs.Prelude.{None}
 use Rattle.speed_profile.specs.Targets.{Left}
-use Rattle.speed_profile.proofs.Asking.{equal, through, one_told, passed_over}
+use Rattle.speed_profile.proofs.Asking.{equal, through, one_reported, passed_over}
 use Rattle.speed_profile.proofs.Starting.{none_left, some_left}
 use Rattle.speed_profile.proofs.targets.speeds.SpeedTargetsIterator.next.Goals as goal
 
 pub returns-then-is_some-clause-steps : goal.returns-then-is_some-clause-steps
 returns-then-is_some-clause-steps g c =
-    one_told c.args.self.now c.next_piece-target.new.self c.loop-self.self.targets c.next_piece-target.result
+    one_reported c.args.self.now c.next_piece-target.new.self c.loop-self.self.targets c.next_piece-target.result
     c.loop-self.invariant.0 c.next_piece-target.ensures.asked (sym c.is_some-in-loop-self.ensures ∙ c.if-is_some.true)
 
 pub returns-clause-steps : goal.returns-clause-steps

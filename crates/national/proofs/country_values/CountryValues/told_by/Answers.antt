@@ -1,5 +1,0 @@
-use Rattle.std.proofs.Common.{rules}
-use Rattle.national.proofs.country_values.CountryValues.told_by.Goals as goal
-
-pub returns : goal.returns
-returns c = search rules

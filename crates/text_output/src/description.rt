@@ -1,0 +1,28 @@
+//! A line of the output, and the status that goes with it.
+ghost use Rattle.std.specs.Prelude.{◌≡◌, ◌++◌, codes, IfOk, OnOk};
+ghost use Rattle.std.specs.Io.KnownBytes.{Appends};
+
+use crate::status::Status;
+use std::io;
+use std::io::Write;
+
+/// Writes a text and the end of its line, and answers the status that goes with it (this project's profile). The error
+/// is that of the write.
+pub fn describe<W: Write>(out: &mut W, line: &str, status: Status) -> io::Result<Status>
+    ensures status { IfOk result (λ reported. reported ≡ status) }
+    ensures line { OnOk result (Appends (W.contents out.old) (W.contents out.new) (line.now ++ codes "\n")) }
+{
+    writeln!(out, "{line}")?;
+    Ok(status)
+}
+
+/// Writes two texts, the second right after the first. By `write!` a line takes three times as many instructions. The
+/// error is that of a write.
+#[inline(always)]
+pub fn write_texts<W: Write>(first: &str, second: &str, out: &mut W) -> io::Result<()>
+    ensures { OnOk result (Appends (W.contents out.old) (W.contents out.new) (first.now ++ second.now)) }
+{
+    out.write_all(first.as_bytes())?;
+    out.write_all(second.as_bytes())?;
+    Ok(())
+}

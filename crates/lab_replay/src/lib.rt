@@ -4,8 +4,8 @@
 
 mod course;
 mod describing;
-mod json;
 mod line;
+mod serializing;
 mod sink;
 mod text;
 mod visiting;

@@ -2,7 +2,7 @@
 ghost use Rattle.std.specs.Prelude.{◌≡◌};
 ghost use Rattle.lab_replay.specs.Lines.{answer_of, stretch_line, record_line, head_line};
 
-use crate::json::{
+use crate::serializing::{
     write_brake, write_indications, write_kept, write_kept_field, write_level, write_mode,
     write_reason, write_record_field,
 };

@@ -1,7 +1,7 @@
 //! The lines for people.
 use crate::describing::describe_value;
-use crate::json::{KeptObject, kept_field_word, record_field_word};
 use crate::line::{HeadLine, Outcome, RecordLine, ReplayLine, StretchLine};
+use crate::serializing::{KeptObject, kept_field_word, record_field_word};
 use lab_events::Reason;
 use std::fmt;
 

@@ -111,7 +111,7 @@ def _line(told: _header.etcs_replay) -> Line:
 
 def lines(image: bytes) -> Iterator[Line]:
     """Each line of a replay of the journal that an image holds, the oldest first. A block that can't be read is passed
-    over: what is after it has the verdict BEHIND_GAP, up to the next power-up."""
+    over: what is after it has the verdict AFTER_GAP, up to the next power-up."""
     cursor, told = _header.etcs_journal(), _header.etcs_replay()
     unit._told(unit._called("etcs_journal_open_", image, len(image), unit.ABI, ctypes.byref(cursor)))
     while (status := unit._called("etcs_image_replay_", image, len(image), unit.ABI, ctypes.byref(cursor), ctypes.byref(told))) != Status.END:

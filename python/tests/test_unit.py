@@ -441,7 +441,7 @@ class Calls(OverTheLibrary):
         before, life, behind = lives.lines(bytes(image))
         assert life.difference is not None and isinstance(life.difference.journal, Record) and isinstance(life.difference.kernel, Record)
         self.assertEqual((before, life.verdict, life.last_event), (lives.Line(1, 0, 0, Verdict.AGREES, None), Verdict.RECORD_DIFFERS, 1))
-        self.assertEqual(behind, lives.Line(1, 2, 3, Verdict.BEHIND_DIFFERENCE, None))
+        self.assertEqual(behind, lives.Line(1, 2, 3, Verdict.AFTER_DIFFERENCE, None))
         self.assertEqual((life.difference.block, life.difference.event, life.difference.field), (2, 1, RecordField.MOMENT))
         self.assertEqual((life.difference.journal.moment_ms, life.difference.kernel.moment_ms), (7, 0))
         image = self.lived()

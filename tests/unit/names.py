@@ -21,7 +21,7 @@ from gaknifur.units import _header  # noqa: E402
 
 MODES = {"FULL_SUPERVISION": "FS", "ON_SIGHT": "OS", "STAFF_RESPONSIBLE": "SR", "SHUNTING": "SH", "UNFITTED": "UN", "STAND_BY": "SB", "TRIP": "TR",
          "POST_TRIP": "PT", "SYSTEM_FAILURE": "SF"}
-VERDICTS = {"BEFORE_OLDEST": "before_oldest_block", "BEHIND_GAP": "gap"}
+VERDICTS = {"BEFORE_OLDEST": "before_oldest_block", "AFTER_GAP": "gap"}
 RECORD_FIELDS = {"MOMENT": "time_ms", "FRONT": "place_cm", "UNCERTAINTY": "uncertainty_cm", "LIMIT": "limit_m_per_h"}
 KEPT_FIELDS = {"TRIP": "trip_outstanding", "NATIONAL": "national_values"}
 # Of each enum the words that aren't the enumerator in small letters, and of docs/reference/json.md the section, the member and the words that it hasn't.

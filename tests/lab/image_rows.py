@@ -297,7 +297,7 @@ def compare_big(program, etcs, room, compared):
     (seconds, most, status, printed), shown = timed_on_terminal([program, "examine", str(empty)])
     lines = printed.splitlines()
     read = [2**26 * step // 10**6 for step in range(1, 49)]
-    compared.same("how far it is read, on a terminal", shown, "".join(f"\r{megabytes} of 3221 MB read" for megabytes in read) + f"\r{'':30}\r")
+    compared.same("how far it is read, on a terminal", shown, 2 * ("".join(f"\r{megabytes} of 3221 MB read" for megabytes in read) + f"\r{'':30}\r"))
     compared.same("an empty image of 1,048,576 slots", (lines[0], lines[2:], status),
                   ("image bytes 3221225984 sectors 6291457 slots 1048576 whole 1048576 trailing bytes 0",
                    ["journal empty", "power-up opens", "whole"], 0))

@@ -1,7 +1,7 @@
 #!/usr/bin/python3
 """A unit that answers as records say it, and in the first lives wrongly: in each life another member.
 
-    tests/oracle/reported.py RECORDS WORD
+    tests/oracle/told.py RECORDS WORD
 
 RECORDS are lines of `etcs_lab events`. WORD is `right`, by which it is never wrong; `wrong`; or `breaks`, by which it
 is right, and has no answer to the last event.

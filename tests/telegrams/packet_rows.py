@@ -4,7 +4,7 @@
     tests/telegrams/packet_rows.py PROGRAM [WORD..]    by this program, with these words before its own
 
 The telegrams are those of packet_lists.py, those that come with the product, and random ones of a track. Where packets stand and which fields they
-have is what tests/plain/track_packets.py finds, names are those of docs/reference/packets.md, and why no mode uses one is what tests/events/reported.py says.
+have is what tests/plain/track_packets.py finds, names are those of docs/reference/packets.md, and why no mode uses one is what tests/events/told.py says.
 Some answers are by hand.
 """
 import random
@@ -25,7 +25,7 @@ from track_packets import fields_of, names, packets_in_order
 RANDOM, SEED = 400, 66
 ENDS = {"end": "end_mark", "no end": "no_end", "cut": "cut_off", "length": "wrong_length", "many": "too_many"}
 END_LINES = {"end_mark": "end mark at", "no_end": "no end mark at", "cut_off": "beyond the last bit goes what is at",
-             "wrong_length": "an L_PACKET below 23 has what is at", "too_many": "no further packet is told from"}
+             "wrong_length": "an L_PACKET below 23 has what is at", "too_many": "no further packet is listed from"}
 FAULTS = {"cut": "cut_off", "many": "too_many", "long": "too_long"}
 FAULT_LINES = {"cut_off": "a field goes beyond its last bit", "too_many": "a counter announces too many elements",
                "too_long": "bits are left after its last field"}

@@ -77,7 +77,6 @@ ROWS = """\
 1 lab test hollow
 1 lab coverage hollow
 1 lab lint hollow
-1 lab verify hollow
 1 lab campaign hollow hollow.db
 1 lab sequence table.csv unmapped.yaml
 2 etcs decode
@@ -106,6 +105,7 @@ ROWS = """\
 4 etcs_lab replay altered
 4 etcs_lab check altered
 4 etcs_lab lint twice.json
+4 lab verify hollow
 4 lab lint twice.json
 4 lab check altered
 4 lab table altered t.csv

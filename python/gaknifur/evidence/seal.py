@@ -347,7 +347,8 @@ def verify(folder: Path, trust: signing.Trust) -> Shown:
     if not folder.is_dir():
         raise Failed(f"{folder}: no such folder", DEVICE)
     if not any(folder.iterdir()):
-        raise Failed(f"{folder}: the folder is empty, so there is no bag to verify", REFUSED)
+        found.faults.append(f"{bag.DECLARATION}: the folder is empty, so there is no bag")
+        return found
     signatures, stamp = signing.signatures(folder, trust), signing.time_stamp(folder, trust)
     if vouched(signatures, stamp, trust, found):
         look_inside(folder, signatures, found)

@@ -13,7 +13,7 @@ from pathlib import Path
 
 sys.dont_write_bytecode = True
 sys.path.insert(0, str(Path(__file__).resolve().parents[1] / "python"))
-from gaknifur import random_lives  # noqa: E402
+from gaknifur.simulation import random_lives  # noqa: E402
 
 EVENTS, READING_CM = 140, 10_000
 ACTIONS = {(4, 0): 1, (4, 1): 2, (5, 1): 3, (5, 2): 4, (5, 3): 5, (5, 4): 6, (6,): 7, (7,): 8, (8,): 9, (9,): 10, (10, 1): 11, (10, 2): 12, (10, 3): 13,

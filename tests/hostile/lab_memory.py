@@ -14,7 +14,7 @@ from built import built, room
 from compared import Compared
 from lab_words import all_words, lab_ran, laid
 
-SAYS = re.compile(r"etcs_lab: [^\n]+: memory is refused\n")
+SAYS = re.compile(r"etcs_lab: [^\n]+: out of memory\n")
 STOPPED = re.compile(r'\{"end":"stopped","step":(null|[0-9]+),"number":(4|12),"name":"NoMemory"\}\n$')
 ANSWERS = ("refused memory\n", '{"refused":{"name":"memory"}}\n')
 REFUSED = re.compile(r'\{"id":("good"|"faulty"|null),"line":[12],"status":"no_memory","name":"NoMemory"\}')
@@ -37,7 +37,7 @@ def says_so(words, found, undisturbed):
 def series(words, stdin, said, refuse, failures):
     """Every refusal of one run."""
     undisturbed = lab_ran(words, stdin)
-    failures.unless("memory is refused" not in undisturbed[2], f"{words}: the undisturbed run says {undisturbed[2]!r}")
+    failures.unless("out of memory" not in undisturbed[2], f"{words}: the undisturbed run says {undisturbed[2]!r}")
     count = 0
     for at in range(1, MOST):
         said.unlink(missing_ok=True)

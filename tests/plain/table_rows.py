@@ -23,7 +23,7 @@ ITEMS = {"mode-areas": "areas"}
 CAUSES = {
     "is not revalidated": "not revalidated", "is in Trip": "mode TR", "is in SystemFailure": "mode SF", "owes trip": "trip outstanding",
     "is above limit by 10 000": "above the limit by 10000", "has rolled too far": "rolled back too far",
-    "asked for service": "service asked for", "is above limit by 5 000": "above the limit by 5000", "must stand": "moves in standstill",
+    "service brake requested": "service asked for", "is above limit by 5 000": "above the limit by 5000", "must stand": "moves in standstill",
     "owes too long": "owed too long", "train stood": "speed 0 read", "was within limit": "within the limit", None: None,
 }
 

@@ -358,7 +358,7 @@ def check_words(env, wrong):
         done = lab(env, "s.json", cwd=room)
         wanted("no JSON", done.returncode == 4 and "refused 1 NotJson" in done.stdout, done)
         for name, words, status in (("wrong item", ["s.json", "--without", "13"], 2), ("no word", [], 2), ("another word", ["s.json", "--jsn"], 2),
-                                    ("no file", ["t.json"], 3), ("an empty folder", ["empty"], 3)):
+                                    ("no file", ["t.json"], 3), ("an empty folder", ["empty"], 1)):
             Path(room, "empty").mkdir(exist_ok=True)
             done = lab(env, *words, cwd=room)
             wanted(name, done.returncode == status and done.stderr and not done.stdout, done)

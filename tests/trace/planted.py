@@ -271,7 +271,7 @@ PAGES = (  # for tools/docs --check
     ),
     ("a page with a date", "docs/howto/oracle.md", "in CI (", "on 2026-11-27 (", "docs/howto/oracle.md: has the date 2026-11-27"),
     ("a misspelt page", "docs/explain/safety.md", "different", "diffrent", "diffrent ==> different"),
-    ("a misspelt help text", "python/gaknifur/__main__.py", "internal", "interal", "interal ==> internal"),
+    ("a misspelt help text", "python/gaknifur/cli/commands.py", "default", "defualt", "defualt ==> default"),
 )
 
 

@@ -187,7 +187,8 @@ export class Ask {
     /** Why there is no journal, and what can be done. */
     private whyUnread(status: number): string {
         const slots = this.facts?.slots ?? 0, bytes = this.bytes.length;
-        if (this.slotsGiven === null && BySlots.isCut(bytes, slots)) return SAY.cutOff(this.name, bytes, slots, imageSize(slots));
+        const isCut = this.slotsGiven === null && BySlots.isCut(bytes, slots);
+        if (isCut) return SAY.cutOff(this.name, bytes, slots, imageSize(slots));
         return SAY.noImage(this.name, STATUSES[status] ?? `status ${status}`) + this.bySlots.offer();
     }
 
@@ -385,20 +386,10 @@ export class Ask {
     /** What tests read. */
     get findings(): object {
         return {
-            facts: this.facts,
-            slots: this.slots,
-            status: this.journalStatus,
-            unreadable: this.unreadable,
-            lives: this.replays,
-            digest: this.digest,
-            interventions: this.interventions,
-            trips: this.trips,
-            unwritten: this.unwritten,
-            causes: [...this.causes],
-            count: this.records?.count ?? 0,
-            newest: this.newest,
-            isWhole: this.isWhole,
-            day: this.day.findings,
+            facts: this.facts, slots: this.slots, status: this.journalStatus, unreadable: this.unreadable,
+            lives: this.replays, digest: this.digest, interventions: this.interventions, trips: this.trips,
+            unwritten: this.unwritten, causes: [...this.causes], count: this.records?.count ?? 0,
+            newest: this.newest, isWhole: this.isWhole, day: this.day.findings,
             counted: this.records && [...counted(this.records, this.replays, this.causes)],
             events: [...this.causes.keys()].map(index => this.records?.event(index))
         };

@@ -1,5 +1,5 @@
-// What was driven as a test case in YAML, as `./lab test` reads it (docs/reference/test-cases.md): the lives step by step,
-// and as expected results what the unit answered where mode or brake changed and where a life ended.
+// What was driven as a test case in YAML, as `./lab test` reads it (docs/reference/test-cases.md): the lives step by
+// step, and as expected results what the unit answered where mode or brake changed and where a life ended.
 import {Output} from "./layouts";
 import {Scenario, Step} from "./life";
 import {levelText, modeWord} from "./shown";
@@ -71,7 +71,8 @@ export function caseText(name: string, lives: Driven[], slots: number): string {
     if (lives.some(life => life.isTorn) || !lives.some(life => life.outputs.length)) return "";
     const parsed = lives.map((life, n) => lifeLines(life, n + 1));
     const parts = lives.flatMap((life, n) => [`  - cold: ${cold[life.scenario.cold ?? 0]}`,
-                                    parsed[n]?.steps.length ? "    steps:" : "    steps: []", ...parsed[n]?.steps ?? []]);
+                                    parsed[n]?.steps.length ? "    steps:" : "    steps: []",
+                                    ...parsed[n]?.steps ?? []]);
     return [
         "# Driven in the page. What is expected is what the unit answered; put in its place what a section asks for.",
         `test_case: ${name}`, "feature: Driven in the page", "sections: [\"4.6\"]",

@@ -1,5 +1,6 @@
-// A train on a track with a unit on board, step by step, as python/gaknifur/simulation/driving.py has it: in each time step the
-// train moves, and the unit is given the moment, the way up to each balise with its telegram, and the rest of the way.
+// A train on a track with a unit on board, step by step, as python/gaknifur/simulation/driving.py has it: in each time
+// step the train moves, and the unit is given the moment, the way up to each balise with its telegram, and the rest of
+// the way.
 import {Calls, Held} from "./calls";
 import {Output, State} from "./layouts";
 import {Group, Life, Scenario, Step} from "./life";
@@ -201,8 +202,8 @@ export class Course {
 }
 
 /**
- * A driver who heeds the limit, as python/gaknifur/simulation/driving.py has him: he aims below the limit as it will be in some
- * seconds.
+ * A driver who heeds the limit, as python/gaknifur/simulation/driving.py has him: he aims below the limit as it will be
+ * in some seconds.
  */
 export class Heeding {
     private before = 0;

@@ -63,7 +63,8 @@ export class Dial {
         const each = most > 250 ? 20 : 10, numbered = most > 250 ? 100 : most > 180 ? 50 : 20;
         const parts: Element[] = [];
         for (let v = 0; v <= most; v += each) {
-            const isNumbered = v % numbered === 0, [x1, y1] = this.point(v, 125), [x2, y2] = this.point(v, isNumbered ? 104 : 111);
+            const isNumbered = v % numbered === 0, [x1, y1] = this.point(v, 125);
+            const [x2, y2] = this.point(v, isNumbered ? 104 : 111);
             parts.push(svg("line", { x1, y1, x2, y2, class: "tick" }));
             if (isNumbered) {
                 const [x, y] = this.point(v, 89);

@@ -1,4 +1,4 @@
-// Where in an image the fields of a record stand (docs/reference/format.md), and their bytes along with what the calls read there.
+// Where in an image the fields of a record are (docs/reference/format.md), and their bytes with what the calls read.
 import {Calls} from "./calls";
 import {make} from "./dom";
 import {JournalRecord, ODOMETER, POWER_UP, SECTOR, TELEGRAM} from "./layouts";
@@ -67,7 +67,8 @@ function driver(payload: Uint8Array): [string, number, number, string][] {
         return [
             action, ["length", 1, 4, metres(view.getUint32(1))],
             ["greatest speed", 5, 4, `${kmh(view.getUint32(5))} km/h`],
-            ["deceleration", 9, 2, `${view.getUint16(9) / 100} m/s²`], ["reaction", 11, 2, seconds(view.getUint16(11))],
+            ["deceleration", 9, 2, `${view.getUint16(9) / 100} m/s²`],
+            ["reaction", 11, 2, seconds(view.getUint16(11))],
             ["category", 13, 1, String(payload[13])]
         ];
     }

@@ -79,9 +79,9 @@ function wrongLength({ packets }: Reading): Field|null {
 }
 
 /**
- * The variable at which the unit finds a fault; null where the bits end too early, or are too many. The unit reports the
- * first fault in the order of the bits. So the shortest beginning of the bytes that is refused so ends with the byte in
- * which the variable ends, and no variable after it there decides on the answer.
+ * The variable at which the unit finds a fault; null where the bits end too early, or are too many. The unit reports
+ * the first fault in the order of the bits. So the shortest beginning of the bytes that is refused so ends with the
+ * byte in which the variable ends, and no variable after it there decides on the answer.
  */
 export function faultAt(calls: Calls, reading: Reading): Field|null {
     const bytes = bytesOfHex(digitsOf(reading.bits)), [fault] = calls.decode(bytes);

@@ -1,5 +1,5 @@
-// Telegrams by the variables of SUBSET-026, 7.5.1, as scenarios in YAML give them (docs/reference/test-cases.md), and the
-// bits that they come to. Whether a telegram is one the unit says.
+// Telegrams by the variables of SUBSET-026, 7.5.1, as scenarios in YAML give them (docs/reference/test-cases.md), and
+// the bits that they come to. Whether a telegram is one the unit says.
 import {Grammar, isChoice, isList, Leaf, Part, Wrong} from "./grammar";
 import {bitsOf, digitsOf} from "./hex";
 import {HEAD_BITS, Reader} from "./reading";

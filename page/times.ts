@@ -1,5 +1,5 @@
-// The time of day of events, by marks for a journal: what python/gaknifur/evidence/times.py reports, by the same reckoning and
-// in the same words. Marks are outside the journal and outside the proof. Sums are in millionths of a millisecond.
+// The time of day of events, by marks for a journal: what python/gaknifur/evidence/times.py reports, by the same
+// reckoning and in the same words. Marks are outside the journal and outside the proof. Sums are in millionths of a millisecond.
 import {Records} from "./calls";
 
 export interface Mark {
@@ -304,7 +304,7 @@ export class Times {
 
     /** What each place says. */
     says(): string {
-        return `UTC is by marks outside the journal (${
+        return `UTC is by marks next to the journal (${
                    spelled(this.name)}), which are outside the journal and outside ` +
             `the proof; the unit's clock is taken to run off by ${this.drift} ppm at most`;
     }

@@ -1,5 +1,5 @@
-// The train of a closed loop: a point that moves on level track. The same numbers as python/gaknifur/simulation/driving.py,
-// operation by operation. Nothing of it is proved.
+// The train of a closed loop: a point that moves on level track. The same numbers as
+// python/gaknifur/simulation/driving.py, operation by operation. Nothing of it is proved.
 
 export interface Train {
     /** In cm/s2, ms and ms. */

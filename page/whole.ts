@@ -20,7 +20,8 @@ function contents(records: Records): { powerUps: Map<number, number>; goesBack: 
 export function isWhole(facts: Facts, slots: Slot[], heads: Head[], records: Records, status: number): boolean {
     if (status !== END || facts.whole !== facts.slots || facts.sectors !== 1 + 6 * facts.slots) return false;
     if (!slots.every(slot => slot.isSound) || heads.length !== Math.min(facts.newest, facts.slots)) return false;
-    const sorted = [...heads].sort((one, other) => one.number - other.number), { powerUps, goesBack } = contents(records);
+    const sorted = [...heads].sort((one, other) => one.number - other.number);
+    const { powerUps, goesBack } = contents(records);
     return !goesBack && sorted.every((head, n) => {
         const before = sorted[n - 1], more = powerUps.get(head.number) ?? 0;
         if (!before) return head.lives >= more && (head.number > 1 || (head.firstEvent === 0 && head.lives === more));

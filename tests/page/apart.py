@@ -19,7 +19,7 @@ READ, SPOILED, ALTERED = 400, 300, 120
 TAKE = """
 const { telegrams, bitsOf } = window.gaknifur.parts;
 return arguments[0].map(digits => { const { end, header, packets } = telegrams.reader.read(bitsOf(digits));
-    return [end, header.map(f => [f.name, f.at, f.width]), packets.map(one => [one.at, one.number, telegrams.reader.isTold(one), [...one.head, ...one.fields].map(f => [f.name, f.at, f.width, String(f.number)])])]; });
+    return [end, header.map(f => [f.name, f.at, f.width]), packets.map(one => [one.at, one.number, telegrams.reader.isKnownWhole(one), [...one.head, ...one.fields].map(f => [f.name, f.at, f.width, String(f.number)])])]; });
 """
 FAULT = """
 const { telegrams, bitsOf, faultAt } = window.gaknifur.parts, { calls } = window.gaknifur;

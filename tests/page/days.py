@@ -164,7 +164,7 @@ def by_hand(browser: Browser, _page: Path, folder: Path) -> int:
     outside = " (outside the journal and outside the proof)."
     for event, utc, off in ((5, "10:00:00.001", 49), (9, "10:00:30.004", 49), (11, "10:00:54.006", 50), (17, "10:03:00.019", 49)):
         assert shown(browser, event) == f"UTC by marks: 2026-03-01T{utc}Z ± {off} ms{outside}", (event, shown(browser, event))
-    assert "3 marks. UTC is by marks beside the journal (timed.times), which are outside the journal and outside the proof" in browser.text("day-said")
+    assert "3 marks. UTC is by marks next to the journal (timed.times), which are outside the journal and outside the proof" in browser.text("day-said")
     for table in ("lives", "interventions"):
         assert "UTC by marks, outside the journal and the proof" in browser.text(table) and "2026-03-01T10:0" in browser.text(table), table
     set_drift(browser, 0)  # then the mark at 180 s says -30 to 70 ms, and both -30 to 50

@@ -169,12 +169,12 @@ def changed(text: str, dice: random.Random) -> str:
 DECODE = """
 const { telegrams } = window.gaknifur.parts, told = telegrams.read(arguments[0]);
 let text = telegrams.text(told), again = '';
-try { again = telegrams.digits(telegrams.told(text)); } catch (error) { again = error.message; }
+try { again = telegrams.digits(telegrams.parsed(text)); } catch (error) { again = error.message; }
 return [told.header, told.packets, again];
 """
 ENCODE = """
 const { telegrams } = window.gaknifur.parts;
-return arguments[0].map(text => { try { return telegrams.digits(telegrams.told(text)); } catch (error) { return '!' + error.constructor.name; } });
+return arguments[0].map(text => { try { return telegrams.digits(telegrams.parsed(text)); } catch (error) { return '!' + error.constructor.name; } });
 """
 
 

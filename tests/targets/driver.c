@@ -165,7 +165,7 @@ static uint32_t carry_out(uint64_t most, uint64_t rest) {
     uint32_t count = 0, status;
     while ((status = etcs_unit_request(unit(), count, &request, bytes, sizeof bytes)) == ETCS_UNIT_OK) {
         const size_t length = (size_t)request.sectors * ETCS_UNIT_SECTOR;
-        add_etcs_unit_request_told(&request);
+        add_etcs_unit_request_info(&request);
         add(bytes, length);
         if (count == most) {
             carries_out(&request, bytes, rest < length ? (size_t)rest : length);
@@ -247,7 +247,7 @@ static int about_units(uint32_t *status) {
         second = (uint32_t)number();
         *status = etcs_unit_request(unit(), first, &request, bytes, second < sizeof bytes ? second : sizeof bytes);
         if (*status == ETCS_UNIT_OK) {
-            add_etcs_unit_request_told(&request);
+            add_etcs_unit_request_info(&request);
             add(bytes, (size_t)request.sectors * ETCS_UNIT_SECTOR);
         }
     } else if (word("done")) {
@@ -259,11 +259,11 @@ static int about_units(uint32_t *status) {
     } else if (word("state")) {
         *status = etcs_unit_state(unit(), &state);
         if (*status == ETCS_UNIT_OK)
-            add_etcs_unit_state_told(&state);
+            add_etcs_unit_state_info(&state);
     } else if (word("explain")) {
         *status = etcs_unit_why(unit(), &why);
         if (*status == ETCS_UNIT_OK)
-            add_etcs_unit_why_told(&why);
+            add_etcs_unit_why_info(&why);
     } else {
         return 0;
     }
@@ -343,7 +343,7 @@ static int about_media(uint32_t *status) {
         const uint64_t room = number();
         *status = etcs_unit_format_request(first, second, &request, bytes, room < sizeof bytes ? (size_t)room : sizeof bytes);
         if (*status == ETCS_UNIT_OK) {
-            add_etcs_unit_request_told(&request);
+            add_etcs_unit_request_info(&request);
             add(bytes, (size_t)request.sectors * ETCS_UNIT_SECTOR);
         }
     } else if (word("version")) {

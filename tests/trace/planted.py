@@ -178,8 +178,8 @@ PLANTS = (
     (
         "a gap without a reason",
         "docs/requirements.yaml",
-        "    - crates: blocks ring journal unit_start onboard whole_lives\n      why: words",
-        "    - crates: blocks journal unit_start onboard whole_lives\n      why: words",
+        "    - crates: blocks ring journal unit_start onboard whole_lives scenario_player\n      why: words",
+        "    - crates: blocks journal unit_start onboard whole_lives scenario_player\n      why: words",
         "definitions of crates/ring are of no requirement",
     ),
     (

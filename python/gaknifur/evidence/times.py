@@ -30,7 +30,7 @@ CHECKSUM = re.compile("[0-9a-f]{8}")
 ENDING = ".times"
 DRIFT_PPM = 100
 """By how many millionths the unit's clock runs off at most, where nothing else is said: 360 ms an hour."""
-SAYS = "UTC is by marks beside the journal ({name}), which are outside the journal and outside the proof"
+SAYS = "UTC is by marks next to the journal ({name}), which are outside the journal and outside the proof"
 EPOCH = datetime.datetime(1970, 1, 1, tzinfo=datetime.timezone.utc)
 EARLIEST, LATEST = -62_135_596_800_000, 253_402_300_799_999
 """The times of day that can be written, in ms since 1970 UTC: of the years 1 to 9999."""

@@ -1,5 +1,6 @@
 // The time of day of events, by marks for a journal: what python/gaknifur/evidence/times.py reports, by the same
-// reckoning and in the same words. Marks are outside the journal and outside the proof. Sums are in millionths of a millisecond.
+// reckoning and in the same words. Marks are outside the journal and outside the proof. Sums are in millionths of a
+// millisecond.
 import {Records} from "./calls";
 
 export interface Mark {

@@ -169,7 +169,7 @@ export const SAY = {
         `${name} ends early: by its first sector it has ${slots.toLocaleString("en")} slots, so ` +
         `${expected.toLocaleString("en")} bytes, ` +
         `and here are ${bytes.toLocaleString("en")}. Copy it from the medium again. If that can't be done, the ring ` +
-        `shows each slot that is here; and in a copy that is lengthened with zeros (truncate -s ${expected} COPY) the ` +
+        `shows each slot that is here; and in a copy lengthened with zeros (truncate -s ${expected} COPY) the ` +
         "journal can be read up to its newest block.",
     assumed: "entered by hand, since the first sector can't be used",
     unreadableFile: "the browser can't read the file; perhaps it was moved, altered or removed since it was chosen",

@@ -25,6 +25,7 @@
  *     null                         each call once with each of its pointers null
  *
  * Each line is answered by its number, the status, and a digest of what was written (FNV-1a); released outputs each have a line. */
+#include "etcs_guard.h"
 #include "etcs_image.h"
 #include "lines.h"
 

@@ -1,7 +1,7 @@
 #!/bin/bash
 # What each call of the unit takes on aarch64: the instructions of the kept scenarios (bench/worst.scenarios), as the processor of a bare board counts
 # them, how far down each wrote on the stack, and the bound of the stack by the frames (bench/stack_bound.py). The board is QEMU's, with -icount: each
-# instruction is counted, of the library with its memory (surroundings/pieces.c) and its copies (bytes.c), and none is timed.
+# instruction is counted, of the library with its memory (platform/pieces.c) and its copies (bytes.c), and none is timed.
 #
 #     bench/board.sh PREFIX    of the library that `tools/library --target aarch64-none-elf PREFIX` installed
 #

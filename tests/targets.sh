@@ -74,7 +74,7 @@ for name in misuse two reading; do
     qemu-aarch64 "$made/$name" >"$made/said" 2>&1 && rows=$((rows + 1)) || { cat "$made/said"; fails "$name.c on aarch64"; }
     tail -n 1 "$made/said"
 done
-"$cross" -std=c11 -O2 "${strict[@]}" -static -fno-builtin -I "$arm/include" -I "$top/surroundings" -I "$top/tests/unit" "$top/tests/unit/pieces.c" "$top/surroundings/pieces.c" \
+"$cross" -std=c11 -O2 "${strict[@]}" -static -fno-builtin -I "$arm/include" -I "$top/platform" -I "$top/tests/unit" "$top/tests/unit/pieces.c" "$top/platform/pieces.c" \
     "$arm/lib/libetcs_unit.a" -o "$made/pieces" && qemu-aarch64 "$made/pieces" >"$made/said" 2>&1 && rows=$((rows + 1)) || { cat "$made/said"; fails "pieces.c on aarch64"; }
 "$python" "$top/tests/unit/layout.py" --program >"$made/places.c" && "$cross" -std=c99 "${strict[@]}" -static -I "$arm/include" "$made/places.c" -o "$made/layout.elf" &&
     printf '#!/bin/bash\nexec qemu-aarch64 %q\n' "$made/layout.elf" >"$made/layout" && chmod +x "$made/layout" && "$python" "$top/tests/unit/layout.py" "$made/layout" && rows=$((rows + 1)) ||

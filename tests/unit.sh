@@ -221,8 +221,8 @@ others=$(nm -u "$archive" | grep -Ew 'calloc|aligned_alloc|posix_memalign|memali
 
 link=("$archive")
 for name in pieces string_calls; do
-    words=(-I "$top/surroundings" -fno-builtin)
-    [ "$name" != pieces ] || words+=("$top/surroundings/pieces.c")
+    words=(-I "$top/platform" -fno-builtin)
+    [ "$name" != pieces ] || words+=("$top/platform/pieces.c")
     build "$name.gcc" "$top/tests/unit/$name.c" gcc -x c -std=c11 -O2 "${words[@]}"
     build "$name.checked" "$top/tests/unit/$name.c" gcc -x c -std=c11 -O1 "${sanitizers[@]}" "${words[@]}"
 done
@@ -245,7 +245,7 @@ build sized.malloc "$top/tests/unit/sized.c" gcc -x c -std=c99 -O2
 # (the archive as the toolchain built it, which asks for memory by three names)
 raw=${ETCS_UNIT_ARCHIVE:-$top/crates/etcs_unit/out/libetcs_unit.a}
 link=("$raw" -Wl,--wrap=rattle_alloc,--wrap=rattle_realloc,--wrap=rattle_dealloc)
-build refused.pieces "$top/tests/unit/refused.c" gcc -x c -std=c99 -O2 -DOVER_PIECES -I "$top/surroundings" "$top/surroundings/pieces.c" "$top/surroundings/heap_of_pieces.c"
+build refused.pieces "$top/tests/unit/refused.c" gcc -x c -std=c99 -O2 -DOVER_PIECES -I "$top/platform" "$top/platform/pieces.c" "$top/platform/heap_of_pieces.c"
 
 # ---- refused memory, by malloc and by the buffer
 

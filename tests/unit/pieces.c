@@ -1,4 +1,4 @@
-/* The allocator of the library without malloc (surroundings/pieces.c) compared with a plain model, which keeps a list of what is out: random requests
+/* The allocator of the library without malloc (platform/pieces.c) compared with a plain model, which keeps a list of what is out: random requests
  * over buffers at each place that an address has modulo 32, and of sizes from the least on; until they are refused, and until all is given back.
  *
  *     pieces [STEPS [SEED]]    so many requests on each buffer

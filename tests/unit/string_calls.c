@@ -1,17 +1,17 @@
-/* What compiled code calls where there is no C library: the calls of string.h (surroundings/bytes.c), each length to 104 (three turns of their loops
- * and some) at each place modulo 16, and each overlap, compared with the plain loop over bytes; and the product of 128 bits (surroundings/product.c) along with
+/* What compiled code calls where there is no C library: the calls of string.h (platform/bytes.c), each length to 104 (three turns of their loops
+ * and some) at each place modulo 16, and each overlap, compared with the plain loop over bytes; and the product of 128 bits (platform/product.c) along with
  * that of this machine. */
 #define memcpy own_memcpy
 #define memmove own_memmove
 #define memset own_memset
 #define memcmp own_memcmp
-#include "../../surroundings/bytes.c"
+#include "../../platform/bytes.c"
 #undef memcpy
 #undef memmove
 #undef memset
 #undef memcmp
 #define __multi3 own_multi3
-#include "../../surroundings/product.c"
+#include "../../platform/product.c"
 #undef __multi3
 
 #include "medium.h"

@@ -28,7 +28,7 @@ WHOLE = (
     "examples",
     "include",
     "page",
-    "surroundings",
+    "platform",
 )
 LEAST = 40
 

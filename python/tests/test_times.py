@@ -222,7 +222,7 @@ class Outputs(Room):
         self.assertFalse("outside the proof" in report.page(told))
         told.times = self.times(LINES + f"2,0,,{TEN},1,a\n2,0,,2026-03-01T11:00:00.000Z,1,<b>\n")
         page = report.page(told)
-        for text in ("marks beside the journal (image.times), which are outside the journal and outside the proof", "run off by 100 ppm",
+        for text in ("marks next to the journal (image.times), which are outside the journal and outside the proof", "run off by 100 ppm",
                      "2026-03-01 10:00:01.000 UTC ±51 ms", "contradict, so life 2 has no UTC", "by &lt;b&gt;"):
             self.assertTrue(text in page, text)
 

@@ -47,7 +47,7 @@ class Timelines(Room):
         rows = list(csv.DictReader(io.StringIO(text)))
         self.assertEqual((len(rows), left), (8, 1))
         self.assertEqual([rows[1][name] for name in ("datetime", "timestamp_desc", "message", "timestamp", "uncertainty_ms")], [
-            "2026-03-01T10:00:01.500+00:00", "onboard unit, by marks beside the journal",
+            "2026-03-01T10:00:01.500+00:00", "onboard unit, by marks next to the journal",
             "life 1 event 1: moved 1 m, at 36 km/h; Full Supervision, brake none, limit 40 km/h", "1772359201500000", "51"])
 
     def test_json_has_all_events(self) -> None:

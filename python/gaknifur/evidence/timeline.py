@@ -12,7 +12,7 @@ from ..journal.reading import Journal, Json
 from ..journal.wording import MODES, event_text, kmh
 from . import times
 
-DESCRIPTION = "onboard unit, by marks beside the journal"
+DESCRIPTION = "onboard unit, by marks next to the journal"
 """What the times of a timeline are, in each of its lines."""
 COLUMNS = ("datetime", "timestamp_desc", "message", "timestamp", "uncertainty_ms", "image", "block", "event", "life", "time_ms", "kind", "mode",
            "level", "brake", "limit_m_per_h", "place_cm", "uncertainty_cm")

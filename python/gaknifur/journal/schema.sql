@@ -107,7 +107,7 @@ CREATE TABLE trip_word (
 -- last reading of the stretch, 0 from a power-up on. An uncertainty beyond 2^62 cm is NULL. causes_not_known tells why
 -- the causes of its brake can't be told; NULL where the replay agrees. trip_cause tells why the trip was entered that is
 -- owed, trip_cause_event by which event. limit_cause is the kind of what decides the limit. utc_by_marks is the time of
--- day of time_ms by the marks beside the journal, outside the journal and the proof. Behind them stands what the record
+-- day of time_ms by the marks next to the journal, outside the journal and the proof. Behind them stands what the record
 -- before it in its stretch told (NULL at the beginning of a stretch), and when and where the next one of it came.
 CREATE TABLE event (
     image INTEGER NOT NULL,

@@ -178,7 +178,7 @@ def damaged():
 
 RECORD = (("kind of the event", 0, 1), ("mode", 1, 1), ("brake", 2, 1), ("bytes of the payload", 3, 1), ("level", 4, 1), ("zero at 5", 5, 1),
           ("indications", 6, 2), ("number of the event", 8, 8), ("moment", 16, 8), ("estimated place", 24, 8), ("uncertainty", 32, 8),
-          ("limit", 40, 4), ("zero at 44", 44, 4), ("payload", 48, None), ("zeros behind it", None, None))
+          ("limit", 40, 4), ("zero at 44", 44, 4), ("payload", 48, None), ("zeros after it", None, None))
 HEAD = (("mark", 0, 8), ("number of the block", 8, 8), ("events", 16, 8), ("lives", 24, 4), ("count of records", 28, 1), ("trip outstanding", 29, 1),
         ("driver's identity", 30, 18), ("running number", 48, 8), ("train data", 56, 14), ("level", 70, 2), ("position", 72, 16),
         ("national values", 88, 44), ("countries", 132, 66), ("zeros", 198, 314))
@@ -195,7 +195,7 @@ def fields_of_record(record):
         if count:
             yield name, range(at, at + count)
     yield "payload", range(48, 48 + size)
-    yield "zeros behind it", range(48 + size, 256, 41)
+    yield "zeros after it", range(48 + size, 256, 41)
 
 
 def altered():

@@ -12,7 +12,7 @@ COUNTED = re.compile(
     r"(?:rows|events|answers|lists|telegrams|runs|images|lives|lines|cuts|tracks|limits|comparisons|scenarios|results|"
     r"refusals|edits|rings|sentences|requests|situations|items|by hand)\b)"
 )
-FREE = ("## Wrong bodies that a tool makes", "## Why so")  # what was counted by hand, once, and reasons
+FREE = ("## Why so",)  # reasons
 
 
 def value(text):

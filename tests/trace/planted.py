@@ -164,8 +164,8 @@ PLANTS = (
     (
         "a sentence of the standard in a section that has none",
         "docs/explain/conformance.md",
-        "| 7.4.2, packet 255 | end mark | standard: eight bits alone",
-        "| 7.4.2, packet 255 | end mark | profile: eight bits alone",
+        "| 7.4.2, packet 255 | end mark | standard: only eight bits",
+        "| 7.4.2, packet 255 | end mark | profile: only eight bits",
         "R-7.4.2.p255-1 is of the standard",
     ),
     (

@@ -21,13 +21,13 @@ FIELDS = ("ReqIF.ForeignID", "part", "kind", "section", "ReqIF.Text", *COLUMNS[5
 
 
 def moment():
-    """The moment of the commit that is reported of, so that one commit gives one text; SOURCE_DATE_EPOCH is before it."""
+    """The moment of the commit, so that one commit gives one text; SOURCE_DATE_EPOCH is before it."""
     seconds = os.environ.get("SOURCE_DATE_EPOCH", "")
     if not seconds.isdigit():
-        told = subprocess.run(
+        committed = subprocess.run(
             ["git", "log", "-1", "--format=%ct"], capture_output=True, text=True, check=False
         ).stdout.strip()
-        seconds = told if told.isdigit() else "0"
+        seconds = committed if committed.isdigit() else "0"
     return datetime.datetime.fromtimestamp(int(seconds), datetime.timezone.utc).isoformat()
 
 

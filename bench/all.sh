@@ -40,13 +40,13 @@ def read():
 
 def shape(line):
     """The text of a row without its numbers at the end, or without any where it ends otherwise."""
-    told = re.sub(r"(\s+\d[\d.]*)+\s*$", "", line)
-    return told if told != line else NUMBER.sub("#", line)
+    text = re.sub(r"(\s+\d[\d.]*)+\s*$", "", line)
+    return text if text != line else NUMBER.sub("#", line)
 
 
 def numbers(line):
-    told = re.search(r"((\s+\d[\d.]*)+)\s*$", line)
-    return told[1].split() if told else NUMBER.findall(line)
+    match = re.search(r"((\s+\d[\d.]*)+)\s*$", line)
+    return match[1].split() if match else NUMBER.findall(line)
 
 
 before = read()

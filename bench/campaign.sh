@@ -74,7 +74,7 @@ def authority(group):
 
 
 def driven(numbers):
-    """A train that is made ready, and drives past an authority every 2 km; in each step the unit is told moment and way."""
+    """A train that is made ready, and drives past an authority every 2 km; in each step the unit gets the time and the distance."""
     steps = [{"telegram": authority(2)}, {"driver": [1, f"IC {numbers.randrange(1_000)}"]}]
     steps += [{"driver": entry} for entry in (*random_lives.ENTRIES, [6])]
     for step in range(STEPS):
@@ -91,7 +91,7 @@ P
 "$GAKNIFUR_ETCS" format empty 64 >/dev/null || exit 1
 
 # (A life may end as refused or stopped; it still has a journal.)
-cat >behind_another <<'S'
+cat >one_by_one <<'S'
 #!/bin/sh
 for one in "$@"; do
     image=images/${one##*/}
@@ -112,9 +112,9 @@ image=images/${1##*/}
 "$GAKNIFUR_ETCS_LAB" replay --json "$image"
 exit 0
 S
-chmod +x behind_another by_itself
+chmod +x one_by_one by_itself
 
-plain_loop() { find scenarios -type f -print0 | xargs -0 -n 16 -P "$1" ./behind_another; }
+plain_loop() { find scenarios -type f -print0 | xargs -0 -n 16 -P "$1" ./one_by_one; }
 campaign() { "$top/lab" campaign scenarios out.db --workers "$1"; }
 by_dask() { "$top/lab" campaign scenarios out.db --scheduler "$(cat "address$1")"; }
 by_xargs() { find scenarios -type f -print0 | xargs -0 -n 1 -P "$1" ./by_itself; }
@@ -133,15 +133,15 @@ spent() {
 start_dask() {
     local number
     export PYTHONPATH=$top/python DASK_CONFIG=$top/python/gaknifur/simulation/dask.yaml
-    "$python" -m distributed.cli.dask_scheduler --host 127.0.0.1 --port 0 --no-dashboard --no-show --scheduler-file "told$1" >/dev/null 2>&1 &
+    "$python" -m distributed.cli.dask_scheduler --host 127.0.0.1 --port 0 --no-dashboard --no-show --scheduler-file "scheduler$1" >/dev/null 2>&1 &
     echo $! >"dask$1"
-    for ((number = 0; number < 600; number++)); do [ -s "told$1" ] && break; sleep 0.1; done
+    for ((number = 0; number < 600; number++)); do [ -s "scheduler$1" ] && break; sleep 0.1; done
     for ((number = 0; number < $1; number++)); do
-        "$python" -m distributed.cli.dask_worker --scheduler-file "told$1" --nthreads 1 --no-nanny --no-dashboard --host 127.0.0.1 >/dev/null 2>&1 &
+        "$python" -m distributed.cli.dask_worker --scheduler-file "scheduler$1" --nthreads 1 --no-nanny --no-dashboard --host 127.0.0.1 >/dev/null 2>&1 &
         echo $! >>"dask$1"
     done
     unset PYTHONPATH DASK_CONFIG
-    sed -n 's/.*"address": "\(tcp[^"]*\)".*/\1/p' "told$1" | head -n 1 >"address$1"
+    sed -n 's/.*"address": "\(tcp[^"]*\)".*/\1/p' "scheduler$1" | head -n 1 >"address$1"
     "$python" -I - "$(cat "address$1")" "$1" <<'P'
 import sys
 from distributed import Client
@@ -178,7 +178,7 @@ if "$python" -c 'import distributed' 2>/dev/null; then
 fi
 [ "$asked" = dask ] || ways+=(by_xargs)
 if [ "$asked" = all ] && parallel --version 2>/dev/null </dev/null | grep -q '^GNU parallel'; then ways+=(by_parallel); fi
-echo "$scenarios scenarios ($kind) of seed $seed on $(nproc) processors, $(date -u +%F), beside a load of $(cut -d ' ' -f 1 /proc/loadavg), images in ${memory:-${TMPDIR:-/tmp}}"
+echo "$scenarios scenarios ($kind) of seed $seed on $(nproc) processors, $(date -u +%F), at a load of $(cut -d ' ' -f 1 /proc/loadavg), images in ${memory:-${TMPDIR:-/tmp}}"
 for ((turn = 0; turn < turns; turn++)); do
     for processes in 1 2 4; do
         for way in "${ways[@]}"; do counted "$way" $processes; done

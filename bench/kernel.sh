@@ -119,8 +119,8 @@ on 'a moment of the clock' 30 clock 0
 on 'an action of the driver' 0 action 0
 on 'a telegram that is a repeat' 30 repeat 0
 on 'a telegram that is a whole group' 30 group 0
-row 'a reading of 0 cm behind 1,000 others' '*output_after*' 1000 limits 5 reading 0
-row 'a reading of 0 cm behind 100,000 others' '*output_after*' 100000 limits 5 reading 0
+row 'a reading of 0 cm after 1,000 others' '*output_after*' 1000 limits 5 reading 0
+row 'a reading of 0 cm after 100,000 others' '*output_after*' 100000 limits 5 reading 0
 called "memory taken in $events readings" '^rattle_(re)?alloc' "$events" limits 30r reading 1
 permitted 'permitted, the limit fits' 0
 permitted 'permitted, sought' -67

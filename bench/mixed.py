@@ -71,13 +71,13 @@ STORY = (
 
 def lines():
     """The scenario: before each line of the story a telegram, a whole group of a number of its own, and now and then a repeat."""
-    group, told = 100, None
+    group, telegram = 100, None
     yield "cold 0"
     for at, (line, packets) in enumerate(STORY):
-        if packets or told is None or at % 4:
+        if packets or telegram is None or at % 4:
             group += 1
-            told = written(f"NID_BG {group}; {packets or FILLERS[at % len(FILLERS)]}")
-        yield "telegram " + told
+            telegram = written(f"NID_BG {group}; {packets or FILLERS[at % len(FILLERS)]}")
+        yield "telegram " + telegram
         yield line
 
 
@@ -94,8 +94,8 @@ def plain_lines():
     return in_plain_words(list(lines())[1:])
 
 
-def in_plain_words(told):
-    for line in told:
+def in_plain_words(scenario_lines):
+    for line in scenario_lines:
         word, _, value = line.partition(" ")
         word, value = PLAIN_ACTIONS[int(value)] if word == "action" else (PLAIN_WORDS[word], value)
         yield word, bytes.fromhex(value).decode() if word == "enter-identity" else value
@@ -124,11 +124,11 @@ PLAIN_FUNCTIONS = {"telegram": "hear", "odometer": "read", "clock": "tick"}
 
 def by_the_peer(text):
     """The instructions of each kind of event, and the mode and limit after each event."""
-    told = "".join(f"{word} {value}".strip() + "\n" for word, value in plain_lines())
+    events = "".join(f"{word} {value}".strip() + "\n" for word, value in plain_lines())
     took = {}
     for function in ("hear", "read", "tick", "act"):
         done = subprocess.run(["valgrind", "--tool=callgrind", "--callgrind-out-file=/dev/null", "--collect-atstart=no",
-                               f"--toggle-collect=*rows::{function}", "peer/release/rows"], input=told, capture_output=True, text=True,
+                               f"--toggle-collect=*rows::{function}", "peer/release/rows"], input=events, capture_output=True, text=True,
                               cwd=OUT, env={"PATH": "/usr/bin:/bin"}, check=True)
         took[function] = int(re.search(r"Collected : (\d+)", done.stderr)[1])
     answers = [(line.split()[0], int(line.split()[3])) for line in done.stdout.splitlines()]
@@ -138,7 +138,7 @@ def by_the_peer(text):
 
 def count():
     text = list(lines())
-    took = counted([(16, [text[0], "count", *text[1:]])], told=True)
+    took = counted([(16, [text[0], "count", *text[1:]])], shows=True)
     plain, answers = by_the_peer(text)
     groups = defaultdict(list)
     for kind, line, at in zip(list(kinds_of(text))[1:], text[1:], range(3, len(text) + 2)):

@@ -22,7 +22,7 @@ os.chdir(room)
 
 
 def watch(process, seen):
-    """Notes the most memory that a process held, in kB, until it ends. (What a parent is told behind its end counts the parent's own.)"""
+    """Notes the most memory that a process held, in kB, until it ends. (The figure that a parent gets after its end includes the parent's own memory.)"""
     while True:
         try:
             held = [line.split()[1] for line in open(f"/proc/{process}/status") if line.startswith("VmHWM:")]
@@ -35,7 +35,7 @@ def watch(process, seen):
 
 
 def measured(name, file, *words):
-    """Runs it, what it prints into a file, and tells its wall time, its processor time, and the most memory that it held."""
+    """Runs it with its output in a file, and returns its wall time, its processor time and the most memory that it held."""
     start, seen = time.monotonic(), []
     with open(name, "wb") as out:
         ran = subprocess.Popen([file, *words], stdout=out)

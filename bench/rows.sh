@@ -65,9 +65,9 @@ commit() {
 }
 row 'Journal::commit of eight records' "$(commit)" "$(each 24 1 '*commit_one*' ./peer_rows commit)"
 for moves in 0 1; do
-    told='a moment of the clock in Stand By'
-    [ $moves = 0 ] || told='a reading of 1 cm in Full Supervision'
-    row "Onboard::accept, $told" "$(each 24 8 '*accept_one*' ./rows_onboard $moves)" "$(each 24 8 '*accept_one*' ./peer_rows unit 4 $moves)"
-    row "an eighth of Onboard::flush, $told" "$(each 24 8 '*flush_one*' ./rows_onboard $moves)" "$(each 24 8 '*flush_one*' ./peer_rows unit 4 $moves)"
+    event='a moment of the clock in Stand By'
+    [ $moves = 0 ] || event='a reading of 1 cm in Full Supervision'
+    row "Onboard::accept, $event" "$(each 24 8 '*accept_one*' ./rows_onboard $moves)" "$(each 24 8 '*accept_one*' ./peer_rows unit 4 $moves)"
+    row "an eighth of Onboard::flush, $event" "$(each 24 8 '*flush_one*' ./rows_onboard $moves)" "$(each 24 8 '*flush_one*' ./peer_rows unit 4 $moves)"
 done
 row 'Onboard::open, a power-up on 4 slots' "$(within '*open_one*' ./rows_onboard 0 1)" "$(within '*open_one*' ./peer_rows unit 4 0 1)"

@@ -76,20 +76,20 @@ def bound_of(lines, is_start):
     return most + (KNOWN * (gradients + statics) if is_start else 0), (gradients, targets, back)
 
 
-def told(words):
+def scenarios_of(words):
     """WHAT, the lines."""
     if "kept" in words:
         for _, kind, lines in kept():
             yield kind, [line for line in lines if line != "count"]
     if "grown" in words:
         for grades, restricted, order in GROWN:
-            yield (f"reading: {grades} gradients, {restricted} restrictions, told {order}",
+            yield (f"reading: {grades} gradients, {restricted} restrictions, sent {order}",
                    [text_of(line) for line in backwards(restricted, grades, turns=order == "by turns", near=order == "near to far")])
     if "stairs" in words:
         for grades, reaction, near_end, many in STAIRS:
             for rising in (True, False):
                 what = ", ".join(f"{number} {name}" for name, number in many.items())
-                yield (f"reading: {grades} gradients, {what}, {'rising' if rising else 'falling'}, the end {'before' if near_end else 'behind'} them, "
+                yield (f"reading: {grades} gradients, {what}, {'rising' if rising else 'falling'}, the end {'before' if near_end else 'beyond'} them, "
                        f"{reaction / 1000:g} s", [text_of(line) for line in stairs(grades, rising=rising, reaction=reaction, near_end=near_end, **many)])
     if "crowds" in words:
         for crowd in CROWDS:
@@ -106,7 +106,7 @@ def told(words):
 
 
 def main(words):
-    cases = list(told(words or ["kept", "grown", "stairs", "anew", "crowds", "forgotten"]))
+    cases = list(scenarios_of(words or ["kept", "grown", "stairs", "anew", "crowds", "forgotten"]))
     took = counted([(4, [*lines[:-1], "count", lines[-1]]) for _, lines in cases])
     broken = 0
     for at, (what, lines) in enumerate(cases, 1):

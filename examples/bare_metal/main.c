@@ -234,7 +234,7 @@ static uint32_t live(int is_ready, int cycles) {
 }
 
 int main(void) {
-    etcs_memory_info told = {0, 0, 0, 0, 0};
+    etcs_memory_info info = {0, 0, 0, 0, 0};
     board_paint();
     board_watch(WATCHDOG_MS);
     uint32_t status = etcs_memory_use(memory, sizeof memory);
@@ -248,14 +248,14 @@ int main(void) {
         status = live(0, 2); /* the board was reset */
     }
     if (status == ETCS_UNIT_OK) {
-        status = etcs_memory_state(&told);
+        status = etcs_memory_state(&info);
     }
     say((status == ETCS_UNIT_OK) ? "memory: " : "emergency brake: ");
     say((status == ETCS_UNIT_OK) ? "" : etcs_status_name(status));
     say((status == ETCS_UNIT_OK) ? "" : ", ");
-    say_number(told.most_used);
+    say_number(info.most_used);
     say(" of ");
-    say_number(told.size);
+    say_number(info.size);
     say(" bytes; stack: ");
     say_number(board_stack());
     say(" bytes\n");

@@ -128,7 +128,7 @@ static uint32_t power_up(const char *path) {
 
 int main(int count, char **words) {
     pthread_t task;
-    etcs_memory_info told = {0, 0, 0, 0, 0};
+    etcs_memory_info info = {0, 0, 0, 0, 0};
     if (count < 2 || etcs_memory_use(memory, sizeof memory) != ETCS_UNIT_OK)
         return 2;
     most_cycles = count > 2 ? strtoull(words[2], NULL, 10) : most_cycles;
@@ -145,9 +145,9 @@ int main(int count, char **words) {
     }
     pthread_join(task, NULL);
     pthread_mutex_lock(&our.lock);
-    (void)etcs_memory_state(&told);
+    (void)etcs_memory_state(&info);
     printf("%" PRIu64 " cycles, event %" PRIu64 ": brake %u; %s\n", our.cycles, our.command.event, (unsigned)our.command.brake, etcs_status_name(our.fault));
-    printf("memory: %" PRIu64 " of %" PRIu64 " bytes\n", told.most_used, told.size);
+    printf("memory: %" PRIu64 " of %" PRIu64 " bytes\n", info.most_used, info.size);
     if (our.is_late)
         puts("emergency brake: a cycle ended too late");
     fprintf(stderr, "the longest cycle took %" PRIu64 " us\n", our.longest_us);

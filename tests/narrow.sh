@@ -43,7 +43,7 @@ module "$good" | "$top/tools/narrow" "$layout" armv7 >"$made/narrow" 2>"$made/sa
 while IFS='|' read -r inside outside; do
     module "$inside" "$outside" | "$top/tools/narrow" "$layout" armv7 >"$made/narrow" 2>"$made/said" && fails "a form that isn't known is taken: $inside$outside"
     [ -s "$made/narrow" ] && fails "a module that is refused is written: $inside$outside"
-    grep -q "a form that isn't known" "$made/said" && refused=$((refused + 1)) || fails "it isn't told which form isn't known: $inside$outside"
+    grep -q "a form that isn't known" "$made/said" && refused=$((refused + 1)) || fails "the form that isn't known isn't reported: $inside$outside"
 done <<'FORMS'
 %v = alloca { ptr, i64 }, align 8|
 %v = alloca [2 x ptr], align 8|
@@ -139,24 +139,24 @@ for target in armv7-none-eabi thumbv7em-none-eabi armv8r-none-eabi; do side_by_s
 side_by_side board board
 first=$libraries/x86_64-linux-gnu
 gcc "${strict[@]}" -O2 -I "$made" -I "$first/include" -I "$here" "$here/driver.c" "$here/hosted.c" "$first/lib/libetcs_unit.a" -o "$made/driver.first" || fails "the driver doesn't compile"
-"$made/driver.first" <"$made/script" >"$made/told.x86_64" || fails "the driver ends with another status than 0"
+"$made/driver.first" <"$made/script" >"$made/printed.x86_64" || fails "the driver ends with another status than 0"
 for name in source_clang source_powerpc source_gcc driver_{armv7,thumbv7em,armv8r}-none-eabi board; do ended $name; done
 [ $status -eq 0 ] || exit 1
 
 # ---- the same script everywhere
 
 # runs NAME COMMAND..: carries out the script
-runs() { "${@:2}" <"$made/script" >"$made/told.$1"; }
+runs() { "${@:2}" <"$made/script" >"$made/printed.$1"; }
 side_by_side run_powerpc runs source_powerpc qemu-ppc "$made/driver.source_powerpc"
 side_by_side run_m7 timeout 600 qemu-system-arm -M mps2-an500 -cpu cortex-m7 -semihosting-config enable=on,target=native -display none -monitor none \
-    -serial "file:$made/told.board_m7" -kernel "$made/m7.elf" -device loader,file="$made/script",addr=0x60D00000,force-raw=on
+    -serial "file:$made/printed.board_m7" -kernel "$made/m7.elf" -device loader,file="$made/script",addr=0x60D00000,force-raw=on
 side_by_side run_armv7 runs armv7 qemu-arm -cpu cortex-a9 "$made/driver.armv7-none-eabi"
 side_by_side run_thumbv7em runs thumbv7em qemu-arm -cpu cortex-a15 "$made/driver.thumbv7em-none-eabi"
 side_by_side run_armv8r runs armv8r qemu-arm -cpu max "$made/driver.armv8r-none-eabi"
 for name in source_gcc source_clang; do side_by_side run_$name runs $name "$made/driver.$name"; done
 for name in run_{powerpc,m7,armv7,thumbv7em,armv8r,source_gcc,source_clang}; do ended $name; done
-"$python" "$here/scripts.py" compare "$made/script" "$made"/told.{x86_64,armv7,thumbv7em,armv8r,board_m7,source_gcc,source_clang,source_powerpc} || status=1
-echo "narrow: $(wc -l <"$made/told.x86_64") lines compared on each machine"
+"$python" "$here/scripts.py" compare "$made/script" "$made"/printed.{x86_64,armv7,thumbv7em,armv8r,board_m7,source_gcc,source_clang,source_powerpc} || status=1
+echo "narrow: $(wc -l <"$made/printed.x86_64") lines compared on each machine"
 
 # ---- sizes and places
 

@@ -25,7 +25,7 @@ status=0
 # rows NAME FLOOR: the rows of a module
 rows() {
     local found count
-    found=$(python3 "$1.py" --told "$made/answers") || status=1
+    found=$(python3 "$1.py" --compare "$made/answers") || status=1
     echo "$found"
     count=$(sed -n '$s/.*: \([0-9]*\) rows, .*/\1/p' <<< "$found")
     [ -n "$SEED" ] && [ "${count:-0}" -gt 0 ] || [ "${count:-0}" -ge "$2" ] || { echo "$1: fewer rows than $2"; status=1; }

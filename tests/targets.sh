@@ -54,16 +54,16 @@ done
 "$cross" -std=c11 -O2 "${strict[@]}" "${bare_words[@]}" -I "$made" -I "$here" "$here/driver.c" "$here/bare.c" "$bare/lib/libetcs_unit_static.a" -o "$made/board.elf" ||
     fails "the driver doesn't compile for the board"
 "$python" "$here/scripts.py" script "$lives" "$calls" "$telegrams" >"$made/script" || fails "there is no script"
-"$made/here" <"$made/script" >"$made/told.x86_64" || fails "the driver ends with another status than 0"
-"$made/here_static" <"$made/script" >"$made/told.x86_64_own_memory" || fails "the driver over a buffer ends with another status than 0"
-qemu-aarch64 "$made/aarch64" <"$made/script" >"$made/told.aarch64" || fails "the driver on aarch64 ends with another status than 0"
-qemu-aarch64 "$made/aarch64_static" <"$made/script" >"$made/told.aarch64_own_memory" || fails "the driver over a buffer on aarch64 ends with another status than 0"
-board "$made/board.elf" "$made/script" >"$made/told.board"
+"$made/here" <"$made/script" >"$made/printed.x86_64" || fails "the driver ends with another status than 0"
+"$made/here_static" <"$made/script" >"$made/printed.x86_64_own_memory" || fails "the driver over a buffer ends with another status than 0"
+qemu-aarch64 "$made/aarch64" <"$made/script" >"$made/printed.aarch64" || fails "the driver on aarch64 ends with another status than 0"
+qemu-aarch64 "$made/aarch64_static" <"$made/script" >"$made/printed.aarch64_own_memory" || fails "the driver over a buffer on aarch64 ends with another status than 0"
+board "$made/board.elf" "$made/script" >"$made/printed.board"
 # (after a version of node that has such memories as they are, the word is unknown)
 wide=--experimental-wasm-memory64
 node $wide -e '' 2>/dev/null || wide=
-node $wide --no-warnings "$here/driver.mjs" "$wasm/lib/etcs.wasm" <"$made/script" >"$made/told.wasm64" || fails "the driver in WebAssembly ends with another status than 0"
-"$python" "$here/scripts.py" compare "$made/script" "$made"/told.{x86_64,x86_64_own_memory,aarch64,aarch64_own_memory,board,wasm64} || status=1
+node $wide --no-warnings "$here/driver.mjs" "$wasm/lib/etcs.wasm" <"$made/script" >"$made/printed.wasm64" || fails "the driver in WebAssembly ends with another status than 0"
+"$python" "$here/scripts.py" compare "$made/script" "$made"/printed.{x86_64,x86_64_own_memory,aarch64,aarch64_own_memory,board,wasm64} || status=1
 
 # ---- the tests of the unit from C, on aarch64
 

@@ -173,11 +173,11 @@ counted "runs of them, 12 of them under valgrind" $runs 41
 trains=0
 for program in "$made"/brake.*; do
     name=$(basename "$program")
-    "$program" "$made/image.$name" >"$made/told.$name" || fails "$name ends with another status than 0"
+    "$program" "$made/image.$name" >"$made/lines.$name" || fails "$name ends with another status than 0"
 done
-PYTHONPATH=$top/python "$python" "$top/examples/embedding/use.py" "$made/image.py" >"$made/told.py" || fails "use.py ends with another status than 0"
-for told in "$made"/told.*; do
-    "$python" "$top/tests/unit/brake_told.py" "$told" >"$made/said" || { cat "$made/said"; fails "$(basename "$told") has other lines"; }
+PYTHONPATH=$top/python "$python" "$top/examples/embedding/use.py" "$made/image.py" >"$made/lines.py" || fails "use.py ends with another status than 0"
+for lines in "$made"/lines.*; do
+    "$python" "$top/tests/unit/brake_lines.py" "$lines" >"$made/said" || { cat "$made/said"; fails "$(basename "$lines") has other lines"; }
     trains=$((trains + 1))
 done
 for image in "$made"/image.*; do cmp "$image" "$made/image.brake.gcc" || fails "the journals of the examples differ"; done

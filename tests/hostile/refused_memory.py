@@ -32,12 +32,12 @@ def is_refusal(status, text, undisturbed):
 def found(image, text):
     """Each event that was printed stands in the journal, with its number, mode, brake and indications."""
     status, listing = ran(["journal", image])
-    told = {fields[3]: fields for fields in (line.split() for line in listing.splitlines())}
+    listed = {fields[3]: fields for fields in (line.split() for line in listing.splitlines())}
     for line in text.splitlines():
         fields = line.split()
         if fields[0] == "event":
             number, mode, level, brake, indications = fields[1], fields[3], fields[5], fields[7], fields[11]
-            record = told.get(number)
+            record = listed.get(number)
             if record is None or record[5:9] != [mode, level, brake, indications]:
                 return False
     return status == 0
@@ -68,7 +68,7 @@ def series(name, words, folder, refuse, failures, image=None):
             again = ran(words)
             failures.unless(again[0] == undisturbed[0], f"{name}, request {at}: the next run ends with {again[0]}")
     failures.unless(count, f"{name}: no request was refused")
-    failures.unless(count > of_tape, f"{name}: no refusal was told")
+    failures.unless(count > of_tape, f"{name}: no refusal was reported")
     print(f"{name}: {count} requests refused, {of_tape} of them for a tape")
     return count
 

@@ -106,11 +106,11 @@ def compare_words(program, room, compared):
         printed, said, status = run(program, words)
         compared.same(f"words {words}", (printed, said.startswith("error: "), status), ("", True, 2))
     compare_help(program, compared)
-    compared.same("an option behind the image", run(program, ["examine", str(good), "--json"]), run(program, ["examine", "--json", str(good)]))
-    compared.same("the end of the options behind the image", run(program, ["examine", str(good), "--"])[::2], (text, 0))
-    compared.same("behind --", run(program, ["examine", "--", "-odd"], cwd=room)[2], 3)
+    compared.same("an option after the image", run(program, ["examine", str(good), "--json"]), run(program, ["examine", "--json", str(good)]))
+    compared.same("the end of the options after the image", run(program, ["examine", str(good), "--"])[::2], (text, 0))
+    compared.same("after --", run(program, ["examine", "--", "-odd"], cwd=room)[2], 3)
     (room / "-odd").write_bytes(image)
-    compared.same("behind -- a file", run(program, ["examine", "--", "-odd"], cwd=room)[::2], (text, 0))
+    compared.same("after -- a file", run(program, ["examine", "--", "-odd"], cwd=room)[::2], (text, 0))
     for words in (["examine", "--slots", "6", str(good)], ["examine", str(good), "--slots", "6", "--"]):
         compared.same(f"words {words}", run(program, words)[::2], (text, 0))
     good.chmod(0o444)
@@ -279,14 +279,14 @@ def big_journal(path, slots, newest):
 def timed_on_terminal(words):
     """The same on a terminal, and what was shown there; it is less than a terminal holds before it is read."""
     shown, terminal = pty.openpty()
-    told = timed(words, terminal)
+    result = timed(words, terminal)
     os.write(terminal, b"end")
     text = b""
     while not text.endswith(b"end"):
         text += os.read(shown, 4_096)
     os.close(terminal)
     os.close(shown)
-    return told, text.removesuffix(b"end").decode()
+    return result, text.removesuffix(b"end").decode()
 
 
 def compare_big(program, etcs, room, compared):

@@ -82,6 +82,6 @@ class Browser:
 
     def image(self) -> bytes:
         """The image of the desk."""
-        told = self.run_later("const done = arguments[0], reader = new FileReader(); reader.onload = () => done(reader.result);"
+        url = self.run_later("const done = arguments[0], reader = new FileReader(); reader.onload = () => done(reader.result);"
                               " reader.readAsDataURL(new Blob([window.gaknifur.drive.image()]))")
-        return base64.b64decode(told.partition(",")[2])
+        return base64.b64decode(url.partition(",")[2])

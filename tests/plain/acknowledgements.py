@@ -16,14 +16,14 @@ settled       nothing  nothing  nothing  same
 """
 
 
-def cells_told():
+def cells():
     head, *lines = BECOMES.strip("\n").splitlines()
     for line in lines:
         happening, *cells = line.split()
         yield happening, dict(zip(head.split(), cells))
 
 
-TABLE = dict(cells_told())
+TABLE = dict(cells())
 
 
 class Acknowledgement(namedtuple("Acknowledgement", "state since")):

@@ -65,22 +65,22 @@ EVERY_PACKET = (3, 5, 12, 21, 27, 41, 65, 66, 80)
 USED = {"SH": (3, 65, 66), "TR": (3, 65, 66), "PT": (3, 41, 65, 66), "SF": ()}
 
 
-def rows_told():
+def table_rows():
     for line in ROWS.strip().splitlines():
         number, *words = line.split()
         modes = [word for word in words if word.isupper()]
         yield int(number), modes[:-1], modes[-1], words[len(modes):]
 
 
-def statuses_told():
+def status_rows():
     head, *lines = STATUSES.strip("\n").splitlines()
     for line in lines:
         item, *fates = line.split()
         yield item, dict(zip(head.split(), fates))
 
 
-TABLE = tuple(rows_told())
-FATES = dict(statuses_told())
+TABLE = tuple(table_rows())
+FATES = dict(status_rows())
 
 
 def row_of(mode, conditions):

@@ -56,10 +56,10 @@ def header_of(text):
 
 def packet_of(text):
     number, _, body = text.partition(":")
-    told = fields_of(body)
-    head = HEAD | {name: value for name, value in told if name in HEAD}
+    fields = fields_of(body)
+    head = HEAD | {name: value for name, value in fields if name in HEAD}
     scale = "" if int(number) in WITHOUT_SCALE else bits_of("Q_SCALE", head["Q_SCALE"])
-    rest = scale + "".join(bits_of(name, value) for name, value in told if name not in HEAD)
+    rest = scale + "".join(bits_of(name, value) for name, value in fields if name not in HEAD)
     length = 23 + len(rest) if head["L_PACKET"] is None else head["L_PACKET"]
     return bits_of("NID_PACKET", int(number)) + bits_of("Q_DIR", head["Q_DIR"]) + bits_of("L_PACKET", length) + rest
 

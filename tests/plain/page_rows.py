@@ -76,12 +76,12 @@ def found(image, lines):
         journal = Journal(disk)
     except Refused as refused:
         return [f"refused {29 + int(str(refused)[0])} {str(refused)[2:]}"], 1
-    told = []
+    listed = []
     for number in range(journal.first, journal.newest + 1):
         if read_block(journal.load(disk, number)) is None:
-            return told + ["refused 32 Damaged"], 1
-        told += [line for line in lines if line.startswith(f"block {number} ")]
-    return told, 0
+            return listed + ["refused 32 Damaged"], 1
+        listed += [line for line in lines if line.startswith(f"block {number} ")]
+    return listed, 0
 
 
 def main():

@@ -136,18 +136,18 @@ def walked(data):
     return walk and walk.events
 
 
-def told_of(walk, is_json, only=None):
+def explained(walk, is_json, only=None):
     """Status and text."""
     if walk is None:
         return REFUSED, ""
     lines = [members if is_json else line for number, is_new, line, members in walk.lines if (is_new if only is None else number == only)]
-    is_told = walk.is_whole if only is None else bool(lines)
-    return (WHOLE if is_told else LOST), "".join(line + "\n" for line in lines)
+    is_found = walk.is_whole if only is None else bool(lines)
+    return (WHOLE if is_found else LOST), "".join(line + "\n" for line in lines)
 
 
 def main(words):
     is_json, words = "--json" in words, [word for word in words if word != "--json"]
-    status, said = told_of(walk_of(Path(words[0]).read_bytes()), is_json, int(words[1]) if words[1:] else None)
+    status, said = explained(walk_of(Path(words[0]).read_bytes()), is_json, int(words[1]) if words[1:] else None)
     print(said, end="")
     return status
 

@@ -31,8 +31,8 @@ def question(row):
     return of_bytes(1, data)
 
 
-def answer(_row, told):
-    return [ANSWERS[told.take()]]
+def answer(_row, reply):
+    return [ANSWERS[reply.take()]]
 
 
 if __name__ == "__main__":

@@ -93,8 +93,8 @@ def differences(lines, wanted, answers):
     if wanted is not None:
         found = digest(lines, answers)
         return [("the group up to here", wanted, found)] if found != wanted else []
-    told = [(said, want, answers.take(said)) for line in lines for said, want in commands_of(line)]
-    return [(said, want, found) for said, want, found in told if want != found]
+    answered = [(said, want, answers.take(said)) for line in lines for said, want in commands_of(line)]
+    return [(said, want, found) for said, want, found in answered if want != found]
 
 
 def compare(rows, answers):
@@ -103,8 +103,8 @@ def compare(rows, answers):
     for place, lines, wanted in rows:
         found = differences(lines, wanted, answers)
         differ += bool(found)
-        for said, want, told in found:
-            print(f"{NAME}.row:{place}: {said[:160]}", f"  wanted {want}", f"  found  {told}", sep="\n")
+        for said, want, got in found:
+            print(f"{NAME}.row:{place}: {said[:160]}", f"  wanted {want}", f"  found  {got}", sep="\n")
     print(f"{NAME}: {sum(len(lines) for _, lines, _ in rows)} rows, {differ} differ")
     return differ == 0
 

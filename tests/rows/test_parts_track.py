@@ -99,8 +99,8 @@ def place(words):
     return called(PLACE, words)
 
 
-def place_told(words, told):
-    asked, first, second = told.take(3)
+def place_answer(words, reply):
+    asked, first, second = reply.take(3)
     if not asked:
         return REFUSED
     if words[0] in ("move", "fix"):
@@ -122,8 +122,8 @@ def restriction(words):
     return called(RESTRICTION, words)
 
 
-def restriction_told(words, told):
-    asked, speed = told.take(2)
+def restriction_answer(words, reply):
+    asked, speed = reply.take(2)
     if not asked:
         return REFUSED
     return in_kmh(speed) if words[0] == "limit" else "done"
@@ -151,8 +151,8 @@ def of_both(facts, segments):
     return facts if facts == segments else f"{facts} by the facts, {segments} by the segments"
 
 
-def profile_told(words, told):
-    facts, segments = told.take(2), told.take(2)
+def profile_answer(words, reply):
+    facts, segments = reply.take(2), reply.take(2)
     if words[0] == "count":
         return str(segments[1])
     return of_both(of_profile(words[0], *facts), of_profile(words[0], *segments))
@@ -184,8 +184,8 @@ def speed(words):
     return [operation, *numbers, len(targets) // 2, *targets]
 
 
-def speed_told(words, told):
-    asked, first, second = told.take(3)
+def speed_answer(words, reply):
+    asked, first, second = reply.take(3)
     if not asked:
         return REFUSED
     if words[0] == "permitted":

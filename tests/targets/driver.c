@@ -70,7 +70,7 @@ static void answer(uint32_t status) {
     put("\n");
 }
 
-static void tell(const etcs_unit_output *outputs, uint32_t count) {
+static void put_outputs(const etcs_unit_output *outputs, uint32_t count) {
     for (uint32_t i = 0; i < count; i++) {
         put("event ");
         put_number(outputs[i].event, 10);
@@ -183,7 +183,7 @@ static uint32_t release(uint64_t room) {
     uint32_t count = 0;
     const uint32_t status = etcs_unit_release(unit(), outputs, room < ETCS_UNIT_OUTPUTS ? (size_t)room : ETCS_UNIT_OUTPUTS, &count);
     if (status == ETCS_UNIT_OK)
-        tell(outputs, count);
+        put_outputs(outputs, count);
     return status;
 }
 

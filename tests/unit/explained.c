@@ -11,7 +11,7 @@
 static unsigned long long wide(uint64_t number) { return (unsigned long long)number; }
 
 /* That nothing is reported now. */
-static void untold(const char *what, etcs_unit *unit) {
+static void reports_nothing(const char *what, etcs_unit *unit) {
     etcs_unit_why_info why, other;
     memset(&why, 0xAA, sizeof why);
     memset(&other, 0xAA, sizeof other);
@@ -23,7 +23,7 @@ static void waiting(const char *kind, uint8_t state, uint64_t left) {
     printf(",\"%s\":[\"%s\",%llu]", kind, etcs_acknowledgement_name(state), wide(left));
 }
 
-static void tell(const etcs_unit_why_info *why) {
+static void print_why(const etcs_unit_why_info *why) {
     printf("{\"event\":%llu,\"mode\":%u,\"level\":%u,\"brake\":%u,\"indications\":%u,\"limit\":%lu,\"speed\":%lu,\"backward\":%llu,\"allowed\":%llu,\"holds\":[",
            wide(why->output.event), (unsigned)why->output.mode, (unsigned)why->output.level, (unsigned)why->output.brake, (unsigned)why->output.indications,
            (unsigned long)why->output.limit_m_per_h, (unsigned long)why->speed_m_per_h, wide(why->backward_cm), wide(why->allowed_backward_cm));
@@ -72,7 +72,7 @@ static void ask(const medium *on, etcs_unit *unit, const etcs_unit_output *last)
     if (last != NULL)
         is("it is the last output", (uint64_t)memcmp(&why.output, last, sizeof *last), 0);
     same(on, &why);
-    tell(&why);
+    print_why(&why);
 }
 
 /* Carries out the requests one by one, and releases; before that nothing is reported. */
@@ -84,13 +84,13 @@ static void flush(medium *on, etcs_unit *unit, int prepares) {
     if (prepares)
         is("prepare", etcs_unit_prepare(unit), ETCS_UNIT_OK);
     while (etcs_unit_request(unit, index, &request, bytes, sizeof bytes) == ETCS_UNIT_OK) {
-        untold("why, before its requests are done", unit);
+        reports_nothing("why, before its requests are done", unit);
         do_on(on, &request, bytes);
         index++;
         is("done", etcs_unit_done(unit, index), ETCS_UNIT_OK);
     }
     if (index > 0)
-        untold("why, before the release", unit);
+        reports_nothing("why, before the release", unit);
     is("release", etcs_unit_release(unit, outputs, ETCS_UNIT_OUTPUTS, &count), ETCS_UNIT_OK);
     ask(on, unit, count > 0 ? &outputs[count - 1] : NULL);
 }
@@ -105,7 +105,7 @@ int main(int count, char **words) {
     while (fgets(line, sizeof line, stdin)) {
         if (strcmp(line, "flush\n") != 0) {
             is(line, take(&unit, line), ETCS_UNIT_OK);
-            untold("why, while it is pending", &unit);
+            reports_nothing("why, while it is pending", &unit);
             pending++;
         }
         if (pending == 8 || (pending > 0 && strcmp(line, "flush\n") == 0)) {

@@ -169,8 +169,8 @@ def main(words):
             refused += wanted[-1:] != [] and wanted[-1].startswith("refused")
             seen |= {line.split()[0] for line in slots[1:]}
             for program in programs[:1] if seed % 10 else programs:
-                for told, words in ((wanted, ()), (slots, ("-s",)), (heads_of(data), ("-k",))):
-                    if lines_of(program, altered, *words) != told:
+                for expected, words in ((wanted, ()), (slots, ("-s",)), (heads_of(data), ("-k",))):
+                    if lines_of(program, altered, *words) != expected:
                         found += 1
                         print(f"image {seed % len(sources)}, altered by {seed}: other lines from {program} {' '.join(words)}")
     print(f"images read from C: {tried}, and {DAMAGED} altered ones with slots of {len(seen)} states, of which {refused} are refused; {found} differences")

@@ -30,7 +30,7 @@ def drive(unit, way):
         way -= STEP
 
 
-def passed(before, behind):
+def passed(before, after):
     """Front and uncertainty where the second group is handed in after so many centimetres, and then so many more are driven."""
     with Unit(MemoryMedium.formatted(16)) as unit:
         unit.telegram(telegram(FIRST))
@@ -42,7 +42,7 @@ def passed(before, behind):
         drive(unit, before)
         unit.telegram(telegram("NID_BG 3, Q_LINK 1"))
         unit.flush()
-        drive(unit, behind)
+        drive(unit, after)
         state = unit.state()
     return state.front_cm, state.uncertainty_cm
 

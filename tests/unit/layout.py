@@ -34,7 +34,7 @@ def places():
 def main(words):
     wanted = dict(places())
     if words == ["--program"]:
-        print(PROGRAM % "".join(f'    printf("{told}: %u\\n", (unsigned){told});\n' for told in wanted), end="")
+        print(PROGRAM % "".join(f'    printf("{place}: %u\\n", (unsigned){place});\n' for place in wanted), end="")
         return 0
     tried = found = 0
     for program in words:

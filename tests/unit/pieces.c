@@ -196,5 +196,5 @@ int main(int count, char **words) {
     is("all in one piece", all != NULL && state.used == 0 && state.pieces == 0, 1);
     printf("refusals: %u, resizes: %u, grown in place: %u\n", refusals, resizes, grown_in_place);
     is("refusals, resizes, and some in place", refusals > 1000 && resizes > 1000 && grown_in_place > 50, 1);
-    return told("pieces", 100000);
+    return report("pieces", 100000);
 }

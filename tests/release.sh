@@ -44,7 +44,7 @@ for folder in "$first" "$second"; do
         find "crates/$name/out" -maxdepth 1 -type f \( -name "$name" -o -name "$name.*" -o -name "lib$name.a*" \) -exec cp {} "$folder/crates/$name/out" \; 2>/dev/null
     done
 done
-refuses "no gate" "no gate passed on commit" "$first/tools/release" "$room/none"
+refuses "no full check" "no full check passed on commit" "$first/tools/release" "$room/none"
 [ ! -e "$room/none" ] || fails "a refused release leaves a folder"
 commit=$(git -C "$first" rev-parse HEAD)
 for folder in "$first" "$second"; do mkdir -p "$folder/out" && printf '%s\nthe kit\nran: all\n' "$commit" >"$folder/out/gate"; done
@@ -69,7 +69,7 @@ count=$(find "$room/one" -type f | wc -l)
 tried=$((tried + 1))
 refuses "a folder that is there" "is there already, and stays as it is" "$first/tools/release" $words "$room/one"
 echo more >>"$first/README.md"
-refuses "a folder with changes" "changes that no commit has" "$first/tools/release" $words "$room/none"
+refuses "a folder with changes" "uncommitted changes" "$first/tools/release" $words "$room/none"
 
 # ---- what is altered is named
 version=$(dpkg-deb -f "$room"/one/gaknifur_*.deb Version)

@@ -1,14 +1,17 @@
 #!/bin/bash
-# What each call of the unit takes on aarch64: the instructions of the kept scenarios (bench/worst.scenarios), as the processor of a bare board counts
-# them, how far down each wrote on the stack, and the bound of the stack by the frames (bench/stack_bound.py). The board is QEMU's, with -icount: each
-# instruction is counted, of the library with its memory (platform/pieces.c) and its copies (bytes.c), and none is timed.
+# Print what each call of the unit takes on aarch64: the instructions of the kept scenarios (bench/worst.scenarios) as the
+# processor of a bare board counts them, the depth of the stack that each wrote, and the bound of the stack from the frames
+# (bench/stack_bound.py).
 #
-#     bench/board.sh PREFIX    of the library that `tools/library --target aarch64-none-elf PREFIX` installed
+#     bench/board.sh PREFIX    PREFIX is what `tools/library --target aarch64-none-elf PREFIX` installed
+#     bench/board.sh --help    print this
 #
-# It needs gcc-aarch64-linux-gnu and qemu-system-arm.
+# The board is QEMU's, with -icount: each instruction is counted, of the library with its memory (platform/pieces.c) and its
+# copies (bytes.c), and none is timed. It needs gcc-aarch64-linux-gnu and qemu-system-arm.
 set -e
 top=$(cd "$(dirname "$(readlink -f -- "$0")")/.." && pwd)
-[ $# = 1 ] && [ -r "$1/lib/libetcs_unit_static.a" ] || { sed -n '2,/^set/{/^set/d;s/^# \{0,1\}//;p}' "$0"; exit 2; }
+. "$top/bench/usage"
+[ $# = 1 ] && [ -r "$1/lib/libetcs_unit_static.a" ] || wrong "$@"
 made=$(mktemp -d)
 trap 'rm -rf "$made"' EXIT
 board=$top/examples/bare_metal

@@ -1,10 +1,13 @@
 #!/usr/bin/env python3
-"""A life in which every second event is a telegram, and which has every action of the driver, each accepted at least once.
+"""Write and count a life in which every second event is a telegram, and which has every action of the driver, each accepted at
+least once.
 
-    bench/mixed.py life     its lines, for bench/out/worst
-    bench/mixed.py plain    its lines, for the peer (bench/peer, rows)
-    bench/mixed.py check    whether each action is accepted, by the plain program of tests/plain
-    bench/mixed.py count    what the unit and the peer take for it: KIND, CALLS, MEAN, MOST, MEAN OF THE PEER; both answer the same
+    bench/mixed.py life      print its lines for bench/out/worst
+    bench/mixed.py plain     print its lines for the peer (bench/peer, rows)
+    bench/mixed.py check     check by the plain program of tests/plain that each action is accepted
+    bench/mixed.py count     print what the unit and the peer take, separated by tabs: KIND, CALLS, MEAN, MAXIMUM, MEAN OF THE PEER;
+                             both have to answer the same
+    bench/mixed.py --help    print this
 """
 import re
 import subprocess
@@ -14,7 +17,8 @@ from pathlib import Path
 
 TOP = Path(__file__).resolve().parent.parent
 sys.dont_write_bytecode = True
-sys.path[:0] = [str(TOP / "bench"), str(TOP / "tests" / "plain")]
+sys.path[:0] = [str(TOP / "bench"), str(TOP / "tests" / "plain"), str(TOP / "tools")]
+import usage  # noqa: E402
 from life import Life  # noqa: E402
 from named import written  # noqa: E402
 from worst_search import MODES, OUT, counted, kinds_of  # noqa: E402
@@ -158,13 +162,12 @@ def count():
 
 
 if __name__ == "__main__":
+    usage.check(__doc__, sys.argv[1:] in (["life"], ["plain"], ["check"], ["count"]))
     if sys.argv[1:] == ["life"]:
         print(*lines(), sep="\n")
     elif sys.argv[1:] == ["plain"]:
         print(*(f"{word} {value}".strip() for word, value in plain_lines()), sep="\n")
     elif sys.argv[1:] == ["check"]:
         sys.exit(check())
-    elif sys.argv[1:] == ["count"]:
-        count()
     else:
-        sys.exit(__doc__)
+        count()

@@ -1,10 +1,15 @@
 #!/bin/bash
-# Seconds, of wall time and of a processor, and peak memory of `etcs run` on scenarios of so many steps (100,000) and of ten times as many, and of `etcs journal` on an image
-# that is full with as many blocks, along with the peer's (bench/peer), which has to print the same and leave the same image. The program must be there
-# (./etcs --prove); with UNPROVED=yes one is compiled without a proof (bench/unproved).
+# Print wall time, processor time and peak memory of `etcs run` on scenarios of STEPS and of ten times as many steps, and of
+# `etcs journal` on an image that is full with as many blocks, next to the peer's (bench/peer).
 #
-#     bench/program.sh [STEPS]
+#     bench/program.sh [STEPS]    (default: 100000)
+#     bench/program.sh --help     print this
+#
+# The peer has to print the same and leave the same image. The proved program must exist (./etcs --prove); with UNPROVED=yes one is
+# compiled without a proof (bench/unproved).
 top=$(cd "$(dirname "$(readlink -f -- "$0")")/.." && pwd) || exit 1
+. "$top/bench/usage"
+numbers 1 "$@"
 program=$top/crates/etcs/out/etcs
 if [ -n "${UNPROVED:-}" ]; then
     program=$top/bench/out/etcs

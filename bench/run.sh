@@ -1,12 +1,17 @@
 #!/bin/bash
-# Instructions an event of a whole run, of `etcs run` and of the peer (bench/peer): the scenario is read as JSON, the life goes over a file of
-# slots that are used again, and each output is printed. callgrind counts all of the process but what the system does; a run of twice as many
-# events less one of so many, by so many. Both have to print the same lines and leave the same image. The last row is a record that `journal`
-# lists. The program must be there
-# (./etcs --prove); with UNPROVED=yes one is compiled without a proof (bench/unproved).
+# Print the instructions of an event of a whole run, of `etcs run` and of the peer (bench/peer), and of a record that `journal`
+# lists.
 #
-#     bench/run.sh [EVENTS]     2,000
+#     bench/run.sh [EVENTS]    (default: 2000)
+#     bench/run.sh --help      print this
+#
+# In a run the scenario is parsed as JSON, the life goes over a file whose slots are used again, and each output is printed.
+# callgrind counts the whole process without the system; the count is a run of twice as many events less one of EVENTS, divided by
+# EVENTS. Both have to print the same lines and leave the same image. The proved program must exist (./etcs --prove); with
+# UNPROVED=yes one is compiled without a proof (bench/unproved).
 top=$(cd "$(dirname "$(readlink -f -- "$0")")/.." && pwd) || exit 1
+. "$top/bench/usage"
+numbers 1 "$@"
 out=$top/bench/out
 program=${ETCS:-$top/crates/etcs/out/etcs}
 events=${1:-2000}

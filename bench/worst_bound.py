@@ -1,18 +1,21 @@
 #!/usr/bin/env python3
-"""What docs/project/performance.md argues that a call takes at most, along with what was counted: of each kept scenario (bench/worst.scenarios), each row of the
-doubling and of the stairs, each crowd of gradients, and each reading that takes the forgetting mark past such a crowd. WHAT, COUNTED, BOUND, and the numbers that the bound goes by, a line each, tab between. It
-ends with status 1 where more was counted.
+"""Compare counts of calls with the bound that docs/project/performance.md argues: of each kept scenario (bench/worst.scenarios), each
+row of the doubling and of the stairs, each crowd of gradients, and each reading that takes the forgetting mark past such a crowd.
 
-    bench/worst_bound.py [kept] [grown] [stairs] [anew] [crowds] [forgotten]     all of them, or some
+    bench/worst_bound.py [kept] [grown] [stairs] [anew] [crowds] [forgotten]    (default: all)
+    bench/worst_bound.py --help                                                 print this
 
-What lies ahead is reported by the plain program of tests/plain, which lives each scenario. `bench/worst.sh --build` builds what counts.
+Print a line for each, separated by tabs: WHAT, COUNTED, BOUND, and the numbers that the bound is made of. Exit status 1 where more
+was counted. The plain program of tests/plain lives each scenario and gives what lies ahead. `bench/worst.sh --build` builds the
+harness.
 """
 import sys
 from pathlib import Path
 
 TOP = Path(__file__).resolve().parent.parent
 sys.dont_write_bytecode = True
-sys.path[:0] = [str(TOP / "bench"), str(TOP / "tests" / "plain")]
+sys.path[:0] = [str(TOP / "bench"), str(TOP / "tests" / "plain"), str(TOP / "tools")]
+import usage  # noqa: E402
 import life as lives  # noqa: E402
 from mixed import in_plain_words  # noqa: E402
 from worst_search import ANEW, CROWDS, FORGOTTEN, GROWN, STAIRS, TWICE, anew, backwards, counted, crowded, forgetting, kept, stairs, text_of  # noqa: E402
@@ -106,6 +109,7 @@ def scenarios_of(words):
 
 
 def main(words):
+    usage.check(__doc__, set(words) <= {"kept", "grown", "stairs", "anew", "crowds", "forgotten"})
     cases = list(scenarios_of(words or ["kept", "grown", "stairs", "anew", "crowds", "forgotten"]))
     took = counted([(4, [*lines[:-1], "count", lines[-1]]) for _, lines in cases])
     broken = 0

@@ -1,18 +1,19 @@
 #!/usr/bin/env python3
-"""Looks for the events that take the most instructions, by a hill climb over scenarios that callgrind counts.
+"""Search for the events that take the most instructions, by a hill climb over scenarios that callgrind counts.
 
-    bench/worst_search.py TRIES SEED     writes bench/worst.scenarios: for each kind of call the scenario whose last line took most, of
-                                         those that it found and those that were kept before
-    bench/worst_search.py --minutes MINUTES SEED     the same, with as many tries as these minutes take
-    bench/worst_search.py --hand         keeps what was made by hand where it takes more
-    bench/worst_search.py --count        counts these again: KIND, INSTRUCTIONS, MODE, LIMIT, FOUND, a line each, tab between
-    bench/worst_search.py --more         what one thing more costs: a restriction, a static speed, a gradient, a slot
-    bench/worst_search.py --grown        a reading where restrictions and gradients double: WHAT, INSTRUCTIONS, THOSE OF THE PEER
-    bench/worst_search.py --stairs       a reading before stairs of restrictions, areas and static speeds: WHAT, INSTRUCTIONS where each is
-                                         faster than the nearer one, and where each is slower
-    bench/worst_search.py --memory       heap and stack of each call of the scenarios: KIND, HELD, PEAK, REQUESTS, GREATEST, STACK
+    bench/worst_search.py TRIES SEED                 write bench/worst.scenarios: for each kind of call the scenario whose last line took
+                                                     most, of those found and those kept before
+    bench/worst_search.py --minutes MINUTES SEED     the same, with as many tries as fit into MINUTES
+    bench/worst_search.py --hand                     keep the hand-written scenarios where they take more
+    bench/worst_search.py --count                    count the kept ones again: KIND, INSTRUCTIONS, MODE, LIMIT, FOUND, separated by tabs
+    bench/worst_search.py --more                     the cost of one element more: a restriction, a static speed, a gradient, a slot
+    bench/worst_search.py --grown                    a reading where restrictions and gradients double: WHAT, INSTRUCTIONS, THE PEER'S
+    bench/worst_search.py --stairs                   a reading before stairs of restrictions, areas and static speeds: WHAT, INSTRUCTIONS
+                                                     where each is faster than the nearer one, and where each is slower
+    bench/worst_search.py --memory                   heap and stack of each call: KIND, HELD, PEAK, REQUESTS, GREATEST, STACK
+    bench/worst_search.py --help                     print this
 
-bench/worst.sh builds what it runs (bench/out/worst), and says more.
+bench/worst.sh builds what it runs (bench/out/worst), and explains more.
 """
 import itertools
 import os
@@ -24,7 +25,8 @@ import time
 from pathlib import Path
 
 TOP = Path(__file__).resolve().parent.parent
-sys.path.insert(0, str(TOP / "tests" / "plain"))
+sys.path[:0] = [str(TOP / "tests" / "plain"), str(TOP / "tools")]
+import usage  # noqa: E402
 sys.dont_write_bytecode = True
 import decoded  # noqa: E402
 import named  # noqa: E402
@@ -774,6 +776,9 @@ TWICE = {"grades": 690, "statics": [(4_374, 23), (4_375, 127)], "restricted": [(
 
 
 def main(words):
+    numbers = [word for word in words if word.isdigit()]
+    usage.check(__doc__, len(words) == 1 and words[0] in ("--grown", "--stairs", "--hand", "--count", "--memory", "--more")
+                or len(numbers) == 2 and [word for word in words if word not in numbers] in ([], ["--minutes"]))
     if words == ["--grown"]:
         grown()
     elif words == ["--stairs"]:
@@ -789,15 +794,13 @@ def main(words):
         memory()
     elif words == ["--more"]:
         more()
-    elif len(words) == 2 or len(words) == 3 and words[0] == "--minutes":
+    else:
         r, best = random.Random(int(words[-1])), Best()
         best.climb(r, int(words[0]) if len(words) == 2 else 0, int(words[1]) if len(words) == 3 else None)
         best.shorten()
         best.add_by_hand()
         best.add_kept()
         best.write(SCENARIOS)
-    else:
-        sys.exit(__doc__)
 
 
 if __name__ == "__main__":

@@ -132,7 +132,7 @@ spent() {
     echo "$all"
 }
 
-# A scheduler with so many workers, whose processes stand in dask$1, and its address in address$1.
+# A scheduler with $1 workers; their processes are in dask$1, the address of the scheduler in address$1.
 start_dask() {
     local number
     export PYTHONPATH=$top/python DASK_CONFIG=$top/python/gaknifur/simulation/dask.yaml

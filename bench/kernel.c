@@ -9,7 +9,7 @@
 #include <stdlib.h>
 #include <string.h>
 
-/* TELEGRAM: the room of a telegram, in bytes. AT_ONCE: static speeds in one telegram. WHOLE: kilometres reported by a telegram that
+/* TELEGRAM: the room of a telegram, in bytes. AT_ONCE: static speeds in one telegram. WHOLE: kilometres announced by a telegram that
  * is a whole group. STRETCHES: those of one gradient before the stop. */
 enum { TELEGRAM = 104, TELEGRAMS = 5, LONGEST = 30, AT_ONCE = 15, RESTRICTIONS = 10, WHOLE = 5, STRETCHES = 32 };
 

@@ -134,5 +134,5 @@ def main(args):
 
 
 if __name__ == "__main__":
-    usage.check(__doc__, 3 <= len(sys.argv) <= 5)
+    usage.check(__doc__, 3 <= len(sys.argv) <= 5 and all(Path(program).is_file() for program in sys.argv[1:3]))
     sys.exit(main(sys.argv[1:]))

@@ -128,5 +128,5 @@ def main(program, pattern):
 
 
 if __name__ == "__main__":
-    usage.check(__doc__, len(sys.argv) == 3)
+    usage.check(__doc__, len(sys.argv) == 3 and Path(sys.argv[1]).is_file())
     main(*sys.argv[1:])

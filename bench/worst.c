@@ -1,6 +1,6 @@
 /* Lives scenarios by the calls of include/etcs_unit.h, and says for callgrind where each counted call ends.
  *
- *     worst [reported | mute | stack]    reads scenarios from standard input, an input a line
+ *     worst [show | mute | stack]    reads scenarios from standard input, an input a line
  *
  * The lines, of which those that tests/unit/life.c has mean the same:
  *

@@ -234,7 +234,7 @@ ENTERED = ["cold 0", "identity 41", "action 2", "train 20000 160000 70 0 15", "a
 
 
 def seeds(r):
-    """Lives in Full Supervision over a reported track, and lives at random after the entries."""
+    """Lives in Full Supervision over an announced track, and lives at random after the entries."""
     telegrams = [heard(number, fitting([packet(r, kind) for kind in kinds]))
             for number, kinds in ((2, (12,)), (3, (21,)), (4, (27,)), (5, (65,) * 10), (6, (5,)), (7, (80,)), (8, (3, 41)))]
     full = [*ENTERED, *telegrams, "action 7", *(["odometer 100 100000"] * 4), "clock 1000", "odometer 1400 100000"]
@@ -421,7 +421,7 @@ def ran(program, scenarios, *words):
 
 def counted(scenarios, shows=False):
     """What callgrind counted of each counted line: (scenario, line) to (instructions, status, mode, limit). Mode and limit are those after
-    the line where they are to be reported."""
+    the line where `shows` asks for them."""
     profile = OUT / f"profile.{os.getpid()}"
     toggles = [f"--toggle-collect=etcs_unit_{call}_" for call in CALLS]
     lines = ran(["valgrind", "--tool=callgrind", f"--callgrind-out-file={profile}", "--combine-dumps=yes", "--collect-atstart=no", *toggles],
@@ -611,7 +611,7 @@ def track(restricted=0, speeds=1, grades=1, reaction=0):
 
 def backwards(restricted, grades, step=2, reaction=0, turns=False, near=False):
     """Full Supervision with brakes that hardly act, so many gradients ahead, one every so many metres, and so many restrictions: stops after
-    them, one every metre, reported from the farthest to the nearest, or from the nearest on; or by turns one such and one before all gradients, each 5 km/h slower."""
+    them, one every metre, announced from the farthest to the nearest, or from the nearest on; or by turns one such and one before all gradients, each 5 km/h slower."""
     whole = [("Q_DIR", 2), ("Q_SCALE", 1)]
     lines = [*ENTERED, f"train 20000 160000 1 {reaction} 15"]
     lines.append(heard(2, [(12, [*whole, ("V_MAIN", 120), ("V_LOA", 0), ("T_LOA", 1023), ("N_ITER", 0), ("L_ENDSECTION", 32_767),
@@ -653,7 +653,7 @@ def stairs(grades, restricted=0, areas=0, speeds=0, rising=True, step=2, reactio
 
 def anew(grades, reaction=0, step=2):
     """The same train and gradients, and after all of them in turn the end of the authority, its danger point, two restrictions, of which the farther
-    one was reported first, and a static speed, after which none is known. Each is slower than the next one, and nearer: so the sums for all but the two
+    one was announced first, and a static speed, after which none is known. Each is slower than the next one, and nearer: so the sums for all but the two
     last targets, for the end and for the danger point each begin anew, and go along all gradients."""
     *lines, action, first, last = [line.replace("160000", "600000") if isinstance(line, str) else line
                                    for line in backwards(0, grades, step, reaction)]
@@ -764,7 +764,7 @@ STAIRS = [(grades, reaction, near_end, many) for near_end in (False, True) for r
           for many in KINDS]
 
 
-# Crowds of gradients, and what is reported ahead of them: each place is nearer than where the brakes act at the speed so far.
+# Crowds of gradients, and what is announced ahead of them: each place is nearer than where the brakes act at the speed so far.
 # (The static speed is no stop: before one, no further static speed would be asked for.)
 STOPS = {"statics": [(16_263, 1), (16_264, 127)], "restricted": [(5_381, 0), (2_046, 0)], "end": 875, "location": 875}
 CROWDS = [{"grades": grades, **STOPS, "reaction": reaction} for grades, reaction in ((172, 10_000), (345, 10_000), (690, 10_000), (690, 5_000), (690, 1_000))]

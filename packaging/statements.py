@@ -29,7 +29,7 @@ def write(path: Path, value: object) -> None:
 
 
 def kit_crates(top: Path) -> list[str]:
-    """The kit's crates that crates of this repository use, as crates.txt reports."""
+    """The kit's crates that crates of this repository use, as crates.txt lists them."""
     used: set[str] = set()
     for line in (top / "crates.txt").read_text(encoding="utf-8").splitlines():
         if ":" in line and not line.startswith("#"):

@@ -44,7 +44,7 @@ typedef struct {
 
 static pool *our = NULL;
 
-/* What is reported of it. It doesn't lie in the buffer, which a maker may write to once nothing is out. */
+/* Its figures. They aren't in the buffer, which a maker may write to once nothing is out. */
 static etcs_memory_info counts;
 
 /* The place of the highest and of the lowest bit of a number that isn't 0. */

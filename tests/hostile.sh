@@ -9,7 +9,7 @@
 #     tests/hostile.sh files [LIVES [SEED]]                   lives on image files, more or others
 #     tests/hostile.sh inputs [TELEGRAMS SCENARIOS [SEED]]    random inputs, more or others
 #
-# ETCS=PROGRAM and ETCS_LAB=PROGRAM name other programs than those that the gate leaves after.
+# ETCS=PROGRAM and ETCS_LAB=PROGRAM name other programs than those that the full check leaves.
 [ -z "$ETCS" ] || ETCS=$(realpath "$ETCS") || exit 1
 [ -z "$ETCS_LAB" ] || ETCS_LAB=$(realpath "$ETCS_LAB") || exit 1
 cd "$(dirname "$(readlink -f -- "$0")")" || exit 1

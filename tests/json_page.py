@@ -317,7 +317,7 @@ def played(page, program, room):
 
 
 def other_units(page, program, room):
-    """What `./lab against` prints of units that are right, wrong in each member, break off, report little, and are none."""
+    """What `./lab against` prints of units that are right, wrong in each member, break off, answer little, and are none."""
     image, records, asked = room / "image", room / "records", room / "program"
     lives = [[blocks.entry(3 * life + at, one) for at, one in enumerate([("powerup", 0), ("clock", 5), ("clock", 6)])]
              for life in range(LIVES)]

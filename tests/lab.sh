@@ -1,5 +1,5 @@
 #!/bin/bash
-# What an investigator asks: images of each state of a slot, cut off, altered and big ones, on the program etcs_lab that the gate leaves after; and
+# What an investigator asks: images of each state of a slot, cut off, altered and big ones, on the program etcs_lab that the full check leaves; and
 # each command of docs/start/investigate.md, docs/howto/investigating.md and docs/howto/laboratory.md, in one folder. And examination and replay in one (etcs_lab check).
 #
 #     tests/lab.sh [ETCS_LAB ETCS]    on other programs

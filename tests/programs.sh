@@ -1,5 +1,5 @@
 #!/bin/bash
-# The rows of the program and the examples, on the program that the gate leaves after; and each example as ./etcs --example runs it.
+# The rows of the program and the examples, on the program that the full check leaves; and each example as ./etcs --example runs it.
 #
 #     tests/programs.sh [PROGRAM]    the rows alone, on another program
 program=

@@ -3,7 +3,7 @@
 # altered in it; and where its packages are unpacked, without the kit and these sources, the commands of README.md run, a report is made, the
 # package is imported, and a program in C is built with the library.
 #
-#     tests/release.sh    on the programs and the library that the gate leaves after; else on tried programs, and the library that
+#     tests/release.sh    on the programs and the library that the full check leaves; else on tried programs, and the library that
 #                         ETCS_UNIT_ARCHIVE names
 self=$(readlink -f -- "$0" && echo .) || exit 1
 top=${self%/*/*}
@@ -50,7 +50,7 @@ commit=$(git -C "$first" rev-parse HEAD)
 for folder in "$first" "$second"; do mkdir -p "$folder/out" && printf '%s\nthe kit\nran: all\n' "$commit" >"$folder/out/gate"; done
 if [ "$words" = --unproved ]; then
     echo "tests/release.sh: there are no proved programs and library of these sources, so an unproved release is tried"
-    refuses "no proved program" "isn't the one that the gate proved" "$first/tools/release" "$room/none"
+    refuses "no proved program" "isn't the one that the full check proved" "$first/tools/release" "$room/none"
 fi
 ssh-keygen -q -t ed25519 -N '' -C '' -f "$room/key" && ssh-keygen -q -t ed25519 -N '' -C '' -f "$room/other" || exit 1
 printf 'maker %s\n' "$(cat "$room/key.pub")" >"$room/signers"

@@ -1,5 +1,5 @@
 #!/bin/bash
-# Replays of journals, on the program etcs_lab that the gate leaves after, along with those of a plain replay; and the table of altered fields in
+# Replays of journals, on the program etcs_lab that the full check leaves, along with those of a plain replay; and the table of altered fields in
 # docs/project/tests.md.
 #
 #     tests/replay.sh [PROGRAM..]    on another program, with its words

@@ -5,7 +5,7 @@
 # and the commands of docs/howto/embedding.md. It needs gcc, g++, valgrind, rustc and Debian's Python; clang is tried where it is there.
 #
 #     tests/unit.sh [PREFIX [LIVES]]    builds and installs the library first, or takes the one below PREFIX; 400 lives; $ETCS and $ETCS_LAB name
-#                                       other programs than the gate's
+#                                       other programs than those of the full check
 export PYTHONDONTWRITEBYTECODE=1
 top=$(cd "$(dirname "$(readlink -f -- "$0")")/.." && pwd) || exit 1
 python=/usr/bin/python3 # Debian's packages belong to this one

@@ -1,5 +1,5 @@
 #!/bin/bash
-# Why each brake was commanded, on the program etcs_lab that the gate leaves after, along with the causes that a plain program works out: of images
+# Why each brake was commanded, on the program etcs_lab that the full check leaves, along with the causes that a plain program works out: of images
 # (etcs_lab why), and of scenarios that are played (etcs_lab run), which etcs has to play alike. And many scenarios in one process (etcs_lab play).
 #
 #     tests/why.sh [ETCS_LAB ETCS]    on other programs

@@ -4,7 +4,7 @@ the proved unit answers what it would do.
 
     examples/oracle/ask.py ./lab serve <EVENTS
 
-EVENTS has an object on a line for each event, with the members that the page reports; `life` and `event` are counted
+EVENTS has an object on a line for each event, with the members that the page lists; `life` and `event` are counted
 here.
 """
 import json

@@ -2,8 +2,8 @@
 """The lines of `etcs_lab events`, read back as JSON and compared field by field with what the plain readers find in the image.
 
     tests/events/event_rows.py PROGRAM [RINGS [SEED]]     on a built program
-    tests/events/event_rows.py --images FOLDER            writes the images, to be reported by an unproved run (rt try --cases)
-    tests/events/event_rows.py --reported FILE                compares what such a run printed
+    tests/events/event_rows.py --images FOLDER            write the images, to be listed by an unproved run (rt try --cases)
+    tests/events/event_rows.py --compare FILE             compare what such a run printed
 """
 import json
 import subprocess
@@ -19,7 +19,7 @@ from event_lines import Refused, image_lines  # noqa: E402
 RINGS, SEED = 300, 41
 LEAST_LINES, LEAST_IMAGES = 45_000, 2_800
 SOURCES = {"journal", "after_gap", "replaced", "unwritten", "misplaced", "damaged"}
-# Each image is reported with and without the other blocks; of the damaged forms of an image each so many.
+# Each image is listed with and without the other blocks.
 EACH = 5
 
 

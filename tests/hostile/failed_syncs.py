@@ -2,7 +2,7 @@
 """One sync of a life fails, lives go on, and then power is lost at each later call: no event that was released is lost, and each image is
 listed.
 
-A life is recorded with one of its syncs failing, each in turn, and two more lives after it. What a failed sync leaves is reported in two ways:
+A life is recorded with one of its syncs failing, each in turn, and two more lives after it. What a failed sync leaves is modelled in two ways:
 
 - as `crates/disk/README.md` has it: nothing is settled, and the next sync that succeeds settles it;
 - as Linux does: what was written may have reached the medium or not, or in part; later syncs write it no more; and reads find what was written

@@ -1,5 +1,5 @@
 """Every word of the program etcs_lab on small inputs, as the tests of this folder run it. `ETCS_LAB` names another program than the one
-that the gate leaves after."""
+that the full check leaves."""
 import json
 import os
 import subprocess

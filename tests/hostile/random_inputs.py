@@ -153,7 +153,7 @@ def scenarios(count, numbers, folder, failures):
 
 
 def judge(name, text, path, folder, failures):
-    """A text that is no value is reported so; one that is a scenario asks for an image that isn't there, or has another fault."""
+    """A text that is no JSON value is refused so; one that is a scenario asks for an image that isn't there, or has another fault."""
     path.write_text(text)
     status, said = ran(["run", path, folder / "none"])
     is_fault = (status, said) == (1, "refused 1 NotJson\n")

@@ -1,6 +1,6 @@
 // Records, in the file that RECORD_TO names, each read, write and sync of the file that RECORD_OF names and each write to standard output
 // of the program that it is loaded before, in their order. An entry is a letter (r: a read of the file, w: a write to it, s: a sync of it,
-// f: a sync of it that failed, d: the system is reported to drop its copies of all pages, n: a sync of the folder that has its name, l: its length
+// f: a sync of it that failed, d: the system is asked to drop its copies of all pages, n: a sync of the folder that has its name, l: its length
 // was set, o: a write to standard output), two numbers of 8 bytes (where it begins; its length) and the bytes written.
 //
 // RECORD_FAILS_AT makes one sync of the file fail, counted from 1 on: the system isn't asked. Where RECORD_LIMIT names a loop device and a number

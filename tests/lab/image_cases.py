@@ -163,7 +163,7 @@ def lives():
 
 
 def given():
-    """Images whose first sector is damaged, or reports other slots, read as images of a given number of slots."""
+    """Images whose first sector is damaged, or has another number of slots, read as images of a given number of slots."""
     good = image_of(6, ring(6, blocks_of(11)))
     for at in (0, 7, 8, 11, 12, 13, 14, 15, 16, 300, 511):
         for bit in (1, 4, 128):

@@ -182,7 +182,7 @@ def compare_cut_off(program, room, compared):
 
 
 def compare_given(program, etcs, room, compared):
-    """Of an image whose first sector is damaged, all words report with its slots what they say about the image as it was."""
+    """With its slots given, all commands say of an image whose first sector is damaged what they say of it undamaged."""
     image, damaged = room / "lives", room / "damaged"
     for words in (["format", str(image), "16"], *(["run", str(HERE.parents[1] / f"examples/{name}.json"), str(image)] for name in ("power_cut/scenario", "power_cut/restart"))):
         subprocess.run([etcs, *words], check=True, stdout=subprocess.DEVNULL)
@@ -238,7 +238,7 @@ def compare_huge(program, room, compared):
 
 
 def watch_memory(process, seen):
-    """Notes the most memory that a process held, in kB, until it ends. (What a parent is reported beyond its end counts the parent's own.)"""
+    """Notes the most memory that a process held, in kB, until it ends. (The figure that a parent gets after its end includes the parent's own memory.)"""
     while True:
         try:
             status = Path(f"/proc/{process}/status").read_text()

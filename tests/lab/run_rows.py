@@ -93,7 +93,7 @@ def joined(members, step, more):
 
 
 def wanted_of(scenario, lines):
-    """The lines of a run and its status, by what is reported of each event of the life."""
+    """The lines of a run and its status, from the line of each event of the life."""
     steps = scenario["steps"]
     printed, pending, moment, event = [{"scenario": {"cold": COLD[scenario.get("cold", 0)], "steps": len(steps)}}], [], 0, 0
     for at, asked in placed(scenario):
@@ -117,7 +117,7 @@ def text_of(lines):
 
 
 def lived(scenario):
-    """What is reported of each event of a scenario, worked out anew."""
+    """The line of each event of a scenario, worked out anew."""
     life = ReportingLife(Kept(), program.WORDS[scenario.get("cold", 0)])
     for asked in program.inputs_of(scenario):
         if asked is not None:
@@ -126,7 +126,7 @@ def lived(scenario):
 
 
 class Played(Made):
-    """A random scenario, made along with a life that is reported."""
+    """A random scenario, made along with a life and its lines."""
 
     def __init__(self, numbers):
         super().__init__(numbers, self)

@@ -30,7 +30,7 @@ LEAST_LINES = 2_000  # so many lines with what decides a limit
 TRACKS, LEAST_RAISED = 560, 500  # so many tracks, and limits that are greater without what decided them
 # 2^40 cm would take more events than an image holds; the two modes that supervise by train data are entered with valid ones, and keep them.
 UNMET = ("in_system_failure", "no_train_data")
-LEFT_OUT = ("before_oldest_block", "gap", "within_block", "unreadable")  # what is reported of events and blocks that aren't run again
+LEFT_OUT = ("before_oldest_block", "gap", "within_block", "unreadable")  # the reasons of events and blocks that aren't replayed
 RANDOM = 150  # images of pseudo-random lives, along with those of the replays
 
 SR = ("enter-identity A 1", "choose-level 1", "enter-train-data 20000 160000 70 0 15", "start")
@@ -74,7 +74,7 @@ TRIPS_BY_HAND = (
      "; the train was tripped: the level was 1, and the authority or the track ahead was not known (event 5, 5.10); no train may run in this "
      "mode: 0 m/h (4.4); group 1 2 in mode UN, direction not known: accepted, linking not being in use (3.4.4), packet 41 Level Transition "
      "Order\n"),
-    # It stays reported while the trip is owed.
+    # It stays listed while the trip is owed.
     ("the event after a trip", (*SUPERVISED, heard(authority(3_000, main=0), group=3), "move 10 0"), 7,
      "; the train was tripped: an authority with V_MAIN 0 was used (event 6, 3.11.6); no train may run in this mode: 0 m/h (4.4)\n"),
 )

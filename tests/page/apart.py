@@ -1,4 +1,4 @@
-"""Telegrams that are taken apart: what bits are read as, where a fault is, and what comes of a number that is altered in its field."""
+"""Parsed telegrams: what bits are read as, where a fault is, and the effect of a number that is altered in its field."""
 import random
 import sys
 from pathlib import Path

@@ -1,4 +1,4 @@
-"""Asking images: what the page reports is what `etcs_lab` reports, also of altered ones."""
+"""Journal images, also altered ones: the page shows what `etcs_lab` prints."""
 import hashlib
 import json
 import random

@@ -1,4 +1,4 @@
-"""The time of day by marks along with an image: what the page reports is what the package reports, by random files of marks."""
+"""The time of day by marks along with an image: the page shows what the package computes, by random files of marks."""
 import base64
 import json
 import random
@@ -90,7 +90,7 @@ def of_marks(dice: random.Random, journal: reading.Journal, drift: int) -> bytes
 
 
 def by_package(journal: reading.Journal, path: Path, drift: int) -> tuple[Any, str]:
-    """What the package reports: of each record the time of day and its bound, the faults and what it says; or why it refuses the file."""
+    """What the package computes: of each record the time of day and its bound, the faults and what it says; or why it refuses the file."""
     try:
         journal.times = times.Times.of(journal, path, drift)
     except Failed as failed:

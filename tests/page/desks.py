@@ -182,7 +182,7 @@ class Lost(Exception):
 
 
 class Cut(unit.MemoryMedium):
-    """A medium that loses power within a request: of the write that is open then each sector is left as it is reported."""
+    """A medium that loses power within a request: of the write that is open then each sector is left as `left` says."""
 
     left: list[str] | None = None
     request = 0
@@ -211,7 +211,7 @@ class Cut(unit.MemoryMedium):
 
 
 def act(one: unit.Unit, step: dict[str, Any]) -> None:
-    """Hands the unit of the library for C what a step of a scenario reports."""
+    """Gives the unit of the library for C the inputs of a step of a scenario."""
     (word, value), = step.items()
     if word == "telegram":
         one.telegram(bytes.fromhex(value))

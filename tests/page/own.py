@@ -136,7 +136,7 @@ def faulty(browser: Browser, _page: Path, folder: Path) -> int:
 
 
 def texts() -> list[str]:
-    """The telegrams of the corpus that are reported by their variables."""
+    """The telegrams of the corpus that are written by their variables."""
     found: list[str] = []
 
     def walk(value: Any) -> None:

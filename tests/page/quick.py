@@ -1,4 +1,4 @@
-"""How long an image takes to be reported, and that the page stays usable meanwhile. A busy machine makes single runs slow, so the best of several counts."""
+"""How long an image takes to be shown, and that the page stays usable meanwhile. A busy machine makes single runs slow, so the best of several counts."""
 import base64
 import json
 import time
@@ -50,7 +50,7 @@ def long_image(folder: Path, events: int) -> Path:
 
 
 def measured(browser: Browser, folder: Path, events: int, runs: int, is_long: bool = False) -> int:
-    """Opens an image several times, and goes through its events. One that is long reports meanwhile how far it is."""
+    """Opens an image several times, and goes through its events. A long one shows its progress meanwhile."""
     path, found = long_image(folder, events), []
     for _ in range(runs):
         browser.run(WATCH)

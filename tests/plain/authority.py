@@ -42,7 +42,7 @@ class Authority:
             seen.min_front >= entry + self.cm(stop) for seen in self.sights if not is_over(time_s, self.accepted, seen.moment))
 
     def ran_out_before_end(self, time_s, start, now):
-        """A timer that starts where the greatest front is first at or above the end as it was reported, less a distance."""
+        """A timer that starts where the greatest front is first at or above the end as it was announced, less a distance."""
         started = next((seen.moment for seen in self.sights if seen.max_front >= self.announced_end - self.cm(start)), None)
         return started is not None and is_over(time_s, started, now)
 

@@ -1,4 +1,4 @@
-"""Telegrams as `etcs decode` reports them: each field by its name, or the first fault in the order of the bits (SUBSET-026, chapters 7
+"""Telegrams as `etcs decode` prints them: each field by its name, or the first fault in the order of the bits (SUBSET-026, chapters 7
 and 8; packet 3 in this project's order).
 """
 from collections import namedtuple

@@ -1,4 +1,4 @@
-"""What is reported of the balise groups that an event closed (SUBSET-026, 3.4.4, 3.16.2 and 4.8; the words are this project's)."""
+"""What `etcs_lab why` prints of the balise groups that an event closed (SUBSET-026, 3.4.4, 3.16.2 and 4.8; the words are this project's)."""
 
 from links import ACCEPT, IGNORE, SERVICE, TRIP
 from modes import used_in

@@ -6,7 +6,7 @@ last lines say of each law how often its premise held.
 
 Speeds are metres per hour, places centimetres, moments milliseconds. A law is a function of the life after an event, of what was
 remembered before it (`Before`), and of the line that the row has. It answers None where its premise doesn't hold, else whether it
-is kept. The exit status is 1 where one isn't, or where fewer events met its premise than are reported here.
+is kept. The exit status is 1 where one isn't, or where fewer events met its premise than LEAST wants.
 """
 import os
 import sys
@@ -105,7 +105,7 @@ def no_brake_only_where(life, before, line):
 
 def passing_end_trips(life, before, line):
     """Where the mode stays one of these, the end is that after the event; where it deletes the authority, that before, unless this event
-    reported another one."""
+    announced another one."""
     stays = life.mode() in END_MODES
     end = life.end() if stays else before.end
     if before.mode not in END_MODES or end is None or end.speed or life.stretch().min_front <= end.place:

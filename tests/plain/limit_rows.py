@@ -16,7 +16,7 @@ Slope = namedtuple("Slope", "place gradient")
 
 
 class Track:
-    """What was reported, each question answered at one centimetre."""
+    """A track, with each question answered at one centimetre."""
 
     def __init__(self, numbers):
         self.said = []

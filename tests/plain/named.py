@@ -1,7 +1,7 @@
 """Telegrams written from named fields (SUBSET-026, 7.4 and 8.4; packet 3 in this project's order, or in that of the issue, with
 seven fields more).
 
-A telegram is reported as its header and its packets, one after another: `NID_BG 2; 65: NID_TSR 7, D_TSR 100, L_TSR 50, Q_FRONT 1,
+A telegram is written as its header and its packets, one after another: `NID_BG 2; 65: NID_TSR 7, D_TSR 100, L_TSR 50, Q_FRONT 1,
 V_TSR 4; 66: NID_TSR 8`. The fields of a packet stand in their order, each by its name; of the header and of a packet's head only
 what isn't usual is reported. L_PACKET is reckoned, where it isn't reported. A packet with a number alone has no more than its head.
 

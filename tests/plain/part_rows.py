@@ -61,7 +61,7 @@ def groups():
 
 
 def slowing(train, gradient, place):
-    """The deceleration at a centimetre, in cm/s2, rounded down; 0 where no gradient is reported."""
+    """The deceleration at a centimetre, in cm/s2, rounded down; 0 where no gradient is known."""
     if not gradient.begins <= place < gradient.ends:
         return 0
     steepness = gradient.before if place < gradient.changes else gradient.after

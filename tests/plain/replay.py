@@ -52,7 +52,7 @@ def input_of(event):
 
 
 def answer_object(record, form):
-    """What is reported of an event along with the event."""
+    """The answer that is recorded with an event."""
     members = {"event": record["number"], "time_ms": record["moment"], "mode": MODE_WORDS[record["mode"]],
             "level": None if record["level"] == 255 else record["level"], "brake": BRAKES[record["brake"]],
             "indications": signs_of(record["ind"])}
@@ -114,7 +114,7 @@ class Walk:
         self.lines, self.is_whole = [], True
         self.life, self.reason = None, "before_oldest_block"  # the plain life, or why there is none
         self.open = []  # life and number of each event that no line says yet
-        self.kept = None  # what the head of the block before reports
+        self.kept = None  # what the head of the block before says
 
     def leave(self, life, number):
         self.open.append((max(0, life), number))
@@ -134,7 +134,7 @@ class Walk:
         self.life, self.reason, self.kept, self.is_whole = None, "gap", None, False
 
     def begin(self, block, at):
-        """A power-up: after what the head of the block before reports, or the kernel keeps where the life begins in a block."""
+        """A power-up: after what the head of the block before says, or the kernel keeps where the life begins in a block."""
         self.end_run()
         record = block["records"][at]
         if at:

@@ -1,6 +1,6 @@
 #!/usr/bin/env python3
 """The tables that tools/tables reads from the definitions, along with those of the plain program: the same rows in the same order, the same
-lines and cells. Each kind of table has rows, and whatever differs is reported."""
+lines and cells. Each kind of table has rows, and each difference is printed."""
 import importlib.machinery
 import importlib.util
 import itertools

@@ -1,5 +1,5 @@
 #!/usr/bin/env python3
-"""The packets that a track of issue 2.3.0 sends, as `track_packets` reports them (SUBSET-026, 7.4.2; docs/reference/packets.md): where they stand in
+"""The packets that a track of issue 2.3.0 sends, as `track_packets` lists them (SUBSET-026, 7.4.2; docs/reference/packets.md): where they stand in
 a telegram, by L_PACKET alone, and the fields of each; and a telegram with its packet 3 in this project's order, as `installed_values`
 writes it.
 

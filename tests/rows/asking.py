@@ -199,7 +199,7 @@ def compare_asked(name, rows, askings, questions, answers):
 
 
 def main_by_words(name, asked_by):
-    """Runs a file of rows whose first words are functions: each takes the other words, yields its questions, is sent what they were reported,
+    """Runs a file of rows whose first words are functions: each takes the other words, yields its questions, is sent the replies,
     and returns the lines."""
     rows, askings = rows_of(text_in(name)), []
     for _, question, _ in rows:

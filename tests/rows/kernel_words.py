@@ -152,6 +152,6 @@ def national(reply):
     return " ".join(map(str, [*values, "of", *(reply.take() for _ in range(reply.take()))]))
 
 
-# In the order in which they are reported.
+# In the order of the reply.
 ITEMS = {"counts": counts, "trip": trip, "identity": identity, "running-number": running_number,
          "train-data": train_data, "level": level, "position": position, "national": national}

@@ -12,7 +12,7 @@
     fail-any 3
     open unknown             or moved, not-moved: the unit powers up
     clock 1000               an input: a moment of the clock
-    move 100 5000            .. a reading: the movement, and the speed, which is 0 where none is reported
+    move 100 5000            .. a reading: the movement, and the speed, which is 0 where none is given
     hear 90007F80            .. the bytes of a telegram
     start                    .. an action of the driver (ACTIONS)
     flush                    with each pair that is released: number of the event, mode, level, brake, limit and
@@ -189,7 +189,7 @@ def lived_in(reply):
 
 
 def shown(text):
-    """What is reported after a 0; what stands there else is a refusal."""
+    """Reads what follows a 0; another number is a refusal."""
     def read(reply):
         refusal = reply.take()
         return SHOW[refusal] if refusal else text(reply)
@@ -217,7 +217,7 @@ ANSWERED = {
 # ---- what is kept
 
 def kept_words(item, reply):
-    """An item of those that are reported, one after the other."""
+    """One of the items that follow each other in a reply."""
     refusal = reply.take()
     if refusal:
         return SHOW[refusal]

@@ -1,7 +1,7 @@
 #!/usr/bin/env python3
 """Runs test_blocks.row over the program of rows (asking.py has the words).
 
-What is asked and reported, in numbers, stands in program/src/test_blocks.rt.txt. The rows and what they want are made by
+Questions and replies, in numbers, are described in program/src/test_blocks.rt.txt. The rows and what they want are made by
 tests/plain/blocks.py in each run (make_rows.py)."""
 import sys
 

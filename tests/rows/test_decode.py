@@ -1,9 +1,9 @@
 #!/usr/bin/env python3
 """Runs test_decode.row over the program of rows (asking.py has the words).
 
-What is asked and reported, in numbers, stands in program/src/test_decode.rt.txt. Each word of a row is a function that yields
-its questions, is sent what they were reported, and returns the lines. The rows `decode` and `short` ask the program `etcs`;
-so does what is said of the agreement of all ways of reading. $ETCS names another one than the gate's."""
+Questions and replies, in numbers, are described in program/src/test_decode.rt.txt. Each word of a row is a function that yields
+its questions, is sent the replies, and returns the lines. The rows `decode` and `short` ask the program `etcs`;
+so does what is said of the agreement of all ways of reading. $ETCS names another one than that of the full check."""
 import os
 import resource
 import subprocess

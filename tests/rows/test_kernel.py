@@ -8,7 +8,7 @@
     clock 4000 -> 40000              with the limit alone
     place -> 9047 953                what is asked for
 
-Each line that gets another answer is printed: by `step` over stores that keep all that was reported, by `apply` in place
+Each line that gets another answer is printed: by `step` over stores that keep all that was announced, by `apply` in place
 over stores that stay short, or by `apply` where each life begins by `power_up` with what was kept. So is each that is
 refused memory, and each whose answer says nothing. What is asked and reported, in numbers, stands in
 program/src/test_kernel.rt.txt; tests/plain/check_rows.py works out the wanted answers by the plain program."""

@@ -48,7 +48,7 @@ shows nothing of it:
                                      maximum safe front
     targets 0 10000 40000            those ahead of a front, with a last target or none: the place and speed of each
     permitted 0 160000 10000 40000   from a front, up to a limit, with a last target or none
-    fitting 0 160000 10000 40000     .. that fits the targets that are reported one by one
+    fitting 0 160000 10000 40000     .. that fits the targets that are given one by one
     either 0 160000 10000 40000 20000 0
 
 A first word that isn't here has no number. The program is asked 0 then, which is no row of its own either. What is

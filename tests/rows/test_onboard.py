@@ -3,7 +3,7 @@
 
 A row is one or several commands with `;` between them, which are done in turn. What each is to answer comes after
 `->`. Some lines stand for many, and of the lines in a group the digest of the answers alone is wanted
-(tests/plain/row_lines.py). What the commands mean stands in onboard_words.py, and what is asked and reported, in numbers,
+(tests/plain/row_lines.py). What the commands mean stands in onboard_words.py, and questions and replies, in numbers,
 in program/src/test_onboard.rt.txt."""
 import sys
 

@@ -3,7 +3,7 @@
 
 A row's first word names the part that it is for; `test_parts_track.py`, `test_parts_packets.py` and
 `test_parts_groups.py` list what each part is asked. A row goes on where the one before of its part ended; `new` begins
-anew. What is asked and reported, in numbers, stands in program/src/test_parts.rt.txt. The rows of
+anew. Questions and replies, in numbers, are described in program/src/test_parts.rt.txt. The rows of
 tests/rows were worked out by hand from SUBSET-026 and this project's profile; tests/plain/make_rows.py adds those of
 part_rows.py."""
 import sys

@@ -21,8 +21,8 @@ centimetres.
 
     telegram 90007F80               what is left of one
 
-Of a group that is read or broken is reported what becomes of it, and what is asked for: a trip, the service brake, both or
-nothing. Of balises are reported the group that this ends (`left`), and the telegram's own where it is whole now (`own`),
+The answer on a group that is read or broken is what becomes of it, and what is asked for: a trip, the service brake, both or
+nothing. The answer on balises is the group that this ends (`left`), and the telegram's own where it is whole now (`own`),
 each by its message: NID_BG, the direction of passing, its place by the sums of the movements and of the path, whether
 balise 1 was missed, and the numbers of its packets; or that it is broken, with the cause.
 """

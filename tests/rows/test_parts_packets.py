@@ -15,7 +15,7 @@ milliseconds, speeds km/h where nothing else is said.
     national roll                   how far the train may roll
     national countries              those that the values are for
     national values                 all in m/h, cm and ms, in the order of packet 3 from V_NVSHUNT on; `-` has no end
-    national reported V_NVSTFF=2        those that this packet says
+    national told V_NVSTFF=2            those that this packet says
 
     authority new                   none is stored
     authority accept 0 0 V_LOA=8 T_LOA=20 end=30/200 point=30/4 overlap=100/10/50/4 300 200/60/100 500
@@ -63,7 +63,7 @@ def named(words):
 
 
 def variables(of_packet, given):
-    """The numbers of a packet's variables, some of which a row reports."""
+    """The numbers of a packet's variables, some of which a row names."""
     return [bits(width, given.pop(name, number)) for name, (width, number) in of_packet.items()]
 
 

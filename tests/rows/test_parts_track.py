@@ -24,7 +24,7 @@ centimetres, speeds km/h, but m/h where they are permitted.
                                     the least of a speed and of those for a train with its minimum safe rear, minimum
                                     and maximum safe front at these places
 
-    profile new                     nothing is reported
+    profile new                     nothing is known
     profile replace 0 0=80 1000=end these steps, from a place on; `end` is an end mark
     profile forget 1000             drops what lies beyond a place
     profile clear
@@ -48,7 +48,7 @@ centimetres, speeds km/h, but m/h where they are permitted.
     speed deceleration 0            whether there is such a one
     speed reaction 0                whether there is such a one
 
-Both stores of a profile, facts and segments, are asked each row: an answer that they don't share is reported twice.
+Both stores of a profile, facts and segments, are asked each row: an answer that they don't share is printed twice.
 """
 from asking import signed
 

@@ -15,7 +15,7 @@
     random COUNT SEED    so many telegrams with packets of each layout, altered at times: how many have the packets, and the fields
                          of each with their units, that the plain program (../plain/track_packets.py) reports
 
-What is asked and reported, in numbers, stands in program/src/test_track.rt.txt."""
+Questions and replies, in numbers, are described in program/src/test_track.rt.txt."""
 import random
 import re
 import sys
@@ -50,7 +50,7 @@ def take_listing(reply):
 
 
 def take_fields(reply):
-    """As the plain program says them, but for the number of fields, of which a part is reported."""
+    """As the plain program says them, but for the number of fields, which may be more than the reply has."""
     outcome = reply.take()
     if outcome == 0:
         count, rest = reply.take(2)

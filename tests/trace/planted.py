@@ -183,7 +183,7 @@ PLANTS = (
         "definitions of crates/ring are of no requirement",
     ),
     (
-        "a test that the gate doesn't run",
+        "a test that CI doesn't run",
         ".ci/run",
         '(tests/why.sh)" tests/why.sh',
         '(tests/why.sh)" true',

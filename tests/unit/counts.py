@@ -22,7 +22,7 @@ import mixed  # noqa: E402
 import stack_bound  # noqa: E402
 import worst_search  # noqa: E402
 
-# The worst driver's start that was found, and a little more. A reading before 32 restrictions after 690 gradients, reported from the farthest to the
+# The worst driver's start that was found, and a little more. A reading before 32 restrictions after 690 gradients, announced from the farthest to the
 # nearest, or before 40 of which each slower one is nearer, or before stairs of restrictions, mode areas and static speeds whose authority ends before
 # them: one sum over the gradients. A reading each of whose two sums begins anew. A reading that goes along all gradients in two sums and two ways back.
 MOST_START = 145_000

@@ -10,7 +10,7 @@
 
 static unsigned long long wide(uint64_t number) { return (unsigned long long)number; }
 
-/* That nothing is reported now. */
+/* That no explanation is available now. */
 static void reports_nothing(const char *what, etcs_unit *unit) {
     etcs_unit_why_info why, other;
     memset(&why, 0xAA, sizeof why);
@@ -62,7 +62,7 @@ static void same(const medium *on, const etcs_unit_why_info *why) {
     is("zeros", (uint64_t)memcmp(why->reserved, zeros, sizeof zeros), 0);
 }
 
-/* What is reported after a release. */
+/* The explanation after a release. */
 static void ask(const medium *on, etcs_unit *unit, const etcs_unit_output *last) {
     etcs_unit_why_info why, again;
     memset(&why, 0xAA, sizeof why);

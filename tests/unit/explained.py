@@ -22,7 +22,7 @@ from random_lists import SUPERVISION, TRACK, Numbers, event  # noqa: E402
 from replay_rows import parts  # noqa: E402
 from why import WORDS, Reasons  # noqa: E402
 
-LIVES, LEAST_OUTPUTS, LEAST_ANSWERS = 160, 2_500, 150_000  # so many lives, outputs that are reported of, and answers in C
+LIVES, LEAST_OUTPUTS, LEAST_ANSWERS = 160, 2_500, 150_000  # so many lives, outputs that are explained, and answers in C
 MODES = {"FS": 0, "OS": 1, "SR": 2, "SH": 3, "UN": 4, "SB": 6, "TR": 7, "PT": 8, "SF": 9}
 BRAKES = ("none", "service", "emergency")
 KINDS = {"on_sight": "on-sight", "shunting": "shunting", "level_0": "level-0"}
@@ -66,7 +66,7 @@ def overriding(life):
 
 
 def wanted_of(life, reasons, number):
-    """What is to be reported after the newest event of a life, which has this number."""
+    """The wanted members after the newest event of a life, which has this number."""
     answer, members = life.now.output, reasons.members(number)
     kind, place, nid = members["limit_cause"], members["limit_cause_place_cm"], members["limit_cause_number"]
     is_ahead, releases = kind.endswith("_ahead") or kind in ("end_of_authority", "supervised_location"), kind in RELEASES
@@ -84,7 +84,7 @@ def wanted_of(life, reasons, number):
 
 
 def met_in(one):
-    """What of all that may be reported is there."""
+    """Which of the possible members this one has."""
     for name in KINDS:
         state, left = one[name]
         yield "over" if state == "owed" and left == 0 else state

@@ -1,7 +1,7 @@
 #!/usr/bin/env python3
 """Random lives from C along with `etcs run`, the same in every run: what is printed, what the file is handed, call by call, and what it holds.
 
-    tests/unit/lives.py LIFE [LIVES [SEED]]    LIFE is life.c with the library; 400 lives, seed 2026; $ETCS names another program than the gate's
+    tests/unit/lives.py LIFE [LIVES [SEED]]    LIFE is life.c with the library; 400 lives, seed 2026; $ETCS names another program than that of the full check
 
 Each life is lived over a copy of the file, and by sectors. All print the same and end with the same status. Their writes and syncs of the file are the
 same, in the same order and with the same bytes, so that power may be lost between any two of them and the file is the same. In every second life it is,
@@ -52,7 +52,7 @@ def word_of(asked):
 
 
 def scenario_of(numbers):
-    """A life of a train that mostly heeds what it is reported; in some lives it hears telegrams that can't be read, or the clock goes back."""
+    """A life of a train that mostly heeds the unit's answers; in some lives it hears telegrams that can't be read, or the clock goes back."""
     scenario = json.loads(random_lives.scenario(numbers))
     for _ in range(numbers.randrange(4)):
         data = (headed if numbers.randrange(2) else mutated)(numbers)

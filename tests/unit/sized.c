@@ -76,7 +76,7 @@ static void flush_a_moment(etcs_unit *unit, uint64_t moment) {
     released(unit);
 }
 
-/* ---- what is reported */
+/* ---- output */
 
 /* A figure of /proc/self/status, in kB. */
 static unsigned long process_figure(const char *name) {

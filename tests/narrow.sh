@@ -1,13 +1,15 @@
 #!/bin/bash
-# The library on machines that the toolchain doesn't compile for: with pointers of 32 bits, with the highest byte first, and by other compilers. The
-# script of tests/targets.sh is carried out by its driver over the proved library on x86-64, and over what tools/library makes of its module: for
-# ARMv7, Cortex-M7 and Cortex-R52 (by qemu-user), for Cortex-M7 on a bare board (by qemu-system), and as C source on x86-64 by gcc and by clang, and on
-# PowerPC (by qemu-user). Each answer, output and byte of the medium is the same. Sizes and places of the structs are the same too.
+# Test the library on machines that the toolchain doesn't compile for: with pointers of 32 bits, with the highest byte first, and
+# by other compilers. The driver of tests/targets.sh executes its script over the proved library on x86-64, and over what
+# tools/library makes from its module: for ARMv7, Cortex-M7 and Cortex-R52 (by qemu-user), for Cortex-M7 on a bare board (by
+# qemu-system), and as C source on x86-64 by gcc and by clang, and on PowerPC (by qemu-user). Each answer, output and byte of the
+# medium has to be the same, and so have the sizes and offsets of the structs.
 #
-#     tests/narrow.sh [LIVES CALLS TELEGRAMS]    100 6000 2000; the long form is 400 20000 20000
+#     tests/narrow.sh [LIVES CALLS TELEGRAMS]    (default: 100 6000 2000; the long form is 400 20000 20000)
 #
-# It needs gcc, gcc-arm-none-eabi, gcc-arm-linux-gnueabihf, gcc-powerpc-linux-gnu, qemu-user, qemu-system-arm, wabt and python3-pycparser. $NARROW names a
-# folder that has the libraries already, one folder for each. UNPROVED=yes makes them without proof.
+# Needs gcc, gcc-arm-none-eabi, gcc-arm-linux-gnueabihf, gcc-powerpc-linux-gnu, qemu-user, qemu-system-arm, wabt and
+# python3-pycparser. $NARROW names a folder that has the libraries already, one folder for each. UNPROVED=yes makes them without
+# proof.
 export PYTHONDONTWRITEBYTECODE=1
 top=$(cd "$(dirname "$(readlink -f -- "$0")")/.." && pwd) || exit 1
 kit=$(dirname "$(rt doc)") || exit 1

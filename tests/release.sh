@@ -1,9 +1,9 @@
 #!/bin/bash
-# A release of this folder: made twice, in two folders with other names and times, it is the same byte for byte; tools/verify names whatever is
-# altered in it; and where its packages are unpacked, without the kit and these sources, the commands of README.md run, a report is made, the
-# package is imported, and a program in C is built with the library.
+# Test a release of this folder. Made twice, in two folders with other names and times, it is the same byte for byte; tools/verify
+# names whatever is altered in it; and where its packages are unpacked, without the kit and these sources, the commands of README.md
+# run, a report is made, the package is imported, and a program in C is built with the library.
 #
-#     tests/release.sh    on the programs and the library that the full check leaves; else on tried programs, and the library that
+#     tests/release.sh    on the programs and the library that the full check leaves; else on unproved programs, and the library that
 #                         ETCS_UNIT_ARCHIVE names
 self=$(readlink -f -- "$0" && echo .) || exit 1
 top=${self%/*/*}

@@ -1,13 +1,14 @@
 #!/bin/bash
-# The library on each machine that tools/library names: built and installed for it, and asked the same there as here. A script of lives with losses
-# of power, of calls in any order with wild numbers, and of telegrams (tests/targets/scripts.py) is carried out by a driver on x86-64, on aarch64 under
-# Linux (by qemu-user), on a bare board of aarch64 (by qemu-system), and in WebAssembly (by node); each answer, output and byte of the medium is the
-# same. Then the tests of the unit from C, and the examples, on aarch64; and find_package and pkg-config.
+# Test the library on each machine that tools/library supports: built and installed for it, it has to answer as here. A driver executes
+# a script of lives with losses of power, of calls in any order with random numbers, and of telegrams (tests/targets/scripts.py) on
+# x86-64, on aarch64 under Linux (by qemu-user), on a bare board of aarch64 (by qemu-system), and in WebAssembly (by node); each answer,
+# output and byte of the medium has to be the same. Then the tests of the unit from C, and the examples, on aarch64; and find_package
+# and pkg-config.
 #
-#     tests/targets.sh [LIVES CALLS TELEGRAMS]    40 2000 300; the long form is 400 20000 20000
+#     tests/targets.sh [LIVES CALLS TELEGRAMS]    (default: 40 2000 300; the long form is 400 20000 20000)
 #
-# It needs gcc, gcc-aarch64-linux-gnu, qemu-user, qemu-system-arm, nodejs, cmake, pkg-config and valgrind. $TARGETS names a folder that has the libraries
-# already, one folder for each target.
+# Needs gcc, gcc-aarch64-linux-gnu, qemu-user, qemu-system-arm, nodejs, cmake, pkg-config and valgrind. $TARGETS names a folder that has
+# the libraries already, one folder for each target.
 export PYTHONDONTWRITEBYTECODE=1
 top=$(cd "$(dirname "$(readlink -f -- "$0")")/.." && pwd) || exit 1
 python=/usr/bin/python3

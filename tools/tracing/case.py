@@ -5,7 +5,7 @@ from pathlib import Path
 
 from gaknifur.program import DEVICE, Failed
 from gaknifur.yaml_files import document
-from tracing.shown import PARTS, table, wrapped
+from tracing.output import PARTS, table, wrapped
 
 SOURCE, PAGE, PICTURE = Path("docs/assurance.yaml"), Path("out/docs/assurance.md"), Path("out/docs/assurance.svg")
 CLAIM = ("says", "short", "argument")

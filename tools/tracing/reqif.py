@@ -11,7 +11,7 @@ import re
 import subprocess
 import xml.etree.ElementTree as xml
 
-from tracing.shown import COLUMNS, PARTS, cells
+from tracing.output import COLUMNS, PARTS, cells
 
 NAMESPACE = "http://www.omg.org/spec/ReqIF/20110401/reqif.xsd"
 XHTML = "http://www.w3.org/1999/xhtml"

@@ -15,7 +15,7 @@ from gaknifur.program import REFUSED, Failed
 from gaknifur.testing.mode_table import table_rows, tables
 from gaknifur.yaml_files import document
 from tracing.pages import plain
-from tracing.shown import table
+from tracing.output import table
 
 FOLDER, PAGE = Path("docs/reviews"), Path("out/docs/reviews.md")
 RECORD = ("sheet", "digest", "reviewer", "copy", "date", "outcome")

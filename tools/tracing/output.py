@@ -1,4 +1,4 @@
-"""What the trace is shown as: the page out/docs/trace.md, lines for one name, a table (CSV), and a page to walk (HTML)."""
+"""The output of the trace: the page out/docs/trace.md, lines for one name, a table (CSV), and a page to browse (HTML)."""
 import csv
 import html
 import io

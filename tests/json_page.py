@@ -4,8 +4,8 @@ other units.
 
     tests/json_page.py PROGRAM..
 
-Each object has to have the members of its table, in their order, with values of their kinds; and each member, each word
-and each null of a table has to come up in some object, unless the page's last table names it.
+Each object has to have the members of its table, in their order, with values of their kinds; and each member, each keyword
+and each null of a table has to occur in some object, unless the page's last table names it.
 """
 import json
 import os

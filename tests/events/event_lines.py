@@ -1,6 +1,6 @@
 """The lines that `etcs_lab events` has to print of an image, worked out from docs/reference/format.md by the plain readers of blocks and telegrams.
 
-Each line is a list of pairs of a name and a value, so that a name that comes twice, and the order, are seen.
+Each line is a list of pairs of name and value, so that duplicate names and a wrong order are found.
 """
 import struct
 

@@ -1,7 +1,7 @@
 #!/usr/bin/env python3
 """Alters the bytes of an image file, one at a time: of its first sector, of the head of the newest block, and of gates. Each listing, each
-next life and the bytes that this life leaves are compared: with those of the image as it was, where an open gate was altered, since what
-it holds is never compared; with what the plain unit answers over the same bytes, everywhere else.
+next life and the bytes that this life leaves are compared with what the plain unit answers over the same bytes. Where an open gate was
+altered they are compared with those of the unaltered image, since the content of an open gate has no meaning.
 """
 import json
 import sys

@@ -1,4 +1,4 @@
-"""Every word of the program etcs_lab on small inputs, as the tests of this folder run it. `ETCS_LAB` names another program than the one
+"""Every command of the program etcs_lab on small inputs, for the tests of this folder. `ETCS_LAB` names another program than the one
 that the full check leaves."""
 import json
 import os

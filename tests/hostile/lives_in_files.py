@@ -2,10 +2,10 @@
 """Pseudo-random lives on image files, since no contract speaks of a file of the system: after each life the file holds the bytes that the
 plain unit leaves on the plain disk, and its calls were right.
 
-Calls are right where the file is synced before anything is read or written; where a sync stands between any write of a gate and a write of
-what lies beyond a gate, and before anything is printed and at the end; and where they say the story of the plain unit: between two syncs just
-the sectors that the plain disk is handed there, with their bytes, and between the same two just what is released there. A format syncs the
-file and its folder before it says that it is done.
+Calls are right where the file is synced before anything is read or written; where there is a sync between any write of a gate and a write of
+the sectors after a gate, and before anything is printed and at the end; and where they are those of the plain unit: between two syncs exactly
+the sectors that the plain disk gets there, with their bytes, and between the same two exactly the outputs that are released there. A format
+syncs the file and its folder before it prints that it is done.
 
     tests/hostile/lives_in_files.py [LIVES [SEED]]    1,000 lives, seed 2026
 """

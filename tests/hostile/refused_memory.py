@@ -1,9 +1,9 @@
 #!/usr/bin/env python3
-"""Refuses the program's requests for memory, each in turn, until a run meets no refusal. A refused run says so, by one line in the
+"""Refuses the program's requests for memory, each in turn, until a run gets no refusal. A refused run says so, by one line in
 place of what it had no memory for, and ends with status 1; what it printed before is what the undisturbed run prints, and the image
 holds every event that it printed. After up to three requests a run of a scenario does all as the undisturbed one: those for the tape
-that its text is laid on, in whose place a tree is made (`crates/json_values`). A series in which nothing is refused fails: each run
-asks for memory at least for its words, so there refusing does not work.
+that its text is laid on, in whose place a tree is made (`crates/json_values`). A series without a refusal fails: each run
+allocates memory at least for its arguments, so there the refusing doesn't work.
 
     tests/hostile/refused_memory.py [FILE ..]    over the rows below, and over these scenarios
 """

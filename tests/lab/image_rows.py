@@ -1,11 +1,11 @@
 #!/usr/bin/env python3
-"""Images of each state of a slot, and what `etcs_lab examine` is to print of them.
+"""Images of each state of a slot, and what `etcs_lab examine` has to print.
 
-    tests/lab/image_rows.py PROGRAM [ETCS]      runs the program on each image, and compares; with the program etcs, times of both on big images
-    tests/lab/image_rows.py --cases FOLDER      lays the images, their words and what is to be printed into a folder, for rt try --cases
+    tests/lab/image_rows.py PROGRAM [ETCS]      run the program on each image, and compare; with the program etcs, the times of both on big images
+    tests/lab/image_rows.py --cases FOLDER      write the images, the arguments and the wanted output into a folder, for rt try --cases
 
-The images are written from docs/reference/format.md (tests/plain/blocks.py), and what is to be printed is worked out by examined.py, which was written
-from the pages too. Both forms are compared: lines as they stand, JSON as a value.
+The images are written from docs/reference/format.md (tests/plain/blocks.py), and examined.py, which was written
+from the pages too, works out the wanted output. Both forms are compared: lines as text, JSON as a value.
 """
 import fcntl
 import json

@@ -1,11 +1,11 @@
 #!/usr/bin/env python3
-"""Images of journals, and what `etcs_lab replay` is to print of them: lives of the plain unit on the plain disk, in all three
-formats, on rings that were overwritten, with damaged blocks, and with each field of a head and of a record altered. What is wanted
-is worked out by the plain replay (tests/plain/replay.py).
+"""Images of journals, and what `etcs_lab replay` has to print: lives of the plain unit on the plain disk, in all three
+formats, on rings that were overwritten, with damaged blocks, and with each field of a head and of a record altered. The wanted
+output is worked out by the plain replay (tests/plain/replay.py).
 
-    tests/lab/replay_rows.py PROGRAM..          runs the program on each image, as people and as programs read it, and compares
-    tests/lab/replay_rows.py --cases FOLDER WORD..     lays images, words and what is to be printed into a folder, for rt try --cases
-    tests/lab/replay_rows.py --table            prints which altered fields are found, as docs/project/tests.md has it
+    tests/lab/replay_rows.py PROGRAM..          run the program on each image, with text and with JSON, and compare
+    tests/lab/replay_rows.py --cases FOLDER WORD..     write images, arguments and the wanted output into a folder, for rt try --cases
+    tests/lab/replay_rows.py --table            print which altered fields are found, as in docs/project/tests.md
 """
 import json
 import subprocess

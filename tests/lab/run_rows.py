@@ -1,9 +1,8 @@
 #!/usr/bin/env python3
-"""What `etcs_lab run` is to print of scenarios: by hand, and compared with the plain program all lines of the examples and of random scenarios, with
-the causes that it works out (tests/plain/why.py); and what `etcs run` prints of the same scenario on an empty image says the same of each
-output.
+"""What `etcs_lab run` has to print: hand-written cases, and all lines of the examples and of random scenarios, compared with the plain program and
+the causes that it works out (tests/plain/why.py). `etcs run` has to print the same outputs of the same scenario on an empty image.
 
-    tests/lab/run_rows.py ETCS_LAB ETCS     runs both programs on each scenario, and compares
+    tests/lab/run_rows.py ETCS_LAB ETCS     run both programs on each scenario, and compare
 """
 import json
 import sys

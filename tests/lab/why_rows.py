@@ -1,10 +1,10 @@
 #!/usr/bin/env python3
-"""Images of journals, and what `etcs_lab why` is to print of them. By hand, for each cause of a brake, each kind of what decides a limit and
-each outcome of a balise group, a life and the words that its line has; compared with the plain program (tests/plain/why.py) all lines of the
-examples, of pseudo-random lives, of all formats, and of damaged journals; and tracks from which what decides the limit is taken away: then
-the limit is a greater one.
+"""Images of journals, and what `etcs_lab why` has to print. Hand-written: for each cause of a brake, each kind of what decides a limit and
+each outcome of a balise group, a life and the text of its line. Compared with the plain program (tests/plain/why.py) all lines of the
+examples, of pseudo-random lives, of all formats, and of damaged journals; and tracks without the element that decides the limit: then
+the limit is greater.
 
-    tests/lab/why_rows.py PROGRAM..     runs the program on each image, and compares
+    tests/lab/why_rows.py PROGRAM..     run the program on each image, and compare
 """
 import json
 import sys

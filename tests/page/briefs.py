@@ -1,4 +1,4 @@
-"""In brief: what the page says at the top of an image is what the report says there, and the page opens at the last intervention."""
+"""The summary: the page says at the top of an image what the report says there, and opens at the last intervention."""
 import random
 from pathlib import Path
 from typing import Any

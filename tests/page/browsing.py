@@ -1,4 +1,4 @@
-"""A browser with the page open, and how the page is asked, for the tests and the pictures of the page."""
+"""A browser with the page open, and calls of the page, for the tests and the pictures of the page."""
 import base64
 import time
 from pathlib import Path

@@ -1,4 +1,4 @@
-"""The desk: what is driven leaves the image that `etcs run` makes of the same scenarios."""
+"""The desk: driving leaves the same image as `etcs run` on the same scenarios."""
 import base64
 import json
 import random

@@ -1,4 +1,4 @@
-"""What a newcomer meets: what the page is for, the steps of a start, greyed buttons, wrong entries, and a damaged first sector."""
+"""What a newcomer sees: the purpose of the page, the steps of a start, greyed buttons, wrong entries, and a damaged first sector."""
 import json
 from pathlib import Path
 

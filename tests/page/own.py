@@ -1,4 +1,4 @@
-"""What is one's own: scenarios that are opened, and what was driven as a test case."""
+"""The user's own data: scenarios that are opened, and a drive as a test case."""
 import json
 import os
 import random

@@ -1,4 +1,4 @@
-"""The acknowledgement of a kind: nothing, asked, done, or owed since a moment (SUBSET-026, 5.7, 5.9 and 5.10; the table is this
+"""The state of an acknowledgement: nothing, asked, done, or owed since a moment (SUBSET-026, 5.7, 5.9 and 5.10; the table is this
 project's)."""
 from collections import namedtuple
 

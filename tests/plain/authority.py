@@ -1,4 +1,4 @@
-"""The movement authority: its end, and what is supervised there (SUBSET-026, 3.8; timers and release speeds are this
+"""The movement authority: its end, and the supervised location (SUBSET-026, 3.8; timers and release speeds are this
 project's). It is read off the latest packet 12 and all that was seen since: the moment and the fronts after each event, from
 the one that accepted it on."""
 from collections import namedtuple

@@ -1,7 +1,6 @@
 #!/usr/bin/env python3
-"""Works each answer of the kernel's rows out by the plain program, and prints where it is another one than the row wants. A
-telegram that a row hears is named after its bytes; its fields stand along with the name at the head of the part, and have to spell
-those bytes.
+"""Works out each answer of the kernel's rows by the plain program, and prints each that differs from the row's. A telegram in a row has
+its name after its bytes; its fields are listed with the name at the head of the part, and have to encode to those bytes.
 
     tests/plain/check_rows.py [FILE ..]
 

@@ -1,4 +1,4 @@
-"""What is read off a life: all that happened is kept, an entry for each event and a fact for each packet that was used, and each
+"""The quantities of a life: all that happened is kept, an entry for each event and a fact for each packet that was used, and each
 quantity is worked out anew from these (this project's profile)."""
 from collections import namedtuple
 from dataclasses import dataclass, field

@@ -1,12 +1,11 @@
 #!/usr/bin/env python3
-"""Tries the safety laws on the plain program: each is looked at after each event of the kernel's rows, and may fail nowhere. The
-last lines say of each law how often its premise held.
+"""Checks the safety laws on the plain program: each has to hold after each event of the kernel's rows. The last lines say how often
+the premise of each law held.
 
     tests/plain/law_rows.py [LAW ..]
 
-Speeds are metres per hour, places centimetres, moments milliseconds. A law is a function of the life after an event, of what was
-remembered before it (`Before`), and of the line that the row has. It answers None where its premise doesn't hold, else whether it
-is kept. The exit status is 1 where one isn't, or where fewer events met its premise than LEAST wants.
+Speeds are metres per hour, places centimetres, moments milliseconds. A law is a function of the life after an event, of the state before it
+(`Before`), and of the line of the row. It returns None where its premise doesn't hold, else whether the law holds. The exit status is 1 where one isn't, or where fewer events met its premise than LEAST wants.
 """
 import os
 import sys

@@ -1,5 +1,5 @@
-"""What decides the limit of the plain unit (SUBSET-026, 3.11 to 3.13 and 4.4; which of those of equal force is named: this project's
-profile). Each candidate is asked alone whether it gives the limit. Places are centimetres, speeds metres per hour."""
+"""The cause of the plain unit's limit (SUBSET-026, 3.11 to 3.13 and 4.4; the choice between causes of equal force is this project's
+profile). Each candidate is checked by itself for whether it gives the limit. Places are centimetres, speeds metres per hour."""
 from collections import namedtuple
 
 import areas

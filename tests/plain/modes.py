@@ -1,4 +1,4 @@
-"""The modes: which follows which, what each keeps of what is known, and which packets it uses (SUBSET-026, 4.6, 4.8 and 4.10; the
+"""The modes: their transitions, the items that each keeps, and the packets that it uses (SUBSET-026, 4.6, 4.8 and 4.10; the
 rows and statuses are this project's)."""
 
 # The first row whose source is the old mode and whose conditions all hold is taken.

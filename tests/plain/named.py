@@ -3,9 +3,9 @@ seven fields more).
 
 A telegram is written as its header and its packets, one after another: `NID_BG 2; 65: NID_TSR 7, D_TSR 100, L_TSR 50, Q_FRONT 1,
 V_TSR 4; 66: NID_TSR 8`. The fields of a packet stand in their order, each by its name; of the header and of a packet's head only
-what isn't usual is reported. L_PACKET is reckoned, where it isn't reported. A packet with a number alone has no more than its head.
+unusual values are written. L_PACKET is computed where it isn't given. A packet that is only a number has only its head.
 
-The widths stand in python/gaknifur/testing/telegrams.py too, on purpose: what tests write doesn't come from the program that they test.
+The widths are in python/gaknifur/testing/telegrams.py too, on purpose: what tests write doesn't come from the program that they test.
 """
 import re
 

@@ -1,10 +1,10 @@
 #!/usr/bin/env python3
 """Whether docs/reference/format.md says enough: images are listed by the reader that was written from that page (tests/lab/examined.py).
 
-    tests/plain/page_rows.py     of each case of the program's rows and examples that the plain program works out, the plain unit makes
-                                 the image, byte by byte; the lines are compared with those that the plain program prints. Then each
-                                 slot of the image is closed or damaged, and the lines are compared with those of the blocks that the
-                                 plain journal finds
+    tests/plain/page_rows.py     the plain unit makes the image of each case of the program's rows and examples that the plain program
+                                 works out; the lines are compared with those that the plain program prints. Then each slot of the
+                                 image is closed or damaged, and the lines are compared with those of the blocks that the plain
+                                 journal finds
 """
 import json
 import shlex

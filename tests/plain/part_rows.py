@@ -1,5 +1,5 @@
-"""Rows for test_parts that are too many for a hand (make_rows.py): groups of balises of which one is missed or none, and
-permitted speeds, as the definition says, speed by speed and centimetre by centimetre."""
+"""Rows for test_parts that are too many to write by hand (make_rows.py): groups of balises with one or none missed, and
+permitted speeds from the definition, speed by speed and centimetre by centimetre."""
 from collections import namedtuple
 from functools import lru_cache
 

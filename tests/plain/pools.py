@@ -1,4 +1,4 @@
-"""The telegrams of which pseudo-random lists are made, by their fields (named.py)."""
+"""The telegrams in pseudo-random lists, by their fields (named.py)."""
 
 # Restrictions and their revocations, of groups 2 to 11, of one balise but for the last two.
 RESTRICTIONS = (

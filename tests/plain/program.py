@@ -1,5 +1,5 @@
 """What the program prints of a life on an image: a line for each output that is released, and the lines of the journal. It is written
-from the tables of the scenario and of the records (this project's profile) over the plain kernel, and knows no bytes of an image."""
+from the tables of the scenario and of the records (this project's profile) over the plain kernel, and doesn't know the bytes of an image."""
 import functools
 import itertools
 import struct

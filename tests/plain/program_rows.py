@@ -1,8 +1,8 @@
 #!/usr/bin/env python3
-"""Runs the rows of the program: files NAME.row, whose lines are commands of `etcs` with what it is to print and its exit status.
+"""Runs the rows of the program: files NAME.row, whose lines are commands of `etcs` with the wanted output and exit status.
 
-    tests/plain/program_rows.py PROGRAM [FILE ..]     runs them by this program
-    tests/plain/program_rows.py --check [FILE ..]     works out by the plain program what they want
+    tests/plain/program_rows.py PROGRAM [FILE ..]     run them on PROGRAM
+    tests/plain/program_rows.py --check [FILE ..]     work out the wanted output by the plain program
 
 A file has cases, each in a folder of its own that is empty at its start, but for the scenarios (*.json) along with the file:
 

@@ -1,7 +1,7 @@
 #!/usr/bin/env python3
 """Replays the journal of an image by the plain kernel: each life from its power-up on, after what the head before it says.
 
-    tests/plain/replay.py [--json] IMAGE     prints what `etcs_lab replay` prints, and ends with its status
+    tests/plain/replay.py [--json] IMAGE     print what `etcs_lab replay` prints, and end with its status
 """
 import json
 import sys

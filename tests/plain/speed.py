@@ -1,4 +1,4 @@
-"""The speed limit where the train stands, and the permitted speed (this project's profile). Speeds are in metres per hour,
+"""The speed limit at the train, and the permitted speed (this project's profile). Speeds are in metres per hour,
 places in centimetres."""
 from collections import namedtuple
 

@@ -1,5 +1,5 @@
 #!/usr/bin/env python3
-"""The tables that tools/tables reads from the definitions, along with those of the plain program: the same rows in the same order, the same
+"""Compares the tables that tools/tables reads from the definitions with those of the plain program: the same rows in the same order, the same
 lines and cells. Each kind of table has rows, and each difference is printed."""
 import importlib.machinery
 import importlib.util

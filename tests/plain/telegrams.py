@@ -1,7 +1,7 @@
 """Balise telegrams as the plain kernel uses them (SUBSET-026, chapters 7 and 8; packet 3 in this project's order).
 
-`read(data)` gives the telegram that some bytes carry, or None where they carry none. Each value is the number that
-stands in the bits (`decoded.py`); what it means is said where it is used.
+`read(data)` returns the telegram in some bytes, or None. Each value is the number in the bits (`decoded.py`); its meaning is
+explained where it is used.
 """
 from dataclasses import dataclass, field
 from types import SimpleNamespace

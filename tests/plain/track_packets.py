@@ -1,10 +1,10 @@
 #!/usr/bin/env python3
-"""The packets that a track of issue 2.3.0 sends, as `track_packets` lists them (SUBSET-026, 7.4.2; docs/reference/packets.md): where they stand in
-a telegram, by L_PACKET alone, and the fields of each; and a telegram with its packet 3 in this project's order, as `installed_values`
+"""The packets that a track of issue 2.3.0 sends, as `track_packets` lists them (SUBSET-026, 7.4.2; docs/reference/packets.md): their places in
+a telegram, by L_PACKET only, and the fields of each; and a telegram with its packet 3 in this project's order, as `installed_values`
 writes it.
 
-A layout is a text of names. `(N_ITER ..)` has a counter and what comes so often; `[Q_NEWCOUNTRY=1 ..]` what comes where that
-field has this number."""
+A layout is a text of names. `(N_ITER ..)` has a counter and the fields that repeat; `[Q_NEWCOUNTRY=1 ..]` the fields that follow where
+that field has this number."""
 import re
 from functools import cache
 from pathlib import Path

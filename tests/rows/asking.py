@@ -1,16 +1,16 @@
-"""Rows of text as rows of numbers: what the program of rows is asked, and what it answers.
+"""Converts rows of text to rows of numbers, the questions to the program of rows, and its replies back.
 
 A file of rows holds each question with its wanted answer after it: `QUESTION: ANSWER`, or `QUESTION:` and lines that
 are indented. Empty lines, and lines that begin with `#`, are comments.
 
-Each module `test_..` takes these words:
+Each module `test_..` takes these arguments:
 
-    test_disk.py                  asks the program, and compares its answers with those that are wanted
-    test_disk.py --ask FOLDER     writes the questions into FOLDER alone, as cases of the program
-    test_disk.py --compare FOLDER    compares the answers that FOLDER has to these cases
+    test_disk.py                  ask the program, and compare its answers with the wanted ones
+    test_disk.py --ask FOLDER     only write the questions into FOLDER, as cases of the program
+    test_disk.py --compare FOLDER    compare the answers to these cases in FOLDER
 
-The rows are those of the folder that the variable ROWS names, which `tests/plain/make_rows.py` makes; without it, those
-by hand alone, which stand here.
+The rows are those of the folder that the variable ROWS names, which `tests/plain/make_rows.py` makes; without it, only
+the hand-written ones in this folder.
 
 tests/rows.sh has all of them ask first, so that the program is compiled once (tests/rows/tried). A case is a file of
 questions, of which the program answers each on what those before it left. Since a case has bounds, a module's questions

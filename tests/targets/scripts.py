@@ -1,9 +1,9 @@
 #!/usr/bin/env python3
-"""A script of calls for the driver (driver.c), the same in every run, and the comparison of what two machines answer.
+"""A script of calls for the driver (driver.c), the same in every run, and the comparison of the answers of two machines.
 
-    tests/targets/scripts.py script LIVES CALLS TELEGRAMS [SEED]    prints lives with cuts, calls in any order with wild numbers, and telegrams
-    tests/targets/scripts.py members                                prints C that adds each member of each struct to a digest, whatever the order of its bytes
-    tests/targets/scripts.py compare SCRIPT WANTED FOUND..          whether the answers in FOUND are those in WANTED; says how much was compared
+    tests/targets/scripts.py script LIVES CALLS TELEGRAMS [SEED]    print lives with cuts, calls in any order with random numbers, and telegrams
+    tests/targets/scripts.py members                                print C that adds each member of each struct to a digest, in any byte order
+    tests/targets/scripts.py compare SCRIPT WANTED FOUND..          compare the answers in FOUND with those in WANTED, and print how much was compared
 
 A comparison fails too where the answers show too few lives, cuts, outputs, statuses or telegrams for the lines of the script.
 """

@@ -1,5 +1,5 @@
 #!/usr/bin/env python3
-"""Lives of images that C programs run again by the calls of etcs_image.h, along with what the plain programs say of the same images, and along with what
+"""Compares lives that C programs replay by the calls of etcs_image.h with what the plain programs say of the same images, and with what
 `etcs_lab replay --json`, `etcs_lab why --json` and `etcs_lab events` print: of the examples, of random lives, of all formats, of damaged journals, and of ones with
 an altered byte.
 

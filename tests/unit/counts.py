@@ -1,12 +1,12 @@
-"""Instructions of calls of the unit from C, counted by callgrind as bench/worst.sh counts them: some along with kept ones, and the worst that was
-found along with its bound.
+"""Instructions of calls of the unit from C, counted by callgrind as bench/worst.sh counts them: some compared with kept ones, and the worst that was
+found with its bound.
 
     counts.py PROGRAM           PROGRAM is bench/worst.c with the library
-    counts.py PROGRAM --keep    writes the counts of the rows into tests/unit/counts.txt; `bench/worst.sh --build` makes such a program,
+    counts.py PROGRAM --keep    write the counts of the rows to tests/unit/counts.txt; `bench/worst.sh --build` makes such a program,
                                 bench/out/worst
 
-A row fails where it takes more than 3 in 100 more or less than tests/unit/counts.txt keeps: what makes it cheaper is kept, and what makes it
-dearer is looked at. A bound fails where more is taken. Counts go by the place of the stack, and by what else is in the library, so nearer
+A row fails where it takes more than 3 in 100 more or less than tests/unit/counts.txt keeps: keep a cheaper count, and look into
+a dearer one. A bound fails where more is taken. Counts go by the place of the stack, and by what else is in the library, so nearer
 ones can't be asked for. The stack of each call, by the frames in the object code, has a bound too.
 """
 import re

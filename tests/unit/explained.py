@@ -1,6 +1,6 @@
 #!/usr/bin/env python3
-"""Why the newest released output is what it is, as etcs_unit_why says it: pseudo-random lives compared with the plain program, event by event, and
-along with what etcs_image_why says about the medium's bytes (explained.c compares that). While an event isn't released nothing is reported.
+"""Compares what etcs_unit_why explains of the newest released output with the plain program, over pseudo-random lives, event by event, and with
+what etcs_image_why says about the medium's bytes (explained.c compares that). Before an event is released there is no explanation.
 
     tests/unit/explained.py PROGRAM..     explained.c built in several ways
 """

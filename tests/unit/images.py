@@ -1,5 +1,5 @@
 #!/usr/bin/env python3
-"""Images read from C (listing.c) along with `etcs journal`, line for line: those that are handed in, and those of all examples. And altered ones
+"""Compares images read from C (listing.c) with `etcs journal`, line by line: the given ones, and those of all examples. And altered ones
 of all three formats, compared with the plain reader of docs/reference/format.md (tests/lab/examined.py): which records can be read, what each slot
 holds, and what each head keeps.
 

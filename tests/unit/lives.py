@@ -1,5 +1,5 @@
 #!/usr/bin/env python3
-"""Random lives from C along with `etcs run`, the same in every run: what is printed, what the file is handed, call by call, and what it holds.
+"""Compares random lives from C with `etcs run`, the same in every run: the output, each call on the file, and its content.
 
     tests/unit/lives.py LIFE [LIVES [SEED]]    LIFE is life.c with the library; 400 lives, seed 2026; $ETCS names another program than that of the full check
 

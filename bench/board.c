@@ -1,5 +1,5 @@
-/* Lives scenarios (bench/worst.scenarios) on the bare board of aarch64, and says about each counted call how many instructions it took and how far
- * down it wrote on the stack. The processor counts (PMU, event INST_RETIRED), as it does on a board of one's own; QEMU does so with -icount.
+/* Runs scenarios (bench/worst.scenarios) on the bare board of aarch64, and prints the instructions of each counted call and how far down it wrote
+ * on the stack. The processor counts (PMU, event INST_RETIRED), as on a real board; QEMU does so with -icount.
  *
  * The lines are those of bench/worst.c. After each counted call a line is printed:
  *

@@ -1,15 +1,15 @@
-/* Lives scenarios by the calls of include/etcs_unit.h, and says for callgrind where each counted call ends.
+/* Runs scenarios by the calls of include/etcs_unit.h, and marks for callgrind where each counted call ends.
  *
- *     worst [show | mute | stack]    reads scenarios from standard input, an input a line
+ *     worst [show | mute | stack]    read scenarios from standard input, an input a line
  *
- * The lines, of which those that tests/unit/life.c has mean the same:
+ * The lines (those of tests/unit/life.c mean the same):
  *
- *     scenario SLOTS    begins one, on an empty journal of so many slots
- *     count             from here on each call is counted
- *     cold WORD         powers up by the word on movements (enum etcs_cold); a unit that is open is closed before that
+ *     scenario SLOTS    begin one, on an empty journal of SLOTS slots
+ *     count             count each call from here on
+ *     cold WORD         power up with this cold-movement value (enum etcs_cold); an open unit is closed first
  *     telegram HEX, odometer CM SPEED, clock MS, action N, identity HEX, number N
  *     train LENGTH MAXIMUM DECELERATION REACTION CATEGORY
- *     flush             prepares, carries out and releases; only the first is counted
+ *     flush             prepare, carry out and release; only the prepare is counted
  *
  * A flush that isn't counted comes of itself before a ninth pending input, and where `show` is asked for after each
  * counted one. After each counted call callgrind writes what it took ("scenario N line M"), and a line is printed:

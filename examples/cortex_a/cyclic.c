@@ -1,12 +1,12 @@
-/* The unit in a cyclic task on Linux: on a Cortex-A, or where else there are threads of POSIX.
+/* The unit in a cyclic task on Linux: on a Cortex-A, or any other machine with POSIX threads.
  *
  *     cyclic IMAGE [CYCLES [MILLISECONDS [LATE]]]    a journal that etcs_file_format made; where there is no such file it is made
  *
  * One task opens the unit, and hands it to the cyclic one under a lock. The cyclic task runs every 100 ms by the system's
  * clock: sensors, medium, outputs. Memory is a buffer of the program's own and is locked, so no cycle waits for a page.
  * A cycle that ends LATE milliseconds after it was due, or later, means the emergency brake and the end of the task, and so
- * does any answer that is a fault. What a driver enters wrongly is said to him, and entered again. Hardware of its own has to brake where this program stops: here `alive` stands
- * for what it watches. */
+ * does any answer that is a fault. A wrong entry is shown to the driver, who enters it again. Separate hardware has to brake where this
+ * program stops: here `alive` is the signal that it watches. */
 #include "etcs_file.h"
 #include "etcs_memory.h"
 

@@ -1,7 +1,7 @@
-/* Why a train braked: runs the life of an event through the kernel again, by the calls of etcs_image.h alone.
+/* Explains why a train braked: replays the life of an event through the kernel, only by the calls of etcs_image.h.
  *
- *     why IMAGE          says about each life whether the journal agrees with the kernel, and of each command to the brakes why it was given
- *     why IMAGE EVENT    says about one event
+ *     why IMAGE          print whether the journal of each life agrees with the kernel, and why each brake command was given
+ *     why IMAGE EVENT    explain one event
  */
 #include <stdio.h>
 #include <stdlib.h>

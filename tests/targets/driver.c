@@ -1,4 +1,4 @@
-/* Carries out a script of calls of the library, and prints what each answers: the same program on every machine (platform.h has what differs), so
+/* Executes a script of calls of the library, and prints what each answers: the same program on every machine (platform.h has what differs), so
  * that what two machines print can be compared byte by byte. It needs no C library.
  *
  * A line of the script is a word and numbers. `unit N` chooses one of two handles for the lines after it, `medium N` one of two media.

@@ -1,5 +1,5 @@
-/* Lives one life, and asks after each release why the output is what it is; prints what is reported as JSON objects on lines. Of each event that
- * is released etcs_image_why is asked of the medium's bytes too: what both report is the same. While an event is pending, or its requests aren't
+/* Runs one life, asks after each release why the output is what it is, and prints the explanation as JSON, an object per line. For each released
+ * event it also calls etcs_image_why on the medium's bytes, which has to explain the same. While an event is pending, or its requests aren't
  * released, etcs_unit_why answers NOT_RELEASED and writes nothing.
  *
  *     explained COLD [TRIES]    reads inputs from standard input, one a line (inputs.h), or `flush`; TRIES is written to by the number of answers

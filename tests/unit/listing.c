@@ -1,9 +1,9 @@
-/* Prints the journal of an image as `etcs journal` does, by the calls of include/etcs_image.h alone.
+/* Prints the journal of an image as `etcs journal` does, only by the calls of include/etcs_image.h.
  *
- *     listing IMAGE      the lines of all records, the oldest first
- *     listing IMAGE -b   the same, with each record asked for by its block and its place there
- *     listing IMAGE -s   what the image has, and what each slot holds
- *     listing IMAGE -k   what the head of each block says, and what it keeps
+ *     listing IMAGE      print all records, the oldest first
+ *     listing IMAGE -b   the same, reading each record by its block and its index there
+ *     listing IMAGE -s   print the facts of the image, and the content of each slot
+ *     listing IMAGE -k   print the head of each block, and the items that it keeps
  */
 #include <stdio.h>
 #include <stdlib.h>

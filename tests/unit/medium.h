@@ -1,4 +1,4 @@
-/* A medium in memory, and counting what was tried: for the tests of the unit from C. */
+/* A medium in memory, and the count of answers: for the tests of the unit from C. */
 #ifndef MEDIUM_H
 #define MEDIUM_H
 

@@ -1,4 +1,4 @@
-/* Each wrong call that C lets the library see is answered as include/etcs_unit.h says, and changes nothing. */
+/* Each wrong call that the library can detect is answered as include/etcs_unit.h says, and changes nothing. */
 #include "medium.h"
 
 static etcs_unit_output outputs[ETCS_UNIT_OUTPUTS];

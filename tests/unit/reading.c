@@ -1,5 +1,5 @@
 /* Reading an image from C: each wrong call is answered as include/etcs_image.h says, and writes nothing; a slot of each
- * state is reported; and what one life left is reported record by record, with what was worked out by hand. */
+ * state is recognised; and the records of one life are compared with hand-written ones. */
 #include "etcs_image.h"
 #include "medium.h"
 

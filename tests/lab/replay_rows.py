@@ -1,11 +1,11 @@
 #!/usr/bin/env python3
-"""Images of journals, and what `etcs_lab replay` is to print of them: lives of the plain unit on the plain disk, in all three
-formats, on rings that were overwritten, with damaged blocks, and with each field of a head and of a record altered. What is wanted
-is worked out by the plain replay (tests/plain/replay.py).
+"""Images of journals, and what `etcs_lab replay` has to print: lives of the plain unit on the plain disk, in all three
+formats, on rings that were overwritten, with damaged blocks, and with each field of a head and of a record altered. The wanted
+output is worked out by the plain replay (tests/plain/replay.py).
 
-    tests/lab/replay_rows.py PROGRAM..          runs the program on each image, as people and as programs read it, and compares
-    tests/lab/replay_rows.py --cases FOLDER WORD..     lays images, words and what is to be printed into a folder, for rt try --cases
-    tests/lab/replay_rows.py --table            prints which altered fields are found, as docs/project/tests.md has it
+    tests/lab/replay_rows.py PROGRAM..          run the program on each image, with text and with JSON, and compare
+    tests/lab/replay_rows.py --cases FOLDER WORD..     write images, arguments and the wanted output into a folder, for rt try --cases
+    tests/lab/replay_rows.py --table            print which altered fields are found, as in docs/project/tests.md
 """
 import json
 import subprocess
@@ -71,18 +71,18 @@ def life_on(disk, word, inputs, flushes=5):
 def blocks_of(lives, form, per=None):
     """The blocks of lives in a format: a power-up has one of its own, and so many inputs each. Where a list is to have power-ups within
     blocks, `per` records stand in each, whatever they are."""
-    kept, records, behind = Kept(), [], []
+    kept, records, kept_after = Kept(), [], []
     for word, inputs in lives:
         life = Life(kept, word if form == 3 else "unknown")
         said = [(("powerup", COLD.index(word) if form == 3 else 0), None), *((event_of(*part), part) for part in map(parts, inputs))]
-        for told, part in said:
+        for happened, part in said:
             if part:
                 life.take(*part)
-            records.append(record_of(life.kept().events - 1, told, life.moment(), life.now.output, life.place()))
-            behind.append(life.kept())
+            records.append(record_of(life.kept().events - 1, happened, life.moment(), life.now.output, life.place()))
+            kept_after.append(life.kept())
         kept = life.kept()
     ends = ends_of(records, per or 5, bool(per))
-    return [block_of(number, records[first:end], behind[end - 1], form) for number, (first, end) in enumerate(zip([0, *ends], ends), 1)]
+    return [block_of(number, records[first:end], kept_after[end - 1], form) for number, (first, end) in enumerate(zip([0, *ends], ends), 1)]
 
 
 def parts(said):

@@ -59,7 +59,7 @@ def faults_of(path, entries, is_complete):
 
 def faults():
     """What is wrong with the numbers of all pages that are named."""
-    told = document(SOURCE).entries()
-    complete = {one.text() for one in told.pop("complete").elements()}
-    for path, entries in told.items():
+    pages = document(SOURCE).entries()
+    complete = {one.text() for one in pages.pop("complete").elements()}
+    for path, entries in pages.items():
         yield from faults_of(Path(path), entries, path in complete)

@@ -19,7 +19,7 @@ STATUS = re.compile(r"^ {4}ETCS_(?:UNIT|FILE)_(\w+) = (\d+),?", re.M)
 
 @dataclass
 class Said:
-    """A sentence of a page, where it stands, and what it names in backticks."""
+    """A sentence of a page, its place, and the names in backticks."""
 
     key: str
     text: str
@@ -28,17 +28,17 @@ class Said:
 
 
 def read(path):
-    """A page."""
+    """Reads a page."""
     return Path(path).read_text(encoding="utf-8")
 
 
 def line_of(text, at):
-    """The number of the line of a place in a text."""
+    """The line number of an offset in a text."""
     return text.count("\n", 0, at) + 1
 
 
 def plain(text):
-    """A text on one line, links and marks of style left out."""
+    """A text on one line, without links and marks of style."""
     return re.sub(r"\[([^\]]*)\]\([^)]*\)", r"\1", " ".join(text.split())).replace("**", "")
 
 
@@ -102,7 +102,7 @@ def refusals():
 
 
 def texts(heading):
-    """The rows of a table of REFUSALS that begin with a text: a name made of it, the text, and what it means."""
+    """The rows of a table of REFUSALS that begin with a text: a name derived from it, the text, and its meaning."""
     path, title, is_head, found = "docs/reference/refusals.md", "", True, []
     for number, line in enumerate(read(path).splitlines(), 1):
         if line.startswith("#"):
@@ -125,7 +125,7 @@ def variants(kind, path):
 
 
 def sections():
-    """The sections of CONFORMANCE that the product has something of, and those that it leaves out."""
+    """The sections of CONFORMANCE that the product covers, and those that it leaves out."""
     return coverage.sections()
 
 

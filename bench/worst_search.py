@@ -410,7 +410,7 @@ def kind_of_telegram(assembler, sums, read):
     return "telegram that closes a group" if assembler.take(Reading(read, sums)) else kind
 
 
-def ran(program, scenarios, *words):
+def run_program(program, scenarios, *words):
     """Runs scenarios, each the number of slots and lines of text; the lines that were printed, as numbers."""
     text = "".join(f"scenario {slots}\n" + "".join(line + "\n" for line in lines) for slots, lines in scenarios)
     done = subprocess.run([*program, *words], input=text, capture_output=True, text=True, cwd=OUT, env={"PATH": "/usr/bin:/bin"})
@@ -424,7 +424,7 @@ def counted(scenarios, shows=False):
     the line where `shows` asks for them."""
     profile = OUT / f"profile.{os.getpid()}"
     toggles = [f"--toggle-collect=etcs_unit_{call}_" for call in CALLS]
-    lines = ran(["valgrind", "--tool=callgrind", f"--callgrind-out-file={profile}", "--combine-dumps=yes", "--collect-atstart=no", *toggles],
+    lines = run_program(["valgrind", "--tool=callgrind", f"--callgrind-out-file={profile}", "--combine-dumps=yes", "--collect-atstart=no", *toggles],
                 scenarios, "./worst", "show" if shows else "mute")  # (of the same length, since counts depend on the place of the stack)
     took = {}
     label = None
@@ -440,7 +440,7 @@ def counted(scenarios, shows=False):
     return {(at, line): (took[at, line], status, mode, limit) for at, line, status, mode, _, _, limit, *_ in lines}
 
 
-def tried(many):
+def counted_lines(many):
     """Each counted line that was taken: (kind, instructions, scenario up to it)."""
     texts = [[text_of(line) for line in lines] for lines in many]
     marked = [(4, [*lines[:-COUNTED], "count", *lines[-COUNTED:]]) for lines in texts]
@@ -458,7 +458,7 @@ class Best:
         self.of = {}
 
     def take(self, many):
-        for kind, instructions, lines in tried(many):
+        for kind, instructions, lines in counted_lines(many):
             if instructions >= self.of.get(kind, (0,))[0]:
                 self.of[kind] = (instructions, lines)
 
@@ -587,7 +587,7 @@ def count_again():
 
 def memory():
     scenarios = kept()
-    for at, *numbers in ran(["./worst"], [(4, lines) for _, _, lines in scenarios], "stack"):
+    for at, *numbers in run_program(["./worst"], [(4, lines) for _, _, lines in scenarios], "stack"):
         held, peak, requests, greatest, stack = numbers[-5:]
         print(scenarios[at - 1][1], held, peak, requests, greatest, stack, sep="\t")
 

@@ -3,7 +3,7 @@ import json
 import subprocess
 import threading
 
-from ran import ran
+from processes import run_to_end
 
 SHOWN = 20
 
@@ -43,7 +43,7 @@ def run(program, words, text=None, **how):
     first = program if isinstance(program, (list, tuple)) else [program]
     if text is None and not how.keys() - {"env"} and threading.current_thread() is threading.main_thread():
         try:
-            status, printed, said = ran([*map(str, first), *map(str, words)], **how)
+            status, printed, said = run_to_end([*map(str, first), *map(str, words)], **how)
         except TimeoutError:
             return "", "", "no end"
         return printed.decode(), said.decode(), status

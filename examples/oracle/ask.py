@@ -12,7 +12,7 @@ import subprocess
 import sys
 
 
-class Asked:
+class UnitProcess:
     """A unit that is asked."""
 
     def __init__(self, words):
@@ -43,7 +43,7 @@ class Asked:
 
 
 def main(words):
-    unit = Asked(words)
+    unit = UnitProcess(words)
     print(unit.greeting["unit"])
     for line in sys.stdin:
         answer = unit.answer(json.loads(line))

@@ -7,7 +7,7 @@ import json
 import sys
 from pathlib import Path
 
-from built import SECTOR, SLOT, STAFF_RESPONSIBLE, formatted, ran, room
+from built import SECTOR, SLOT, STAFF_RESPONSIBLE, formatted, run_program, room
 from compared import Compared
 from plain_images import bytes_of, disk_of, listed, lived
 
@@ -35,7 +35,7 @@ class Altered:
         self.next.write_text(json.dumps(NEXT))
         formatted(self.image, SLOTS)
         for _ in range(2):
-            ran(["run", scenario, self.image])
+            run_program(["run", scenario, self.image])
         self.whole = self.image.read_bytes()
 
     def with_byte(self, at, value):
@@ -44,7 +44,7 @@ class Altered:
     def answers(self, data):
         """What a listing answers, what the next life answers, and the bytes after it."""
         self.image.write_bytes(data)
-        return ran(["journal", self.image]), ran(["run", self.next, self.image]), self.image.read_bytes()
+        return run_program(["journal", self.image]), run_program(["run", self.next, self.image]), self.image.read_bytes()
 
     def compare(self, data, wanted, said):
         for found, one, name in zip(self.answers(data), wanted, ("the listing", "the next life", "the bytes after it")):

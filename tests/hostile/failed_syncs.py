@@ -18,7 +18,7 @@ import sys
 from copy import deepcopy
 from pathlib import Path
 
-from built import ENTRIES, SECTOR, built, formatted, ran, recorded_by, room, sectors_of, settled
+from built import ENTRIES, SECTOR, built, formatted, run_program, recorded_by, room, sectors_of, settled
 from compared import Compared
 from cut_files import images
 
@@ -117,7 +117,7 @@ class Tried:
 
     def listing_of(self, data):
         self.image.write_bytes(data)
-        return ran(["journal", self.image])
+        return run_program(["journal", self.image])
 
     def cuts(self, medium, released):
         """Some of the images that a loss of power may leave now."""
@@ -169,7 +169,7 @@ def tried(way, slots, lives, folder, record, numbers):
     image, earlier = folder / "image", []
     formatted(image, slots)
     for _ in range(lives):
-        earlier += released_in(ran(["run", folder / "scenario", image])[1])
+        earlier += released_in(run_program(["run", folder / "scenario", image])[1])
     before, one, number = image.read_bytes(), Tried(slots, folder, record, numbers), 1
     while not (way is Keeping and one.lost) and one.fails_at(way, before, earlier, number):
         number += 1

@@ -4,7 +4,7 @@ import json
 import os
 import subprocess
 
-from built import AUTHORITY, FULL_SUPERVISION, RESTRICTION, STAFF_RESPONSIBLE, TOP, formatted, ran
+from built import AUTHORITY, FULL_SUPERVISION, RESTRICTION, STAFF_RESPONSIBLE, TOP, formatted, run_program
 
 LAB = os.environ.get("ETCS_LAB") or str(TOP / "crates/etcs_lab/out/etcs_lab")
 HEADER = {"Q_UPDOWN": 1, "M_VERSION": 16, "Q_MEDIA": 0, "N_PIG": 0, "N_TOTAL": 0, "M_DUP": 0, "M_MCOUNT": 255, "NID_C": 1, "NID_BG": 2, "Q_LINK": 1}
@@ -21,7 +21,7 @@ def laid(folder):
     files["good"].write_text(json.dumps(STAFF_RESPONSIBLE))
     for scenario in (STAFF_RESPONSIBLE, FULL_SUPERVISION):
         (folder / "scenario").write_text(json.dumps(scenario))
-        ran(["run", folder / "scenario", files["image"]])
+        run_program(["run", folder / "scenario", files["image"]])
     data = bytearray(files["image"].read_bytes())
     data[512 + 512 + 700] ^= 1
     files["altered"].write_bytes(data)

@@ -12,7 +12,7 @@ import shutil
 import sys
 from pathlib import Path
 
-from built import AUTHORITY, FULL_SUPERVISION, RESTRICTION, STAFF_RESPONSIBLE, built, formatted, ran, room
+from built import AUTHORITY, FULL_SUPERVISION, RESTRICTION, STAFF_RESPONSIBLE, built, formatted, run_program, room
 from compared import Compared
 
 # What a run without memory says: words, decoding, a scenario, an opening, a step, a listing.
@@ -31,7 +31,7 @@ def is_refusal(status, text, undisturbed):
 
 def found(image, text):
     """Each event that was printed stands in the journal, with its number, mode, brake and indications."""
-    status, listing = ran(["journal", image])
+    status, listing = run_program(["journal", image])
     listed = {fields[3]: fields for fields in (line.split() for line in listing.splitlines())}
     for line in text.splitlines():
         fields = line.split()
@@ -48,13 +48,13 @@ def series(name, words, folder, refuse, failures, image=None):
     said, kept = folder / "said", folder / "kept"
     if image:
         shutil.copy(image, kept)
-    undisturbed = ran(words)
+    undisturbed = run_program(words)
     count = of_tape = 0
     for at in range(1, MOST):
         said.unlink(missing_ok=True)
         if image:
             shutil.copy(kept, image)
-        status, text = ran(words, refuse, REFUSE_AT=str(at), REFUSE_SAYS=str(said))
+        status, text = run_program(words, refuse, REFUSE_AT=str(at), REFUSE_SAYS=str(said))
         if not said.exists():
             failures.unless((status, text) == undisturbed, f"{name}: with all memory {status} {text!r}")
             break
@@ -65,7 +65,7 @@ def series(name, words, folder, refuse, failures, image=None):
             failures.unless(is_refusal(status, text, undisturbed[1]), f"{name}, request {at}: {status} {text[-200:]!r}")
         if image:
             failures.unless(found(image, text), f"{name}, request {at}: what was printed isn't in the journal")
-            again = ran(words)
+            again = run_program(words)
             failures.unless(again[0] == undisturbed[0], f"{name}, request {at}: the next run ends with {again[0]}")
     failures.unless(count, f"{name}: no request was refused")
     failures.unless(count > of_tape, f"{name}: no refusal was reported")
@@ -88,7 +88,7 @@ def main(paths):
         for row, scenario in rows:
             (folder / "scenario").write_text(json.dumps(scenario))
             formatted(image, 4)
-            ran(["run", folder / "scenario", image])
+            run_program(["run", folder / "scenario", image])
             counts.append(series(f"run, {row}", ["run", folder / "scenario", image], folder, refuse, failures, image))
             counts.append(series(f"journal, {row}", ["journal", image], folder, refuse, failures))
     return failures.end(f"memory refused: {sum(counts)} requests in {len(counts)} runs")

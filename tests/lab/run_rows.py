@@ -137,7 +137,7 @@ class Played(Made):
         return ReportingLife(Kept(), cold)
 
 
-class Tried(Compared):
+class RunRows(Compared):
     def __init__(self, lab, etcs, folder):
         super().__init__()
         self.lab, self.etcs, self.folder = lab, etcs, folder
@@ -231,7 +231,7 @@ class Tried(Compared):
 
 def main(lab, etcs):
     with tempfile.TemporaryDirectory() as folder:
-        return Tried(lab, etcs, Path(folder)).judged()
+        return RunRows(lab, etcs, Path(folder)).judged()
 
 
 if __name__ == "__main__":

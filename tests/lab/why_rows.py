@@ -135,7 +135,7 @@ def images():
         yield from made()
 
 
-class Tried(Compared):
+class WhyRows(Compared):
     """The program, an image for it, and what came of its runs."""
 
     def __init__(self, program, image):
@@ -233,7 +233,7 @@ class Tried(Compared):
 
 def main(program):
     with tempfile.TemporaryDirectory() as folder:
-        return Tried(program, Path(folder) / "image").judged()
+        return WhyRows(program, Path(folder) / "image").judged()
 
 
 if __name__ == "__main__":

@@ -47,7 +47,7 @@ setTimeout(() => done(document.getElementById('telegram-hex').value), 1);
 """
 
 
-class Made(track_packets.Walk):
+class RandomFields(track_packets.Walk):
     """A packet that is made up while its layout is walked."""
 
     def __init__(self, dice: random.Random) -> None:
@@ -63,7 +63,7 @@ class Made(track_packets.Walk):
 
 def packet_of(number: int, dice: random.Random) -> str:
     """The bits of a packet that the kernel skips; now and then with another length."""
-    made = Made(dice)
+    made = RandomFields(dice)
     made.bits, made.at = f"{number:08b}{dice.randrange(4):02b}" + "0" * 13, 23
     made.all(track_packets.parts_of(track_packets.LAYOUTS[number]))
     bits = made.bits + "".join(dice.choice("01") for _ in range(dice.randrange(30) if number in track_packets.WITH_TRAILING_BITS else 0))

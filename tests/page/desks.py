@@ -59,9 +59,11 @@ def name_of(browser: Browser, example: str) -> str:
 
 
 def stories(browser: Browser, _page: Path, folder: Path) -> int:
-    """The story of each example, played by its button, leaves the image of its own files."""
+    """The story of each example is shown, and played by its button leaves the image of its own files."""
     for example in EXAMPLES:
         board(browser, name_of(browser, example))
+        story = (TOP / "examples" / example / "session.row").read_text(encoding="utf-8").splitlines()[0].removeprefix("# ")
+        assert browser.text("track-text").startswith(story), (example, browser.text("track-text"))
         browser.click("story")
         assert browser.text("drive-error") == ""
         files = [TOP / "examples" / example / name for name in ("scenario.json", "restart.json")]

@@ -193,6 +193,6 @@ def tracks(seed):
         yield track
 
 
-def made(seed):
+def make_rows(seed):
     """Returns the rows."""
     return HEADING + "".join("\nnew:\n" + "".join(f"{row}\n" for row in track.said) for track in tracks(seed))

@@ -22,12 +22,12 @@ BY_HAND = Path(__file__).resolve().parents[1] / "rows"
 def all_rows(seed):
     """Returns the text of each file of rows by its name, and what is wrong."""
     text = {path.name: path.read_text() for path in BY_HAND.glob("*.row")}
-    lists, faults = random_lists.made(seed)
+    lists, faults = random_lists.make_rows(seed)
     text["test_kernel.row"] += "\n" + lists
-    text["test_modes.row"] += limit_rows.made(seed)
-    text["test_parts.row"] += part_rows.made()
-    text["test_onboard.row"], differences = onboard_lives.made(text["test_onboard.row"], seed)
-    text["test_blocks.row"] = blocks.made()
+    text["test_modes.row"] += limit_rows.make_rows(seed)
+    text["test_parts.row"] += part_rows.make_rows()
+    text["test_onboard.row"], differences = onboard_lives.make_rows(text["test_onboard.row"], seed)
+    text["test_blocks.row"] = blocks.make_rows()
     return text, [*faults, *differences]
 
 

@@ -24,7 +24,7 @@ STARTED = (TELEGRAM, "enter-identity A", "choose-level 1", TRAIN, "start", "move
 AFTERWARDS = "open not-moved; confirm identity; clock 9; flush; close; bytes"
 
 
-class Made:
+class RowWriter:
     """Rows as they are made, with what the plain program answers."""
 
     def __init__(self):
@@ -403,9 +403,9 @@ def make(made, seed):
     random_lives(made, seed)
 
 
-def made(by_hand, seed):
+def make_rows(by_hand, seed):
     """Returns the rows by hand with all others, and where a row by hand wants something else than the plain unit answers."""
-    rows = Made()
+    rows = RowWriter()
     for line in (by_hand.rstrip("\n") + "\n" + HEADING).rstrip("\n").split("\n"):
         rows.reader.take(line)
     make(rows, seed)

@@ -110,6 +110,6 @@ def lines():
     yield from (f"{question}: {answer}" for question, answer in speeds())
 
 
-def made():
+def make_rows():
     """Returns the rows."""
     return HEADING + "".join(f"{line}\n" for line in lines())

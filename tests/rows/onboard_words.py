@@ -188,7 +188,7 @@ def lived_in(reply):
     return done(reply) if len(reply.numbers) == 1 else lived(reply)
 
 
-def shown(text):
+def after_refusal(text):
     """Reads what follows a 0; another number is a refusal."""
     def read(reply):
         refusal = reply.take()
@@ -209,8 +209,8 @@ ANSWERED = {
     "default": flushed,
     "run": lived,
     "run-in": lived_in,
-    "blocks": shown(run_of_blocks),
-    "bytes": shown(lambda reply: f"{reply.take():016x}"),
+    "blocks": after_refusal(run_of_blocks),
+    "bytes": after_refusal(lambda reply: f"{reply.take():016x}"),
 }
 
 

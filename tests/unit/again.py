@@ -79,7 +79,7 @@ def without_sections(members):
     return {key: value for key, value in members.items() if key not in LEFT_OUT}
 
 
-class Tried(Compared):
+class Replays(Compared):
     def __init__(self, lab, refuse, programs, folder):
         super().__init__()
         self.lab, self.refuse, self.programs, self.image = lab, refuse, programs, Path(folder) / "image"
@@ -190,7 +190,7 @@ class Tried(Compared):
 
 def main(words):
     with tempfile.TemporaryDirectory() as folder:
-        return Tried(*words[:2], words[2:], folder).judged()
+        return Replays(*words[:2], words[2:], folder).judged()
 
 
 if __name__ == "__main__":

@@ -62,7 +62,7 @@ def drive(rows, lab, program, cycles, room):
     rows.unless(utc == BEGUN_MS + CYCLE_MS * cycles and off <= 50 + 60 + 1, f"{name}: the last moment was at {utc}, give or take {off} ms")
 
 
-def laid(numbers, path, slots, lives, newest):
+def write_ring(numbers, path, slots, lives, newest):
     """Lays an image: perhaps with a gate that is closed, or with a copy of a block in a wrong slot."""
     write(path, slots, lives, newest, shut=newest + 1 if numbers.random() < 0.3 and newest >= slots else None)
     if numbers.random() < 0.2 and slots > 2:
@@ -82,14 +82,14 @@ def against_python(rows, programs, room, count):
                 newest -= numbers.randrange(1, 3)
                 lives = {n: {**block, "lives": block["lives"] + (n > newest)} for n, block in lives.items()}
             newest = max(1, min(max(blocks), newest + numbers.randrange(slots + 2)))
-            laid(numbers, image, slots, lives, newest)
+            write_ring(numbers, image, slots, lives, newest)
             if numbers.random() < 0.3 and paths[0].exists() and paths[0].stat().st_size > 2 * SLOT:
                 cut, is_zeros = numbers.randrange(2 * SLOT), numbers.random() < 0.5
                 for path in paths:
                     data = path.read_bytes()
                     path.write_bytes(data[:len(data) - cut].ljust(len(data) * is_zeros, b"\0"))
             before, newest = image.read_bytes(), min(max(blocks), newest + numbers.randrange(slots + 2))
-            laid(numbers, later, slots, lives, newest)
+            write_ring(numbers, later, slots, lives, newest)
             with archive.Archive(paths[0]) as kept:
                 wanted = [kept.keep(image)]
                 image.write_bytes(later.read_bytes())

@@ -152,7 +152,7 @@ class Marks:
         return {"a mark that nobody wrote"} if wrong else {one.moment_ms for one in found}
 
 
-class Tried:
+class CutRuns:
     """A kind of file over a kind of medium."""
 
     def __init__(self, rows, record, kind, way, room):
@@ -217,7 +217,7 @@ def main(words):
         archive = Archive(words[0], room)
         for kind in (archive, Marks(words[0], room)):
             for way in (Medium, Linux):
-                tried, number = Tried(rows, record, kind, way, room), 0
+                tried, number = CutRuns(rows, record, kind, way, room), 0
                 while tried.fails_at(number) or number == 0:
                     number += 1
                 cuts[f"{kind.name} on {way.__name__}"] = tried.cuts

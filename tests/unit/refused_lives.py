@@ -17,7 +17,7 @@ sys.path[:0] = [str(TOP / "tests/hostile"), str(TOP / "tests/plain"), str(TOP / 
 
 from built import AUTHORITY, RESTRICTION  # noqa: E402
 from compared import Compared  # noqa: E402
-from onboard_lives import RINGS, Made  # noqa: E402
+from onboard_lives import RINGS, RowWriter  # noqa: E402
 from kernel_words import ACKNOWLEDGED, COLD, CONFIRMED  # noqa: E402
 from kernel_words import ALONE as ACTIONS  # noqa: E402
 
@@ -111,7 +111,7 @@ def lives():
 
 
 def image(prepare):
-    made = Made()
+    made = RowWriter()
     prepare(made)
     return b"".join(made.session.disk.settled().held)
 

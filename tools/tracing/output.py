@@ -60,19 +60,19 @@ def wrapped(text):
 
 
 def names(definitions):
-    """Definitions, as people name them."""
+    """Definitions, as text."""
     return [f"{page}.{name}" for page, name in definitions]
 
 
 def table(heads, rows):
-    """A table of a page."""
+    """A table in Markdown."""
     yield f"| {' | '.join(heads)} |"
     yield "|" + "---|" * len(heads)
     yield from (f"| {' | '.join(map(str, row))} |" for row in rows)
 
 
 def counts(reader):
-    """How many requirements of each part have what."""
+    """The number of requirements of each part, and what holds them."""
     for part, title in PARTS.items():
         mine = [it for it in (*reader.requirements, *reader.laws) if it.part == part]
         has = (
@@ -99,8 +99,7 @@ def grouped(reasons):
 
 
 def of_crates(reader, gaps, kind):
-    """The crates that have some of a kind of no requirement, by reason. Numbers are for `--gaps`: they change with
-    each definition, and this page isn't to."""
+    """The crates with gaps of a kind, by reason. The numbers are for `--gaps`: they change with each definition, and this page shouldn't."""
     found = defaultdict(list)
     for crate in gaps.alone[kind]:
         found[
@@ -161,7 +160,7 @@ def page(reader, gaps):
 
 
 def page_of_gaps(reader, gaps):
-    """What is missing, and why."""
+    """The gaps, with their reasons."""
     yield "\n## Requirements without rows or cases\n"
     yield from table(("Requirement", "Why"), grouped(gaps.without["rows"]))
     yield "\n## Requirements without definitions\n"
@@ -210,7 +209,7 @@ def explained(it, reader):
 
 
 def speaks_of(it, word):
-    """Whether a requirement is one of this name, or is held by one."""
+    """Whether a requirement has this name, or is held by one."""
     if it.identity == word or it.identity.startswith(f"{word}-") or it.section == word:
         return True
     held = (
@@ -275,7 +274,7 @@ def source(place):
 
 
 def entries(reader):
-    """What holds requirements, by kind: of each its text, where it stands, and the requirements that name it."""
+    """What holds requirements, by kind: the text and the place of each, and the requirements that name it."""
     found = {kind: {} for kind in ("definition", "clause", "law", "edit", "row", "case", "premise")}
 
     def add(kind, name, text, place, it):

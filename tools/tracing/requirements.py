@@ -51,7 +51,7 @@ class Requirement:
 
 
 class Reader:
-    """What is read so far, and what is wrong."""
+    """The requirements that were read, and the faults."""
 
     def __init__(self, sources):
         self.sources, self.faults = sources, []
@@ -63,11 +63,11 @@ class Reader:
             self.by_item.setdefault(one.item, []).append(one)
 
     def fault(self, at, said):
-        """Notes a fault."""
+        """Adds a fault."""
         self.faults.append(f"{PAGE}:{at.line}:{at.column}: {said}")
 
     def members(self, at, *names):
-        """Names with values, of which no others may be there."""
+        """Named values, where no other names are allowed."""
         return at.members((), names) if at.is_mapping() else self.fault(at, "names with values are wanted here") or {}
 
     # ---- what holds a requirement
@@ -108,7 +108,7 @@ class Reader:
                     yield known[name]
 
     def known(self, at, kind, names):
-        """Names of a list, each of which has to be there."""
+        """The names of a list, each of which has to exist."""
         for one in at.elements():
             if one.text() not in names:
                 self.fault(one, f"there is no {kind} {one.text()}: name the one that there is now, or take it out")
@@ -116,7 +116,7 @@ class Reader:
                 yield one.text()
 
     def rows(self, at):
-        """Where the rows of a list stand."""
+        """The places of the rows of a list."""
         found = {}
         for one in at.elements():
             place = evidence.row(self.titles, one.text())
@@ -132,7 +132,7 @@ class Reader:
         return found
 
     def tests(self, at):
-        """The commands of a list, which the gate runs."""
+        """The commands of a list, which CI runs."""
         gate = Path(".ci/run").read_text(encoding="utf-8")
         for one in at.elements():
             if not re.search(rf"(?<!\S){re.escape(one.text())}(?!\S)", gate) or not os.access(one.text(), os.X_OK):
@@ -140,7 +140,7 @@ class Reader:
             yield one.text()
 
     def hold(self, it, members):
-        """Enters what holds a requirement."""
+        """Adds a requirement with what holds it."""
         sources = self.sources
         it.definitions += self.defined(members["defined"]) if "defined" in members else []
         it.cited = list(self.clauses(members["clauses"])) if "clauses" in members else []
@@ -162,7 +162,7 @@ class Reader:
         self.check_held(it, members)
 
     def check_held(self, it, members):
-        """Something is proved or defined, and something is tried, or a reason says why not."""
+        """Checks that something is proved or defined, and something is tested, or that a reason is given."""
         at = next(iter(members.values()))
         is_proved, is_tried = it.definitions or it.cited or it.laws or it.rests_on, it.rows or it.cases
         for name, has, wanted in (("definitions", is_proved, "defined, clauses or laws"), ("rows", is_tried, "rows")):
@@ -178,7 +178,7 @@ class Reader:
     # ---- the parts
 
     def read_sections(self, at):
-        """The sentences of sections, and the sections of the page both ways."""
+        """Reads the sentences of sections, and compares the sections with the page in both directions."""
         named = at.entries()
         here = {one.name: one for one in self.sections if not one.is_left_out}
         for name in here:
@@ -224,7 +224,7 @@ class Reader:
         return found is not None and found.name == name
 
     def read_begun(self, at, part, said, make):
-        """Requirements that stand on a page, by their first words, and the sentences of the page both ways."""
+        """Reads requirements that are sentences of a page, by their first words, and compares them with the page in both directions."""
         left = {one.key: one for one in said}
         for identity, one in at.entries().items():
             members = one.members(("begins",), ("by", "conditions", *HELD))
@@ -240,7 +240,7 @@ class Reader:
         return left
 
     def read_promises(self, at, introductions):
-        """The promises of their page."""
+        """Reads the promises of their page."""
 
         def make(identity, one, members, said):
             it = Requirement(identity, "promises", said.text, "own", said.place)
@@ -256,7 +256,7 @@ class Reader:
             )
 
     def compare_names(self, it, at, said):
-        """What the page names in backticks is what the requirement names, both ways."""
+        """Compares the names in backticks on the page with those of the requirement, in both directions."""
         there = {name.rsplit("::", 1)[-1] for name in said.names}
         mine = {one.name for one in it.cited} | {one.call for one in it.cited} | {name for _, name in it.definitions}
         mine |= {name.split(".")[1] for name in it.laws if name not in it.unnamed} | set(it.words)
@@ -272,7 +272,7 @@ class Reader:
             )
 
     def conditions(self, at):
-        """Conditions for integrators, each of which has to stand on their page in these words."""
+        """Conditions for integrators, each of which has to be on their page in these words."""
         text = CONDITIONS.read_text(encoding="utf-8") if CONDITIONS.is_file() else ""
         for one in at.elements():
             if not re.search(rf"(?<!\w){re.escape(one.text())}(?!\w)", text):
@@ -280,7 +280,7 @@ class Reader:
             yield one.text()
 
     def read_premises(self, at, introductions):
-        """The premises of that page."""
+        """Reads the premises of that page."""
 
         def make(identity, _, members, said):
             by = members["by"].text() if "by" in members else ""
@@ -297,7 +297,7 @@ class Reader:
             self.faults.append(f'{one.place}: the premise "{one.text[:60]}.." has no identity: give it one in {PAGE}')
 
     def read_not_promised(self, at):
-        """What that page doesn't promise."""
+        """Reads what that page doesn't promise."""
         said = pages.blocks(PROMISES, "What is not promised")
         begins = [one.text() for one in at.elements()]
         for one in at.elements():
@@ -311,7 +311,7 @@ class Reader:
         self.not_promised = said
 
     def read_own(self, at):
-        """What is beyond the standard and the promises."""
+        """Reads what goes beyond the standard and the promises."""
         for identity, one in at.entries().items():
             members = one.members(("says",), HELD)
             self.hold(
@@ -320,7 +320,7 @@ class Reader:
             )
 
     def read_safety(self, at):
-        """The items of SAFETY, both ways."""
+        """Reads the items of SAFETY, and compares them with the page in both directions."""
         items, named = pages.items(), at.entries()
         for number, (said, _) in items.items():
             if f"S-{number}" not in named:
@@ -343,7 +343,7 @@ class Reader:
             self.hold(it, members)
 
     def read_refusals(self, at):
-        """The refusals: page and source have the same names and numbers, and each has what holds its type."""
+        """Reads the refusals: page and source have the same names and numbers, and each type has what holds it."""
         rows, named = pages.refusals(), at.entries()
         for kind, number, name, said in rows:
             if kind not in named:
@@ -374,7 +374,7 @@ class Reader:
             self.hold(Requirement(f"E-{kind}-{name}", "refusals", f"{text}: {said.text}", "own", said.place), members)
 
     def compare_variants(self, kind, at, rows):
-        """The page has each name of the enum with its number, and no other."""
+        """Checks that the page has each name of the enum with its number, and no other."""
         there, here = pages.variants(kind, at.text()), {name: number for _, number, name, _ in rows}
         for name, number in there.items():
             if here.get(name) is None and not (kind == "etcs_file_answer" and name == "OK"):
@@ -386,7 +386,7 @@ class Reader:
                 self.fault(at, f"docs/reference/refusals.md has {kind} {name}, and the source doesn't")
 
     def read_laws(self):
-        """The laws, each as a requirement of its own: its sentence stands where it is declared."""
+        """Reads the laws, each as a requirement of its own: its sentence is where it is declared."""
         tried = evidence.tried_laws()
         for name, (said, place) in self.sources.laws.items():
             it = Requirement(f"L-{name}", "laws", said, "own", place, laws=[name])
@@ -401,7 +401,7 @@ class Reader:
         return self.sources.laws[name][0]
 
     def read_alone(self, at):
-        """Why definitions or clauses of a crate are of no requirement."""
+        """Reads why definitions or clauses of a crate are of no requirement."""
         for kind in ("definitions", "clauses"):
             self.alone[kind] = {}
             for one in at.members(("definitions", "clauses"))[kind].elements():

@@ -57,7 +57,7 @@ class Sheet:
     definitions: list
 
     def digest(self, sources):
-        """The digest of its definitions, and of all that they rest on."""
+        """The digest of its definitions, and of all that they use."""
         digest = hashlib.sha256()
         for page, name in sorted(sources.below(self.definitions)):
             lines = [line.split("--")[0].split() for line in sources.pages[page].definitions[name]]
@@ -66,7 +66,7 @@ class Sheet:
 
     @property
     def is_step(self):
-        """Whether it is of a step."""
+        """Whether it is the sheet of a step."""
         return self.name.isdigit()
 
     def anchor(self):
@@ -138,7 +138,7 @@ def all_sheets(reader):
 
 
 def records(sheets, sources):
-    """The reviews that were made, by sheet: of each its file, what it says, and whether it is outdated."""
+    """The reviews by sheet: the file of each, its content, and whether it is outdated."""
     found, by_name = {}, {one.name: one for one in sheets}
     for path in sorted(FOLDER.glob("*.yaml")):
         record = document(path).members(RECORD, ("notes",))
@@ -174,7 +174,7 @@ def page(reader):
 
 
 def blocks_of(text):
-    """The blocks of a text: those of code whole, and between them what empty lines divide."""
+    """The blocks of a text: code as a whole, and between it what empty lines separate."""
     block, is_code = [], False
     for line in [*text.splitlines(), ""]:
         if line.startswith("```"):

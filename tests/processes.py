@@ -4,7 +4,7 @@ import os
 import signal
 
 
-def ran(words, env=None, timeout=60):
+def run_to_end(words, env=None, timeout=60):
     """Exit status, standard output and standard error in bytes. Kills a program that exceeds the timeout in seconds, and raises TimeoutError."""
     output, said = os.memfd_create("output"), os.memfd_create("said")
     before = signal.signal(signal.SIGALRM, late)

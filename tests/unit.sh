@@ -1,6 +1,6 @@
 #!/bin/bash
 # Test the unit from C, C++, Python and Rust, all built from the folder that tools/library makes: each header by itself, the names that
-# the library exports, sizes and offsets, wrong calls, files, archives of blocks and marks next to the journal, two units at once, the
+# the library exports, sizes and offsets, wrong calls, files, archives of blocks and marks next to the journal, starts of slots, two units at once, the
 # examples, images compared with `etcs journal`, random lives compared with `etcs run`, instructions compared with kept counts and
 # bounds, memory that is refused, and the commands of docs/howto/embedding.md. Needs gcc, g++, valgrind, rustc and Debian's Python; clang
 # is used where it is installed.
@@ -95,7 +95,7 @@ twice=$(LC_ALL=C comm -12 "$made/types" "$made/names" | tr '\n' ' ')
 [ -z "$twice" ] || fails "a type and a call have one name: $twice"
 asked=$(nm -u "$static" | sed -n 's/^ *U //p' | LC_ALL=C sort -u | tr '\n' ' ')
 [ "$asked" = "memcpy memmove memset " ] || fails "the library without malloc asks for $asked"
-counted "names of the library" "$(wc -l <"$made/shown")" 116
+counted "names of the library" "$(wc -l <"$made/shown")" 118
 "$python" "$top/tests/unit/symbols.py" "$shared" $(cat "$made/shown") || fails "the calls as symbols"
 "$python" "$top/tests/unit/names.py" "$shared" $(cat "$made/shown") || fails "names of numbers"
 needed=$(objdump -p "$shared" | sed -n 's/^ *NEEDED *//p' | tr '\n' ' ')
@@ -115,13 +115,13 @@ build() {
 built=0
 link=("$archive")
 "$python" "$top/tests/unit/layout.py" --program >"$made/places.c" || fails "layout.py prints no program"
-for name in layout misuse sectors files kept two life reading listing again explained telegrams guard; do
+for name in layout misuse sectors files kept two life reading starts listing again explained telegrams guard; do
     source=$top/tests/unit/$name.c
     [ "$name" != layout ] || source=$made/places.c
     for compiler in "${compilers[@]}"; do build "$name.$compiler" "$source" "$compiler" -x c -std=c99 -O2; done
     build "$name.cpp" "$source" g++ -x c++ -std=c++17 -O2 -Wno-missing-field-initializers
 done
-for name in misuse sectors files kept two life reading listing again explained telegrams guard; do
+for name in misuse sectors files kept two life reading starts listing again explained telegrams guard; do
     build "$name.checked" "$top/tests/unit/$name.c" gcc -x c -std=c99 -O1 "${sanitizers[@]}"
 done
 for name in brake flash why; do
@@ -137,10 +137,10 @@ link=("$archive" -Wl,--wrap=malloc,--wrap=realloc,--wrap=free)
 build refused.gcc "$top/tests/unit/refused.c" gcc -x c -std=c99 -O2
 build refused.checked "$top/tests/unit/refused.c" gcc -x c -std=c99 -O1 "${sanitizers[@]}"
 link=(-L "$prefix/lib" -letcs_unit)
-for name in misuse two reading; do build "$name.shared" "$top/tests/unit/$name.c" gcc -x c -std=c99 -O2; done
+for name in misuse two reading starts; do build "$name.shared" "$top/tests/unit/$name.c" gcc -x c -std=c99 -O2; done
 rustc --edition 2021 -D warnings -O -L "$prefix/lib" -l static=etcs_unit "$top/examples/embedding/rust/brake.rs" -o "$made/brake.rs" &&
     built=$((built + 1)) || fails "examples/embedding/rust doesn't compile"
-counted "programs built" $built 49
+counted "programs built" $built 53
 
 # ---- what they answer
 
@@ -152,7 +152,7 @@ runs_well() {
 }
 
 "$python" "$top/tests/unit/layout.py" "$made"/layout.* || fails "sizes and places differ"
-for program in "$made"/misuse.* "$made"/sectors.* "$made"/two.* "$made"/reading.* "$made"/telegrams.* "$made"/guard.*; do runs_well "$program"; done
+for program in "$made"/misuse.* "$made"/sectors.* "$made"/two.* "$made"/reading.* "$made"/starts.* "$made"/telegrams.* "$made"/guard.*; do runs_well "$program"; done
 for program in "$made"/files.* "$made"/kept.*; do
     rm -rf "$made/room"
     mkdir "$made/room"
@@ -160,14 +160,14 @@ for program in "$made"/files.* "$made"/kept.*; do
 done
 for program in "$made"/flash.*; do runs_well "$program"; done
 mv "$made/said" "$made/flash"
-for program in misuse.gcc sectors.gcc two.gcc reading.gcc telegrams.gcc guard.gcc "files.gcc $made/room" "kept.gcc $made/room" "brake.gcc $made/image.valgrind" flash.gcc "why.gcc $made/image.valgrind" \
+for program in misuse.gcc sectors.gcc two.gcc reading.gcc starts.gcc telegrams.gcc guard.gcc "files.gcc $made/room" "kept.gcc $made/room" "brake.gcc $made/image.valgrind" flash.gcc "why.gcc $made/image.valgrind" \
     "again.gcc $made/image.valgrind why 7"; do
     rm -rf "$made/room"
     mkdir "$made/room"
     # shellcheck disable=SC2086
     runs_well valgrind -q --error-exitcode=9 --leak-check=full --errors-for-leak-kinds=all --show-leak-kinds=all $(echo "$made/$program")
 done
-counted "runs of them, 12 of them under valgrind" $runs 41
+counted "runs of them, 13 of them under valgrind" $runs 46
 
 # ---- the examples: the same train in each language, over the same file
 

@@ -6,7 +6,7 @@ import fs from 'node:fs';
 const { instance } = await WebAssembly.instantiate(fs.readFileSync(process.argv[2]), {});
 const x = instance.exports;
 const SECTOR = 512, SECTORS = 1 + 6 * 64, MOST = SECTOR * SECTORS, OUTPUTS = 8, REQUEST = 8192, OK = 0, FAILED = 21, SECTOR_WANTED = 24, NO_SUCH_REQUEST = 249;
-const SIZE = { request: 24, output: 16, state: 80, facts: 32, slot: 32, block: 208, record: 160, journal: 24, replay: 720, why: 160, train: 20, explained: 144, adapted: 16, dropped: 16, unused: 24 };
+const SIZE = { request: 24, output: 16, state: 80, facts: 32, slot: 32, start: 16, block: 208, record: 160, journal: 24, replay: 720, why: 160, train: 20, explained: 144, adapted: 16, dropped: 16, unused: 24 };
 
 const bytesAt = (at, length) => new Uint8Array(x.memory.buffer, Number(at), Number(length));
 const take = size => {
@@ -143,6 +143,7 @@ const nulls = () => {
         x.etcs_opening_close(z), x.etcs_unit_state(z, state), x.etcs_unit_state(n, z), x.etcs_unit_close(z),
         x.etcs_unit_format_request(2, 0, z, b, 512n), x.etcs_unit_format_request(2, 0, request, z, 512n),
         x.etcs_image_facts(z, 512n, result), x.etcs_image_facts(m, 512n, z), x.etcs_image_slot(z, 512n, 0n, 0n, result), x.etcs_image_slot(m, 512n, 0n, 0n, z),
+        x.etcs_image_slot_start(z, 1024n, 1n, 0n, some), x.etcs_image_slot_start(m, 1024n, 1n, 0n, z),
         x.etcs_image_block(z, 512n, 1n, result), x.etcs_image_block(m, 512n, 1n, z), x.etcs_image_record(z, 512n, 1n, 0, result),
         x.etcs_image_record(m, 512n, 1n, 0, z), x.etcs_journal_open(z, 512n, journal), x.etcs_journal_open(m, 512n, z),
         x.etcs_journal_next(z, 512n, journal, result), x.etcs_journal_next(m, 512n, z, result), x.etcs_journal_next(m, 512n, journal, z),
@@ -222,6 +223,12 @@ const CALLS = {
     },
     facts: () => image('etcs_image_facts', SIZE.facts),
     slot: () => image('etcs_image_slot', SIZE.slot, number(), number()),
+    start: () => {
+        const slots = number(), at = number(), from = at < 1048576n ? BigInt(SECTOR) * (1n + 6n * at) : U64, rest = from < size() ? size() - from : 0n;
+        const status = x.etcs_image_slot_start(media[on] + (rest > 0n ? from : 0n), rest, slots, at, some);
+        if (status === OK) add(some, SIZE.start);
+        return status;
+    },
     block: () => image('etcs_image_block', SIZE.block, number()),
     record: () => image('etcs_image_record', SIZE.record, number(), small()),
     why: () => image('etcs_image_why', SIZE.why, number(), number()),

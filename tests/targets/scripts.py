@@ -64,7 +64,7 @@ def reading(r):
     """What is asked of the image after a life."""
     asked = ["facts", "journal", *["next", "cause"] * r.randrange(12), "journal", *["replay"] * r.randrange(1, 5)]
     return [*asked, *(f"why {r.randrange(1, 40)} {r.randrange(120)}" for _ in range(2)), *(f"slot {r.randrange(40)} {r.randrange(10)}" for _ in range(2)),
-            f"block {r.randrange(1, 40)}", f"record {r.randrange(1, 40)} {r.randrange(9)}"]
+            *(f"start {r.randrange(1, 9)} {r.randrange(9)}" for _ in range(3)), f"block {r.randrange(1, 40)}", f"record {r.randrange(1, 40)} {r.randrange(9)}"]
 
 
 def call(r):
@@ -91,7 +91,7 @@ def call(r):
                          f"hands {wild(r)} {r.choice((0, 511, 512, 513, wild(r)))} {wild(r)}", "give_up", f"stops {r.randrange(4)} {r.randrange(40)}",
                          f"dies {r.randrange(3)} {r.randrange(9)} {r.randrange(4_097)}"))
     if kind < 42:
-        return r.choice(("facts", "journal", "next", "next", "replay", f"cursor {wild(r)} {wild(r)} {wild(r)}", f"slot {wild(r)} {wild(r)}", f"block {wild(r)}",
+        return r.choice(("facts", "journal", "next", "next", "replay", f"cursor {wild(r)} {wild(r)} {wild(r)}", f"slot {wild(r)} {wild(r)}", f"start {wild(r)} {wild(r)}", f"block {wild(r)}",
                          f"record {wild(r)} {wild(r)}", f"why {wild(r)} {wild(r)}", f"why {r.randrange(1, 30)} {r.randrange(60)}", f"size {wild(r)}", "whole",
                          "whole"))
     return r.choice(("fail", f"flip {wild(r)} {1 << r.randrange(8)}", f"flip {r.randrange(4_096)} {1 << r.randrange(8)}", "null",

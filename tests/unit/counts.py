@@ -35,7 +35,7 @@ MOST_DOUBLED = 2.05
 POWER_UPS = ("etcs_unit_open_", "etcs_opening_go_on_")
 MOST_STACK_OF = dict.fromkeys(POWER_UPS, 16_384) | {"etcs_image_why_": 176_128, "etcs_image_replay_": 67_584, "etcs_telegram_unused_": 36_864,
                                                  **dict.fromkeys(("etcs_image_block_", "etcs_image_record_", "etcs_image_slot_", "etcs_journal_next_"), 24_576)}
-MOST_STACK, LEAST_CALLS = 11_776, 35
+MOST_STACK, LEAST_CALLS = 11_776, 36
 
 
 def rows():

@@ -2,7 +2,7 @@
 # The unit as C, C++, Python and Rust programs call it, all of it built from the folder that tools/library makes: the headers alone, the names
 # that the library shows, sizes and places, wrong calls, files, archives of blocks and marks along with the journal, two units at once, the
 # examples, images along with `etcs journal`, random lives along with `etcs run`, instructions along with kept counts and bounds, memory that is refused,
-# and the commands of docs/howto/embedding.md. It needs gcc, g++, valgrind, rustc and Debian's Python; clang is tried where it is there.
+# and the commands of the pages for makers. It needs gcc, g++, valgrind, rustc and Debian's Python; clang is tried where it is there.
 #
 #     tests/unit.sh [PREFIX [LIVES]]    builds and installs the library first, or takes the one below PREFIX; 400 lives; $ETCS and $ETCS_LAB name
 #                                       other programs than the gate's
@@ -256,6 +256,7 @@ for program in "$made"/refused.*; do "$python" "$top/tests/unit/refused_lives.py
 (cd "$top/python" && "$python" -m unittest -q tests.test_unit) >"$made/said" 2>&1 && grep -q '^Ran 24 tests' "$made/said" && ! grep -q skipped "$made/said" ||
     { cat "$made/said"; fails "python/tests/test_unit.py: failures, or other than 24 tests"; }
 "$python" "$top/tests/unit/integration.py" || status=1
-ETCS_LAB=$lab ETCS_UNIT_ARCHIVE=$raw ETCS_C_ARCHIVE=${ETCS_C_ARCHIVE:-$top/crates/etcs_c/out/libetcs_c.a} "$python" "$top/tests/pages.py" howto/embedding start/c || status=1
+ETCS_LAB=$lab ETCS_UNIT_ARCHIVE=$raw ETCS_C_ARCHIVE=${ETCS_C_ARCHIVE:-$top/crates/etcs_c/out/libetcs_c.a} "$python" "$top/tests/pages.py" start/c howto/c-loop howto/c-flash \
+    howto/c-static-memory howto/c-display howto/c-guard howto/c-installed-tracks howto/c-journal howto/cpp howto/python howto/rust || status=1
 echo "the unit: $([ $status -eq 0 ] && echo "no failures" || echo "failures, see above")"
 exit $status

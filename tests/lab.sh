@@ -1,8 +1,9 @@
 #!/bin/bash
-# What an investigator asks: images of each state of a slot, cut off, altered and big ones, on the program etcs_lab that the gate leaves after; and
-# each command of the pages for investigators (docs/start, docs/howto), in one folder. And examination and replay in one (etcs_lab check).
+# Test what an investigator asks of the program etcs_lab that the full check leaves: images of each state of a slot, cut off,
+# altered and big ones; examination and replay in one (etcs_lab check); and each command of the pages for
+# investigators (docs/start, docs/howto), in one folder.
 #
-#     tests/lab.sh [ETCS_LAB ETCS]    on other programs
+#     tests/lab.sh [ETCS_LAB ETCS]    test other programs
 lab=${1:-$(dirname "$(readlink -f -- "$0")")/../crates/etcs_lab/out/etcs_lab}
 etcs=${2:-$(dirname "$(readlink -f -- "$0")")/../crates/etcs/out/etcs}
 lab=$(realpath "$lab") && etcs=$(realpath "$etcs") || exit 1

@@ -1,13 +1,13 @@
 #!/usr/bin/env python3
 """Runs the commands of pages of docs/ in their order and compares what each prints, on both streams, with what is below it.
-Several pages are run one after another in one folder, as a reader goes through them: none uses the names of another one.
+Several pages are run one after another in one folder, as a reader goes through them: no two use the same file names.
 
-    tests/pages.py [--write] PAGE..    as howto/sql. With --write what is printed replaces what is there
+    tests/pages.py [--write] PAGE..    as howto/sql. With --write replace the output on the page
 
-A command stands after `$ `, indented by four or in a block of `console`; lines after `> `, or after a backslash, go on
+A command follows `$ `, indented by four or in a block of `console`; lines after `> `, or after a backslash, go on
 with it. A block of C or Python becomes the file of the HOME that the line above it names. The folder has what the
 repository has at its top, and as ./etcs and ./etcs_lab the programs that $ETCS and $ETCS_LAB name, else those of the
-gate.
+full check.
 """
 import os
 import re

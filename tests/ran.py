@@ -1,11 +1,11 @@
-"""A program that is run to its end, in half of the processor time that `subprocess` takes: no copy of this process is made, and what it
-prints goes to files in memory."""
+"""Run a program to its end, in half of the processor time of `subprocess`: this process isn't copied, and the program's output goes to
+files in memory."""
 import os
 import signal
 
 
 def ran(words, env=None, timeout=60):
-    """Status, output and what was said on standard error, both in bytes. One that doesn't end in that many seconds is ended: TimeoutError."""
+    """Exit status, standard output and standard error in bytes. Kills a program that exceeds the timeout in seconds, and raises TimeoutError."""
     output, said = os.memfd_create("output"), os.memfd_create("said")
     before = signal.signal(signal.SIGALRM, late)
     process = 0

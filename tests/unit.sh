@@ -1,11 +1,12 @@
 #!/bin/bash
-# The unit as C, C++, Python and Rust programs call it, all of it built from the folder that tools/library makes: the headers alone, the names
-# that the library shows, sizes and places, wrong calls, files, archives of blocks and marks along with the journal, two units at once, the
-# examples, images along with `etcs journal`, random lives along with `etcs run`, instructions along with kept counts and bounds, memory that is refused,
-# and the commands of the pages for makers. It needs gcc, g++, valgrind, rustc and Debian's Python; clang is tried where it is there.
+# Test the unit from C, C++, Python and Rust, all built from the folder that tools/library makes: each header by itself, the names that
+# the library exports, sizes and offsets, wrong calls, files, archives of blocks and marks next to the journal, two units at once, the
+# examples, images compared with `etcs journal`, random lives compared with `etcs run`, instructions compared with kept counts and
+# bounds, memory that is refused, and the commands of the pages for makers. Needs gcc, g++, valgrind, rustc and Debian's Python; clang
+# is used where it is installed.
 #
-#     tests/unit.sh [PREFIX [LIVES]]    builds and installs the library first, or takes the one below PREFIX; 400 lives; $ETCS and $ETCS_LAB name
-#                                       other programs than the gate's
+#     tests/unit.sh [PREFIX [LIVES]]    test the library below PREFIX (default: build and install it first) with LIVES lives (default: 400);
+#                                       $ETCS and $ETCS_LAB name other programs than those of the full check
 export PYTHONDONTWRITEBYTECODE=1
 top=$(cd "$(dirname "$(readlink -f -- "$0")")/.." && pwd) || exit 1
 python=/usr/bin/python3 # Debian's packages belong to this one
@@ -173,11 +174,11 @@ counted "runs of them, 12 of them under valgrind" $runs 41
 trains=0
 for program in "$made"/brake.*; do
     name=$(basename "$program")
-    "$program" "$made/image.$name" >"$made/told.$name" || fails "$name ends with another status than 0"
+    "$program" "$made/image.$name" >"$made/lines.$name" || fails "$name ends with another status than 0"
 done
-PYTHONPATH=$top/python "$python" "$top/examples/embedding/use.py" "$made/image.py" >"$made/told.py" || fails "use.py ends with another status than 0"
-for told in "$made"/told.*; do
-    "$python" "$top/tests/unit/brake_told.py" "$told" >"$made/said" || { cat "$made/said"; fails "$(basename "$told") has other lines"; }
+PYTHONPATH=$top/python "$python" "$top/examples/embedding/use.py" "$made/image.py" >"$made/lines.py" || fails "use.py ends with another status than 0"
+for lines in "$made"/lines.*; do
+    "$python" "$top/tests/unit/brake_lines.py" "$lines" >"$made/said" || { cat "$made/said"; fails "$(basename "$lines") has other lines"; }
     trains=$((trains + 1))
 done
 for image in "$made"/image.*; do cmp "$image" "$made/image.brake.gcc" || fails "the journals of the examples differ"; done

@@ -9,7 +9,7 @@ differs from the proved unit where a train is made ready. Where `Unit` stands, a
 import json
 import sys
 
-TELLS = ["mode", "level", "brake"]
+MEMBERS = ["mode", "level", "brake"]
 
 
 class Unit:
@@ -42,16 +42,16 @@ class Unit:
         return {"event": event["event"], "mode": "SB", "level": self.level, "brake": "emergency"}
 
 
-def say(told):
+def say(message):
     """A line, at once."""
-    print(json.dumps(told), flush=True)
+    print(json.dumps(message), flush=True)
 
 
 def main():
     greeting = json.loads(sys.stdin.readline())
     if greeting["protocol"] != 1:
         sys.exit(f"the protocol {greeting['protocol']} isn't known")
-    say({"protocol": 1, "unit": "one that stands", "tells": TELLS})
+    say({"protocol": 1, "unit": "one that stands", "tells": MEMBERS})
     unit = Unit()
     for line in sys.stdin:
         say(unit.answer(json.loads(line)))

@@ -1,4 +1,4 @@
-"""The built program, as tests run it, and what is given to it. `ETCS` names another one than the gate leaves after."""
+"""The built program as tests run it, and its inputs. `ETCS` names another one than the full check leaves."""
 import os
 import struct
 import subprocess

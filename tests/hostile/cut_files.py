@@ -122,9 +122,9 @@ def cut_run(name, scenario, slots, lives, folder, record, failures, numbers):
         failures.unless(is_there, f"{said}: what was printed isn't in the blocks up to {newest}")
         lines, status = found.run(NEXT)
         answer = ran(["run", folder / "next", image])
-        failures.unless(answer == (status, text_of(lines)), f"{said}: the next life answers {answer} behind block {newest}")
+        failures.unless(answer == (status, text_of(lines)), f"{said}: the next life answers {answer} after block {newest}")
         failures.unless(all(" mode SB " in line and " brake emergency " in line for line in lines), f"{said}: {lines}")
-        failures.unless(ran(["journal", image]) == (0, text_of(found.listing())), f"{said}: the listing behind the next life is another one")
+        failures.unless(ran(["journal", image]) == (0, text_of(found.listing())), f"{said}: the listing after the next life differs")
     failures.unless(settled == whole and ring.next == len(plain.blocks) + 1, f"{name}: the recorded calls don't make the file as it is")
     print(f"{name}: {count} images")
 
@@ -138,7 +138,7 @@ def main():
         cut_run("a first life", STAFF_RESPONSIBLE, 8, 0, folder, record, failures, numbers)
         cut_run("a second life, over used slots", FULL_SUPERVISION, 4, 3, folder, record, failures, numbers)
         cut_run("one event a block, two slots", {"groups": [], "steps": [{"clock": 5}]}, 2, 2, folder, record, failures, numbers)
-        cut_run("a flush behind each event", flushing, 16, 1, folder, record, failures, numbers)
+        cut_run("a flush after each event", flushing, 16, 1, folder, record, failures, numbers)
     return failures.end("cuts of a file")
 
 

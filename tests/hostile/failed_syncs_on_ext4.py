@@ -78,7 +78,7 @@ def first_byte_of(image):
         try:
             places = [struct.unpack("I", fcntl.ioctl(file, FIBMAP, struct.pack("I", block)))[0] for block in range(count)]
         except OSError as error:
-            raise NotHere(f"the system doesn't tell where a file lies: {error.strerror}") from error
+            raise NotHere(f"the system doesn't report where a file lies: {error.strerror}") from error
     return min(place for place in places if place) * BLOCK
 
 
@@ -96,11 +96,11 @@ def fails_at(number, loop, folder, record, failures):
     subprocess.run([TOP / "tools/settle", image], check=True)
     for _ in range(2):
         status, text = ran(["run", scenario, image])
-        failures.unless(status == 0, f"sync {number}: a life behind it ends with {status}, {text}")
+        failures.unless(status == 0, f"sync {number}: a life after it ends with {status}, {text}")
         released += released_in(text)
     must("umount", str(folder))
     must("mount", loop, str(folder))
-    failures.unless(is_kept(ran(["journal", image]), released, SLOTS), f"sync {number}: not all that was released is listed behind a loss of power")
+    failures.unless(is_kept(ran(["journal", image]), released, SLOTS), f"sync {number}: not all that was released is listed after a loss of power")
     return len(syncs) >= number, "f" in syncs
 
 

@@ -1,7 +1,7 @@
 #!/usr/bin/env python3
-"""Runs all words of the program etcs_lab where standard output takes nothing: a full device, a stream that is closed, a pipe that nobody
+"""Runs all commands of the program etcs_lab where standard output can't be written: a full device, a closed stream, a pipe that nobody
 reads. Each run that has something to print says so by one line on standard error and ends with status 1; one that prints nothing ends as
-ever.
+usual.
 
     tests/hostile/lab_unwritten.py
 """

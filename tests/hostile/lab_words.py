@@ -1,5 +1,5 @@
-"""Every word of the program etcs_lab on small inputs, as the tests of this folder run it. `ETCS_LAB` names another program than the one
-that the gate leaves after."""
+"""Every command of the program etcs_lab on small inputs, for the tests of this folder. `ETCS_LAB` names another program than the one
+that the full check leaves."""
 import json
 import os
 import subprocess
@@ -19,8 +19,8 @@ def laid(folder):
     files = {name: folder / name for name in ("image", "altered", "telegram", "twice", "no_telegram", "good", "advised", "faulty", "names", "lines")}
     formatted(files["image"], 4)
     files["good"].write_text(json.dumps(STAFF_RESPONSIBLE))
-    for told in (STAFF_RESPONSIBLE, FULL_SUPERVISION):
-        (folder / "scenario").write_text(json.dumps(told))
+    for scenario in (STAFF_RESPONSIBLE, FULL_SUPERVISION):
+        (folder / "scenario").write_text(json.dumps(scenario))
         ran(["run", folder / "scenario", files["image"]])
     data = bytearray(files["image"].read_bytes())
     data[512 + 512 + 700] ^= 1
@@ -31,7 +31,7 @@ def laid(folder):
     files["advised"].write_text(json.dumps(ADVISED))
     files["faulty"].write_text(json.dumps(FAULTY))
     files["names"].write_text(NAMES_TWICE)
-    files["lines"].write_text("".join(json.dumps({"id": name, "scenario": told}) + "\n" for name, told in (("good", STAFF_RESPONSIBLE), ("faulty", FAULTY))))
+    files["lines"].write_text("".join(json.dumps({"id": name, "scenario": scenario}) + "\n" for name, scenario in (("good", STAFF_RESPONSIBLE), ("faulty", FAULTY))))
     return files
 
 

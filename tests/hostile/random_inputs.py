@@ -141,11 +141,11 @@ def scenarios(count, numbers, folder, failures):
         if number % LIVES == 0:
             formatted(image, SLOTS)
             plain = program.Image(SLOTS)
-        told = Made(numbers, plain).scenario()
-        text = json.dumps(told)
+        scenario = Made(numbers, plain).scenario()
+        text = json.dumps(scenario)
         judge(f"scenario {number}, changed", cut_text(text, numbers), path, folder, failures)
         path.write_text(text)
-        lines, status = plain.run(told)
+        lines, status = plain.run(scenario)
         found, wanted = ran(["run", path, image]), (status, "".join(line + "\n" for line in lines))
         failures.unless(found == wanted, f"scenario {number}: {text}\n  printed {found}\n  wanted  {wanted}")
         listing = "".join(line + "\n" for line in plain.listing())
@@ -153,7 +153,7 @@ def scenarios(count, numbers, folder, failures):
 
 
 def judge(name, text, path, folder, failures):
-    """A text that is no value is reported so; one that is a scenario asks for an image that isn't there, or has another fault."""
+    """A text that is no JSON value is refused so; one that is a scenario asks for an image that isn't there, or has another fault."""
     path.write_text(text)
     status, said = ran(["run", path, folder / "none"])
     is_fault = (status, said) == (1, "refused 1 NotJson\n")

@@ -1,9 +1,9 @@
 #!/usr/bin/env python3
-"""Refuses the program's requests for memory, each in turn, until a run meets no refusal. A refused run says so, by one line in the
+"""Refuses the program's requests for memory, each in turn, until a run gets no refusal. A refused run says so, by one line in
 place of what it had no memory for, and ends with status 1; what it printed before is what the undisturbed run prints, and the image
 holds every event that it printed. After up to three requests a run of a scenario does all as the undisturbed one: those for the tape
-that its text is laid on, in whose place a tree is made (`crates/json_values`). A series in which nothing is refused fails: each run
-asks for memory at least for its words, so there refusing does not work.
+that its text is laid on, in whose place a tree is made (`crates/json_values`). A series without a refusal fails: each run
+allocates memory at least for its arguments, so there the refusing doesn't work.
 
     tests/hostile/refused_memory.py [FILE ..]    over the rows below, and over these scenarios
 """
@@ -32,12 +32,12 @@ def is_refusal(status, text, undisturbed):
 def found(image, text):
     """Each event that was printed stands in the journal, with its number, mode, brake and indications."""
     status, listing = ran(["journal", image])
-    told = {fields[3]: fields for fields in (line.split() for line in listing.splitlines())}
+    listed = {fields[3]: fields for fields in (line.split() for line in listing.splitlines())}
     for line in text.splitlines():
         fields = line.split()
         if fields[0] == "event":
             number, mode, level, brake, indications = fields[1], fields[3], fields[5], fields[7], fields[11]
-            record = told.get(number)
+            record = listed.get(number)
             if record is None or record[5:9] != [mode, level, brake, indications]:
                 return False
     return status == 0
@@ -68,7 +68,7 @@ def series(name, words, folder, refuse, failures, image=None):
             again = ran(words)
             failures.unless(again[0] == undisturbed[0], f"{name}, request {at}: the next run ends with {again[0]}")
     failures.unless(count, f"{name}: no request was refused")
-    failures.unless(count > of_tape, f"{name}: no refusal was told")
+    failures.unless(count > of_tape, f"{name}: no refusal was reported")
     print(f"{name}: {count} requests refused, {of_tape} of them for a tape")
     return count
 

@@ -1,6 +1,6 @@
 #!/usr/bin/env python3
 """What `etcs_lab play` prints of many scenarios in one process: random scenarios and the examples, compared with the reference model (each
-output, each count, and the image byte by byte), and with `etcs run` on an image in a file; by hand what can't be played or read.
+output, each count, and the image byte by byte), and with `etcs run` on an image in a file; hand-written cases that can't be played or read.
 
     tests/lab/play_rows.py ETCS_LAB ETCS
 """

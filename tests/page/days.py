@@ -1,4 +1,4 @@
-"""The time of day by marks along with an image: what the page reports is what the package reports, by random files of marks."""
+"""The time of day by marks along with an image: the page shows what the package computes, by random files of marks."""
 import base64
 import json
 import random
@@ -67,8 +67,8 @@ def odd(dice: random.Random) -> str:
 
 def checked(dice: random.Random, line: str) -> str:
     """A line with its checksum, which is wrong now and then."""
-    told = f"{zlib.crc32(line.encode('utf-8', errors='surrogatepass')):08x}"
-    return f"{line},{told if dice.random() < 0.93 else dice.choice((told.upper() + '0', told[1:], '', f'{told}0', '00000000'))}"
+    checksum = f"{zlib.crc32(line.encode('utf-8', errors='surrogatepass')):08x}"
+    return f"{line},{checksum if dice.random() < 0.93 else dice.choice((checksum.upper() + '0', checksum[1:], '', f'{checksum}0', '00000000'))}"
 
 
 def of_marks(dice: random.Random, journal: reading.Journal, drift: int) -> bytes:
@@ -90,13 +90,13 @@ def of_marks(dice: random.Random, journal: reading.Journal, drift: int) -> bytes
 
 
 def by_package(journal: reading.Journal, path: Path, drift: int) -> tuple[Any, str]:
-    """What the package reports: of each record the time of day and its bound, the faults and what it says; or why it refuses the file."""
+    """What the package computes: of each record the time of day and its bound, the faults and what it says; or why it refuses the file."""
     try:
         journal.times = times.Times.of(journal, path, drift)
     except Failed as failed:
         return None, str(failed).replace(str(path), path.name) + "."
-    told = times.columns(journal)
-    utc = [None if one is None else [one, off] for one, off in zip(told["utc_by_marks"], told["utc_uncertainty_ms"], strict=True)]
+    columns = times.columns(journal)
+    utc = [None if one is None else [one, off] for one, off in zip(columns["utc_by_marks"], columns["utc_uncertainty_ms"], strict=True)]
     return {"utc": utc, "faults": journal.times.faults(), "says": journal.times.says()}, ""
 
 
@@ -127,9 +127,9 @@ def random_marks(browser: Browser, _page: Path, folder: Path) -> int:
             marks = folder / dice.choice(("image.times", "a\u202e.times"))
             marks.write_bytes(of_marks(dice, journal, min(drift, 1_000)))
             set_drift(browser, drift)
-            told, error, said, faults = browser.run_later(TAKE, marks.name, base64.b64encode(marks.read_bytes()).decode())
+            utc, error, said, faults = browser.run_later(TAKE, marks.name, base64.b64encode(marks.read_bytes()).decode())
             wanted, refusal = by_package(journal, marks, drift)
-            assert (told, error) == (wanted, refusal), (number, marks.read_bytes(), told, error, wanted, refusal)
+            assert (utc, error) == (wanted, refusal), (number, marks.read_bytes(), utc, error, wanted, refusal)
             assert faults == (wanted["faults"] if wanted else []) and (not wanted or wanted["says"] in said), (faults, said)
             refused += wanted is None
             if wanted:

@@ -1,4 +1,4 @@
-/* Carries out a script of calls of the library, and prints what each answers: the same program on every machine (platform.h has what differs), so
+/* Executes a script of calls of the library, and prints what each answers: the same program on every machine (platform.h has what differs), so
  * that what two machines print can be compared byte by byte. It needs no C library.
  *
  * A line of the script is a word and numbers. `unit N` chooses one of two handles for the lines after it, `medium N` one of two media.
@@ -70,7 +70,7 @@ static void answer(uint32_t status) {
     put("\n");
 }
 
-static void tell(const etcs_unit_output *outputs, uint32_t count) {
+static void put_outputs(const etcs_unit_output *outputs, uint32_t count) {
     for (uint32_t i = 0; i < count; i++) {
         put("event ");
         put_number(outputs[i].event, 10);
@@ -183,7 +183,7 @@ static uint32_t release(uint64_t room) {
     uint32_t count = 0;
     const uint32_t status = etcs_unit_release(unit(), outputs, room < ETCS_UNIT_OUTPUTS ? (size_t)room : ETCS_UNIT_OUTPUTS, &count);
     if (status == ETCS_UNIT_OK)
-        tell(outputs, count);
+        put_outputs(outputs, count);
     return status;
 }
 

@@ -1,5 +1,5 @@
 #!/usr/bin/env python3
-"""Whether what tools/trace prints for other tools has their form: ReqIF, a table, and a page to walk.
+"""Checks what tools/trace prints for other tools: ReqIF, a table, and a page to browse.
 
     tests/trace/exports.py
 

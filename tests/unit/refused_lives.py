@@ -29,7 +29,7 @@ NEW = {
     "full supervision": ["open unknown", f"hear {AUTHORITY}", *ENTRIES, "flush", "move 100 20000", "clock 5", "flush", "close", "open moved", "flush"],
     "a life and an opening": ["open unknown", f"hear {RESTRICTION}", ENTRIES[0], "flush", *ENTRIES[1:], "flush", *READINGS, "flush", "close", "open unknown",
                               "flush"],
-    "an authority behind a second power-up": ["open unknown", f"hear {RESTRICTION}", *ENTRIES, *READINGS, "open not-moved", "confirm identity",
+    "an authority after a second power-up": ["open unknown", f"hear {RESTRICTION}", *ENTRIES, *READINGS, "open not-moved", "confirm identity",
                                               f"hear {AUTHORITY}"],
 }
 # After what stands on a ring.

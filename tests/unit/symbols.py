@@ -1,8 +1,8 @@
 #!/usr/bin/env python3
-"""The calls of the headers as symbols of the shared library, for who reads no header: each answers NULL_POINTER where all that it is handed is zero, and
-a life through them alone is answered as the header says.
+"""Calls the functions of the headers as symbols of the shared library, without a header: each returns NULL_POINTER where all its arguments are zero, and
+a life through them is answered as the header says.
 
-    tests/unit/symbols.py LIBRARY NAME..    NAME.. are the names that the library shows
+    tests/unit/symbols.py LIBRARY NAME..    NAME.. are the names that the library exports
 """
 import ctypes
 import sys

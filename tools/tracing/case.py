@@ -5,7 +5,7 @@ from pathlib import Path
 
 from gaknifur.program import DEVICE, Failed
 from gaknifur.yaml_files import document
-from tracing.shown import PARTS, table, wrapped
+from tracing.output import PARTS, table, wrapped
 
 SOURCE, PAGE, PICTURE = Path("docs/assurance.yaml"), Path("out/docs/assurance.md"), Path("out/docs/assurance.svg")
 CLAIM = ("says", "short", "argument")
@@ -32,11 +32,11 @@ class Case:
     """What the file has, with names that are there."""
 
     def __init__(self, reader):
-        told = document(SOURCE).members(("claims", "tools"))
+        members = document(SOURCE).members(("claims", "tools"))
         self.reader, self.faults, self.claims = reader, [], {}
-        self.tools = [{key: text(one) for key, one in tool.members(TOOL).items()} for tool in told["tools"].elements()]
+        self.tools = [{key: text(one) for key, one in tool.members(TOOL).items()} for tool in members["tools"].elements()]
         known = {it.identity: it for it in (*reader.requirements, *reader.laws)}
-        names = told["claims"].entries()
+        names = members["claims"].entries()
         for name, at in names.items():
             claim = at.members(CLAIM, MORE)
             mine = {key: text(claim[key]) for key in (*CLAIM, "open", "strategy") if key in claim}

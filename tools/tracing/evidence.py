@@ -66,13 +66,13 @@ def tried_laws():
 
 def test_case(at):
     """The head of a case. Its steps aren't read here: that takes the program."""
-    told = at.members(cases.CASE, cases.MORE)
-    sections = set(cases.sections_of(told["sections"]))
-    for one in told["expected"].elements() if "expected" in told else []:
+    head = at.members(cases.CASE, cases.MORE)
+    sections = set(cases.sections_of(head["sections"]))
+    for one in head["expected"].elements() if "expected" in head else []:
         more = one.entries()
         sections |= set(cases.sections_of(more["sections"])) if "sections" in more else set()
-    shows = {one.text() for one in told["shows"].elements()} if "shows" in told else set()
-    return TestCase(told["test_case"].text(), told["rule"].text(), sections, shows, Place(str(at.path), at.line))
+    shows = {one.text() for one in head["shows"].elements()} if "shows" in head else set()
+    return TestCase(head["test_case"].text(), head["rule"].text(), sections, shows, Place(str(at.path), at.line))
 
 
 def test_cases():

@@ -62,14 +62,14 @@ def each(reader):
 def check_alone(gaps, reader, kind, counts):
     """Each crate with a gap has a reason, and no other has one."""
     gaps.alone[kind] = counts
-    told = reader.alone[kind]
+    reasons = reader.alone[kind]
     for crate, count in counts.items():
-        if crate not in told:
+        if crate not in reasons:
             gaps.faults.append(
                 f"{PAGE}: {count} {kind} of crates/{crate} are of no requirement: name them in one (defined, clauses "
                 f"or laws), or say why not (alone: {kind})"
             )
-    for crate, (_, at) in told.items():
+    for crate, (_, at) in reasons.items():
         if crate not in counts:
             gaps.faults.append(f"{PAGE}:{at.line}: all {kind} of {crate} are of a requirement: take it out of alone")
 

@@ -12,7 +12,7 @@ COUNTED = re.compile(
     r"(?:rows|events|answers|lists|telegrams|runs|images|lives|lines|cuts|tracks|limits|comparisons|scenarios|results|"
     r"refusals|edits|rings|sentences|requests|situations|items|by hand)\b)"
 )
-FREE = ("## Wrong bodies that a tool makes", "## Why so")  # what was counted by hand, once, and reasons
+FREE = ("## Why so",)  # reasons
 
 
 def value(text):
@@ -59,7 +59,7 @@ def faults_of(path, entries, is_complete):
 
 def faults():
     """What is wrong with the numbers of all pages that are named."""
-    told = document(SOURCE).entries()
-    complete = {one.text() for one in told.pop("complete").elements()}
-    for path, entries in told.items():
+    pages = document(SOURCE).entries()
+    complete = {one.text() for one in pages.pop("complete").elements()}
+    for path, entries in pages.items():
         yield from faults_of(Path(path), entries, path in complete)

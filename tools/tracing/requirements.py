@@ -139,31 +139,31 @@ class Reader:
                 self.fault(one, f".ci/run doesn't run {one.text()}, or it isn't there")
             yield one.text()
 
-    def hold(self, it, told):
+    def hold(self, it, members):
         """Enters what holds a requirement."""
         sources = self.sources
-        it.definitions += self.defined(told["defined"]) if "defined" in told else []
-        it.cited = list(self.clauses(told["clauses"])) if "clauses" in told else []
-        it.laws = list(self.known(told["laws"], "law", sources.laws)) if "laws" in told else []
-        it.edits = list(self.known(told["edits"], "must-fail edit", sources.edits)) if "edits" in told else []
-        it.rows = self.rows(told["rows"]) if "rows" in told else {}
-        it.tests = list(self.tests(told["tests"])) if "tests" in told else []
-        it.premises = list(self.known(told["premises"], "premise", self.premises)) if "premises" in told else []
-        it.rests_on = [one.text() for one in told["rests_on"].elements()] if "rests_on" in told else []
-        it.unnamed = list(self.known(told["unnamed"], "law", sources.laws)) if "unnamed" in told else []
-        it.words = [one.text() for one in told["words"].elements()] if "words" in told else []
+        it.definitions += self.defined(members["defined"]) if "defined" in members else []
+        it.cited = list(self.clauses(members["clauses"])) if "clauses" in members else []
+        it.laws = list(self.known(members["laws"], "law", sources.laws)) if "laws" in members else []
+        it.edits = list(self.known(members["edits"], "must-fail edit", sources.edits)) if "edits" in members else []
+        it.rows = self.rows(members["rows"]) if "rows" in members else {}
+        it.tests = list(self.tests(members["tests"])) if "tests" in members else []
+        it.premises = list(self.known(members["premises"], "premise", self.premises)) if "premises" in members else []
+        it.rests_on = [one.text() for one in members["rests_on"].elements()] if "rests_on" in members else []
+        it.unnamed = list(self.known(members["unnamed"], "law", sources.laws)) if "unnamed" in members else []
+        it.words = [one.text() for one in members["words"].elements()] if "words" in members else []
         it.why_none = (
-            {name: one.text() for name, one in self.members(told["why_none"], "rows", "definitions").items()}
-            if "why_none" in told
+            {name: one.text() for name, one in self.members(members["why_none"], "rows", "definitions").items()}
+            if "why_none" in members
             else {}
         )
         it.found = [one for name in it.definitions for one in sources.nearest(name)]
         self.requirements.append(it)
-        self.check_held(it, told)
+        self.check_held(it, members)
 
-    def check_held(self, it, told):
+    def check_held(self, it, members):
         """Something is proved or defined, and something is tried, or a reason says why not."""
-        at = next(iter(told.values()))
+        at = next(iter(members.values()))
         is_proved, is_tried = it.definitions or it.cited or it.laws or it.rests_on, it.rows or it.cases
         for name, has, wanted in (("definitions", is_proved, "defined, clauses or laws"), ("rows", is_tried, "rows")):
             if not has and name not in it.why_none:
@@ -195,18 +195,18 @@ class Reader:
                     "the page",
                 )
             for identity, one in sentences.entries().items():
-                told = one.members(("says", "kind"), HELD)
+                members = one.members(("says", "kind"), HELD)
                 it = Requirement(
                     identity,
                     "sections",
-                    " ".join(told["says"].text().split()),
-                    told["kind"].one_of(KINDS),
+                    " ".join(members["says"].text().split()),
+                    members["kind"].one_of(KINDS),
                     Place(str(PAGE), one.line),
                     section=name,
                 )
                 if it.kind == "standard" and name in here and "standard" not in here[name].here:
                     self.fault(
-                        told["kind"],
+                        members["kind"],
                         f"{identity} is of the standard, and docs/explain/conformance.md has nothing of {name} as the standard "
                         "has it: make it profile, or mend the page",
                     )
@@ -214,7 +214,7 @@ class Reader:
                 if not identity.startswith(f"R-{short}-"):
                     self.fault(one, f"{identity} stands at the section {name}: its name begins R-{short}-")
                 it.cases = [case for case in self.cases if any(self.is_of(section, name) for section in case.sections)]
-                self.hold(it, told)
+                self.hold(it, members)
 
     def is_of(self, section, name):
         """Whether a case of a section is one of the page's section."""
@@ -227,24 +227,24 @@ class Reader:
         """Requirements that stand on a page, by their first words, and the sentences of the page both ways."""
         left = {one.key: one for one in said}
         for identity, one in at.entries().items():
-            told = one.members(("begins",), ("by", "conditions", *HELD))
-            begins = told["begins"].text()
+            members = one.members(("begins",), ("by", "conditions", *HELD))
+            begins = members["begins"].text()
             found = [key for key in left if key.startswith(begins)]
             if len(found) != 1:
                 self.fault(
-                    told["begins"],
+                    members["begins"],
                     f'{PROMISES} has {len(found)} sentences that begin "{begins}" ({part}): write how it begins now',
                 )
                 continue
-            make(identity, one, told, left.pop(found[0]))
+            make(identity, one, members, left.pop(found[0]))
         return left
 
     def read_promises(self, at, introductions):
         """The promises of their page."""
 
-        def make(identity, one, told, said):
+        def make(identity, one, members, said):
             it = Requirement(identity, "promises", said.text, "own", said.place)
-            self.hold(it, told)
+            self.hold(it, members)
             self.compare_names(it, one, said)
 
         said = [
@@ -282,13 +282,13 @@ class Reader:
     def read_premises(self, at, introductions):
         """The premises of that page."""
 
-        def make(identity, _, told, said):
-            by = told["by"].text() if "by" in told else ""
-            conditions = list(self.conditions(told["conditions"])) if "conditions" in told else []
+        def make(identity, _, members, said):
+            by = members["by"].text() if "by" in members else ""
+            conditions = list(self.conditions(members["conditions"])) if "conditions" in members else []
             by += f" (conditions {', '.join(conditions)})" if conditions else ""
             self.premises[identity] = (said.text, by, said.place)
-            if "by" not in told:
-                self.fault(told["begins"], f"{identity} doesn't say who has to meet it: add by")
+            if "by" not in members:
+                self.fault(members["begins"], f"{identity} doesn't say who has to meet it: add by")
 
         said = [
             one for one in pages.blocks(PROMISES, "The premises") if not one.key.startswith(tuple(introductions))
@@ -313,10 +313,10 @@ class Reader:
     def read_own(self, at):
         """What is beyond the standard and the promises."""
         for identity, one in at.entries().items():
-            told = one.members(("says",), HELD)
+            members = one.members(("says",), HELD)
             self.hold(
-                Requirement(identity, "own", " ".join(told["says"].text().split()), "own", Place(str(PAGE), one.line)),
-                told,
+                Requirement(identity, "own", " ".join(members["says"].text().split()), "own", Place(str(PAGE), one.line)),
+                members,
             )
 
     def read_safety(self, at):
@@ -326,12 +326,12 @@ class Reader:
             if f"S-{number}" not in named:
                 self.faults.append(f"{said.place}: item {number} has no requirement: add S-{number} to {PAGE}")
         for identity, one in named.items():
-            told = one.members(("by",), HELD)
+            members = one.members(("by",), HELD)
             if identity[2:] not in map(str, items) or not identity.startswith("S-"):
                 self.fault(one, f"docs/explain/safety.md has no item {identity[2:]}: take {identity} out")
                 continue
             said, defined = items[int(identity[2:])]
-            it = Requirement(identity, "safety", said.text, "own", said.place, by=told["by"].text())
+            it = Requirement(identity, "safety", said.text, "own", said.place, by=members["by"].text())
             for page, name in defined:
                 if page not in self.sources.pages or name not in self.sources.pages[page].definitions:
                     self.faults.append(
@@ -340,7 +340,7 @@ class Reader:
                 else:
                     it.definitions.append((page, name))
             it.cases = [case for case in self.cases if identity[2:] in case.shows]
-            self.hold(it, told)
+            self.hold(it, members)
 
     def read_refusals(self, at):
         """The refusals: page and source have the same names and numbers, and each has what holds its type."""
@@ -349,29 +349,29 @@ class Reader:
             if kind not in named:
                 self.faults.append(f"{said.place}: the refusals of {kind} have no requirement: add them to {PAGE}")
         for kind, one in named.items():
-            told = one.members((), ("source", "heading", *HELD))
-            if "heading" in told:
-                self.read_texts(kind, told)
+            members = one.members((), ("source", "heading", *HELD))
+            if "heading" in members:
+                self.read_texts(kind, members)
                 continue
-            if not Path(told["source"].text()).is_file():
-                self.fault(told["source"], f"{told['source'].text()} isn't there: name the source that declares {kind}")
+            if not Path(members["source"].text()).is_file():
+                self.fault(members["source"], f"{members['source'].text()} isn't there: name the source that declares {kind}")
                 continue
             mine = [row for row in rows if row[0] == kind]
-            self.compare_variants(kind, told["source"], mine)
+            self.compare_variants(kind, members["source"], mine)
             for _, number, name, said in mine:
                 self.hold(
-                    Requirement(f"E-{kind}-{number}", "refusals", f"{name}: {said.text}", "own", said.place), told
+                    Requirement(f"E-{kind}-{number}", "refusals", f"{name}: {said.text}", "own", said.place), members
                 )
 
-    def read_texts(self, kind, told):
+    def read_texts(self, kind, members):
         """The refusals of a table whose rows begin with a text."""
-        rows = pages.texts(told["heading"].text())
+        rows = pages.texts(members["heading"].text())
         if not rows:
             self.fault(
-                told["heading"], f"docs/reference/refusals.md has no table under {told['heading'].text()}: name its heading"
+                members["heading"], f"docs/reference/refusals.md has no table under {members['heading'].text()}: name its heading"
             )
         for name, text, said in rows:
-            self.hold(Requirement(f"E-{kind}-{name}", "refusals", f"{text}: {said.text}", "own", said.place), told)
+            self.hold(Requirement(f"E-{kind}-{name}", "refusals", f"{text}: {said.text}", "own", said.place), members)
 
     def compare_variants(self, kind, at, rows):
         """The page has each name of the enum with its number, and no other."""
@@ -405,24 +405,24 @@ class Reader:
         for kind in ("definitions", "clauses"):
             self.alone[kind] = {}
             for one in at.members(("definitions", "clauses"))[kind].elements():
-                told = one.members(("crates", "why"))
-                for crate in told["crates"].text().split():
+                members = one.members(("crates", "why"))
+                for crate in members["crates"].text().split():
                     if crate not in self.sources.crates:
-                        self.fault(told["crates"], f"crates.txt has no crate {crate}: take it out")
-                    self.alone[kind][crate] = (told["why"].text(), one)
+                        self.fault(members["crates"], f"crates.txt has no crate {crate}: take it out")
+                    self.alone[kind][crate] = (members["why"].text(), one)
 
     def read(self):
         """Reads all parts."""
-        told = document(PAGE).members(PARTS)
-        introductions = [one.text() for one in told["introductions"].elements()]
-        self.read_premises(told["premises"], introductions)
-        self.read_promises(told["promises"], introductions)
-        self.read_not_promised(told["not_promised"])
-        self.read_sections(told["sections"])
-        self.read_own(told["own"])
-        self.read_safety(told["safety"])
-        self.read_refusals(told["refusals"])
-        self.read_alone(told["alone"])
+        members = document(PAGE).members(PARTS)
+        introductions = [one.text() for one in members["introductions"].elements()]
+        self.read_premises(members["premises"], introductions)
+        self.read_promises(members["promises"], introductions)
+        self.read_not_promised(members["not_promised"])
+        self.read_sections(members["sections"])
+        self.read_own(members["own"])
+        self.read_safety(members["safety"])
+        self.read_refusals(members["refusals"])
+        self.read_alone(members["alone"])
         self.read_laws()
         twice = [one for one, count in Counter(it.identity for it in self.requirements).items() if count > 1]
         self.faults += [f"{PAGE}: {one} stands twice: give the later one a number of its own" for one in twice]

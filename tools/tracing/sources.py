@@ -129,14 +129,14 @@ def add_laws(sources):
 def add_edits(sources):
     """Enters the must-fail edits, with the function that each alters."""
     for path in sorted(Path("crates").glob("*/must-fail/*.edit")):
-        told = dict(re.findall(r"^(\w+): *(.*)$", path.read_text(encoding="utf-8"), re.M))
-        source = path.parents[1] / told["file"]
+        edit = dict(re.findall(r"^(\w+): *(.*)$", path.read_text(encoding="utf-8"), re.M))
+        source = path.parents[1] / edit["file"]
         function, at = "", 0
         for number, line in enumerate(source.read_text(encoding="utf-8").splitlines(), 1):
             head = FUNCTION.match(line)
             if head:
                 function = head[1]
-            if told["old"].strip() in line:
+            if edit["old"].strip() in line:
                 at = number
                 break
         sources.edits[path.stem] = (path.parents[1].name, function, Place(str(path), 1), Place(str(source), at))

@@ -1,6 +1,6 @@
-"""What `etcs_lab events` has to say about the bytes of an image, worked out from docs/reference/format.md by the plain readers of blocks and telegrams.
+"""The lines that `etcs_lab events` has to print of an image, worked out from docs/reference/format.md by the plain readers of blocks and telegrams.
 
-Each line is a list of pairs of a name and a value, so that a name that comes twice, and the order, are seen.
+Each line is a list of pairs of name and value, so that duplicate names and a wrong order are found.
 """
 import struct
 
@@ -22,7 +22,7 @@ KNOWN, INFILL = (3, 5, 12, 21, 27, 41, 65, 66, 80), 136
 
 
 class Refused(Exception):
-    """No line is reported."""
+    """The image is refused: no line is printed."""
 
 
 # ---- a record
@@ -37,45 +37,45 @@ def digits_of(data, at, count):
     return "".join(f"{int(padded[i:i + 8], 2):02X}" for i in range(0, len(padded), 8))
 
 
-def packet_told(data, packet, at):
+def packet_members(data, packet, at):
     """A packet that begins after so many bits."""
-    told = [("packet", packet.number), ("fields", [["NID_PACKET", packet.number], *map(list, packet.fields)])]
+    members = [("packet", packet.number), ("fields", [["NID_PACKET", packet.number], *map(list, packet.fields)])]
     if not packet.is_skipped:
-        return told
+        return members
     count = dict(packet.fields)["L_PACKET"] - HEAD_BITS
-    return told + [("skipped_bits", count), ("body", digits_of(data, at + HEAD_BITS, count))]
+    return members + [("skipped_bits", count), ("body", digits_of(data, at + HEAD_BITS, count))]
 
 
-def telegram_told(data):
+def telegram_members(data):
     try:
         telegram = decoded.telegram_of(data)
     except decoded.Fault as fault:
         return [("refused", [("number", decoded.FAULTS[str(fault)]), ("name", str(fault))])]
     packets, at = [], HEADER_BITS
     for packet in telegram.packets:
-        packets.append(packet_told(data, packet, at))
+        packets.append(packet_members(data, packet, at))
         at += dict(packet.fields)["L_PACKET"]
     return [("header", telegram.header), ("packets", packets), ("bits", telegram.bits)]
 
 
-def unused_told(data):
+def unused_packets(data):
     """The packets of a telegram that no mode uses in any direction."""
     try:
         telegram, why = decoded.telegram_of(data), None
         listed = [(packet.number, dict(packet.fields)["L_PACKET"]) for packet in telegram.packets]
     except decoded.Fault:
         listed, why = [(number, length) for number, _, _, length in track_packets.packets_in_order(data)[0]], "refused"
-    found, at, is_behind = [], HEADER_BITS, False
+    found, at, is_after_infill = [], HEADER_BITS, False
     for number, length in listed:
-        is_behind = is_behind or number == INFILL
-        reason = why or ("infill" if is_behind else None if number in KNOWN else "not_known")
+        is_after_infill = is_after_infill or number == INFILL
+        reason = why or ("infill" if is_after_infill else None if number in KNOWN else "not_known")
         if reason:
             found.append([("packet", number), ("name", track_packets.names().get(number)), ("bit", at), ("bits", length), ("why", reason)])
         at += length
     return found
 
 
-def action_told(data):
+def action_members(data):
     code, rest = data[0], data[1:]
     if code == 1:
         return [("action", "enter_identity"), ("identity", rest.decode("ascii"))]
@@ -94,21 +94,21 @@ def action_told(data):
     return [("action", PLAIN[code])]
 
 
-def event_told(event):
-    kind, *told = event
+def event_members(event):
+    kind, *values = event
     if kind == "powerup":
-        return [("word", WORDS[told[0]])]
+        return [("word", WORDS[values[0]])]
     if kind == "telegram":
-        return [("telegram", told[0].hex()), ("decoded", telegram_told(told[0])),
-                ("unused", unused_told(told[0]))]
+        return [("telegram", values[0].hex()), ("decoded", telegram_members(values[0])),
+                ("unused", unused_packets(values[0]))]
     if kind == "odometer":
-        return [("movement_cm", told[0]), ("speed_m_per_h", told[1])]
+        return [("movement_cm", values[0]), ("speed_m_per_h", values[1])]
     if kind == "clock":
-        return [("now_ms", told[0])]
-    return action_told(told[0])
+        return [("now_ms", values[0])]
+    return action_members(values[0])
 
 
-def place_told(r, form):
+def place_members(r, form):
     names = ("place_cm", "uncertainty_cm", "min_safe_front_cm", "max_safe_front_cm", "limit_m_per_h")
     if form == 1:
         return [(name, None) for name in names]
@@ -129,7 +129,7 @@ def line_of(r, form, source, block, byte, life):
         ("kind", r["event"][0]), ("time_ms", r["moment"]), ("mode", MODES[r["mode"]]),
         ("level", None if r["level"] == 255 else r["level"]), ("brake", BRAKES[r["brake"]]),
         ("indications", signs_of(r["ind"])),
-        *place_told(r, form), *event_told(r["event"])]
+        *place_members(r, form), *event_members(r["event"])]
 
 
 def lines_of(block, slot, source=None):
@@ -167,7 +167,7 @@ def read_slot(image, slot):
     return not any(gate), read_block(b"\1".ljust(SECTOR, b"\0") + body)
 
 
-def told(image, all_blocks):
+def image_lines(image, all_blocks):
     """The lines, and whether the image has just the sectors of its slots and each block of the journal is reported."""
     sectors = len(image) // SECTOR
     slots = slots_in(image[:SECTOR]) if sectors else None

@@ -2,7 +2,7 @@
 """What examples/embedding/brake.c has to print on a new journal, worked out by the plain kernel over the same train: or, with a file, whether it
 is what that file holds.
 
-    tests/unit/brake_told.py [FILE]
+    tests/unit/brake_lines.py [FILE]
 """
 import sys
 from fractions import Fraction
@@ -25,7 +25,7 @@ class Train:
 
     def __init__(self):
         self.life, self.events, self.lines = Life(), 1, []
-        self.moment = self.speed = self.way = self.told = 0
+        self.moment = self.speed = self.way = self.reported = 0
         self.brake, self.mode = "emergency", "SB"
 
     def accept(self, *inputs):
@@ -49,12 +49,12 @@ class Train:
         self.speed = min(max(self.speed + GAINED[self.brake], 0), 100_000)
         self.moment += CYCLE_MS
         self.way += Fraction(self.speed * CYCLE_MS, 36_000)
-        moved = floor(self.way) - self.told
-        self.told += moved
+        moved = floor(self.way) - self.reported
+        self.reported += moved
         return moved
 
 
-def told():
+def wanted_lines():
     train = Train()
     driver = [(1, "IC 704"), (4, 1), (3, 20_000, 160_000, 70, 0, 15), (6,)]
     train.accept(("hear", AUTHORITY), *(action_of(*one)[:2] for one in driver))
@@ -67,7 +67,7 @@ def told():
 
 
 def main(words):
-    wanted = told()
+    wanted = wanted_lines()
     if not words:
         print(*wanted, sep="\n")
         return 0

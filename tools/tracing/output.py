@@ -1,4 +1,4 @@
-"""What the trace is shown as: the page out/docs/trace.md, lines for one name, a table (CSV), and a page to walk (HTML)."""
+"""The output of the trace: the page out/docs/trace.md, lines for one name, a table (CSV), and a page to browse (HTML)."""
 import csv
 import html
 import io
@@ -88,10 +88,10 @@ def counts(reader):
         yield (title, len(mine), *(sum(1 for it in mine if one(it)) for one in has))
 
 
-def grouped(told):
+def grouped(reasons):
     """Identities with one reason on one line, those of a type of refusals as one."""
     found = defaultdict(list)
-    for it, why in told:
+    for it, why in reasons:
         name = "-".join(it.identity.split("-")[:2]) + "-.." if it.part == "refusals" else it.identity
         if name not in found[why]:
             found[why].append(name)
@@ -104,7 +104,7 @@ def of_crates(reader, gaps, kind):
     found = defaultdict(list)
     for crate in gaps.alone[kind]:
         found[
-            " ".join(reader.alone[kind][crate][0].split()) if crate in reader.alone[kind] else "no reason is told"
+            " ".join(reader.alone[kind][crate][0].split()) if crate in reader.alone[kind] else "no reason is given"
         ].append(f"`{crate}`")
     return [(", ".join(crates), why) for why, crates in found.items()]
 
@@ -155,7 +155,7 @@ def page(reader, gaps):
         f"Of the {many} sentences of sections {many - len(gaps.apart)} are said by definitions that the answers of the "
         "kernel rest on (`kernel::step`, all clauses), and so promise P-1. The others are laws of these answers, and "
         "what is recorded, "
-        f"listed or told of them: {', '.join(it.identity for it in gaps.apart)}."
+        f"listed or reported of them: {', '.join(it.identity for it in gaps.apart)}."
     )
     yield from page_of_gaps(reader, gaps)
 
@@ -177,7 +177,7 @@ def page_of_gaps(reader, gaps):
 # ---- lines for one name
 
 
-def told(it, reader):
+def explained(it, reader):
     """All that holds a requirement, line by line."""
     yield f"{it.identity}  {it.says}"
     yield f"  stands       {it.place}" + (f", for {it.by} to do" if it.by else "") + f"; {it.kind}" + (

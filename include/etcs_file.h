@@ -501,8 +501,8 @@ static inline uint32_t etcs_file_format(etcs_file *file, const char *path, uint3
  *     ...
  *     etcs_archive_close(&archive);
  *
- * `./lab join` makes one image of a larger ring of the archive and the image (docs/howto/investigating.md). An archive grows
- * by 3,072 bytes a block; docs/howto/embedding.md has a table. Which block of a slot is kept is decided by the library, and
+ * `./lab join` makes one image of a larger ring of the archive and the image (docs/howto/long-journals.md). An archive grows
+ * by 3,072 bytes a block; docs/howto/c-archive.md has a table. Which block of a slot is kept is decided by the library, and
  * proved (etcs_image_slot_start); what is read, appended and synced, and when, is only tested.
  *
  * Both files are settled when they are opened, as a journal is: what an earlier process left half written is dropped, and

@@ -1,7 +1,7 @@
 #!/bin/bash
 # The corpus of test cases in suites/, on the programs that the gate leaves after: each result comes, each section and transition has
 # a case or a reason, what the records reach is measured and all that can be is reached, what is untrue fails, what is weak on a track is
-# found, and docs/start/tests.md, docs/howto/testing-a-train.md and docs/howto/sequences.md print what they say, in one folder; and a search over random lives.
+# found, and the pages for test laboratories print what they say, in one folder; and a search over random lives.
 #
 #     tests/suites.sh [ETCS_LAB ETCS]    on other programs
 lab=${1:-$(dirname "$(readlink -f -- "$0")")/../crates/etcs_lab/out/etcs_lab}
@@ -31,6 +31,7 @@ tail -n 1 <<< "$covered"
 /usr/bin/python3 tests/suites/control.py "$etcs" "$lab" || status=1
 /usr/bin/python3 tests/suites/lint_rows.py "$etcs" "$lab" || status=1
 /usr/bin/python3 tests/suites/planted.py --texts || status=1
-ETCS=$etcs ETCS_LAB=$lab /usr/bin/python3 tests/pages.py start/tests howto/testing-a-train howto/sequences || status=1
+ETCS=$etcs ETCS_LAB=$lab /usr/bin/python3 tests/pages.py start/tests howto/write-test-cases howto/coverage howto/telegrams howto/lint howto/play howto/sweep \
+    howto/sequences || status=1
 /usr/bin/python3 tests/suites/search.py "$etcs" "$lab" || status=1
 exit $status

@@ -2,7 +2,7 @@
 # Test the unit from C, C++, Python and Rust, all built from the folder that tools/library makes: each header by itself, the names that
 # the library exports, sizes and offsets, wrong calls, files, archives of blocks and marks next to the journal, starts of slots, two units at once, the
 # examples, images compared with `etcs journal`, random lives compared with `etcs run`, instructions compared with kept counts and
-# bounds, memory that is refused, and the commands of docs/howto/embedding.md. Needs gcc, g++, valgrind, rustc and Debian's Python; clang
+# bounds, memory that is refused, and the commands of the pages for makers. Needs gcc, g++, valgrind, rustc and Debian's Python; clang
 # is used where it is installed.
 #
 #     tests/unit.sh [PREFIX [LIVES]]    test the library below PREFIX (default: build and install it first) with LIVES lives (default: 400);
@@ -257,6 +257,7 @@ for program in "$made"/refused.*; do "$python" "$top/tests/unit/refused_lives.py
 (cd "$top/python" && "$python" -m unittest -q tests.test_unit) >"$made/said" 2>&1 && grep -q '^Ran 24 tests' "$made/said" && ! grep -q skipped "$made/said" ||
     { cat "$made/said"; fails "python/tests/test_unit.py: failures, or other than 24 tests"; }
 "$python" "$top/tests/unit/integration.py" || status=1
-ETCS_LAB=$lab ETCS_UNIT_ARCHIVE=$raw ETCS_C_ARCHIVE=${ETCS_C_ARCHIVE:-$top/crates/etcs_c/out/libetcs_c.a} "$python" "$top/tests/pages.py" howto/embedding start/c || status=1
+ETCS_LAB=$lab ETCS_UNIT_ARCHIVE=$raw ETCS_C_ARCHIVE=${ETCS_C_ARCHIVE:-$top/crates/etcs_c/out/libetcs_c.a} "$python" "$top/tests/pages.py" start/c howto/c-loop howto/c-flash \
+    howto/c-static-memory howto/c-display howto/c-guard howto/c-installed-tracks howto/c-journal howto/cpp howto/python howto/rust || status=1
 echo "the unit: $([ $status -eq 0 ] && echo "no failures" || echo "failures, see above")"
 exit $status

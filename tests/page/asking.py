@@ -175,7 +175,7 @@ def alterations(browser: Browser, _page: Path, folder: Path) -> int:
 
 
 def case(browser: Browser, page: Path, folder: Path) -> int:
-    """The case of docs/howto/investigating.md: its questions are answered."""
+    """The case of docs/howto/damaged-image.md: its questions are answered."""
     data = bytearray(image(folder, [example("power_cut"), example("power_cut", "restart.json"), example("trip")], 6))
     data[512 * 7:512 * 8] = bytes(512)
     data[14352] = 0o377

@@ -269,7 +269,7 @@ PAGES = (  # for tools/docs --check
         "Of makers",
         'docs/howto/oracle.md: the first line below the title has to begin with "How-to for "',
     ),
-    ("a page with a date", "docs/howto/oracle.md", "in CI (", "on 2026-11-27 (", "docs/howto/oracle.md: has the date 2026-11-27"),
+    ("a page with a date", "docs/howto/oracle.md", "A unit that agrees here", "On 2026-11-27 a unit", "docs/howto/oracle.md: has the date 2026-11-27"),
     ("a misspelt page", "docs/explain/safety.md", "different", "diffrent", "diffrent ==> different"),
     ("a misspelt help text", "python/gaknifur/cli/commands.py", "default", "defualt", "defualt ==> default"),
 )

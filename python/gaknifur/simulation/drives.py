@@ -1,4 +1,4 @@
-"""What a drive in a closed loop is: a train, its driver, a time step, in YAML. docs/howto/closed-loop.md has its keys.
+"""What a drive in a closed loop is: a train, its driver, a time step, in YAML. docs/reference/drives.md has its keys.
 
 It stands along with the steps of a life, which are played before the train moves. `driving` plays it.
 """

@@ -1,4 +1,4 @@
-"""Properties of journals, in YAML: which records are looked at, and what has to be so of each. docs/howto/searching.md has
+"""Properties of journals, in YAML: which records are looked at, and what has to be so of each. docs/reference/searches.md has
 the words.
 
 The conditions are those of test cases (`cases`), with a few names more for which records are looked at. A property that

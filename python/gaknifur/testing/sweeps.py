@@ -1,4 +1,4 @@
-"""A sweep: a case with parameters, played at each of their values, and what is reported of it. docs/howto/testing-a-train.md has its words.
+"""A sweep: a case with parameters, played at each of their values, and what is reported of it. docs/howto/sweep.md has its words.
 
 `$name` in a text stands for the value of a parameter. What comes of a point is read off its records, as the expected
 results of a case are. Points are played side by side, each on an image of its own.

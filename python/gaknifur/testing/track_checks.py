@@ -1,7 +1,7 @@
 """Checks of a track and of the steps of a train on it, by the items of docs/explain/safety.md.
 
 Each check has the number of its item. It looks at the course of a life (`messages`), and finds what the item warns of,
-with the numbers that decide it. docs/howto/testing-a-train.md has the list, and says which items no track can show.
+with the numbers that decide it. docs/reference/track-checks.md has the list, and says which items no track can show.
 """
 from collections.abc import Callable, Iterator
 from dataclasses import dataclass

@@ -1,4 +1,4 @@
-"""What a unit is asked, and what it answers, as docs/howto/oracle.md has it: the messages of the protocol, and whether a line
+"""What a unit is asked, and what it answers, as docs/reference/unit-protocol.md has it: the messages of the protocol, and whether a line
 is one.
 
 An event is reported by the members of a record of `etcs_lab events` that say what came (docs/reference/json.md); an answer has those

@@ -2,7 +2,7 @@
 
 The limits hold for each of its processes, and are set between the start of the process and that of the unit's program.
 The sandbox (`bwrap`) has processes of its own and no network; it sees all files, and writes to a small folder in memory
-alone, which TMPDIR names. docs/howto/oracle.md lists the limits.
+alone, which TMPDIR names. docs/reference/unit-protocol.md lists the limits.
 """
 import contextlib
 import errno

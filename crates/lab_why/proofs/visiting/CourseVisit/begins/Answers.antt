@@ -4,8 +4,8 @@ use Rattle.lab_why.specs.Courses.{all_reported, begun_after, Begins, RunsAndDesc
 use Rattle.lab_why.specs.declared.course.Course.{Course}
 use Rattle.lab_why.proofs.visiting.CourseVisit.begins.Goals as goal
 
-pub returns : goal.returns
-returns g c =
+pub returns-clause-reported : goal.returns-clause-reported
+returns-clause-reported g c =
     let old : Course = c.args.self.now in
     let before = c.args.before.now in
     let seen = c.args.seen.now in

@@ -101,14 +101,14 @@ module _ {S : Type 0} (Takes Fails : S → ReplayLine → S → Type 0) where
   step-stops an_error.Write step c sink after is = is
   step-stops an_error.NoMemory step c sink after is = is
 
-  begun-lines : (e : WalkError) (steps : List Step) (c : Course) (sink after : S) → StopsIn (Reports Takes) never (StopsBy Stops e) steps c sink after
+  initial-lines : (e : WalkError) (steps : List Step) (c : Course) (sink after : S) → StopsIn (Reports Takes) never (StopsBy Stops e) steps c sink after
       → (lines : List ReplayLine) × AllBegin steps c lines × TakesSome Takes Fails (IsNotOfSink e) lines sink after
-  begun-lines e [] c sink after is = absurd is
-  begun-lines e (step ∷ steps) c sink after is = ⊎_elim
+  initial-lines e [] c sink after is = absurd is
+  initial-lines e (step ∷ steps) c sink after is = ⊎_elim
       (λ here. let it = step-stops e step c sink after here in (it.0, inl it.1, it.2))
       (λ on.
       let these = on.2 in
-      let later = begun-lines e steps on.0 on.1 after on.3 in
+      let later = initial-lines e steps on.0 on.1 after on.3 in
       (these.0 ++ later.0, inr (on.0, these.0, later.0, these.1, later.1, refl), takes-some (IsNotOfSink e) these.0 later.0 sink on.1 after these.2 later.2))
       is.1
 
@@ -126,7 +126,7 @@ module _ {S : Type 0} (Takes Fails : S → ReplayLine → S → Type 0) where
   walk-cut e sectors image sink after is = ⊎_elim
       (λ before. inr ([], inl refl, (not-of-sink e before.0, before.1)))
       (λ on.
-      let it = begun-lines e (steps_of on.slots (valid_at on.slots image) on.first on.newest) at_start sink after on.steps in
+      let it = initial-lines e (steps_of on.slots (valid_at on.slots image) on.first on.newest) at_start sink after on.steps in
       inr (
         it.0,
         inr (record { slots = on.slots; first = on.first; newest = on.newest; formatted = on.formatted; retained = on.retained; steps = it.1 }),

@@ -171,7 +171,7 @@ PLANTS = (
     (
         "a constant of no definition",
         "docs/explain/conformance.md",
-        "`mark_behind`",
+        "`forgetting_mark`",
         "`mark_before`",
         "names `mark_before` of track_picture",
     ),

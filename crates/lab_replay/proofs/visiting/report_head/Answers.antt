@@ -1,4 +1,4 @@
-use Rattle.std.proofs.Common.{◌≡◌, false, None, Some, refl}
+use Rattle.std.proofs.Common.{false, None, Some, refl}
 use Rattle.std.proofs.lemmas.Result.{err_from_is_err_and}
 use Rattle.lab_replay.specs.Lines.{head_line}
 use Rattle.lab_replay.specs.Steps.{left_and}

@@ -34,7 +34,7 @@ def note(journal: Journal, is_judged: bool = False) -> int:
 def take_times(journal: Journal, given: SimpleNamespace) -> None:
     """Reads the marks of the time of day: the file that is named, or the one next to the image."""
     from ..evidence import times
-    path = times.beside(journal.path, given.times)
+    path = times.marks_of(journal.path, given.times)
     if path is not None:
         journal.times = times.Times.of(journal, path, times.DRIFT_PPM if given.drift is None else given.drift)
 
@@ -71,7 +71,7 @@ def write_table(given: SimpleNamespace, progress: Progress) -> int:
     from ..evidence import timeline
     from ..journal import tables
     table = tables.strays(journal) if given.damaged else tables.frame(journal)
-    says = [f"sha256 {journal.sha256}", f"read by {program.reader()}", *([journal.times.says()] if journal.times else [])]
+    says = [f"sha256 {journal.sha256}", f"read by {program.reader()}", *([journal.times.note()] if journal.times else [])]
     write(out, timeline.workbook(tables.written(table), says) if is_book else tables.csv_parts(table), given.image)
     return note(journal)
 

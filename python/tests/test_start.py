@@ -109,8 +109,8 @@ class Folders(Room):
         self.plant(self.work / "matplotlib", "__init__.py")
         (self.work / "a.yaml").write_text("steps: [start]\n")
         for path in (".", f":{self.work}", str(self.work)):
-            told = self.lab("build", "a.yaml", env={"PYTHONPATH": path, "PYTHONSTARTUP": "csv.py", "HOME": str(self.work)})
-            self.assertEqual((told[0], '{"driver": [6]}' in told[1], told[2], self.ran()), (0, True, "", []))
+            result = self.lab("build", "a.yaml", env={"PYTHONPATH": path, "PYTHONSTARTUP": "csv.py", "HOME": str(self.work)})
+            self.assertEqual((result[0], '{"driver": [6]}' in result[1], result[2], self.ran()), (0, True, "", []))
         # a control: what is planted runs where it may
         subprocess.run([sys.executable, "-c", "import pandas"], cwd=self.work, capture_output=True)
         self.assertIn("pandas.py", self.ran())
@@ -139,13 +139,13 @@ class Folders(Room):
         self.plant(self.work, "conftest.py", "plugged.py")
         (suite / "pytest.ini").write_text("[pytest]\npythonpath = ..\naddopts = -p plugged\n")
         (suite / "a.case.yaml").write_text(CASE)
-        status, told, said = self.lab("test", "suite")
-        self.assertEqual((status, "no such file" in told, self.ran()), (1, True, []), told + said)
+        status, output, said = self.lab("test", "suite")
+        self.assertEqual((status, "no such file" in output, self.ran()), (1, True, []), output + said)
         self.assertEqual(self.lab("test", "suite", "--python")[::2], (1, "lab: suite: pytest can't start: Error importing plugin "
                                                                      "\"plugged\": No module named 'plugged'\n"))
         (suite / "pytest.ini").unlink()
-        status, told, said = self.lab("test", "suite", "--python")
-        self.assertIn("conftest.py", self.ran(), told + said)
+        status, output, said = self.lab("test", "suite", "--python")
+        self.assertIn("conftest.py", self.ran(), output + said)
 
     def test_words_of_pytest_that_write(self) -> None:
         (self.work / "a.case.yaml").write_text(CASE)
@@ -161,11 +161,11 @@ class Folders(Room):
                  '</testsuite></testsuites>'
         for notes in ("my own notes", others):
             (self.work / "notes.xml").write_text(notes)
-            status, told, said = self.lab("test", ".", "--junitxml=notes.xml", "--force")
+            status, output, said = self.lab("test", ".", "--junitxml=notes.xml", "--force")
             self.assertEqual((status, said.split(": ")[1], (self.work / "notes.xml").read_text()), (1, "notes.xml", notes))
-        status, told, said = self.lab("test", ".", "--junitxml", "out.xml")
+        status, output, said = self.lab("test", ".", "--junitxml", "out.xml")
         first = (self.work / "out.xml").read_text()
-        self.assertIn(f"generated xml file: {self.work / 'out.xml'}", told)
+        self.assertIn(f"generated xml file: {self.work / 'out.xml'}", output)
         self.assertIn('errors="1"', first)
         self.assertEqual(self.lab("test", ".", "--junitxml=out.xml")[2], "lab: out.xml: already exists; --force overwrites what lab made\n")
         self.assertEqual((self.work / "out.xml").read_text(), first)
@@ -193,7 +193,7 @@ class Nets(Room):
             status = errors.caught(do)
         return status, say.call_args.args[0] if say.called else ""
 
-    def test_each_is_told_in_a_line(self) -> None:
+    def test_each_is_reported_in_a_line(self) -> None:
         status, said = self.caught(KeyError("a\nb"))
         self.assertEqual(status, 5)
         self.assertRegex(said, r"^internal error: KeyError: 'a\\nb' at errors.py:\d+; docs/howto/laboratory.md says how to report it$")
@@ -246,8 +246,8 @@ class Names(Room):
         for name, wanted in (("a\x1b[31m\n\u202e", r"a\x1b[31m\x0a\u202e"), (os.fsdecode(b"\xff"), r"\xff")):
             for words in (["table", name], ["build", name], ["report", "none", f"{name}/out"], ["coverage", name], ["compare", name, name]):
                 for language in ("C", "C.UTF-8"):
-                    status, told, said = self.lab(*words, env={"LC_ALL": language})
-                    self.assertEqual((status, told, said.count("\n"), wanted in said or words[0] == "report"), (3, "", 1, True), said)
+                    status, output, said = self.lab(*words, env={"LC_ALL": language})
+                    self.assertEqual((status, output, said.count("\n"), wanted in said or words[0] == "report"), (3, "", 1, True), said)
                     self.assertTrue(said[:-1].isprintable(), said)
             status, _, said = self.lab("table", name, "out", name)
             self.assertEqual((status, wanted in said), (2, True))
@@ -274,11 +274,11 @@ class Version(Room):
     """One way of numbers."""
 
     def test_is_that_of_the_other_scripts(self) -> None:
-        told = [subprocess.run([TOP / name, "--version"], capture_output=True, text=True).stdout.splitlines()[0].split(" ", 1)
+        versions = [subprocess.run([TOP / name, "--version"], capture_output=True, text=True).stdout.splitlines()[0].split(" ", 1)
                 for name in ("etcs", "etcs_lab", "lab")]
-        self.assertEqual([name for name, _ in told], ["etcs", "etcs_lab", "lab"])
-        self.assertEqual(len({version for _, version in told}), 1)
-        number = told[0][1].split(",")[0]
+        self.assertEqual([name for name, _ in versions], ["etcs", "etcs_lab", "lab"])
+        self.assertEqual(len({version for _, version in versions}), 1)
+        number = versions[0][1].split(",")[0]
         self.assertRegex(number, r"^\d+\.\d+\.\d+$")
         self.assertIn(f'version = "{number}"', (TOP / "python/pyproject.toml").read_text())
 

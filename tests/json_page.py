@@ -240,7 +240,7 @@ LINES = {  # of each command the tables that one of its lines may have, by a mem
     "decode": [("refused", "a-refusal"), ("", "a-telegram")],
     "packets": [("", "the-packets-of-a-telegram")],
     "lint": [("", "advice-on-a-scenario")],
-    "against": [("tells", "another-unit"), ("against", "a-comparison"), ("", "the-end-of-comparisons")],
+    "against": [("members", "another-unit"), ("against", "a-comparison"), ("", "the-end-of-comparisons")],
 }
 PLAYED = ("step", "mode", "level", "indications", "place_cm", "uncertainty_cm")
 
@@ -326,9 +326,9 @@ def other_units(page, program, room):
     records.write_text(run(program, ["events", image])[0])
     asked.write_text(f'#!/bin/sh\nexec {shlex.join(map(str, program))} "$@"\n')
     asked.chmod(0o755)
-    told, how = TOP / "tests/oracle/told.py", {"env": {**os.environ, "GAKNIFUR_ETCS_LAB": str(asked)}}
+    recorded, how = TOP / "tests/oracle/recorded.py", {"env": {**os.environ, "GAKNIFUR_ETCS_LAB": str(asked)}}
     before = page.count
-    for unit in (*(shlex.join([str(told), str(records), word]) for word in ("right", "wrong", "breaks")),
+    for unit in (*(shlex.join([str(recorded), str(records), word]) for word in ("right", "wrong", "breaks")),
                  str(TOP / "examples/oracle/unit.py"), "false"):
         read(page, [TOP / "lab"], "against", "--json", image, unit, **how)
     page.unless(page.count >= before + 2 * LIVES, f"./lab against: {page.count - before} comparisons")

@@ -17,7 +17,7 @@ tools/python --checks || exit 1
 status=0
 (cd python && "$python" -m mypy) || status=1
 (cd python && "$python" -m unittest -q) || status=1
-"$python" tests/lab_package/told_rows.py "$lab" "${@:3}" || status=1
+"$python" tests/lab_package/table_rows.py "$lab" "${@:3}" || status=1
 "$python" tests/lab_package/report_rows.py "$etcs" "$lab" || status=1
 "$python" tests/lab_package/seal_rows.py "$lab" || status=1
 "$python" tests/lab_package/verdict_rows.py "$lab" || status=1

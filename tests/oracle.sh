@@ -40,8 +40,8 @@ gcc -std=c99 -O2 "${strict[@]}" "$top/examples/oracle/least.c" -o "$made/least" 
 cd "$top" || exit 1
 "$etcs" format "$made/image" 64 >/dev/null && "$etcs" run examples/trip/scenario.json "$made/image" >/dev/null || status=1
 GAKNIFUR_UNIT_MEMORY=0 ./lab against "$made/image" "$made/unit.checked" >"$made/said" 2>&1 || { cat "$made/said"; echo "unit.c, with sanitizers, differs"; status=1; }
-told=$(./lab test suites --against "$made/unit" 2>&1) || { echo "$told"; status=1; }
-count=$(sed -n 's/^\([0-9]*\) passed in .*/\1/p' <<< "$told")
+output=$(./lab test suites --against "$made/unit" 2>&1) || { echo "$output"; status=1; }
+count=$(sed -n 's/^\([0-9]*\) passed in .*/\1/p' <<< "$output")
 echo "suites against unit.c: ${count:-no} results came"
 [ "${count:-0}" -ge $least ] || status=1
 "$python" tests/oracle/dissector_rows.py || status=1

@@ -17,11 +17,11 @@ for program in "$lab" "$etcs"; do
 done
 tools/python --checks || exit 1
 status=0
-told=$(./lab test suites --reached "$made/reached.json" 2>&1) || status=1
-count=$(sed -n 's/^\([0-9]*\) passed in .*/\1/p' <<< "$told")
+output=$(./lab test suites --reached "$made/reached.json" 2>&1) || status=1
+count=$(sed -n 's/^\([0-9]*\) passed in .*/\1/p' <<< "$output")
 if [ $status -ne 0 ] || [ "${count:-0}" -lt $least ]; then
     status=1
-    echo "$told"
+    echo "$output"
 fi
 echo "suites: ${count:-no} results came"
 covered=$(./lab coverage suites 2>&1) || { status=1; echo "$covered"; }

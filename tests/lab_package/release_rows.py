@@ -96,12 +96,12 @@ def bomb(inside):
 
 def put(folder, name, *path):
     """Puts the last of some words at the place in a statement that the others name."""
-    told = json.loads((folder / name).read_text())
-    at = told
+    members = json.loads((folder / name).read_text())
+    at = members
     for one in path[:-2]:
         at = at[one]
     at[path[-2]] = path[-1]
-    (folder / name).write_text(json.dumps(told))
+    (folder / name).write_text(json.dumps(members))
     sums(folder)
 
 

@@ -1,5 +1,5 @@
 #!/usr/bin/env python3
-"""Campaigns on the programs: the same lives by processes of this machine, by a scheduler with two workers of which one is
+"""Run campaigns on the programs: the same lives in processes of this machine, and by a scheduler with two workers, one of which is
 killed in the middle, and by a campaign that is interrupted and goes on, give the same table; judged by outputs and by all records, lives come
 to the same rows; a case file gives its row.
 
@@ -17,7 +17,7 @@ from pathlib import Path
 TOP = Path(__file__).resolve().parents[2]
 PYTHON = sys.executable
 WAIT = 60
-MOST_REFUSING = 20  # seconds, of which nearly all is Python's beginning on a machine that has other work
+MOST_REFUSING = 20  # seconds, nearly all for starting Python on a busy machine
 failed = 0
 
 
@@ -43,7 +43,7 @@ def rows(path, counted="count(*)"):
 
 
 def until(holds, what):
-    """Waits until something is so."""
+    """Waits until a condition holds."""
     begun = time.monotonic()
     while not holds():
         if time.monotonic() - begun > WAIT:

@@ -3,13 +3,13 @@
 
     tests/lab_package/join_rows.py ETCS_LAB
 
-- Lives in a ring of few slots, of which each block is kept before it is written over: what is joined is, block by block, the
-  image that a larger ring has, and etcs_lab reports the same events, replay and causes of both.
-- An archive is cut within its last block, or has zeros there: no block is lost, what a cut left is reported, and what is kept then goes
-  on after it. Gaps stay gaps, blocks that contradict are named, and what can't be read is taken from where it can.
-- Blocks of two units are reported, and so is a block that can't be read in one source. A gate with a bit altered stops no archive.
-- A sync that fails is owed, and made good by the next call. An archive is settled when it is opened.
-- Files that are there, no archives, and archives that another program holds, stay as they are.
+- Lives in a ring of few slots, each block kept before it is overwritten: the joined image is, block by block, that of a larger ring, and
+  etcs_lab prints the same events, replay and causes for both.
+- An archive is cut within its last block, or has zeros there: no block is lost, the rest of a cut block is reported, and new blocks come
+  after it. Gaps stay gaps, contradicting blocks are named, and an unreadable block is taken from another source.
+- Blocks of two units are reported, and so is a block that can't be read in one source. A gate with an altered bit stops no archive.
+- The next call makes up for a failed sync. An archive is synced when it is opened.
+- Existing files, files that are no archives, and archives that another program holds stay as they are.
 """
 import errno
 import json
@@ -200,7 +200,7 @@ def gates(rows, room):
 
 
 def syncs(rows, room):
-    """A sync that fails is owed: the next call writes again what it was for and syncs, also where it has nothing new to keep."""
+    """After a failed sync the next call writes the same blocks again and syncs, also if it has nothing new to keep."""
     by_number, image, path, done = journal(), room / "syncs", room / "syncs-archive", []
     fsync, pwrite = os.fsync, os.pwrite
 

@@ -56,7 +56,7 @@ class Rows(Compared):
         return done.stdout
 
     def page(self, name, *words, charts, text=(), said=""):
-        """A report whose page has so many charts at the least, and these texts; its status is 4 where something is said."""
+        """A report whose page has at least `charts` charts, and these texts; its status is 4 if there is a message."""
         out = self.room / "out.html"
         out.unlink(missing_ok=True)
         self.lab("report", name, out.name, *words, said=said, status=4 if said else 0)
@@ -150,7 +150,7 @@ def processor_seconds():
 
 
 def long_image(events):
-    """A life of so many events, written by the plain writer: a train that runs, stops, and now and then is far too fast."""
+    """A life of `events` events, by the plain writer: a train that runs, stops, and sometimes is far too fast."""
     records, place, speed = [], 0, 0
     for number in range(events):
         at = number % 600
@@ -181,7 +181,7 @@ def braked(rows):
     begun = processor_seconds()
     page = rows.page("braked", charts=12, text=[f"events 0 to {4 + 100 * 30:,}", "each event agrees with the kernel"])
     took = processor_seconds() - begun
-    # 101 interventions, of which the power-up's has one cause and each other one both speeds
+    # 101 interventions: that of the power-up has one cause, and each other one both speeds
     rows.same("a page of 3,000 events has each cause", (page.count("the train has not stood since: since"), page.count("not within it since: since"),
                                                        "not known" in page), (100, 100, False))
     rows.same(f"a report of 3,000 events takes less than {MOST_SECONDS} s of processor time", took < MOST_SECONDS, True)

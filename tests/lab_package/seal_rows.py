@@ -40,7 +40,7 @@ from replay_rows import examples  # noqa: E402
 
 LEAST = 300
 SLOW = 3
-"""So many altered bags at least, and the seconds of a processor that an answer may take. One that never comes ends the test."""
+"""The least number of altered bags, and the greatest processor time of an answer in seconds. A missing answer ends the test."""
 UNSIGNED = "the bag isn't signed by any of the named signers"
 AUTHORITY = """
 [req]
@@ -167,7 +167,7 @@ def others():
     yield "nothing of it", lambda folder: [shutil.rmtree(folder), folder.mkdir()], "bagit.txt"
 
 
-def close_anew(folder):
+def close_again(folder):
     """Closes a bag after an alteration, as whoever altered it might."""
     info = [line.split(": ", 1) for line in (folder / bag.INFO).read_text().splitlines()]
     for name in (bag.SIGNED, "tagmanifest-sha256.txt"):
@@ -181,22 +181,22 @@ def close_anew(folder):
         (folder / name).write_bytes(data)
 
 
-def closed_anew(room):
-    """Alterations after which the bag was closed anew: only a signature, a time stamp or `etcs_lab` reports them."""
+def closed_again(room):
+    """Alterations after which the bag was closed again: only a signature, a time stamp or `etcs_lab` shows them."""
     def table(folder):
         text = (folder / "data/table.csv").read_text()
         (folder / "data/table.csv").write_text(text.replace("emergency", "none"))
-    yield "a table, closed anew", [table, close_anew], signing.SSH
-    yield "a table, closed anew and without signatures", [table, close_anew, lambda folder: [(folder / name).unlink() for name in LATER[:2]]], UNSIGNED
-    yield "a table, closed anew and signed by others", [table, close_anew, lambda folder: sign(room, folder, "other")], signing.SSH
-    yield "a table, closed anew and signed again", [table, close_anew, lambda folder: sign(room, folder)], signing.ANSWER
+    yield "a table, closed anew", [table, close_again], signing.SSH
+    yield "a table, closed anew and without signatures", [table, close_again, lambda folder: [(folder / name).unlink() for name in LATER[:2]]], UNSIGNED
+    yield "a table, closed anew and signed by others", [table, close_again, lambda folder: sign(room, folder, "other")], signing.SSH
+    yield "a table, closed anew and signed again", [table, close_again, lambda folder: sign(room, folder)], signing.ANSWER
 
     def image(folder):
         data = bytearray((folder / "data/image").read_bytes())
         data[512 + 3072 + 1024 + 2] ^= 2
         (folder / "data/image").write_bytes(data)
-    anew = [close_anew, lambda folder: sign(room, folder), lambda folder: (folder / signing.REQUEST).unlink(), lambda folder: signing.ask_for_time(folder),
-            close_anew, lambda folder: sign(room, folder), lambda folder: stamp(room, folder)]
+    anew = [close_again, lambda folder: sign(room, folder), lambda folder: (folder / signing.REQUEST).unlink(), lambda folder: signing.ask_for_time(folder),
+            close_again, lambda folder: sign(room, folder), lambda folder: stamp(room, folder)]
     yield "the image, with all but the output about it", [image, *anew], "data/image"
     for name in ("examine.json", "events.jsonl", "replay.jsonl", "why.jsonl", "digests.csv"):
         def alter(folder, name=name):
@@ -216,7 +216,7 @@ def closed_anew(room):
     yield "a time stamp of another request", [other_request], signing.ANSWER
 
 
-# ---- what whoever closes a bag anew may put into it
+# ---- what somebody who closes a bag again may put into it
 
 LIE = "shown: a@b signed the bag, by the key SHA256:AAAA"
 HEX = "0" * 64
@@ -234,10 +234,10 @@ TEXTS = (b"", b"{", b"[]", b"null", b"\xff\xfe", b"[" * 200_000, b'{"a":' * 50_0
 
 
 def strip(folder):
-    """Takes the signatures and the time stamp away, and closes the bag anew: nothing vouches for it."""
+    """Removes the signatures and the time stamp, and closes the bag again: nothing vouches for it."""
     for name in LATER:
         (folder / name).unlink(missing_ok=True)
-    close_anew(folder)
+    close_again(folder)
 
 
 def put(folder, member, value):
@@ -253,7 +253,7 @@ def put(folder, member, value):
 
 
 def forged():
-    """Bags that were closed anew and that nobody signed: a name, the steps, and the file that is to be reported."""
+    """Bags that were closed again without a signature: a name, the steps, and the file that has to be reported."""
     for member, value in ODD:
         yield f"{member} is {str(value)[:40]!r}", [lambda folder, member=member, value=value: put(folder, member, value), strip], "data/seal.json"
     for text in TEXTS:
@@ -275,7 +275,7 @@ def forged():
 
 
 def retag(folder):
-    """Closes the tag files of a bag anew."""
+    """Closes the tag files of a bag again."""
     for name in (bag.SIGNED, "tagmanifest-sha256.txt"):
         (folder / name).unlink()
     bag.close_tags(folder)
@@ -382,7 +382,7 @@ class Count(Compared):
 
 
 def whole_bag(count, room, image):
-    """What a bag holds that nobody altered, and what it shows."""
+    """The content of an unaltered bag, and what it shows."""
     data, opened = image.read_bytes(), []
     os_open = os.open
 
@@ -512,7 +512,7 @@ def main(words):
         whole_bag(count, room, image)
         for name, do, file in alterations():
             count.expect_fault(name, [do], file, trust(room) if file in LATER else Trust())
-        for name, steps, file in closed_anew(room):
+        for name, steps, file in closed_again(room):
             count.expect_fault(name, steps, file, trust(room))
         for name, steps, file in forged():
             count.expect_fault(f"forged: {name}", steps, file, Trust())

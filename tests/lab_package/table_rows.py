@@ -7,9 +7,9 @@
   all three formats, whole and damaged, with and without other blocks; so do interventions and runs above the limit.
 - So do the records of blocks that are damaged or in a wrong slot, each with its slot and byte, in a table of their own and on
   the page.
-- Over images of lives that are run, whole, damaged and in all formats, the causes of tables, database and interventions are
-  those of the plain causes (tests/plain/why.py), and they are not known just where the plain replay doesn't agree.
-- Whatever text an image holds stands escaped on the page.
+- For images of lives that are run, whole, damaged and in all formats, the causes of tables, database and interventions are
+  those of the plain causes (tests/plain/why.py), and they are unknown exactly where the plain replay doesn't agree.
+- All text of an image is escaped on the page.
 """
 import csv
 import html.parser
@@ -366,7 +366,7 @@ def trips_agree(count, name, lines, table, reasons):
 
 
 def in_database(count, name, connection, journal, got, wanted):
-    """The same in the database."""
+    """The causes in the database are the same."""
     image = connection.execute("SELECT image FROM image WHERE sha256 = ?", [journal.sha256]).fetchone()[0]
     rows = {}
     for event, cause, since in connection.execute(
@@ -380,7 +380,7 @@ def in_database(count, name, connection, journal, got, wanted):
 
 
 def words_agree(count, name, path):
-    """What the program says of causes to people is what the package says."""
+    """The texts about causes that the program prints are those of the package."""
     line = re.compile(r"; ([^()]*) \(since event \d+, ([^()]*)\)")
     trip = re.compile(r"; the train was tripped: ([^()]*) \(event \d+, ([^()]*)\)")
     lines = list(Run(["why"], path).lines())
@@ -441,7 +441,7 @@ def page_faults(text):
 
 
 def markup_stays_text(room):
-    """Each identity with markup, in a record and in a head, stands on the page as text and adds no element."""
+    """Each identity with markup, in a record and in a head, is on the page as text and adds no element."""
     wrong = 0
     path = Path(room) / "image"
     plain = None

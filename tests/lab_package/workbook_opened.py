@@ -19,7 +19,7 @@ import openpyxl
 
 TOP = Path(__file__).resolve().parents[2]
 IDENTITIES = ("=1+1", "+49", "-1", "@SUM(1)", "=HYPERLINK(1)", "'7", "007", "1e3", "TRUE")
-"""What a driver entered, of which a spreadsheet might make something else."""
+"""Entries of a driver that a spreadsheet might change."""
 AS_CSV = "csv:Text - txt - csv (StarCalc):44,34,76,1,,0,true,false,true,false,0"
 """Commas, UTF-8, texts in quotes, numbers as they are kept, formulas as formulas, the first sheet."""
 CELL = re.compile(r'"((?:[^"]|"")*)"|([^,\n]*)')

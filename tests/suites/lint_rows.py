@@ -63,7 +63,7 @@ def loa(lasts, more):
 
 
 def skipped(number, packet, text):
-    """A row of a packet that is skipped, read in Staff Responsible: with what a train of issue 2.3.0 does; none where it does nothing."""
+    """The row of a skipped packet that is read in Staff Responsible, with what a train of issue 2.3.0 does; None if it does nothing."""
     where = "/steps/4/telegram"
     found = [("advice", where, [f"packet {number} is skipped"])] + ([(45, where, ["group 1/7", f"packet {number} ", "read in SR", text])] if text else [])
     name = re.sub("[^a-z0-9]+", "_", f"skipped {packet}".lower())

@@ -19,7 +19,7 @@ from gaknifur.program import Failed  # noqa: E402
 from gaknifur.testing import measured_coverage  # noqa: E402
 
 SUITES = TOP / "suites"
-LEAST_ALONE, LEAST_MEMBERS = 45, 490
+LEAST_ONLY, LEAST_MEMBERS = 45, 490
 DROPPED = "packets_of_both_directions"
 
 
@@ -33,7 +33,7 @@ def missing(lost):
     return {f"{name}: {member}: no case reaches it, and there is no reason why" for name, member in lost}
 
 
-def alone(by_case):
+def only_reached(by_case):
     """The members that only one case reaches, by case, and the number of all members that are reached."""
     by = {}
     for case, sets in by_case.items():
@@ -112,10 +112,10 @@ def by_command(room, by_case, lost):
 
 def main(path):
     by_case = measured_coverage.read(Path(path))
-    lost, members = alone(by_case)
+    lost, members = only_reached(by_case)
     wrong = list(without_each(by_case, lost))
-    if len(lost) < LEAST_ALONE or members < LEAST_MEMBERS:
-        wrong.append(f"{len(lost)} cases alone reach something, and {members} members are reached")
+    if len(lost) < LEAST_ONLY or members < LEAST_MEMBERS:
+        wrong.append(f"{len(lost)} cases are the only ones to reach something, and {members} members are reached")
     with tempfile.TemporaryDirectory() as name:
         faults = list(planted(Path(name), by_case))
         wrong += [f"not said is \"{wanted}\" in \"{said}\"" for said, wanted in faults if wanted not in said]

@@ -41,7 +41,7 @@ BACKWARD = st.builds(lambda cm: {"drive": [-cm, 1_000]}, st.integers(1, 300))
 ACTION = st.builds(lambda action: {"driver": action}, st.sampled_from(random_lives.ACTIONS))
 HEARD = st.builds(lambda digits: {"telegram": digits}, st.sampled_from(AUTHORITIES + OTHERS))
 WAITS = st.just({"clock": None})
-# Lives in which all steps are as frequent stay near their beginning: forward drives prevail.
+# Forward movements are the most frequent: with equal frequencies a life would stay near its beginning.
 STEP = st.one_of(FORWARD, FORWARD, FORWARD, FORWARD, STANDS, STANDS, BACKWARD, ACTION, ACTION, HEARD, WAITS)
 READY = [{"driver": action} for action in ([1, "IC 704"], [4, 1], [3, 20_000, 160_000, 70, 0, 15], [6])]
 

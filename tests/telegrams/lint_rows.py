@@ -104,7 +104,7 @@ def as_key(pointer, wanted):
 
 
 def in_people(place):
-    """A pointer as it stands within a JSON string, a line's end by its code."""
+    """A pointer as it is written within a JSON string, with the code of a line break."""
     return json.dumps(place)[1:-1].replace("\\n", "\\u000a") or "scenario"
 
 
@@ -227,7 +227,7 @@ class Lints(Compared):
         return True
 
     def again(self, text, faults, names):
-        """Names that come again, in both forms; `etcs run` takes the text where it has no fault."""
+        """Repeated names, in both forms; `etcs run` accepts the text if it has no fault."""
         file = self.room / "again.json"
         file.write_text(text)
         status = 4 if faults or names else 0

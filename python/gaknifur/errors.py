@@ -55,8 +55,8 @@ def describe(error: BaseException) -> str:
     frames = traceback.extract_tb(error.__traceback__)
     own = [frame for frame in frames if "/gaknifur/" in frame.filename] or frames
     place = f" at {os.path.basename(own[-1].filename)}:{own[-1].lineno}" if own else ""
-    said = str(error).splitlines()
-    return f"{type(error).__name__}{': ' + said[0][:200] if said else ''}{place}"
+    lines = str(error).splitlines()
+    return f"{type(error).__name__}{': ' + lines[0][:200] if lines else ''}{place}"
 
 
 def caught(do: Callable[[], int]) -> int:

@@ -95,9 +95,9 @@ class Out:
     is_forced: bool = False
 
 
-def refused(path: Path, said: str) -> Failed:
+def refused(path: Path, reason: str) -> Failed:
     """The error for a file that isn't written."""
-    return Failed(f"{path}: {said}", REFUSED)
+    return Failed(f"{path}: {reason}", REFUSED)
 
 
 def status_of(path: Path) -> os.stat_result | None:

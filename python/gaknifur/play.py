@@ -78,7 +78,7 @@ def play(scenarios: Iterable[Mapping[str, Any]], *, slots: int = 16, outputs: Wh
         if feeder.error is not None:
             raise feeder.error
         errors.seek(0)
-        said = errors.read().decode(errors="replace").splitlines()
-    if said or status not in (WHOLE, REFUSED) or count != feeder.count:
-        raise Failed(said[-1].removeprefix("etcs_lab: ") if said else f"etcs_lab ended with status {status}, after {count} results",
+        messages = errors.read().decode(errors="replace").splitlines()
+    if messages or status not in (WHOLE, REFUSED) or count != feeder.count:
+        raise Failed(messages[-1].removeprefix("etcs_lab: ") if messages else f"etcs_lab ended with status {status}, after {count} results",
                      status if status > 0 else REFUSED)

@@ -29,8 +29,8 @@ of slots of an image that is copied."""
 class Failed(Exception):
     """Something can't be done: the message, in one line, and the exit status."""
 
-    def __init__(self, said: str, status: int) -> None:
-        super().__init__(said)
+    def __init__(self, message: str, status: int) -> None:
+        super().__init__(message)
         self.status = status
 
 
@@ -88,11 +88,11 @@ class Completed:
 
     status: int
     output: str
-    said: str
+    errors: str
 
     def last(self) -> str:
         """The last line that isn't empty."""
-        lines = [line.strip() for line in (self.said or self.output).splitlines() if line.strip()]
+        lines = [line.strip() for line in (self.errors or self.output).splitlines() if line.strip()]
         return lines[-1] if lines else f"status {self.status}"
 
 
@@ -147,7 +147,7 @@ class Ran:
 
     status: int
     output: bytes
-    said: bytes
+    errors: bytes
 
 
 def ran(words: Sequence[str]) -> Ran:
@@ -157,14 +157,14 @@ def ran(words: Sequence[str]) -> Ran:
     if not hasattr(os, "memfd_create"):  # (only Linux has it)
         done = subprocess.run(words, stdin=subprocess.DEVNULL, capture_output=True)
         return Ran(done.returncode, done.stdout, done.stderr)
-    output, said = memory_file("output"), memory_file("said")
+    output, errors = memory_file("output"), memory_file("errors")
     try:
         process = os.posix_spawnp(words[0], list(words), environment(), setsigdef=(signal.SIGPIPE, signal.SIGXFSZ), file_actions=(
-            (os.POSIX_SPAWN_OPEN, 0, os.devnull, os.O_RDONLY, 0), (os.POSIX_SPAWN_DUP2, output, 1), (os.POSIX_SPAWN_DUP2, said, 2)))
-        return Ran(ended(process), all_of(output), all_of(said))
+            (os.POSIX_SPAWN_OPEN, 0, os.devnull, os.O_RDONLY, 0), (os.POSIX_SPAWN_DUP2, output, 1), (os.POSIX_SPAWN_DUP2, errors, 2)))
+        return Ran(ended(process), all_of(output), all_of(errors))
     finally:
         os.close(output)
-        os.close(said)
+        os.close(errors)
 
 
 kept_environment: dict[bytes, bytes] | None = None
@@ -224,7 +224,7 @@ class Run:
         self.image = str(image.absolute())
         self.words = [find(), *words, "--", self.image, *more]
         self.status = -1
-        self.said: list[str] = []
+        self.messages: list[str] = []
 
     def lines(self) -> Generator[str, None, None]:
         """The lines of standard output."""
@@ -238,7 +238,7 @@ class Run:
             except OSError as error:
                 raise Failed(f"{self.words[0]}: {error.strerror}", DEVICE) from error
             errors.seek(0)
-            self.said = os.fsdecode(errors.read()).split("\n")[:-1]
+            self.messages = os.fsdecode(errors.read()).split("\n")[:-1]
 
     def all_text(self) -> str:
         """All of standard output at once, for a run with little output."""
@@ -246,7 +246,7 @@ class Run:
             done = ran(self.words)
         except OSError as error:
             raise Failed(f"{self.words[0]}: {error.strerror}", DEVICE) from error
-        self.status, self.said = done.status, os.fsdecode(done.said).split("\n")[:-1]
+        self.status, self.messages = done.status, os.fsdecode(done.errors).split("\n")[:-1]
         return done.output.decode(errors="replace")
 
     def all_lines(self) -> list[str]:
@@ -254,16 +254,16 @@ class Run:
         lines = self.all_text().split("\n")
         return lines if lines[-1] else lines[:-1]
 
-    def last_said(self) -> str:
+    def last_message(self) -> str:
         """The last line on standard error, without the program's name and the image."""
-        if not self.said:
+        if not self.messages:
             return f"etcs_lab ended with status {self.status}"
         escaped = self.image.translate({ord(sign): f"\\{sign}" for sign in "\\'\""})
-        return self.said[-1].removeprefix("etcs_lab: ").removeprefix(f"{escaped}: ")
+        return self.messages[-1].removeprefix("etcs_lab: ").removeprefix(f"{escaped}: ")
 
     def failed(self, image: Path) -> Failed:
         """The error for a run that failed."""
-        return Failed(f"{image}: {self.last_said()}", self.status if self.status > 0 else REFUSED)
+        return Failed(f"{image}: {self.last_message()}", self.status if self.status > 0 else REFUSED)
 
 
 def etcs(*words: str) -> tuple[int, list[str]]:
@@ -273,10 +273,10 @@ def etcs(*words: str) -> tuple[int, list[str]]:
         done = ran([path, *words])
     except OSError as error:
         raise Failed(f"{path}: {error.strerror}", DEVICE) from error
-    said = done.said.decode(errors="replace").splitlines()
+    messages = done.errors.decode(errors="replace").splitlines()
     printed = done.output.decode(errors="replace").splitlines()
     if not printed and (done.status < 0 or done.status > DEVICE):
-        raise Failed(f"etcs {words[0]} ended with status {done.status}{': ' + said[-1] if said else ''}", REFUSED)
+        raise Failed(f"etcs {words[0]} ended with status {done.status}{': ' + messages[-1] if messages else ''}", REFUSED)
     return done.status, printed
 
 

@@ -18,7 +18,7 @@ from .files import opened
 from .program import DEVICE, REFUSED, Failed
 
 NUMBER = re.compile(r"-?[0-9][0-9_]*(\.[0-9]+)?")
-MOST_BYTES, MOST_DEPTH, MOST_VALUES, MOST_DIGITS, MOST_SHOWN, MOST_SAID = 1 << 20, 64, 1 << 20, 28, 80, 4_000
+MOST_BYTES, MOST_DEPTH, MOST_VALUES, MOST_DIGITS, MOST_SHOWN, MOST_MESSAGE = 1 << 20, 64, 1 << 20, 28, 80, 4_000
 """The bounds of a file: its bytes, how deep lists and mappings are nested, and the number of its values, where each alias counts
 as what it refers to; the digits of a number; the length of a text that an error quotes, and of an error."""
 PLAIN_TAGS = {f"tag:yaml.org,2002:{name}" for name in
@@ -28,13 +28,13 @@ PLAIN_TAGS = {f"tag:yaml.org,2002:{name}" for name in
 class BadFile(Failed):
     """A value of a file isn't allowed at its place."""
 
-    def __init__(self, path: Path, line: int, column: int, said: str) -> None:
-        super().__init__(f"{path}:{line}:{column}: {on_a_line(said[:MOST_SAID])}", REFUSED)
+    def __init__(self, path: Path, line: int, column: int, message: str) -> None:
+        super().__init__(f"{path}:{line}:{column}: {on_a_line(message[:MOST_MESSAGE])}", REFUSED)
 
 
-def on_a_line(said: str) -> str:
+def on_a_line(message: str) -> str:
     """A text with line breaks and invisible characters escaped."""
-    return "".join(one if one.isprintable() else one.encode("unicode_escape").decode() for one in said)
+    return "".join(one if one.isprintable() else one.encode("unicode_escape").decode() for one in message)
 
 
 def shortened(text: str) -> str:
@@ -66,9 +66,9 @@ class Value:
         """The column where it begins, from 1 on."""
         return int(self.node.start_mark.column) + 1
 
-    def fault(self, said: str) -> BadFile:
+    def fault(self, message: str) -> BadFile:
         """An error at this place."""
-        return BadFile(self.path, self.line, self.column, said)
+        return BadFile(self.path, self.line, self.column, message)
 
     def inner(self, pointer: str) -> "Value":
         """The value at a JSON pointer; if there is none, the last one on the way."""
@@ -258,14 +258,14 @@ def text_of(path: Path) -> str:
         raise at_end_of(path, before, "this is no text in UTF-8") from error
 
 
-def at_end_of(path: Path, before: str, said: str) -> BadFile:
+def at_end_of(path: Path, before: str, message: str) -> BadFile:
     """An error after a text."""
-    return BadFile(path, before.count("\n") + 1, len(before) - before.rfind("\n"), said)
+    return BadFile(path, before.count("\n") + 1, len(before) - before.rfind("\n"), message)
 
 
-def at_mark(path: Path, mark: Any, said: object) -> BadFile:
+def at_mark(path: Path, mark: Any, message: object) -> BadFile:
     """An error in the YAML, at a mark of its reader."""
-    return BadFile(path, mark.line + 1 if mark else 1, mark.column + 1 if mark else 1, f"not YAML: {said}")
+    return BadFile(path, mark.line + 1 if mark else 1, mark.column + 1 if mark else 1, f"not YAML: {message}")
 
 
 def documents(path: Path) -> list[Value]:
@@ -280,11 +280,11 @@ def documents(path: Path) -> list[Value]:
     except yaml.MarkedYAMLError as error:
         raise at_mark(path, error.problem_mark or error.context_mark, error.problem or error.context) from error
     except yaml.reader.ReaderError as error:
-        said = f"not YAML: the character U+{ord(text[error.position]):04X} is not allowed"
-        raise at_end_of(path, text[:error.position], said) from error
+        message = f"not YAML: the character U+{ord(text[error.position]):04X} is not allowed"
+        raise at_end_of(path, text[:error.position], message) from error
     except (yaml.YAMLError, ValueError, OverflowError) as error:  # of a number that is no character's, among others
-        said = " ".join(str(error).split()) if isinstance(error, yaml.YAMLError) else "there is no such character"
-        raise at_mark(path, loader.get_mark() if loader else None, said) from error
+        message = " ".join(str(error).split()) if isinstance(error, yaml.YAMLError) else "there is no such character"
+        raise at_mark(path, loader.get_mark() if loader else None, message) from error
     sizes: dict[int, int] = {}
     for node in nodes:
         check(path, node, sizes)

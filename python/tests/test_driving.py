@@ -298,7 +298,7 @@ class Loops(unittest.TestCase):
         self.assertEqual(len(text), 1 + len(driven.rows))
 
     def test_faults_and_their_places(self) -> None:
-        for wrong, said in (
+        for wrong, message in (
                 (DRIVE.replace("service", "servise"), 'drive.yaml:9:35: "servise" is not allowed here; did you mean "service"?'),
                 (DRIVE.replace("0.6 m/s2", "0.6 m"), "drive.yaml:9:25: expected an acceleration, a number and cm/s2 or m/s2"),
                 (DRIVE.replace("limit", "limits"), 'drive.yaml:10:19: "limits" is not allowed here; did you mean "limit"?'),
@@ -316,7 +316,7 @@ class Loops(unittest.TestCase):
                 (DRIVE.replace("build_up: 1 s", "odometer: 5 %"), "drive.yaml:9:81: expected a number from 50 to 150 with %")):
             with self.assertRaises(Failed) as found:
                 self.written(wrong)
-            self.assertTrue(str(found.exception).removeprefix(f"{self.folder}/").startswith(said), f"{found.exception}\n{said}")
+            self.assertTrue(str(found.exception).removeprefix(f"{self.folder}/").startswith(message), f"{found.exception}\n{message}")
 
     def test_a_long_drive(self) -> None:
         """Its journal has the newest blocks alone, so that no case has such a drive."""
@@ -381,12 +381,12 @@ class Library(unittest.TestCase):
         """By what tools/library --unproved leaves in its file."""
         for mark, is_named in ((b"\0Gaknifur 0.1.0, commit 0123abc, unproved\0", True), (b"\0Gaknifur 0.1.0, commit 0123abc, proved\0", False),
                                (b"", False)):
-            with self.subTest(mark=mark), tempfile.TemporaryDirectory() as folder, contextlib.redirect_stderr(io.StringIO()) as said:
+            with self.subTest(mark=mark), tempfile.TemporaryDirectory() as folder, contextlib.redirect_stderr(io.StringIO()) as errors:
                 path = Path(folder, "libetcs_unit.so")
                 path.write_bytes(b"\x7fELF" + mark + b"\0")
                 with patch("gaknifur.simulation.closed_loop.library", lambda: SimpleNamespace(_name=str(path))):
                     closed_loop.check_library.__wrapped__()
-                self.assertEqual(said.getvalue(), f"lab: this run is unproved: {path} was compiled without proof\n" if is_named else "")
+                self.assertEqual(errors.getvalue(), f"lab: this run is unproved: {path} was compiled without proof\n" if is_named else "")
 
 
 if __name__ == "__main__":

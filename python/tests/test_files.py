@@ -51,10 +51,10 @@ class Room(unittest.TestCase):
         """What the folder has."""
         return sorted(path.name for path in self.room.iterdir())
 
-    def refuses(self, said: str, out: Out, *inputs: Path) -> None:
+    def refuses(self, message: str, out: Out, *inputs: Path) -> None:
         """A file isn't written, and nothing is left next to it."""
         before = self.names()
-        with self.assertRaisesRegex(Failed, said) as caught:
+        with self.assertRaisesRegex(Failed, message) as caught:
             files.write(out, b"new", inputs)
         self.assertEqual((caught.exception.status, self.names()), (REFUSED, before))
 
@@ -181,10 +181,10 @@ class Words(Room):
                 (self.room / "folder").mkdir(exist_ok=True)
                 forces: list[list[str]] = [[], ["--force"] if words[0] != "database" else []]
                 for force in forces:
-                    said = io.StringIO()
-                    with contextlib.redirect_stderr(said), patch("gaknifur.simulation.campaign_table.settings_of", dict):
+                    errors = io.StringIO()
+                    with contextlib.redirect_stderr(errors), patch("gaknifur.simulation.campaign_table.settings_of", dict):
                         self.assertEqual(main([*words, *force]), REFUSED, words)
-                    self.assertEqual(len(said.getvalue().splitlines()), 1)
+                    self.assertEqual(len(errors.getvalue().splitlines()), 1)
                     tried += 1
         self.assertEqual({name: (self.room / name).read_bytes() for name in before}, before)
         self.assertEqual((tried, self.names()), (4 * 6 * 2, sorted([*before, "folder"])))
@@ -307,9 +307,9 @@ class Inputs(Room):
         (self.room / "folder").mkdir()
         with socket.socket(socket.AF_UNIX) as bound:
             bound.bind(str(self.room / "socket"))
-            for name, said in (("folder", "is a folder, and a regular file"), ("/dev/null", "is a device, and"), ("socket", "No such device"),
+            for name, message in (("folder", "is a folder, and a regular file"), ("/dev/null", "is a device, and"), ("socket", "No such device"),
                                ("none", "No such file")):
-                with self.assertRaisesRegex(Failed, said) as caught:
+                with self.assertRaisesRegex(Failed, message) as caught:
                     files.opened(self.room / name)
                 self.assertEqual(caught.exception.status, DEVICE)
         with files.opened(self.file("a", b"text")) as file:

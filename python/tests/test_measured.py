@@ -128,13 +128,13 @@ class Floors(unittest.TestCase):
                          ["a: x 1: one reaches it, and there is a reason why none does"])
 
     def test_faults_have_their_places(self) -> None:
-        for text, said in (("floors: {c: 1}", 'measured.yaml:1:10: "c" is not allowed here'),
+        for text, message in (("floors: {c: 1}", 'measured.yaml:1:10: "c" is not allowed here'),
                            ("floors: {a: 4}", "measured.yaml:1:13: expected a whole number from 0 to 3"),
                            ("out_of_reach: {a: {'q*': why}}", 'measured.yaml:1:26: "q*" matches no member'),
                            ("floor: {a: 1}", 'did you mean \"floors\"?')):
             with self.assertRaises(Failed) as failure:
                 self.found(text)
-            self.assertIn(said, str(failure.exception))
+            self.assertIn(message, str(failure.exception))
 
     def test_the_text(self) -> None:
         found = self.found("floors: {a: 1}\nout_of_reach: {a: {y: so}}")

@@ -33,7 +33,7 @@ class Messages(unittest.TestCase):
     """What is a message, and what isn't."""
 
     def wrong(self, message: object, members: tuple[str, ...] = protocol.ANSWER) -> str:
-        """What is said of an answer that isn't one."""
+        """The error for an answer that is malformed."""
         with self.assertRaises(protocol.Wrong) as found:
             protocol.checked(message if isinstance(message, bytes) else line(message), 3, members)
         return str(found.exception)
@@ -222,10 +222,10 @@ greet("; ".join((tried(lambda: open(WRITTEN, "w")), tried(lambda: open(scratch +
             name = self.name(text.replace("WRITTEN", repr(f"{room}/made")))
             self.assertEqual(name, "Read-only file system; done; File too large; 1; True")
             self.assertEqual(list(Path(room).iterdir()), [])
-        for text, said in (("os.kill(os.getpid(), 11)", "it was ended by signal 11 (SIGSEGV)"), ("sys.exit(3)", "it ended with status 3")):
+        for text, message in (("os.kill(os.getpid(), 11)", "it was ended by signal 11 (SIGSEGV)"), ("sys.exit(3)", "it ended with status 3")):
             with self.unit(text) as unit, self.assertRaises(Broken) as found:
                 unit.greet("a")
-            self.assertEqual(str(found.exception), f"greeting: {said}")
+            self.assertEqual(str(found.exception), f"greeting: {message}")
         with self.assertRaises(Failed) as failed:
             OtherUnit("/nowhere/unit")
         self.assertIn("/nowhere/unit: No such file", str(failed.exception))
@@ -371,8 +371,8 @@ def back(cm: int) -> Json:
 class Records(unittest.TestCase):
     """Records that somebody has."""
 
-    def said(self, text: str) -> str:
-        """What is said of a file that holds no records."""
+    def error(self, text: str) -> str:
+        """The error for a file without records."""
         with tempfile.TemporaryDirectory() as room:
             path = Path(room) / "events"
             path.write_text(text, encoding="utf-8")
@@ -381,12 +381,12 @@ class Records(unittest.TestCase):
             return str(found.exception).removeprefix(f"{path}:")
 
     def test_faults(self) -> None:
-        self.assertIn("contains no record", self.said('{"image": {}}\n{"end": "done"}\n'))
-        self.assertIn("2:1: not JSON", self.said("{}\n{"))
-        self.assertIn("1:1: not an object", self.said("[]"))
-        self.assertIn("1:1: member life is missing", self.said('{"event": 1}'))
+        self.assertIn("contains no record", self.error('{"image": {}}\n{"end": "done"}\n'))
+        self.assertIn("2:1: not JSON", self.error("{}\n{"))
+        self.assertIn("1:1: not an object", self.error("[]"))
+        self.assertIn("1:1: member life is missing", self.error('{"event": 1}'))
         wrongs: list[Json] = [{"event": "1"}, {"limit_m_per_h": "40"}, {"indications": [1]}, {"decoded": []},
                               {"decoded": {"packets": [{}]}},
                               {"life": None}, {"place_cm": 1.5}]
         for wrong in wrongs:
-            self.assertIn("1:1: a value of this record", self.said(json.dumps(record(1) | wrong)), wrong)
+            self.assertIn("1:1: a value of this record", self.error(json.dumps(record(1) | wrong)), wrong)

@@ -49,9 +49,9 @@ class Reading(unittest.TestCase):
         self.says("events", [{"image": {}}, record(0), {"unreadable": {"block": 4}}, {"end": "done"}])
         self.says("why", [line(0, "none")])
 
-    def says(self, word: str, lines: list[object], status: int = 0, said: str = "") -> None:
+    def says(self, word: str, lines: list[object], status: int = 0, errors: str = "") -> None:
         """What the stand-in prints."""
-        for end, text in ((f".{word}", "".join(json.dumps(line) + "\n" for line in lines)), (f".{word}.said", said),
+        for end, text in ((f".{word}", "".join(json.dumps(line) + "\n" for line in lines)), (f".{word}.said", errors),
                           (f".{word}.status", str(status))):
             self.program.with_name(self.program.name + end).write_text(text)
 
@@ -120,10 +120,10 @@ class Reading(unittest.TestCase):
         self.assertEqual(len(read(self.image, is_own=True).records), 1)
 
     def test_no_json(self) -> None:
-        for text, said in (("event 1\n", "isn't JSON"), ('{"end": "done"}\n[1\n', "isn't JSON"), ('{"end": "done"}\n1\n', "isn't an object"),
+        for text, message in (("event 1\n", "isn't JSON"), ('{"end": "done"}\n[1\n', "isn't JSON"), ('{"end": "done"}\n1\n', "isn't an object"),
                            ('{"end": "done"}, {"end": "done"}\n', "isn't JSON"), ('[1\n2]\n', "isn't JSON")):
             self.program.with_name("etcs_lab.events").write_text(text)
-            self.assertRaisesRegex(Failed, said, self.read)
+            self.assertRaisesRegex(Failed, message, self.read)
 
 
 class Whole(unittest.TestCase):
@@ -142,8 +142,8 @@ class Whole(unittest.TestCase):
 
     def test_all_that_it_prints(self) -> None:
         done = self.ran('printf "%300000s" "$1"; printf "%200000s" "$2" 1>&2; exit 3')
-        self.assertEqual((done.status, len(done.output), len(done.said)), (3, 300_000, 200_000))
-        self.assertEqual((done.output[-6:], done.said[-7:]), (b" first", b" second"))
+        self.assertEqual((done.status, len(done.output), len(done.errors)), (3, 300_000, 200_000))
+        self.assertEqual((done.output[-6:], done.errors[-7:]), (b" first", b" second"))
         self.assertEqual(self.ran("echo $GAKNIFUR_A"), Ran(0, b"\n", b""))
         with patch.dict(os.environ, {"GAKNIFUR_A": "a"}):
             self.assertEqual(self.ran("echo $GAKNIFUR_A"), Ran(0, b"a\n", b""))
@@ -187,7 +187,7 @@ class Whole(unittest.TestCase):
     def test_streams_that_are_closed(self) -> None:
         self.ran("echo out; echo said 1>&2")
         asked = ("import sys; sys.path.insert(0, sys.argv[1]); from gaknifur.program import ran; done = ran([sys.argv[2]])\n"
-                 "open(sys.argv[2] + '.done', 'w').write(repr((done.status, done.output, done.said)))")
+                 "open(sys.argv[2] + '.done', 'w').write(repr((done.status, done.output, done.errors)))")
         for closes in ("", "<&-", ">&-", "<&- >&-", "<&- >&- 2>&-"):
             subprocess.run(["sh", "-c", f'exec "$0" -I -B -c "$1" "$2" "$3" {closes}', sys.executable, asked, str(TOP / "python"), str(self.path)],
                            check=True)

@@ -76,7 +76,7 @@ class Tables(unittest.TestCase):
             self.made(f"{head}a\t1\tODO\t5 m\t\nb\t1\tODO\t7 m\t\na\t2\tODO\t6 m\t\n", mapping)
 
     def test_faults(self) -> None:
-        for table, mapping, said in (
+        for table, mapping, message in (
                 ("No,Action\n", MAPPING, "no row has the column names"),
                 ("No,I/F,Action,Expected\n\"1", MAPPING, "not a UTF-8 table"),
                 ("", MAPPING.replace("(?P<way>", "(?P<way"), "not a regular expression"),
@@ -84,7 +84,7 @@ class Tables(unittest.TestCase):
                 ("", MAPPING.replace("left_out: why", "left_out: why, steps: [flush]"), "expected one of steps, left_out")):
             with self.assertRaises(Failed) as found:
                 self.made(table, mapping)
-            self.assertIn(said, str(found.exception))
+            self.assertIn(message, str(found.exception))
 
 
 class Workbooks(unittest.TestCase):

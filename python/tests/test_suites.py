@@ -1,4 +1,4 @@
-"""Scenarios and test cases in YAML: what they come to, and what is said of their faults."""
+"""Scenarios and test cases in YAML: how they are expanded, and the errors for their faults."""
 import json
 import re
 import tempfile
@@ -58,15 +58,15 @@ class InFiles(unittest.TestCase):
         self.path.write_text(text, encoding="utf-8")
         return self.path
 
-    def said(self, text: str, of_case: bool = False) -> str:
-        """What is said of a fault, without the file."""
+    def error(self, text: str, of_case: bool = False) -> str:
+        """The error for a text, without the file."""
         with self.assertRaises(Failed) as found:
             (cases.read if of_case else scenarios.read)(self.write(text))
         return str(found.exception).removeprefix(f"{self.path}:")
 
-    def said_of(self, expected: str) -> str:
-        """What is said of a case with this expected result."""
-        return self.said(CASE + f"  - {expected}\n", True)
+    def error_of(self, expected: str) -> str:
+        """The error for a case with this expected result."""
+        return self.error(CASE + f"  - {expected}\n", True)
 
 
 class Scenarios(InFiles):
@@ -89,7 +89,7 @@ steps: [{use: both}, {drive: 150.5 m at 36.5 km/h}, {confirm: running_number}, f
         self.assertEqual((built.events, built.marks), (2 + 6 + 1 + 1 + 1, {"m": 10}))
 
     def test_faults_and_their_places(self) -> None:
-        for text, said in (
+        for text, message in (
                 ("steps: [{dirve: 1 m}]", '1:10: "dirve" is not allowed here; did you mean "drive"?'),
                 ("steps:\n  - drive: 200 m", '2:12: expected a distance and a speed'),
                 ("steps:\n  - drive: 200 at 3 km/h", '2:12: expected a distance, a number and cm or m or km'),
@@ -107,7 +107,7 @@ steps: [{use: both}, {drive: 150.5 m at 36.5 km/h}, {confirm: running_number}, f
                 ("steps: [{telegram: xy}]", '1:20: no telegram is called "xy"'),
                 ("steps: [!!python/name:os.system x]", "1:9: the tag tag:yaml.org,2002:python/name:os.system is not allowed"),
                 ("steps: [", "1:9: not YAML")):
-            self.assertTrue(self.said(text).startswith(said), f"{text}\n{self.said(text)}\n{said}")
+            self.assertTrue(self.error(text).startswith(message), f"{text}\n{self.error(text)}\n{message}")
 
     def test_telegrams_are_compared(self) -> None:
         header = "telegram Q_UPDOWN=1 M_VERSION=16 Q_MEDIA=0 N_PIG=0 N_TOTAL=0 M_DUP=0 M_MCOUNT=255 NID_C=1 NID_BG=2 Q_LINK=1"
@@ -116,10 +116,10 @@ steps: [{use: both}, {drive: 150.5 m at 36.5 km/h}, {confirm: running_number}, f
         with patch("gaknifur.program.decode", return_value=[header, packet + "4", "end 129"]):
             self.assertEqual(scenarios.read(self.write(text)).steps, [{"telegram": RESTRICTION_DIGITS}])
         with patch("gaknifur.program.decode", return_value=[header, packet + "5", "end 129"]):
-            self.assertIn("1:16: etcs decode finds another telegram: packet 65", self.said(text))
+            self.assertIn("1:16: etcs decode finds another telegram: packet 65", self.error(text))
         with patch("gaknifur.program.decode", return_value=["refused 2 WrongLength"]):
-            self.assertIn("1:16: etcs decode says of this telegram: refused 2 WrongLength", self.said(text))
-            self.assertIn("was to be refused with 3 Spare", self.said(f"steps: [{{telegram: {{fields: '{RESTRICTION}', refused: 3 Spare}}}}]"))
+            self.assertIn("1:16: etcs decode says of this telegram: refused 2 WrongLength", self.error(text))
+            self.assertIn("was to be refused with 3 Spare", self.error(f"steps: [{{telegram: {{fields: '{RESTRICTION}', refused: 3 Spare}}}}]"))
 
     def test_a_telegram_of_an_installed_track(self) -> None:
         header = "telegram Q_UPDOWN=1 M_VERSION=16 Q_MEDIA=0 N_PIG=0 N_TOTAL=0 M_DUP=0 M_MCOUNT=255 NID_C=1 NID_BG=2 Q_LINK=1"
@@ -134,13 +134,13 @@ steps: [{use: both}, {drive: 150.5 m at 36.5 km/h}, {confirm: running_number}, f
             self.assertEqual(scenarios.read(self.write(text)).groups[0]["balises"], [handed])
             self.assertEqual([one.args for one in adapted.call_args_list], [(sent,), (sent,)])
         with patch("gaknifur.program.adapted", return_value=handed), patch("gaknifur.program.decode", return_value=[header, packet[:-1], "end"]):
-            self.assertIn("1:28: etcs decode finds another telegram: packet 3", self.said(by_name))
+            self.assertIn("1:28: etcs decode finds another telegram: packet 3", self.error(by_name))
         with patch("gaknifur.program.adapted", side_effect=Failed("has more than one packet 3", 1)):
-            self.assertIn("1:28: the telegram has more than one packet 3", self.said(by_name))
-        self.assertIn("1:20: nothing else is allowed next to `installed`", self.said("steps: [{telegram: {installed: 90, refused: 2}}]"))
-        self.assertIn("1:20: `fields` or `installed` is missing", self.said("steps: [{telegram: {refused: 2}}]"))
+            self.assertIn("1:28: the telegram has more than one packet 3", self.error(by_name))
+        self.assertIn("1:20: nothing else is allowed next to `installed`", self.error("steps: [{telegram: {installed: 90, refused: 2}}]"))
+        self.assertIn("1:20: `fields` or `installed` is missing", self.error("steps: [{telegram: {refused: 2}}]"))
         self.assertIn("1:32: packet 3: V_NVSHUNT is missing before V_NVSTFF",
-                      self.said(f"steps: [{{telegram: {{installed: '{OF_TRACK.replace('V_NVSHUNT 6, ', '')}'}}}}]"))
+                      self.error(f"steps: [{{telegram: {{installed: '{OF_TRACK.replace('V_NVSHUNT 6, ', '')}'}}}}]"))
 
 
 class Bounds(InFiles):
@@ -153,7 +153,7 @@ class Bounds(InFiles):
         laughs = "\n".join(f"a{n + 1}: &a{n + 1} [{', '.join([f'*a{n}'] * 10)}]" for n in range(9))
         long = "1" * 300_000
         begun = time.process_time()
-        for text, said in (
+        for text, wanted in (
                 ("steps: " + "[" * 100_000, "1:72: not YAML: it is more than 64 deep"),
                 ("\n".join(" " * deep + "a:" for deep in range(1_000)), "65:65: not YAML: it is more than 64 deep"),
                 ("steps: &a [start, *a]", "1:19: not YAML: *a holds itself"),
@@ -175,22 +175,22 @@ class Bounds(InFiles):
                 ('steps: ["a\\nb\\u202e"]', '1:9: "a\\nb\\u202e" is not allowed here'),
                 ("steps: [{" + "x" * 100_000 + "}]", '1:10: "xxxx'), ("", "1:1: the file is empty"),
                 ("steps: []\n---\nsteps: []", "3:1: expected one document, found 2")):
-            message = self.said(text)
-            self.assertTrue(message.startswith(said), f"{text[:80]}\n{message[:300]}\n{said}")
+            message = self.error(text)
+            self.assertTrue(message.startswith(wanted), f"{text[:80]}\n{message[:300]}\n{wanted}")
             self.assertEqual((len(message.splitlines()), len(message) < 500), (1, True), message[:300])
         self.assertLess(time.process_time() - begun, self.MOST_SECONDS)
 
     def test_steps_are_counted(self) -> None:
         text = "parts:\n  p0: [start]\n  p1: [" + ", ".join(["{use: p0}"] * 1_000) + "]\nsteps: [" + ", ".join(["{use: p1}"] * 50) + "]"
-        self.assertIn("a life has at most 100,000 steps, with each use of a part and each mark", self.said(text))
+        self.assertIn("a life has at most 100,000 steps, with each use of a part and each mark", self.error(text))
         self.assertEqual(len(scenarios.read(self.write(text.replace("steps: [{use: p1}, ", "steps: ["))).steps), 49_000)
 
     def test_of_a_case(self) -> None:
-        self.assertIn("not YAML: *m holds itself", self.said_of("{note: x, never: {mode: &m [*m]}}"))
-        self.assertIn("no such file", self.said(CASE.replace("{steps: [start, {mark: here}, flush]}", '{scenario: "a\\0.json"}'), True))
+        self.assertIn("not YAML: *m holds itself", self.error_of("{note: x, never: {mode: &m [*m]}}"))
+        self.assertIn("no such file", self.error(CASE.replace("{steps: [start, {mark: here}, flush]}", '{scenario: "a\\0.json"}'), True))
 
     def test_a_file_that_is_too_large_or_no_text(self) -> None:
-        self.assertIn("has more than 1,048,576 bytes", self.said("#" * (1 << 20) + "\nsteps: []"))
+        self.assertIn("has more than 1,048,576 bytes", self.error("#" * (1 << 20) + "\nsteps: []"))
         self.path.write_bytes(b"steps: [\n \"\xff\"]")
         with self.assertRaises(Failed) as found:
             scenarios.read(self.path)
@@ -201,7 +201,7 @@ class Bounds(InFiles):
         self.assertEqual(scenario.steps, [{"clock": 1000}, {"clock": 20}])
         # 1.666666666666666666666666667 * 60,000 is 100,000.00000000000000000000002
         for text in ("1.000000000000000000000000001 s", "1.666666666666666666666666667 min"):
-            self.assertIn("is not a whole number of ms", self.said(f"steps: [{{clock: {text}}}]"))
+            self.assertIn("is not a whole number of ms", self.error(f"steps: [{{clock: {text}}}]"))
 
     def test_a_chain_of_files(self) -> None:
         folder = self.path.parent
@@ -260,12 +260,12 @@ class Telegrams(unittest.TestCase):
                       "NID_C=2 NID_BG=4 ", telegram.lines()[1])
 
     def test_faults(self) -> None:
-        for text, said in (("NID_BG 2; 65: NID_TSR 7, L_TSR 50", "packet 65: D_TSR is missing before L_TSR"),
+        for text, message in (("NID_BG 2; 65: NID_TSR 7, L_TSR 50", "packet 65: D_TSR is missing before L_TSR"),
                            ("NID_BG 2; 65: NID_TSR 256, D_TSR 1, L_TSR 1, Q_FRONT 1, V_TSR 4", "NID_TSR has 8 bits, from 0 to 255"),
                            ("NID_BG 2; 66: NID_TSR 7, NID_TSR 8", "packet 66 has no NID_TSR there"),
                            ("NID_BG 2; 66: NID_TRS 7", "there is no variable NID_TRS; did you mean \"NID_TSR\"?"),
                            ("NID_C 2", "the header has no NID_BG"), ("NID_BG 2; V_MAIN 3", "\"V_MAIN 3\" begins with no number of a packet")):
-            with self.assertRaisesRegex(telegrams.Wrong, f"^{said}"):
+            with self.assertRaisesRegex(telegrams.Wrong, f"^{message}"):
                 telegrams.telegram(text).digits
 
 
@@ -273,7 +273,7 @@ class Cases(InFiles):
     """The words of a case."""
 
     def test_faults_and_their_places(self) -> None:
-        for expected, where, said in (
+        for expected, where, wanted in (
                 ("{note: x, at: {mode: FS}, expct: {mode: FS}}", "expct", '"expct" is not allowed here; did you mean "expect"?'),
                 ("{note: x, at: {mode: FS}, expect: {mode: SF, mode: FS}}", "mode: FS}}", '"mode" is given twice'),
                 ("{note: x, at: {mode: XX}, expect: {mode: FS}}", "XX", '"XX" is not allowed here'),
@@ -293,11 +293,11 @@ class Cases(InFiles):
                 ("{note: x, never: {level: 2}}", "2}", 'expected level 0, 1 or unknown, found "2"'),
                 ("{note: x, never: {level: {least: -1}}}", "-1", 'expected level 0, 1 or unknown, found "-1"'),
                 ("{note: x, sections: [9.1], never: {mode: SF}}", "9.1", '"9.1" is not a section of SUBSET-026')):
-            message, place = self.said_of(expected), f"8:{5 + expected.index(where)}: "
-            self.assertTrue(message.startswith(place + said), f"{expected}\n{message}\n{place}{said}")
+            message, place = self.error_of(expected), f"8:{5 + expected.index(where)}: "
+            self.assertTrue(message.startswith(place + wanted), f"{expected}\n{message}\n{place}{wanted}")
 
     def test_a_case_without_results(self) -> None:
-        self.assertIn("nothing is expected", self.said(CASE.replace("expected:\n", ""), True))
+        self.assertIn("nothing is expected", self.error(CASE.replace("expected:\n", ""), True))
 
     def test_what_stays_text(self) -> None:
         case, = cases.read(self.write(CASE + "  - {note: no, never: {mode: SF}}\n"))
@@ -384,10 +384,10 @@ class Coverage(InFiles):
     def test_what_is_missing(self) -> None:
         self.write(CASE.replace("[3.10]", "[3.8.1, 3.99]") + "  - {note: x, at: {mode: FS}, row: 2 from OS}\n")
         faults = "\n".join(coverage.matrix(self.path.parent).faults)
-        for said in ("3.99 is not a section of docs/explain/conformance.md", "3.8.3 has no case, and no reason why", "16 from SB has no case"):
-            self.assertIn(said, faults)
-        for said in ("3.8.1 has no case", "2 from OS has no case"):
-            self.assertNotIn(said, faults)
+        for message in ("3.99 is not a section of docs/explain/conformance.md", "3.8.3 has no case, and no reason why", "16 from SB has no case"):
+            self.assertIn(message, faults)
+        for message in ("3.8.1 has no case", "2 from OS has no case"):
+            self.assertNotIn(message, faults)
 
     def test_a_page_that_is_a_document(self) -> None:
         self.assertTrue(document(self.write("a: 1")).is_mapping())

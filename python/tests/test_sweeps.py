@@ -150,7 +150,7 @@ class Sweeps(unittest.TestCase):
 
     def test_faults_and_their_places(self) -> None:
         replaced: Callable[[str, str], str] = SWEEP.replace
-        for text, said in (
+        for text, message in (
                 (replaced("$speed km", "$sped km"), '3:58: no parameter is called $sped; did you mean "speed"? known: speed, way'),
                 (replaced("$speed km", "20 km"), "2:6: the parameter speed is used nowhere as $speed"),
                 (replaced("10..30 step 10", "30..10"), "2:29: expected a list of values, or a range such as 1..63"),
@@ -166,7 +166,7 @@ class Sweeps(unittest.TestCase):
                 (replaced("name: most", "name: way"), "5:3: `columns` needs at least one column"),
                 (replaced("count: {kind: odometer}", "count: {kind: wheel}"), '8:36: "wheel" is not allowed here'),
                 (replaced("[10, 20]", "[10, 20000]"), None)):
-            if said is None:
+            if message is None:
                 # What a later point makes wrong is reported with its place too.
                 sweep = self.read(text)
                 with self.assertRaisesRegex(Failed, '3:5[0-9]: "20000 m" is not between'):
@@ -174,7 +174,7 @@ class Sweeps(unittest.TestCase):
                 continue
             with self.assertRaises(Failed) as found:
                 self.read(text)
-            self.assertTrue(str(found.exception).removeprefix(f"{self.path}:").startswith(said), f"{found.exception}\n{said}")
+            self.assertTrue(str(found.exception).removeprefix(f"{self.path}:").startswith(message), f"{found.exception}\n{message}")
 
 
 if __name__ == "__main__":

@@ -89,11 +89,11 @@ class Written(unittest.TestCase):
 
     def test_a_part_without_a_record_is_no_report(self) -> None:
         sample = journal(record(0, "powerup"), record(1))
-        for extent, said in ((Extent(life=9), "of life 9"), (Extent(bound("5000")), "from 5000"), (Extent(None, bound("-1m")), "to -1m")):
+        for extent, message in ((Extent(life=9), "of life 9"), (Extent(bound("5000")), "from 5000"), (Extent(None, bound("-1m")), "to -1m")):
             with self.assertRaises(Failed) as found:
                 report.page(sample, extent)
             self.assertEqual((found.exception.status, str(found.exception)),
-                             (REFUSED, f"image: the journal has no record {said}; it has events 0 to 1, of life 1. Nothing was written."))
+                             (REFUSED, f"image: the journal has no record {message}; it has events 0 to 1, of life 1. Nothing was written."))
 
 
 class Interventions(unittest.TestCase):

@@ -70,21 +70,21 @@ class Order(unittest.TestCase):
     def test_wrong_words(self) -> None:
         for words in ("campaign F O.db more", "campaign --random 3", "table", "table I --al O.csv", "table I --all --damaged", "nothing I", "--all table I",
                       "", "test -x", "campaign O.db --random -1"):
-            with contextlib.redirect_stderr(io.StringIO()) as said:
-                self.assertEqual((main(words.split()), said.getvalue() == ""), (2, False), words)
+            with contextlib.redirect_stderr(io.StringIO()) as errors:
+                self.assertEqual((main(words.split()), errors.getvalue() == ""), (2, False), words)
 
 
 class Wrong(unittest.TestCase):
     """A wrong command or option is named, with the nearest right one; status 2."""
 
     def test_the_nearest_word(self) -> None:
-        for words, said in ((["reprot", "a", "b"], "lab: error: unknown command reprot; did you mean report?"),
+        for words, message in ((["reprot", "a", "b"], "lab: error: unknown command reprot; did you mean report?"),
                             (["zzz"], "lab: error: unknown command zzz; lab --help lists the commands"),
                             (["report", "a", "b", "--lfe", "3"], "lab report: error: unknown option --lfe; did you mean --life?"),
                             (["report", "a", "b", "--life", "x\n"], "lab report: error: invalid value for '--life': 'x\\n' is not a valid integer"),
                             (["report", "a", "b", "c"], "lab report: error: unexpected argument c")):
             with self.subTest(words=words), contextlib.redirect_stderr(io.StringIO()) as output:
-                self.assertEqual((main(words), output.getvalue().splitlines()[-1]), (2, said))
+                self.assertEqual((main(words), output.getvalue().splitlines()[-1]), (2, message))
 
     def test_help_is_natural(self) -> None:
         """Each command and option has a help text in the imperative or as a noun, without the words of the old dialect, and each command an example."""
@@ -186,22 +186,22 @@ class Names(unittest.TestCase):
     def test_of_parquet(self) -> None:
         with tempfile.TemporaryDirectory() as room:
             out = Path(room) / "out.parquet"
-            with contextlib.redirect_stderr(io.StringIO()) as said:
+            with contextlib.redirect_stderr(io.StringIO()) as errors:
                 self.assertEqual(main(["table", "image", str(out)]), 2)
-            self.assertIn("Parquet isn't supported", said.getvalue())
+            self.assertIn("Parquet isn't supported", errors.getvalue())
             self.assertFalse(out.exists())
 
 
 class Checks(unittest.TestCase):
     """`lab check` by a stand-in of etcs_lab."""
 
-    def check(self, status: int, printed: str, said: str, *words: str, events: Sequence[Json] = ()) -> tuple[int, str, str]:
+    def check(self, status: int, printed: str, message: str, *words: str, events: Sequence[Json] = ()) -> tuple[int, str, str]:
         """Status, standard output and standard error."""
         with tempfile.TemporaryDirectory() as room:
             program, image, listing = (Path(room) / name for name in ("etcs_lab", "image", "events"))
             listing.write_text("".join(json.dumps(one) + "\n" for one in events))
             program.write_text(f"#!/bin/sh\n[ $1 != events ] || exec cat {listing}\nprintf '%s' \"{printed}\"\n"
-                               + (f"echo \"{said}\" 1>&2\n" if said else "") + f"exit {status}\n")
+                               + (f"echo \"{message}\" 1>&2\n" if message else "") + f"exit {status}\n")
             program.chmod(0o755)
             out, errors = io.StringIO(), io.StringIO()
             with patch.dict(os.environ, {"GAKNIFUR_ETCS_LAB": str(program)}), contextlib.redirect_stdout(out), contextlib.redirect_stderr(errors):
@@ -210,8 +210,8 @@ class Checks(unittest.TestCase):
     def test_lines_and_status_are_handed_on(self) -> None:
         nothing = "plausibility: nothing implausible; 0 readings and 0 groups of 0 lives, 0 with moments; thresholds: "
         for status, printed in ((0, "one\ntwo\n"), (4, "the image is not whole\n")):
-            found, text, said = self.check(status, printed, "")
-            self.assertEqual((found, text[:len(printed + nothing)], said), (status, printed + nothing, ""))
+            found, text, errors = self.check(status, printed, "")
+            self.assertEqual((found, text[:len(printed + nothing)], errors), (status, printed + nothing, ""))
         self.assertTrue(self.check(0, "$*\n", "", "--json")[1].startswith("check --json -- /"))
 
     def test_what_is_implausible_has_a_status(self) -> None:

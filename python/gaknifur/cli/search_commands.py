@@ -42,8 +42,8 @@ def are_values(record: Json) -> bool:
 
 def record_of(path: Path, number: int, line: str) -> Json | None:
     """The record on a line; None if the line is no record."""
-    def fault(said: str) -> BadFile:
-        return BadFile(path, number, 1, said)
+    def fault(message: str) -> BadFile:
+        return BadFile(path, number, 1, message)
     try:
         record: Any = json.loads(line)
     except (ValueError, RecursionError):
@@ -185,7 +185,7 @@ def search(given: SimpleNamespace, progress: Progress) -> int:
         how = (f"Found by ./lab search {shown(given.yaml.name)} --seed {seed} --examples {given.examples}, "
                "and shrunk")
         text = searching.case_text(found, made, f"{plain(file.name)}_{name}", how)
-        print(f"broken: {one.note}: {found.steps} steps, {len(found.lives)} lives\n{indented(found.said)}", flush=True)
+        print(f"broken: {one.note}: {found.steps} steps, {len(found.lives)} lives\n{indented(found.message)}", flush=True)
         if given.keep:
             lives = found.lives
             print(f"  kept: {keep(given.keep, name, text, lambda path: searching.image_of(lives, path))}")

@@ -113,7 +113,7 @@ def write_outputs(data: Path) -> dict[str, Json]:
     for name, words in WORDS.items():
         text, run = output_of(words, data / IMAGE)
         (data / name).write_text(text, encoding="utf-8")
-        runs[name] = {"words": " ".join(words), "status": run.status, "said": run.last_said() if run.said else None}
+        runs[name] = {"words": " ".join(words), "status": run.status, "said": run.last_message() if run.messages else None}
     (data / PARTS).write_text(parts_text(data), encoding="utf-8")
     return runs
 
@@ -307,15 +307,15 @@ def check_tools(seal: Json, found: Verification) -> None:
 def check_signed_by(seal: Json, signatures: dict[str, signing.Signature], found: Verification) -> None:
     """Checks that the signatures are those that `seal.json` lists."""
     for kind, seen in signatures.items():
-        said = [one["key"] for one in seal["signed_by"] if one["kind"] == kind]
+        listed = [one["key"] for one in seal["signed_by"] if one["kind"] == kind]
         if seen.fault:
             continue
-        if seen.is_there and not said:
+        if seen.is_there and not listed:
             found.faults.append(f"{seen.name}: {SEAL} lists no such signature")
-        elif said and not seen.is_there:
-            found.faults.append(f"{seen.name}: is missing; {SEAL} lists a signature by {said[0]}")
-        elif seen.key and seen.key not in said:
-            found.faults.append(f"{seen.name}: is by the key {seen.key}, and {SEAL} lists {said[0]}")
+        elif listed and not seen.is_there:
+            found.faults.append(f"{seen.name}: is missing; {SEAL} lists a signature by {listed[0]}")
+        elif seen.key and seen.key not in listed:
+            found.faults.append(f"{seen.name}: is by the key {seen.key}, and {SEAL} lists {listed[0]}")
 
 
 def vouched(signatures: dict[str, signing.Signature], stamp: signing.Stamp, trust: signing.Trust, found: Verification) -> bool:

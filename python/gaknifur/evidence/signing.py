@@ -114,7 +114,7 @@ def ssh_signature(folder: Path, trust: Trust) -> Signature:
 def check_ssh(found: Signature, path: Path, data: bytes, trust: Trust) -> None:
     """Adds the result of ssh-keygen for a signature of some bytes."""
     done = tool("ssh-keygen", "-Y", "check-novalidate", "-n", NAMESPACE, "-s", path, given=data)
-    key = FINGERPRINT.search(done.output + done.said)
+    key = FINGERPRINT.search(done.output + done.errors)
     if done.status or not key:
         found.fault = "is not a signature of this bag"
         return

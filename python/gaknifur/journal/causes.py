@@ -103,8 +103,8 @@ class Trip:
         """Why the train was tripped, as text."""
         if self.cause is None:
             return TRIP_BEFORE
-        says, section = TRIP_CAUSES.get(self.cause, (self.cause, "?"))
-        return f"{says} (event {self.event}, {section})"
+        text, section = TRIP_CAUSES.get(self.cause, (self.cause, "?"))
+        return f"{text} (event {self.event}, {section})"
 
 
 def trip_of(line: Json) -> Trip | None:

@@ -17,7 +17,7 @@ class Bound:
 
     column: str
     value: int
-    said: str
+    text: str
 
 
 def bound(text: str) -> Bound:
@@ -44,8 +44,8 @@ class Extent:
 
     def text(self) -> str:
         """The text on a page."""
-        parts = [f"from {self.first.said}"] if self.first else []
-        parts += [f"to {self.last.said}"] if self.last else []
+        parts = [f"from {self.first.text}"] if self.first else []
+        parts += [f"to {self.last.text}"] if self.last else []
         return " ".join(parts + ([f"of life {self.life}"] if self.life is not None else []))
 
     def take(self, table: pd.DataFrame) -> pd.DataFrame:

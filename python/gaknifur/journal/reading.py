@@ -270,7 +270,7 @@ def read_events(journal: Journal, other_blocks: bool, strays: bool, progress: Pr
 
     run = objects(listing(other_blocks, strays), journal.path, step)
     if run.status == REFUSED and not journal.records:
-        journal.refusal = run.last_said()
+        journal.refusal = run.last_message()
     elif run.status not in (WHOLE, NOT_WHOLE):
         raise run.failed(journal.path)
     elif not ended:
@@ -287,7 +287,7 @@ def read_why(journal: Journal, progress: Progress) -> None:
 
     run = objects(["why", "--json"], journal.path, step)
     if run.status == REFUSED and not journal.why:
-        journal.why_refusal = run.last_said()
+        journal.why_refusal = run.last_message()
     elif run.status not in (WHOLE, NOT_WHOLE):
         raise run.failed(journal.path)
 

@@ -36,11 +36,11 @@ def faults(journal: Journal) -> list[str]:
 def size_text(journal: Journal) -> str:
     """The text for a file that has another number of slots than its first sector says; empty for others."""
     first = journal.image.get("first_sector", {})
-    says, has = first.get("slots"), first.get("size_slots")
-    if says is None or says == has:
+    recorded, has = first.get("slots"), first.get("size_slots")
+    if recorded is None or recorded == has:
         return ""
     size = "no whole number of slots" if has is None else f"{has:,} slots"
-    return (f": the file has {size}, and its first sector says {says:,}, so a power-up and an examination accept no journal in it; "
+    return (f": the file has {size}, and its first sector says {recorded:,}, so a power-up and an examination accept no journal in it; "
             "the records are those of each readable slot")
 
 

@@ -56,8 +56,8 @@ class Table:
         except sqlite3.Error as error:
             self.connection.close()
             is_busy = error.sqlite_errorcode == sqlite3.SQLITE_BUSY
-            said = "another program is writing to it; wait for its end, or name another file" if is_busy else error
-            raise Failed(f"{self.path}: {said}", DEVICE) from error
+            reason = "another program is writing to it; wait for its end, or name another file" if is_busy else error
+            raise Failed(f"{self.path}: {reason}", DEVICE) from error
 
     def has_rows(self) -> bool:
         """Whether any job was run already."""

@@ -43,20 +43,20 @@ class Line:
     life: int | None
     pointer: str
     at: Value | None
-    said: Json
+    members: Json
     text: str
 
     @property
     def item(self) -> str:
         """The item that a case can list under `shows`."""
-        return str(self.said["safety"]) if "safety" in self.said else cases.ADVICE
+        return str(self.members["safety"]) if "safety" in self.members else cases.ADVICE
 
     @property
     def place(self) -> Json:
         """File, line and column."""
         if self.at:
             return {"file": str(self.at.path), "line": self.at.line, "column": self.at.column}
-        return {"file": str(self.subject.path), "line": self.said.get("line"), "column": self.said.get("column")}
+        return {"file": str(self.subject.path), "line": self.members.get("line"), "column": self.members.get("column")}
 
     def as_text(self) -> str:
         """The line as text."""
@@ -67,7 +67,7 @@ class Line:
     def as_json(self) -> str:
         """The line as a JSON object."""
         place = self.place | {"case": self.subject.case, "life": self.life, "pointer": self.pointer}
-        return json.dumps(place | {name: value for name, value in self.said.items() if name not in place}, ensure_ascii=False)
+        return json.dumps(place | {name: value for name, value in self.members.items() if name not in place}, ensure_ascii=False)
 
 
 # ---- where
@@ -131,8 +131,8 @@ UNACCEPTED, UNREACHED = "the kernel doesn't accept the action", "no drive leads 
 
 def is_of_a_fresh_life(line: Json, life: Life, number: int) -> bool:
     """Whether advice may be wrong here: it holds only for a first life that ends with its steps."""
-    said = str(line.get("advice", ""))
-    return number > 1 and said.startswith(UNACCEPTED) or life.drive is not None and said.startswith(UNREACHED)
+    text = str(line.get("advice", ""))
+    return number > 1 and text.startswith(UNACCEPTED) or life.drive is not None and text.startswith(UNREACHED)
 
 
 # ---- judging
@@ -174,8 +174,8 @@ def safety_of(subject: Subject, lives: list[Life]) -> Iterator[Line]:
         walked = walk(events, kept)
         kept = walked.known[-1] if walked.known else kept
         for found in track_checks.findings(Judged(walked, life.drive)):
-            said = {"safety": found.safety, "found": found.found, "do": found.do}
-            yield Line(subject, number if subject.case else None, found.pointer, located(life, found.pointer), said,
+            members = {"safety": found.safety, "found": found.found, "do": found.do}
+            yield Line(subject, number if subject.case else None, found.pointer, located(life, found.pointer), members,
                        finding_text(found))
 
 
@@ -185,8 +185,8 @@ def kept_lines(subject: Subject, lines: list[Line]) -> Iterator[Line]:
     yield from (line for line in lines if not subject.is_meant(line.item))
     for one in subject.shows:
         if one.text() not in there:
-            said = f"`shows` lists {one.text()}, and it isn't found"
-            yield Line(subject, None, "", one, {"shows": one.text(), "found": said, "do": "remove the item"}, said)
+            text = f"`shows` lists {one.text()}, and it isn't found"
+            yield Line(subject, None, "", one, {"shows": one.text(), "found": text, "do": "remove the item"}, text)
 
 
 # ---- subjects

@@ -42,8 +42,8 @@ class Property:
 class Violated(Exception):
     """A record breaks a property: its index, and the message."""
 
-    def __init__(self, index: int, said: str) -> None:
-        super().__init__(said)
+    def __init__(self, index: int, message: str) -> None:
+        super().__init__(message)
         self.index = index
 
 

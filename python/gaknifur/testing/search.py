@@ -48,7 +48,7 @@ class Found:
     judged: int = 0
     lives: Lives | None = None
     record: Json | None = None
-    said: str = ""
+    message: str = ""
 
     @property
     def steps(self) -> int:
@@ -147,7 +147,7 @@ class Search:
         try:
             properties.judge(self.of, records)
         except Violated as violated:
-            self.found.lives, self.found.record, self.found.said = scenarios, records[violated.index], str(violated)
+            self.found.lives, self.found.record, self.found.message = scenarios, records[violated.index], str(violated)
         return self.found
 
 

@@ -16,10 +16,10 @@ class Missed(Exception):
         super().__init__(f"expected: {wanted}\nfound:    {found}" + (f"\nrecord:   {record_text(record)}" if record else ""))
 
     @classmethod
-    def of(cls, said: str) -> "Missed":
+    def of(cls, message: str) -> "Missed":
         """One with a complete message."""
         missed = cls("", "")
-        missed.args = (said,)
+        missed.args = (message,)
         return missed
 
 

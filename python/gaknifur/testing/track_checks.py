@@ -541,12 +541,12 @@ def other_versions(judged: Judged) -> Iterator[Finding]:
         if not is_refused(event.record) or event.record["decoded"]["refused"]["number"] != WRONG_VERSION:
             continue
         version = int(event.record["telegram"][:2], 16) % 128
-        said = f"the telegram has M_VERSION {version}, version {version // 16}.{version % 16}; it is refused and has no effect"
+        text = f"the telegram has M_VERSION {version}, version {version // 16}.{version % 16}; it is refused and has no effect"
         if version // 16 == 1:
-            yield Finding(40, event.pointer, f"{said}, and a train of issue 2.3.0 uses it",
+            yield Finding(40, event.pointer, f"{text}, and a train of issue 2.3.0 uses it",
                           "send M_VERSION 16, or announce each such group with a reaction")
         elif version // 16 > 1:
-            yield Finding(40, event.pointer, f"{said}, and a train of issue 2.3.0 trips",
+            yield Finding(40, event.pointer, f"{text}, and a train of issue 2.3.0 trips",
                           "announce the first such groups with Q_LINKREACTION 0")
 
 

@@ -80,10 +80,10 @@ class Line:
 
 def stretch(life: int, first: int, last: int, is_compared: bool) -> Line:
     """The line for events that agree, or that follow a difference."""
-    said = "agree" if is_compared else "aren't compared: they follow an answer that differs"
+    verdict = "agree" if is_compared else "aren't compared: they follow an answer that differs"
     found = {"life": life, "first_event": first, "last_event": last, "against": "agrees" if is_compared
             else "not_compared"}
-    return Line(f"life {life} events {first}..{last} {said}",
+    return Line(f"life {life} events {first}..{last} {verdict}",
                 found | ({} if is_compared else {"reason": "after_difference"}))
 
 

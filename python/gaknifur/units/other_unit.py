@@ -21,7 +21,7 @@ from .sandbox import Confined
 
 WITHIN_S = 10.0
 """The default time limit of a unit for an answer."""
-MOST_SAID, MOST_READS, LOOK_S = 4_096, 64, 0.001
+MOST_ERRORS, MOST_READS, LOOK_S = 4_096, 64, 0.001
 """The bytes of standard error that are kept, the most reads of a stream that has ended or is given up, and the interval at which
 the end of a process is checked."""
 
@@ -29,8 +29,8 @@ the end of a process is checked."""
 class Broken(Exception):
     """A unit broke the protocol: the message, and the number of answers before it."""
 
-    def __init__(self, said: str, answers: int) -> None:
-        super().__init__(said)
+    def __init__(self, message: str, answers: int) -> None:
+        super().__init__(message)
         self.answers = answers
 
 
@@ -52,7 +52,7 @@ class Streams:
     def __init__(self, process: "subprocess.Popen[bytes]") -> None:
         assert process.stdin is not None and process.stdout is not None and process.stderr is not None
         self.into, self.out, self.errors = process.stdin, process.stdout, process.stderr
-        self.unsent, self.received, self.last_said = b"", b"", b""
+        self.unsent, self.received, self.last_errors = b"", b"", b""
         self.is_at_end = False
         self.ready = selectors.DefaultSelector()
         for stream in (self.into, self.out, self.errors):
@@ -98,7 +98,7 @@ class Streams:
             data = os.read(self.errors.fileno(), MOST_LINE)
         except BlockingIOError:
             return False
-        self.last_said = (self.last_said + data)[-MOST_SAID:]
+        self.last_errors = (self.last_errors + data)[-MOST_ERRORS:]
         if not data:
             self.ready.unregister(self.errors)
         return bool(data)
@@ -107,7 +107,7 @@ class Streams:
         """The last line on standard error that isn't empty."""
         if self.errors in self.ready.get_map():
             any(not self.listen() for _ in range(MOST_READS))
-        lines = [line for line in self.last_said.decode("utf-8", "replace").splitlines() if line.strip()]
+        lines = [line for line in self.last_errors.decode("utf-8", "replace").splitlines() if line.strip()]
         return lines[-1] if lines else None
 
     def close_input(self) -> None:
@@ -151,10 +151,10 @@ class OtherUnit:
 
     # ---- lines
 
-    def broken(self, said: str) -> Broken:
+    def broken(self, problem: str) -> Broken:
         """An error with the last line that the unit wrote on standard error."""
         line = self.streams.last_line()
-        return Broken(said if line is None else f"{said}; it said: {short(line)}", self.answers)
+        return Broken(problem if line is None else f"{problem}; it said: {short(line)}", self.answers)
 
     def unrequested(self, where: str) -> Broken:
         """The error for a line that isn't an answer."""
@@ -185,11 +185,11 @@ class OtherUnit:
                 streams.received = rest
                 return line
             if streams.is_at_end and not end:
-                said = "a line without its end, and then it" if line else "it"
-                raise self.broken(f"{where}: {said} {self.ended(deadline)}")
+                subject = "a line without its end, and then it" if line else "it"
+                raise self.broken(f"{where}: {subject} {self.ended(deadline)}")
             if not streams.move(deadline):
-                said = "it doesn't read its input, and has not taken the message" if streams.unsent else "no answer"
-                raise self.broken(f"{where}: {said} within {self.within_s:g} s")
+                problem = "it doesn't read its input, and has not taken the message" if streams.unsent else "no answer"
+                raise self.broken(f"{where}: {problem} within {self.within_s:g} s")
 
     # ---- the protocol
 

@@ -121,8 +121,8 @@ def serve(into: BinaryIO, out: BinaryIO) -> None:
             try:
                 answer = answered(own, line, number == 0)
             except (protocol.Wrong, unit.Refused, KeyError, TypeError, ValueError) as error:
-                said = f"{error} is missing or unknown" if isinstance(error, KeyError) else str(error)
-                raise Failed(f"serve: line {number + 1}: {said}", REFUSED) from error
+                reason = f"{error} is missing or unknown" if isinstance(error, KeyError) else str(error)
+                raise Failed(f"serve: line {number + 1}: {reason}", REFUSED) from error
             out.write(protocol.line_of(answer).encode())
             out.flush()
     finally:

@@ -193,7 +193,7 @@ def in_words(pairs, upto):
     for path, image in zip(pairs.paths, (upto[6], upto[7])):
         path.write_bytes(image)
     text, said, status = run(lab, ["diff", *pairs.paths])
-    lines = ["A a slots 4 blocks 3..6", "B b slots 4 blocks 4..7", "in both 4..6", "in A alone 3", "in B alone 7",
+    lines = ["A a slots 4 blocks 3..6", "B b slots 4 blocks 4..7", "in both 4..6", "only in A 3", "only in B 7",
              "continues: B continues A: what both hold is the same, and B has more after it"]
     pairs.same("text", (text.splitlines(), said, status), (lines, "", 0))
     text, said, status = run(lab, ["diff", "--json", *reversed(pairs.paths)])

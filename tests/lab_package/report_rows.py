@@ -100,11 +100,11 @@ def damaged(rows):
     at = 512 * (1 + 6 * 2) + 1024 + 16
     (rows.room / "byte").write_bytes(image[:at] + b"\xff" + image[at + 1:])
     lost = "lab: byte: something is lost, damaged or contradicts"
-    rows.page("byte", charts=1, said=lost, text=["7 records of blocks that are damaged or in a wrong slot spell an event", "damaged27936", "block 2 can't be read", "Lost: block 2, with events 1 to 8", "Cause not known: blocks or events are missing before."])
+    rows.page("byte", charts=1, said=lost, text=["7 records of blocks that are damaged or in a wrong slot have the form of an event", "damaged27936", "block 2 can't be read", "Lost: block 2, with events 1 to 8", "Cause not known: blocks or events are missing before."])
     (rows.room / "newest").write_bytes(image[:512 * (1 + 6 * 3) + 1024 + 16] + b"\xff" + image[512 * (1 + 6 * 3) + 1024 + 17:])
     rows.page("newest", charts=0, said="lab: newest: something is lost, damaged or contradicts", text=["block 3 can't be read"])
     (rows.room / "short").write_bytes(image[:-512])
-    short = ("lab: short: something is lost, damaged or contradicts: the file has no whole number of slots, and its first sector says 16. "
+    short = ("lab: short: something is lost, damaged or contradicts: the file has no whole number of slots, and its first sector says 16, "
              "so a power-up and an examination accept no journal in it; the records are those of each readable slot")
     rows.page("short", charts=EXAMPLES["trip"], said=short)
     rows.run("format", "empty", 4)

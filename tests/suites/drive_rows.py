@@ -94,8 +94,8 @@ class Driven(Compared):
         table = [line.split(",") for line in rows.read_text().splitlines()]
         outputs = {int(found[1]): found for found in map(case_runner.RELEASED.fullmatch, printed) if found}
         for row in table[1:]:
-            output = outputs[int(row[2])]
-            self.same(f"{path.name}: {row}", (row[5], row[7], row[8]), (output[5], output[4], output[2]))
+            answer = outputs[int(row[2])]
+            self.same(f"{path.name}: {row}", (row[5], row[7], row[8]), (answer[5], answer[4], answer[2]))
         self.same(f"{path.name}: the picture", picture.read_text().count("<svg"), 1)
         self.same(f"{path.name}: output", len(output.splitlines()) >= 3 and "end of authority is at" in output.splitlines()[-1], True)
 

@@ -114,7 +114,7 @@ ROWS = [
     ("a_gap_between_areas", [(8, "/steps/0/telegram", ["150 m are left, from 150 m on"])], areas(50, 200), "D_MAMODE 200", "D_MAMODE 50"),
     ("shunting_over_a_restriction", [(8, "/steps/4/telegram", ["restriction 1 of 20 km/h", "30 km/h"])],
      "{steps: [use: shunting, {telegram: \"NID_BG 7; 65: NID_TSR 1, D_TSR 0, L_TSR 50, Q_FRONT 1, V_TSR 4\"}]}", "V_TSR 4", "V_TSR 6"),
-    ("shunting_with_a_slow_train", [(8, "/steps/3/driver", ["a train of 25 km/h", "30 km/h"])],
+    ("shunting_with_a_slow_train", [(8, "/steps/3/driver", ["maximum speed of 25 km/h", "30 km/h"])],
      "{steps: [choose_level: 1, enter_identity: A, enter_train_data: {length: 200 m, maximum: 25 km/h, deceleration: 0.7 m/s2}, choose_shunting]}",
      "25 km/h", "30 km/h"),
     ("an_override_without_end", [(9, "/steps/4/telegram", ["T_NVOVTRP 255 of group 1/7"])],
@@ -237,7 +237,7 @@ ROWS = [
      f'{{steps: [use: staff, {{telegram: "91{RESTRICTION}"}}]}}', f"91{RESTRICTION}", f"90{RESTRICTION}"),
     ("version_2_0", [("advice", "/steps/4/telegram", ["5 WrongVersion"]), (40, "/steps/4/telegram", ["M_VERSION 32, version 2.0", "2.3.0 trips"])],
      f'{{steps: [use: staff, {{telegram: "A0{RESTRICTION}"}}]}}', f"A0{RESTRICTION}", f"90{RESTRICTION}"),
-    ("a_group_of_unknown_identity", [(40, "/steps/0/telegram", ["group 1/2", "NID_BG 16383 at 100 m", "Q_LINKREACTION 1 comes"])],
+    ("a_group_of_unknown_identity", [(40, "/steps/0/telegram", ["group 1/2", "NID_BG 16383 at 100 m", "Q_LINKREACTION 1 is applied"])],
      f"{{steps: [{full(f'; 5: {link(16383, 100)}', 1500)}]}}", "NID_BG 16383", "NID_BG 3"),
     *(skipped(number, packet, text) for number, packet, text in (
         (16, "16: L_SECTION 50", "takes L_SECTION from this group on"),

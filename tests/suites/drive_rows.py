@@ -106,7 +106,7 @@ class Driven(Compared):
         for words, status, said in ((["drive", none], 1, "has no `drive`"), (["drive", self.room / "nothing.yaml"], 3, "No such file"),
                                     (["drive", kept, "--picture", self.room / "x.gif"], 2, "--picture: the file name has to end in .svg or .png"),
                                     (["drive", kept, "--build-up", "2 m"], 1, "--build-up: expected a time"),
-                                    (["build", kept], 1, "lab drive has --scenario"),
+                                    (["build", kept], 1, "use lab drive --scenario"),
                                     (["drive", kept, "--image", self.room], 1, "isn't a regular file"),
                                     (["drive", kept, "--image", kept], 1, "is a file that is read here"),
                                     (["drive", kept, "--image", none], 1, "the unit answers 2 OPEN_NOT_FORMATTED"),

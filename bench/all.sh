@@ -1,21 +1,28 @@
 #!/bin/bash
-# Runs the scripts of bench/, one after another, and prints each row that they print with the numbers that bench/figures.txt keeps of an earlier
-# run after it. What the builds have to say goes to bench/out/said. With UNPROVED=yes the parts that know it compile the product without a
-# proof (bench/unproved): their rows are kept apart.
+# Run the scripts of bench/ one after another, and print each row next to the numbers that bench/figures.txt keeps from an
+# earlier run.
 #
-#     bench/all.sh [--keep] [PART..]    the parts: measure kernel blocks journal onboard rows run program worst mixed; with --keep the new rows are kept
+#     bench/all.sh [--keep] [PART..]    PART is one of measure kernel blocks journal onboard rows run program worst mixed
+#                                       (default: all); --keep keeps the new rows
+#     bench/all.sh --help               print this
+#
+# The output of the builds goes to bench/out/said. With UNPROVED=yes the parts that support it compile the product without a
+# proof (bench/unproved); their rows are kept apart.
 top=$(cd "$(dirname "$(readlink -f -- "$0")")/.." && pwd) || exit 1
+. "$top/bench/usage"
 out=$top/bench/out
 mkdir -p "$out/printed"
 keep=
 [ "${1:-}" != --keep ] || { keep=--keep; shift; }
-[ $# -gt 0 ] || set -- measure kernel blocks journal onboard rows run program worst mixed
+parts="measure kernel blocks journal onboard rows run program worst mixed"
+# shellcheck disable=SC2086
+[ $# -gt 0 ] || set -- $parts
+for part in "$@"; do case " $parts " in *" $part "*) ;; *) wrong "$part" ;; esac; done
 : >"$out/said"
 status=0
 for part in "$@"; do
     words=()
     [ "$part" != kernel ] || words=(200 200)
-    [ -x "$top/bench/$part.sh" ] || { echo "there is no part $part"; exit 2; }
     "$top/bench/$part.sh" "${words[@]}" >"$out/printed/$part" 2>>"$out/said" || { echo "$part: failed, see $out/said"; status=1; rm -f "$out/printed/$part"; }
 done
 python3 -I - "$top/bench/figures.txt" "$out/printed" "$keep" "$@" <<'P' || status=1
@@ -40,13 +47,13 @@ def read():
 
 def shape(line):
     """The text of a row without its numbers at the end, or without any where it ends otherwise."""
-    told = re.sub(r"(\s+\d[\d.]*)+\s*$", "", line)
-    return told if told != line else NUMBER.sub("#", line)
+    text = re.sub(r"(\s+\d[\d.]*)+\s*$", "", line)
+    return text if text != line else NUMBER.sub("#", line)
 
 
 def numbers(line):
-    told = re.search(r"((\s+\d[\d.]*)+)\s*$", line)
-    return told[1].split() if told else NUMBER.findall(line)
+    match = re.search(r"((\s+\d[\d.]*)+)\s*$", line)
+    return match[1].split() if match else NUMBER.findall(line)
 
 
 before = read()

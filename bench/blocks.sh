@@ -1,12 +1,15 @@
 #!/bin/sh
-# Prints the instructions of a block of eight records in format 3 that is written (into an array; and into a writer that
-# is there, as a commit of the journal does it) and read, and of the number in a slot, and along with each those of the same
-# in plain C: what callgrind counts for twice as many runs less what it counts for so many, by so many. Builds what it
-# needs first; what the builds have to say goes to standard error.
+# Print the instructions of a block of eight records in format 3 that is written (into an array; and into an existing writer,
+# as a commit of the journal does it) and read, and of the number in a slot, next to those of the same in plain C.
 #
-#     bench/blocks.sh [RUNS]
+#     bench/blocks.sh [RUNS]    count RUNS and twice as many runs by callgrind, and divide the difference by RUNS (default: 1000)
+#     bench/blocks.sh --help    print this
+#
+# It builds what it needs first; the output of the builds goes to standard error.
 set -e
 top=$(cd "$(dirname "$(readlink -f -- "$0")")/.." && pwd)
+. "$top/bench/usage"
+numbers 1 "$@"
 out=$top/bench/out
 runs=${1:-1000}
 # What the library calls to take memory is in the toolchain's C library.

@@ -1,5 +1,5 @@
-/* Lives scenarios (bench/worst.scenarios) on the bare board of aarch64, and says about each counted call how many instructions it took and how far
- * down it wrote on the stack. The processor counts (PMU, event INST_RETIRED), as it does on a board of one's own; QEMU does so with -icount.
+/* Runs scenarios (bench/worst.scenarios) on the bare board of aarch64, and prints the instructions of each counted call and how far down it wrote
+ * on the stack. The processor counts (PMU, event INST_RETIRED), as on a real board; QEMU does so with -icount.
  *
  * The lines are those of bench/worst.c. After each counted call a line is printed:
  *
@@ -143,10 +143,10 @@ static void take(const call *one, uint32_t *status, uint32_t *took, uint64_t *st
         release();
 }
 
-static void tell(unsigned scenario, unsigned at_line, uint32_t status, uint32_t took, uint64_t stack) {
-    const uint64_t told[] = {scenario, at_line, status, took, stack};
+static void put_row(unsigned scenario, unsigned at_line, uint32_t status, uint32_t took, uint64_t stack) {
+    const uint64_t row[] = {scenario, at_line, status, took, stack};
     for (unsigned i = 0; i < 5; i++) {
-        put_number(told[i], 10);
+        put_number(row[i], 10);
         put(i < 4 ? " " : "\n");
     }
 }
@@ -171,7 +171,7 @@ int main(void) {
         } else if (read_call(&one)) {
             take(&one, &status, &took, &stack);
             if (counts)
-                tell(scenario, at_line, status, took - handing_over, stack);
+                put_row(scenario, at_line, status, took - handing_over, stack);
         } else {
             put("not a line of a scenario\n");
         }

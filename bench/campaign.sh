@@ -1,41 +1,44 @@
 #!/bin/bash
-# How much of what the processors could do a campaign plays: wall time and processor time, in seconds, of the same scenarios
+# Compare the speed of campaigns: wall time and processor time, in seconds, of the same scenarios
 #
 #     by a plain loop        N shells that play one scenario after another with the programs that a job runs: a copy of an empty image,
 #                            `etcs run`, `etcs_lab events`, `etcs_lab check`. They judge nothing, and keep no table
 #     by `./lab campaign`    by N processes here, and by N workers of Dask, which are warm
 #     by xargs, GNU parallel a shell for each scenario, which formats the image, and examines and replays it one after the other
 #
-# with N of 1, 2 and 4. Each is counted so often, in turn, and the least stands, along with its share of what the plain loop does in that time, and in
-# that processor time, which says more where the machine has other work. Images lie in memory (/dev/shm), where there is that, so that no disk is
-# waited for.
+# with N of 1, 2 and 4. Each way is measured TURNS times, in turn, and the minimum is printed, with the share of the plain loop's time and of its
+# processor time; the latter says more where the machine has other work. The images are in memory (/dev/shm) where that exists, so that no disk
+# is waited for.
 #
-#     bench/campaign.sh [SCENARIOS [SEED [TURNS]]]    2,000 random lives of seed 7, three turns
-#     bench/campaign.sh --drives ..                   lives as the drives of drives/ come to: 200 s, reported five times a second
-#     bench/campaign.sh [--drives] --dask ..          the plain loop, and `./lab campaign` in both ways, alone
+#     bench/campaign.sh [SCENARIOS [SEED [TURNS]]]    (default: 2000 random lives, seed 7, 3 turns)
+#     bench/campaign.sh --drives ..                   lives like those of drives/: 200 s, with five readings a second
+#     bench/campaign.sh [--drives] --dask ..          only the plain loop, and `./lab campaign` in both ways
+#     bench/campaign.sh --help                        print this
 #
-# The programs are the proved ones, or those that GAKNIFUR_ETCS and GAKNIFUR_ETCS_LAB name. What isn't there is left out: Dask (tools/python
-# --campaigns), GNU parallel (Debian's package parallel).
+# The programs are the proved ones, or those that GAKNIFUR_ETCS and GAKNIFUR_ETCS_LAB name. What isn't installed is left out: Dask
+# (tools/python --campaigns), GNU parallel (Debian's package parallel).
 self=$(readlink -f -- "$0" && echo .) || exit 1
 top=${self%/*/*}
-if [ -z "$GAKNIFUR_ETCS" ] || [ -z "$GAKNIFUR_ETCS_LAB" ]; then
-    "$top/etcs" --is-proved && "$top/etcs_lab" --is-proved || { echo "there are no proved programs: ./etcs --prove and ./etcs_lab --prove make them" 1>&2; exit 1; }
-    GAKNIFUR_ETCS=$top/crates/etcs/out/etcs GAKNIFUR_ETCS_LAB=$top/crates/etcs_lab/out/etcs_lab
-fi
-export GAKNIFUR_ETCS GAKNIFUR_ETCS_LAB
+. "$top/bench/usage"
 kind=random asked=all
 while [ "${1#--}" != "$1" ]; do
     case $1 in
         --drives) kind=drives ;;
         --dask) asked=dask ;;
-        *) echo "bench/campaign.sh: $1 is no word" 1>&2; exit 2 ;;
+        *) wrong "$1" ;;
     esac
     shift
 done
+numbers 3 "$@"
 scenarios=${1:-2000} seed=${2:-7} turns=${3:-3}
+if [ -z "$GAKNIFUR_ETCS" ] || [ -z "$GAKNIFUR_ETCS_LAB" ]; then
+    "$top/etcs" --is-proved && "$top/etcs_lab" --is-proved || { echo "there are no proved programs: ./etcs --prove and ./etcs_lab --prove make them" 1>&2; exit 1; }
+    GAKNIFUR_ETCS=$top/crates/etcs/out/etcs GAKNIFUR_ETCS_LAB=$top/crates/etcs_lab/out/etcs_lab
+fi
+export GAKNIFUR_ETCS GAKNIFUR_ETCS_LAB
 [ -w /dev/shm ] && [ -z "$TMPDIR" ] && memory=/dev/shm
 room=$(mktemp -d ${memory:+-p "$memory"}) || exit 1
-# A scheduler and workers that are reported to end at once may wait for one another: those that are there after 5 seconds are ended as they are.
+# A scheduler and workers that get the signal at the same time may wait for one another: those that remain after 5 seconds are killed.
 finish() {
     local turn left
     for ((turn = 0; turn <= 50; turn++)); do
@@ -74,7 +77,7 @@ def authority(group):
 
 
 def driven(numbers):
-    """A train that is made ready, and drives past an authority every 2 km; in each step the unit is told moment and way."""
+    """A train that is made ready, and drives past an authority every 2 km; in each step the unit gets the time and the distance."""
     steps = [{"telegram": authority(2)}, {"driver": [1, f"IC {numbers.randrange(1_000)}"]}]
     steps += [{"driver": entry} for entry in (*random_lives.ENTRIES, [6])]
     for step in range(STEPS):
@@ -91,7 +94,7 @@ P
 "$GAKNIFUR_ETCS" format empty 64 >/dev/null || exit 1
 
 # (A life may end as refused or stopped; it still has a journal.)
-cat >behind_another <<'S'
+cat >one_by_one <<'S'
 #!/bin/sh
 for one in "$@"; do
     image=images/${one##*/}
@@ -112,9 +115,9 @@ image=images/${1##*/}
 "$GAKNIFUR_ETCS_LAB" replay --json "$image"
 exit 0
 S
-chmod +x behind_another by_itself
+chmod +x one_by_one by_itself
 
-plain_loop() { find scenarios -type f -print0 | xargs -0 -n 16 -P "$1" ./behind_another; }
+plain_loop() { find scenarios -type f -print0 | xargs -0 -n 16 -P "$1" ./one_by_one; }
 campaign() { "$top/lab" campaign scenarios out.db --workers "$1"; }
 by_dask() { "$top/lab" campaign scenarios out.db --scheduler "$(cat "address$1")"; }
 by_xargs() { find scenarios -type f -print0 | xargs -0 -n 1 -P "$1" ./by_itself; }
@@ -129,19 +132,19 @@ spent() {
     echo "$all"
 }
 
-# A scheduler with so many workers, whose processes stand in dask$1, and its address in address$1.
+# A scheduler with $1 workers; their processes are in dask$1, the address of the scheduler in address$1.
 start_dask() {
     local number
     export PYTHONPATH=$top/python DASK_CONFIG=$top/python/gaknifur/simulation/dask.yaml
-    "$python" -m distributed.cli.dask_scheduler --host 127.0.0.1 --port 0 --no-dashboard --no-show --scheduler-file "told$1" >/dev/null 2>&1 &
+    "$python" -m distributed.cli.dask_scheduler --host 127.0.0.1 --port 0 --no-dashboard --no-show --scheduler-file "scheduler$1" >/dev/null 2>&1 &
     echo $! >"dask$1"
-    for ((number = 0; number < 600; number++)); do [ -s "told$1" ] && break; sleep 0.1; done
+    for ((number = 0; number < 600; number++)); do [ -s "scheduler$1" ] && break; sleep 0.1; done
     for ((number = 0; number < $1; number++)); do
-        "$python" -m distributed.cli.dask_worker --scheduler-file "told$1" --nthreads 1 --no-nanny --no-dashboard --host 127.0.0.1 >/dev/null 2>&1 &
+        "$python" -m distributed.cli.dask_worker --scheduler-file "scheduler$1" --nthreads 1 --no-nanny --no-dashboard --host 127.0.0.1 >/dev/null 2>&1 &
         echo $! >>"dask$1"
     done
     unset PYTHONPATH DASK_CONFIG
-    sed -n 's/.*"address": "\(tcp[^"]*\)".*/\1/p' "told$1" | head -n 1 >"address$1"
+    sed -n 's/.*"address": "\(tcp[^"]*\)".*/\1/p' "scheduler$1" | head -n 1 >"address$1"
     "$python" -I - "$(cat "address$1")" "$1" <<'P'
 import sys
 from distributed import Client
@@ -178,7 +181,7 @@ if "$python" -c 'import distributed' 2>/dev/null; then
 fi
 [ "$asked" = dask ] || ways+=(by_xargs)
 if [ "$asked" = all ] && parallel --version 2>/dev/null </dev/null | grep -q '^GNU parallel'; then ways+=(by_parallel); fi
-echo "$scenarios scenarios ($kind) of seed $seed on $(nproc) processors, $(date -u +%F), beside a load of $(cut -d ' ' -f 1 /proc/loadavg), images in ${memory:-${TMPDIR:-/tmp}}"
+echo "$scenarios scenarios ($kind) of seed $seed on $(nproc) processors, $(date -u +%F), at a load of $(cut -d ' ' -f 1 /proc/loadavg), images in ${memory:-${TMPDIR:-/tmp}}"
 for ((turn = 0; turn < turns; turn++)); do
     for processes in 1 2 4; do
         for way in "${ways[@]}"; do counted "$way" $processes; done

@@ -1,14 +1,19 @@
 #!/bin/sh
-# Prints the instructions of a commit of eight records over a disk in memory (bench/calls/journal), and how much of that the disk's reads take.
-# (bench/rows.sh counts a commit without the making of its records, and the peer's.) What callgrind counts within the commits for 24
-# of them less what it counts for 12, by 12: all on slots that are used again. Then the calls of Journal::open on so many slots without blocks,
-# and its seconds along with those of making the disk and the journal alone. Then the blocks that are put into a new image a second, with the syncs
-# of each: by `etcs run` and by the peer (bench/peer), a moment of the clock and a flush each. The program must be there (./etcs --prove). Builds all else
-# first; what the builds have to say goes to standard error.
+# Print the instructions of a commit of eight records over a disk in memory (bench/calls/journal), and how many of them the
+# disk's reads take; the calls and the seconds of Journal::open on slots without blocks; and the blocks that are written to a
+# new image a second, with the syncs of each, by `etcs run` and by the peer (bench/peer).
 #
-#     bench/journal.sh [SLOTS..]
+#     bench/journal.sh [SLOTS..]    numbers of slots for Journal::open (default: 1024 4096 16384)
+#     bench/journal.sh --help       print this
+#
+# The instructions are what callgrind counts within the commits for 24 of them less what it counts for 12, divided by 12: all on
+# slots that are used again. (bench/rows.sh counts a commit without the making of its records, and the peer's.) A block on an
+# image is a moment of the clock and a flush. The proved program must exist (./etcs --prove). All else is built first; the
+# output of the builds goes to standard error.
 set -e
 top=$(cd "$(dirname "$(readlink -f -- "$0")")/.." && pwd)
+. "$top/bench/usage"
+numbers 99 "$@"
 out=$top/bench/out
 slots=${*:-1024 4096 16384}
 # What the library calls to take memory is in the toolchain's C library.

@@ -9,7 +9,7 @@
 #include <stdlib.h>
 #include <string.h>
 
-/* TELEGRAM: the room of a telegram, in bytes. AT_ONCE: static speeds in one telegram. WHOLE: kilometres reported by a telegram that
+/* TELEGRAM: the room of a telegram, in bytes. AT_ONCE: static speeds in one telegram. WHOLE: kilometres announced by a telegram that
  * is a whole group. STRETCHES: those of one gradient before the stop. */
 enum { TELEGRAM = 104, TELEGRAMS = 5, LONGEST = 30, AT_ONCE = 15, RESTRICTIONS = 10, WHOLE = 5, STRETCHES = 32 };
 
@@ -133,7 +133,7 @@ static void put_restrictions(struct writer *out) {
 }
 
 /* The telegrams of a track; answers how many they are. */
-static uint32_t tell_track(uint8_t *telegrams, uint32_t kilometres, int restricted) {
+static uint32_t write_track(uint8_t *telegrams, uint32_t kilometres, int restricted) {
     uint32_t number = kilometres == 0 ? 0 : restricted ? TELEGRAMS : TELEGRAMS - 1;
     uint32_t first = kilometres < AT_ONCE ? kilometres : AT_ONCE;
     for (uint32_t i = 0; i < number; i++) {
@@ -156,7 +156,7 @@ static uint32_t tell_track(uint8_t *telegrams, uint32_t kilometres, int restrict
 }
 
 /* Telegrams of a group each, with packets 12, 21 and 27. */
-static void tell_groups(uint8_t *telegrams, uint32_t number) {
+static void write_groups(uint8_t *telegrams, uint32_t number) {
     for (uint32_t i = 0; i < number; i++) {
         struct writer out = {telegrams + TELEGRAM * i, 0};
         put_header(&out, 100 + i);
@@ -197,9 +197,9 @@ static void print_lines(const uint8_t *before, uint32_t number, const uint8_t *t
  * where it takes turns with another one. Runs them, or prints them for the plain program. */
 static void limits(uint32_t kilometres, int restricted, const struct counted *counted, int prints) {
     uint8_t before[TELEGRAM * TELEGRAMS] = {0}, telegrams[TELEGRAM * 2] = {0};
-    uint32_t number = tell_track(before, kilometres, restricted);
+    uint32_t number = write_track(before, kilometres, restricted);
     uint32_t turns = counted->kind == REPEAT ? 1 : 2;
-    tell_groups(telegrams, turns);
+    write_groups(telegrams, turns);
     if (prints) {
         print_lines(before, number, telegrams, turns, counted);
     } else {

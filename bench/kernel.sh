@@ -1,14 +1,17 @@
 #!/bin/sh
-# Prints the instructions of the kernel per event, and of the permitted speed per call: what callgrind
-# counts within the call for twice as many less what it counts for so many, by so many. So what is reported at the start
-# falls out, and the harness and the making of the inputs don't count. Along with them those of the peer (bench/peer)
-# on the same events; it answers random lives as tests/plain does, and the same limits here.
-# Then how often some functions were called in so many events. Builds what it needs first; what the builds have to say
-# goes to standard error.
+# Print the instructions of the kernel per event, and of the permitted speed per call, next to those of the peer (bench/peer) on
+# the same events; then how often some functions were called.
 #
-#     bench/kernel.sh [EVENTS [CALLS]]
+#     bench/kernel.sh [EVENTS [CALLS]]    count EVENTS events and CALLS calls (default: 5000 200)
+#     bench/kernel.sh --help              print this
+#
+# The count is what callgrind counts within the call for twice as many less what it counts for so many, divided by their number.
+# So the start, the harness and the making of the inputs don't count. The peer answers random lives as tests/plain does, and has
+# the same limits here. It builds what it needs first; the output of the builds goes to standard error.
 set -e
 top=$(cd "$(dirname "$(readlink -f -- "$0")")/.." && pwd)
+. "$top/bench/usage"
+numbers 2 "$@"
 out=$top/bench/out
 events=${1:-5000}
 calls=${2:-200}
@@ -119,8 +122,8 @@ on 'a moment of the clock' 30 clock 0
 on 'an action of the driver' 0 action 0
 on 'a telegram that is a repeat' 30 repeat 0
 on 'a telegram that is a whole group' 30 group 0
-row 'a reading of 0 cm behind 1,000 others' '*output_after*' 1000 limits 5 reading 0
-row 'a reading of 0 cm behind 100,000 others' '*output_after*' 100000 limits 5 reading 0
+row 'a reading of 0 cm after 1,000 others' '*output_after*' 1000 limits 5 reading 0
+row 'a reading of 0 cm after 100,000 others' '*output_after*' 100000 limits 5 reading 0
 called "memory taken in $events readings" '^rattle_(re)?alloc' "$events" limits 30r reading 1
 permitted 'permitted, the limit fits' 0
 permitted 'permitted, sought' -67

@@ -1,14 +1,19 @@
 #!/bin/sh
-# Prints the instructions per call of each call on each telegram: what callgrind counts for 2,000 runs less what it
-# counts for 1,000, by 1,000. So what comes before and after the runs falls out, and what a run of the harness adds
-# stays in. (bench/rows.sh counts those of the peer too.) Builds what it needs first; what the builds have to say goes
-# to standard error.
+# Print the instructions of each call on each telegram.
 #
-#     bench/measure.sh [CALL..]    the calls of the harness
+#     bench/measure.sh [CALL..]    CALL is one of decode decode_into encode walk walk_into etcs_decode etcs_packet_count (default: all)
+#     bench/measure.sh --help      print this
+#
+# The count is what callgrind counts for 2,000 runs less what it counts for 1,000, divided by 1,000. So what comes before and
+# after the runs doesn't count, and what the harness adds to a run does. (bench/rows.sh counts the calls of the peer too.) It
+# builds what it needs first; the output of the builds goes to standard error.
 set -e
 top=$(cd "$(dirname "$(readlink -f -- "$0")")/.." && pwd)
+. "$top/bench/usage"
+known="decode decode_into encode walk walk_into etcs_decode etcs_packet_count"
+for one; do case " $known " in *" $one "*) ;; *) wrong "$one" ;; esac; done
 out=$top/bench/out
-calls=${*:-decode decode_into encode walk walk_into etcs_decode etcs_packet_count}
+calls=${*:-$known}
 
 (cd "$top/crates/etcs_c" && rt lib) >&2
 "$top/bench/library" telegram >&2

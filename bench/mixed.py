@@ -1,10 +1,13 @@
 #!/usr/bin/env python3
-"""A life in which every second event is a telegram, and which has every action of the driver, each accepted at least once.
+"""Write and count a life in which every second event is a telegram, and which has every action of the driver, each accepted at
+least once.
 
-    bench/mixed.py life     its lines, for bench/out/worst
-    bench/mixed.py plain    its lines, for the peer (bench/peer, rows)
-    bench/mixed.py check    whether each action is accepted, by the plain program of tests/plain
-    bench/mixed.py count    what the unit and the peer take for it: KIND, CALLS, MEAN, MOST, MEAN OF THE PEER; both answer the same
+    bench/mixed.py life      print its lines for bench/out/worst
+    bench/mixed.py plain     print its lines for the peer (bench/peer, rows)
+    bench/mixed.py check     check by the plain program of tests/plain that each action is accepted
+    bench/mixed.py count     print what the unit and the peer take, separated by tabs: KIND, CALLS, MEAN, MAXIMUM, MEAN OF THE PEER;
+                             both have to answer the same
+    bench/mixed.py --help    print this
 """
 import re
 import subprocess
@@ -14,7 +17,8 @@ from pathlib import Path
 
 TOP = Path(__file__).resolve().parent.parent
 sys.dont_write_bytecode = True
-sys.path[:0] = [str(TOP / "bench"), str(TOP / "tests" / "plain")]
+sys.path[:0] = [str(TOP / "bench"), str(TOP / "tests" / "plain"), str(TOP / "tools")]
+import usage  # noqa: E402
 from life import Life  # noqa: E402
 from named import written  # noqa: E402
 from worst_search import MODES, OUT, counted, kinds_of  # noqa: E402
@@ -71,13 +75,13 @@ STORY = (
 
 def lines():
     """The scenario: before each line of the story a telegram, a whole group of a number of its own, and now and then a repeat."""
-    group, told = 100, None
+    group, telegram = 100, None
     yield "cold 0"
     for at, (line, packets) in enumerate(STORY):
-        if packets or told is None or at % 4:
+        if packets or telegram is None or at % 4:
             group += 1
-            told = written(f"NID_BG {group}; {packets or FILLERS[at % len(FILLERS)]}")
-        yield "telegram " + told
+            telegram = written(f"NID_BG {group}; {packets or FILLERS[at % len(FILLERS)]}")
+        yield "telegram " + telegram
         yield line
 
 
@@ -94,8 +98,8 @@ def plain_lines():
     return in_plain_words(list(lines())[1:])
 
 
-def in_plain_words(told):
-    for line in told:
+def in_plain_words(scenario_lines):
+    for line in scenario_lines:
         word, _, value = line.partition(" ")
         word, value = PLAIN_ACTIONS[int(value)] if word == "action" else (PLAIN_WORDS[word], value)
         yield word, bytes.fromhex(value).decode() if word == "enter-identity" else value
@@ -124,11 +128,11 @@ PLAIN_FUNCTIONS = {"telegram": "hear", "odometer": "read", "clock": "tick"}
 
 def by_the_peer(text):
     """The instructions of each kind of event, and the mode and limit after each event."""
-    told = "".join(f"{word} {value}".strip() + "\n" for word, value in plain_lines())
+    events = "".join(f"{word} {value}".strip() + "\n" for word, value in plain_lines())
     took = {}
     for function in ("hear", "read", "tick", "act"):
         done = subprocess.run(["valgrind", "--tool=callgrind", "--callgrind-out-file=/dev/null", "--collect-atstart=no",
-                               f"--toggle-collect=*rows::{function}", "peer/release/rows"], input=told, capture_output=True, text=True,
+                               f"--toggle-collect=*rows::{function}", "peer/release/rows"], input=events, capture_output=True, text=True,
                               cwd=OUT, env={"PATH": "/usr/bin:/bin"}, check=True)
         took[function] = int(re.search(r"Collected : (\d+)", done.stderr)[1])
     answers = [(line.split()[0], int(line.split()[3])) for line in done.stdout.splitlines()]
@@ -138,7 +142,7 @@ def by_the_peer(text):
 
 def count():
     text = list(lines())
-    took = counted([(16, [text[0], "count", *text[1:]])], told=True)
+    took = counted([(16, [text[0], "count", *text[1:]])], shows=True)
     plain, answers = by_the_peer(text)
     groups = defaultdict(list)
     for kind, line, at in zip(list(kinds_of(text))[1:], text[1:], range(3, len(text) + 2)):
@@ -158,13 +162,12 @@ def count():
 
 
 if __name__ == "__main__":
+    usage.check(__doc__, sys.argv[1:] in (["life"], ["plain"], ["check"], ["count"]))
     if sys.argv[1:] == ["life"]:
         print(*lines(), sep="\n")
     elif sys.argv[1:] == ["plain"]:
         print(*(f"{word} {value}".strip() for word, value in plain_lines()), sep="\n")
     elif sys.argv[1:] == ["check"]:
         sys.exit(check())
-    elif sys.argv[1:] == ["count"]:
-        count()
     else:
-        sys.exit(__doc__)
+        count()

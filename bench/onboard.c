@@ -1,4 +1,4 @@
-/* Lives lives over a disk in memory by the call of bench/calls/onboard, and prints how many inputs were accepted and outputs released.
+/* Runs lives over a disk in memory by the call of bench/calls/onboard, and prints how many inputs were accepted and outputs released.
  *
  *     onboard MOVES BATCHES [LIVES]    batches of eight readings, or where MOVES is 0 of eight moments of the clock */
 #include <inttypes.h>

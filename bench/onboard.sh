@@ -1,13 +1,18 @@
 #!/bin/sh
-# Prints what an event of a life costs over a disk in memory, in batches of eight (bench/calls/onboard): the instructions within
-# `Onboard::accept` and within an eighth of `Onboard::flush`, and how often memory is asked for in an accept. What callgrind counts for
-# 48 batches less what it counts for 24, by their events: all on slots that are used again. (bench/rows.sh counts the peer's.) Then the events
-# a second of lives in memory; and those of `etcs run` and of the peer (bench/peer) over a file, with the syncs of each batch. The program must
-# be there (./etcs --prove). Builds all else first; what the builds have to say goes to standard error.
+# Print what an event of a life costs over a disk in memory, in batches of eight (bench/calls/onboard): the instructions within
+# `Onboard::accept` and within an eighth of `Onboard::flush`, and how often an accept allocates memory. Then the events a second
+# of lives in memory; and those of `etcs run` and of the peer (bench/peer) over a file, with the syncs of each batch.
 #
-#     bench/onboard.sh [BATCHES]
+#     bench/onboard.sh [BATCHES]    batches of the lives whose events a second are counted (default: 10000)
+#     bench/onboard.sh --help       print this
+#
+# The instructions are what callgrind counts for 48 batches less what it counts for 24, divided by their events: all on slots that
+# are used again. (bench/rows.sh counts the peer's.) The proved program must exist (./etcs --prove). All else is built first; the
+# output of the builds goes to standard error.
 set -e
 top=$(cd "$(dirname "$(readlink -f -- "$0")")/.." && pwd)
+. "$top/bench/usage"
+numbers 1 "$@"
 out=$top/bench/out
 batches=${1:-10000}
 # What the library calls to take memory is in the toolchain's C library.

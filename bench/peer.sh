@@ -1,12 +1,18 @@
 #!/bin/bash
-# Compares the product with the peer (bench/peer): journal, kernel and program in plain safe Rust, written independently and tuned by ordinary
-# means. Builds both, checks that both print the same lines and write the same images (bench/peer_check.py), and counts both by callgrind in the
-# same run: events of whole runs (run.sh), single calls of the kernel (kernel.sh), telegrams, blocks, commits and the unit over a disk in memory
-# (rows.sh), and a reading where restrictions and gradients double (worst.sh --grown). With UNPROVED=yes the product is compiled without a proof
-# (bench/unproved).
+# Compare the product with the peer (bench/peer): journal, kernel and program in plain safe Rust, written independently and tuned
+# by ordinary means.
 #
-#     bench/peer.sh [--build]     --build: builds the peer, and no more
+#     bench/peer.sh            build both, check that they agree, and count their instructions
+#     bench/peer.sh --build    only build the peer
+#     bench/peer.sh --help     print this
+#
+# Both have to print the same lines and write the same images (bench/peer_check.py). Then callgrind counts both in the same run:
+# events of whole runs (run.sh), single calls of the kernel (kernel.sh), telegrams, blocks, commits and the unit over a disk in
+# memory (rows.sh), and a reading where restrictions and gradients double (worst.sh --grown). With UNPROVED=yes the product is
+# compiled without a proof (bench/unproved).
 top=$(cd "$(dirname "$(readlink -f -- "$0")")/.." && pwd) || exit 1
+. "$top/bench/usage"
+case $#${1:-} in 0|1--build) ;; *) wrong "$@" ;; esac
 out=$top/bench/out
 mkdir -p "$out"
 (cd "$top/bench/peer" && RUSTFLAGS="-C target-cpu=x86-64-v2 -g" cargo build --quiet --release --offline --target-dir "$out/peer") >&2 || exit 1

@@ -1,7 +1,8 @@
 #!/usr/bin/env python3
 """Compare the product with the peer (bench/peer): exit status, printed lines and the bytes of the image, life by life.
 
-    bench/peer_check.py ETCS PEER [LIVES [SEED]]    400 pseudo-random lives, seed 2026
+    bench/peer_check.py ETCS PEER [LIVES [SEED]]    (default: 400 pseudo-random lives, seed 2026)
+    bench/peer_check.py --help                      print this
 
 The peer runs the hand-written rows of tests/programs and examples, but not streams.row: Rust opens closed standard streams before main.
 Then both programs decode pseudo-random telegrams, and run pseudo-random lives (tests/hostile/random_inputs.py), each also with short
@@ -17,9 +18,10 @@ from pathlib import Path
 
 TOP = Path(__file__).resolve().parent.parent
 sys.dont_write_bytecode = True
-sys.path[:0] = [str(TOP / "python"), str(TOP / "tests"), str(TOP / "tests/plain"), str(TOP / "tests/hostile")]
+sys.path[:0] = [str(TOP / "python"), str(TOP / "tests"), str(TOP / "tests/plain"), str(TOP / "tests/hostile"), str(TOP / "tools")]
 import program as reference  # noqa: E402
-from gaknifur import cases  # noqa: E402
+import usage  # noqa: E402
+from gaknifur.testing import cases  # noqa: E402
 from random_inputs import Made, cut_text, headed, mutated  # noqa: E402
 from random_lists import Numbers  # noqa: E402
 
@@ -132,4 +134,5 @@ def main(args):
 
 
 if __name__ == "__main__":
-    sys.exit(main(sys.argv[1:]) if len(sys.argv) > 2 else __doc__)
+    usage.check(__doc__, 3 <= len(sys.argv) <= 5 and all(Path(program).is_file() for program in sys.argv[1:3]))
+    sys.exit(main(sys.argv[1:]))

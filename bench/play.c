@@ -1,5 +1,5 @@
-/* Plays the scenarios of bench/play.py through the calls of include/etcs_unit.h in one process, each on an empty medium in memory: what they are is
- * read before. Prints how many lives and events there were, the sum of the limits, and the seconds of a processor.
+/* Plays the scenarios of bench/play.py through the calls of include/etcs_unit.h in one process, each on an empty medium in memory; they are
+ * read first. Prints the number of lives and events, the sum of the limits, and the processor time in seconds.
  *
  *     play CALLS SLOTS */
 #include <time.h>

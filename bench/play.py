@@ -1,10 +1,12 @@
 #!/usr/bin/env python3
-"""Random scenarios of 140 events each, for bench/play.sh: the random lives of campaigns (gaknifur.random_lives), made longer.
+"""Write random scenarios of 140 events each, for bench/play.sh: the random lives of campaigns (gaknifur.random_lives), made
+longer.
 
-    bench/play.py COUNT LINES CALLS [SEED]     LINES: a line of `etcs_lab play` for each. CALLS: the same for bench/play.c, a call on each line:
-                                               o CM M/H, c MS, t HEX, a ACTION, i HEX, n NUMBER, d LENGTH MAXIMUM DECELERATION REACTION
-                                               CATEGORY, f a flush, e the end of a scenario
-    bench/play.py --files LINES FOLDER         a file for each scenario of LINES
+    bench/play.py COUNT LINES CALLS [SEED]    write to LINES a line of `etcs_lab play` for each scenario, and to CALLS the calls for
+                                              bench/play.c, one a line: o CM M/H, c MS, t HEX, a ACTION, i HEX, n NUMBER, d LENGTH
+                                              MAXIMUM DECELERATION REACTION CATEGORY, f a flush, e the end of a scenario
+    bench/play.py --files LINES FOLDER        write a file to FOLDER for each scenario of LINES
+    bench/play.py --help                      print this
 """
 import json
 import random
@@ -12,7 +14,8 @@ import sys
 from pathlib import Path
 
 sys.dont_write_bytecode = True
-sys.path.insert(0, str(Path(__file__).resolve().parents[1] / "python"))
+sys.path[:0] = [str(Path(__file__).resolve().parents[1] / part) for part in ("python", "tools")]
+import usage  # noqa: E402
 from gaknifur.simulation import random_lives  # noqa: E402
 
 EVENTS, READING_CM = 140, 10_000
@@ -81,6 +84,7 @@ def files(lines, folder):
 
 
 if __name__ == "__main__":
+    usage.check(__doc__, len(sys.argv) in (4, 5) and (sys.argv[1].isdigit() or sys.argv[1] == "--files"))
     if sys.argv[1] == "--files":
         files(*sys.argv[2:])
     else:

@@ -1,19 +1,21 @@
 #!/bin/bash
-# How many scenarios of 140 events a second a processor plays, on journals of 16 slots (or SLOTS), in one run, each way by turns:
+# Print how many scenarios of 140 events a processor plays in a second, on journals of 16 slots (or SLOTS):
 #
 #     by `etcs_lab play`         in one process: without outputs, with the last one of each, with all
 #     by the library for C       in one process, from calls that are read before, its medium in memory (bench/play.c)
 #     by three processes each    `etcs format`, `etcs run` and `etcs journal` on an image in memory (/dev/shm), by a shell
 #
-# In seconds of a processor, of the program and of the system, since the machine may have other work; the least of the turns stands. And the
-# instructions of an event, by callgrind, of the first two: what 40 scenarios take less what 20 take; for C without the reading of the calls. Both
-# have to give the same limits.
+#     bench/play.sh [SCENARIOS [TURNS]]    (default: 2000 3); the loop of three processes plays a tenth of the scenarios
+#     bench/play.sh --help                 print this
 #
-#     bench/play.sh [SCENARIOS [TURNS]]    2,000 scenarios, three turns; the loop of three processes plays a tenth of them.
-#
-# All is compiled without a proof (bench/unproved), but for programs that ETCS and ETCS_LAB name.
+# The time is processor time, of the program and of the system, since the machine may have other work; the ways take turns, and
+# the minimum counts. Then the instructions of an event by callgrind, of the first two: what 40 scenarios take less what 20 take;
+# for C without the reading of the calls. Both have to give the same limits. All is compiled without a proof (bench/unproved),
+# except programs that ETCS and ETCS_LAB name.
 set -e
 top=$(cd "$(dirname "$(readlink -f -- "$0")")/.." && pwd)
+. "$top/bench/usage"
+numbers 2 "$@"
 out=$top/bench/out
 memory=$(dirname "$(rt doc)")/c/liblibc_c.a
 scenarios=${1:-2000} turns=${2:-3} slots=${SLOTS:-16}

@@ -1,10 +1,15 @@
 #!/bin/bash
-# Seconds, of wall time and of a processor, and peak memory of `etcs run` on scenarios of so many steps (100,000) and of ten times as many, and of `etcs journal` on an image
-# that is full with as many blocks, along with the peer's (bench/peer), which has to print the same and leave the same image. The program must be there
-# (./etcs --prove); with UNPROVED=yes one is compiled without a proof (bench/unproved).
+# Print wall time, processor time and peak memory of `etcs run` on scenarios of STEPS and of ten times as many steps, and of
+# `etcs journal` on an image that is full with as many blocks, next to the peer's (bench/peer).
 #
-#     bench/program.sh [STEPS]
+#     bench/program.sh [STEPS]    (default: 100000)
+#     bench/program.sh --help     print this
+#
+# The peer has to print the same and leave the same image. The proved program must exist (./etcs --prove); with UNPROVED=yes one is
+# compiled without a proof (bench/unproved).
 top=$(cd "$(dirname "$(readlink -f -- "$0")")/.." && pwd) || exit 1
+. "$top/bench/usage"
+numbers 1 "$@"
 program=$top/crates/etcs/out/etcs
 if [ -n "${UNPROVED:-}" ]; then
     program=$top/bench/out/etcs
@@ -22,7 +27,7 @@ os.chdir(room)
 
 
 def watch(process, seen):
-    """Notes the most memory that a process held, in kB, until it ends. (What a parent is told behind its end counts the parent's own.)"""
+    """Notes the most memory that a process held, in kB, until it ends. (The figure that a parent gets after its end includes the parent's own memory.)"""
     while True:
         try:
             held = [line.split()[1] for line in open(f"/proc/{process}/status") if line.startswith("VmHWM:")]
@@ -35,7 +40,7 @@ def watch(process, seen):
 
 
 def measured(name, file, *words):
-    """Runs it, what it prints into a file, and tells its wall time, its processor time, and the most memory that it held."""
+    """Runs it with its output in a file, and returns its wall time, its processor time and the most memory that it held."""
     start, seen = time.monotonic(), []
     with open(name, "wb") as out:
         ran = subprocess.Popen([file, *words], stdout=out)

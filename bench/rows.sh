@@ -1,12 +1,16 @@
 #!/bin/bash
-# Telegrams, blocks, commits and the unit over a disk in memory: instructions of one call, of the product (bench/calls) and of the peer
-# (bench/peer, the program rows), counted by callgrind in the same run: what so many more of them take. A telegram's call counts with the loop
-# around it; a block, a commit and an event of the unit within their function alone, with all that it calls, on slots that are used again. What
-# makes the records of a commit doesn't count. With UNPROVED=yes the product is compiled without a proof (bench/unproved). Builds what it needs
-# first; what the builds have to say goes to standard error.
+# Print the instructions of one call on telegrams, blocks, commits and the unit over a disk in memory, of the product (bench/calls)
+# and of the peer (bench/peer, the program rows), counted by callgrind in the same run.
 #
 #     bench/rows.sh
+#     bench/rows.sh --help    print this
+#
+# A telegram's call counts with the loop around it; a block, a commit and an event of the unit only within their function, with all
+# that it calls, on slots that are used again. Making the records of a commit doesn't count. With UNPROVED=yes the product is
+# compiled without a proof (bench/unproved). It builds what it needs first; the output of the builds goes to standard error.
 top=$(cd "$(dirname "$(readlink -f -- "$0")")/.." && pwd) || exit 1
+. "$top/bench/usage"
+numbers 0 "$@"
 out=$top/bench/out
 # What the library calls to take memory is in the toolchain's C library.
 memory=$(dirname "$(rt doc)")/c/liblibc_c.a
@@ -65,9 +69,9 @@ commit() {
 }
 row 'Journal::commit of eight records' "$(commit)" "$(each 24 1 '*commit_one*' ./peer_rows commit)"
 for moves in 0 1; do
-    told='a moment of the clock in Stand By'
-    [ $moves = 0 ] || told='a reading of 1 cm in Full Supervision'
-    row "Onboard::accept, $told" "$(each 24 8 '*accept_one*' ./rows_onboard $moves)" "$(each 24 8 '*accept_one*' ./peer_rows unit 4 $moves)"
-    row "an eighth of Onboard::flush, $told" "$(each 24 8 '*flush_one*' ./rows_onboard $moves)" "$(each 24 8 '*flush_one*' ./peer_rows unit 4 $moves)"
+    event='a moment of the clock in Stand By'
+    [ $moves = 0 ] || event='a reading of 1 cm in Full Supervision'
+    row "Onboard::accept, $event" "$(each 24 8 '*accept_one*' ./rows_onboard $moves)" "$(each 24 8 '*accept_one*' ./peer_rows unit 4 $moves)"
+    row "an eighth of Onboard::flush, $event" "$(each 24 8 '*flush_one*' ./rows_onboard $moves)" "$(each 24 8 '*flush_one*' ./peer_rows unit 4 $moves)"
 done
 row 'Onboard::open, a power-up on 4 slots' "$(within '*open_one*' ./rows_onboard 0 1)" "$(within '*open_one*' ./peer_rows unit 4 0 1)"

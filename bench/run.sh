@@ -1,12 +1,17 @@
 #!/bin/bash
-# Instructions an event of a whole run, of `etcs run` and of the peer (bench/peer): the scenario is read as JSON, the life goes over a file of
-# slots that are used again, and each output is printed. callgrind counts all of the process but what the system does; a run of twice as many
-# events less one of so many, by so many. Both have to print the same lines and leave the same image. The last row is a record that `journal`
-# lists. The program must be there
-# (./etcs --prove); with UNPROVED=yes one is compiled without a proof (bench/unproved).
+# Print the instructions of an event of a whole run, of `etcs run` and of the peer (bench/peer), and of a record that `journal`
+# lists.
 #
-#     bench/run.sh [EVENTS]     2,000
+#     bench/run.sh [EVENTS]    (default: 2000)
+#     bench/run.sh --help      print this
+#
+# In a run the scenario is parsed as JSON, the life goes over a file whose slots are used again, and each output is printed.
+# callgrind counts the whole process without the system; the count is a run of twice as many events less one of EVENTS, divided by
+# EVENTS. Both have to print the same lines and leave the same image. The proved program must exist (./etcs --prove); with
+# UNPROVED=yes one is compiled without a proof (bench/unproved).
 top=$(cd "$(dirname "$(readlink -f -- "$0")")/.." && pwd) || exit 1
+. "$top/bench/usage"
+numbers 1 "$@"
 out=$top/bench/out
 program=${ETCS:-$top/crates/etcs/out/etcs}
 events=${1:-2000}
@@ -74,11 +79,11 @@ def counted(*words):
 def ran(words, image, slots):
     """The instructions of a run on an empty image, and what it prints and leaves."""
     subprocess.run([program, "format", image, str(slots)], check=True, stdout=subprocess.DEVNULL)
-    took, told = counted(*words, "scenario", image)
+    took, printed = counted(*words, "scenario", image)
     with open(image, "rb") as file:
         left = file.read()
     os.remove(image)
-    return took, (told, left)
+    return took, (printed, left)
 
 
 def listed(records):
@@ -87,8 +92,8 @@ def listed(records):
         json.dump({"groups": [], "steps": [{"clock": at} for at in range(records)]}, file)
     subprocess.run([program, "format", "image", str(records // 8 + 2)], check=True, stdout=subprocess.DEVNULL)
     subprocess.run([program, "run", "scenario", "image"], check=True, stdout=subprocess.DEVNULL)
-    (ours, told), (theirs, plainly) = counted(program, "journal", "image"), counted(peer, "journal", "image")
-    if told != plainly or told.count("\n") < records:
+    (ours, printed), (theirs, by_peer) = counted(program, "journal", "image"), counted(peer, "journal", "image")
+    if printed != by_peer or printed.count("\n") < records:
         raise SystemExit("a listed record: the two listings differ, or not all is listed")
     return ours, theirs
 
@@ -99,10 +104,10 @@ def cost(scenarios, title, slots=16):
     for text, lines in scenarios:
         with open("scenario", "w") as file:
             file.write(text)
-        (ours, told), (theirs, plainly) = ran([program, "run"], "image", slots), ran([peer, "run"], "image", slots)
-        if told != plainly or lines and told[0].count("\n") != lines:
+        (ours, printed), (theirs, by_peer) = ran([program, "run"], "image", slots), ran([peer, "run"], "image", slots)
+        if printed != by_peer or lines and printed[0].count("\n") != lines:
             raise SystemExit(f"{title}: the two runs print or leave something else, or not all")
-        counts.append((ours, theirs, told[0].count("\n")))
+        counts.append((ours, theirs, printed[0].count("\n")))
     few, many = counts
     return [(many[at] - few[at]) / (many[2] - few[2]) for at in (0, 1)]
 

@@ -1,15 +1,22 @@
 #!/usr/bin/env python3
-"""The most of the stack that calls can take, by the frames in the object code: the deepest way through the calls from each function.
+"""Print the bound of the stack of calls, from the frames in the object code: the deepest path through the calls from each
+function.
 
-    bench/stack_bound.py PROGRAM PATTERN    for each function whose name matches: its name, the bytes, and the functions of the deepest way
+    bench/stack_bound.py PROGRAM PATTERN    for each function whose name matches: its name, the bytes, and the functions on the deepest path
+    bench/stack_bound.py --help             print this
 
-The program is of x86-64 or of aarch64. The bytes are those of the return address, of what is pushed, and of what is taken from the stack
-pointer, in each function on the way. It holds where no function calls itself again, and where each call names its function: a call by a
-pointer, or a circle, is reported instead. What the C library takes (malloc, realloc, free, memcpy, memset, memcmp) isn't counted.
+The program is for x86-64 or aarch64. The bytes are those of the return address, of what is pushed, and of what is subtracted
+from the stack pointer, in each function on the path. The bound holds where no function calls itself again, and where each call
+names its function; a call through a pointer, or a cycle, is reported instead. What the C library takes (malloc, realloc, free,
+memcpy, memset, memcmp) isn't counted.
 """
 import re
 import subprocess
 import sys
+from pathlib import Path
+
+sys.path.insert(0, str(Path(__file__).resolve().parents[1] / "tools"))
+import usage  # noqa: E402
 
 HEAD = re.compile(r"^[0-9a-f]+ <(.*)>:$")
 CODE = re.compile(r"^\s*[0-9a-f]+:\t(\S+)\s*(.*)$")
@@ -121,6 +128,5 @@ def main(program, pattern):
 
 
 if __name__ == "__main__":
-    if len(sys.argv) != 3:
-        sys.exit(__doc__)
+    usage.check(__doc__, len(sys.argv) == 3 and Path(sys.argv[1]).is_file())
     main(*sys.argv[1:])

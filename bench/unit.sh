@@ -1,14 +1,19 @@
 #!/bin/sh
-# Prints what an event costs through the calls of include/etcs_unit.h, along with the same call in Rattle: the instructions within an accept and
-# within an eighth of a flush (prepare, each request with its bytes, done, release). An accept in Rattle is a function of bench/calls/relayed
-# that makes the input of the same numbers and hands it to the same kind of unit. What callgrind counts for 48 batches less what it counts for
-# 24, by their events, as bench/onboard.sh has it. Then an opening by sectors along with one over a copy, on rings that were written over. The
-# library is that of PREFIX (tools/library PREFIX); the names within it stand in its static library alone. With UNPROVED=yes, and no PREFIX,
-# all is compiled without a proof (bench/unproved).
+# Print what an event costs through the calls of include/etcs_unit.h, next to the same call in Rattle: the instructions within an
+# accept and within an eighth of a flush (prepare, each request with its bytes, done, release). Then an opening by sectors next to
+# one over a copy, on rings that were written over.
 #
-#     bench/unit.sh PREFIX
+#     bench/unit.sh PREFIX    the library below PREFIX (tools/library PREFIX)
+#     bench/unit.sh --help    print this
+#
+# An accept in Rattle is a function of bench/calls/relayed that makes the input from the same numbers and gives it to the same kind
+# of unit. The count is what callgrind counts for 48 batches less what it counts for 24, divided by their events, as in
+# bench/onboard.sh. Only the static library has the names of its functions. With UNPROVED=yes all is compiled without a proof
+# (bench/unproved), and there is no PREFIX.
 set -e
 top=$(cd "$(dirname "$(readlink -f -- "$0")")/.." && pwd)
+. "$top/bench/usage"
+[ -n "${UNPROVED:-}" ] && [ $# = 0 ] || [ -r "${1:-}/lib/libetcs_unit.a" ] || wrong "$@"
 out=$top/bench/out
 # What the libraries call to take memory is in the toolchain's C library.
 memory=$(dirname "$(rt doc)")/c/liblibc_c.a

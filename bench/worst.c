@@ -1,17 +1,17 @@
-/* Lives scenarios by the calls of include/etcs_unit.h, and says for callgrind where each counted call ends.
+/* Runs scenarios by the calls of include/etcs_unit.h, and marks for callgrind where each counted call ends.
  *
- *     worst [reported | mute | stack]    reads scenarios from standard input, an input a line
+ *     worst [show | mute | stack]    read scenarios from standard input, an input a line
  *
- * The lines, of which those that tests/unit/life.c has mean the same:
+ * The lines (those of tests/unit/life.c mean the same):
  *
- *     scenario SLOTS    begins one, on an empty journal of so many slots
- *     count             from here on each call is counted
- *     cold WORD         powers up by the word on movements (enum etcs_cold); a unit that is open is closed before that
+ *     scenario SLOTS    begin one, on an empty journal of SLOTS slots
+ *     count             count each call from here on
+ *     cold WORD         power up with this cold-movement value (enum etcs_cold); an open unit is closed first
  *     telegram HEX, odometer CM SPEED, clock MS, action N, identity HEX, number N
  *     train LENGTH MAXIMUM DECELERATION REACTION CATEGORY
- *     flush             prepares, carries out and releases; only the first is counted
+ *     flush             prepare, carry out and release; only the prepare is counted
  *
- * A flush that isn't counted comes of itself before a ninth pending input, and where `told` is asked for after each
+ * A flush that isn't counted comes of itself before a ninth pending input, and where `show` is asked for after each
  * counted one. After each counted call callgrind writes what it took ("scenario N line M"), and a line is printed:
  *
  *     N M STATUS MODE LEVEL BRAKE LIMIT HEAP PEAK REQUESTS GREATEST STACK
@@ -77,7 +77,7 @@ void *__wrap_realloc(void *memory, size_t size) {
 
 static etcs_unit unit;
 static medium disk;
-static int measures_stack, tells;
+static int measures_stack, shows;
 static unsigned scenario, line_number;
 
 __attribute__((noinline)) static void paint(void) {
@@ -211,7 +211,7 @@ static void count_one(const struct input *in) {
     const uint64_t requests = heap.requests;
     if (in->kind == FLUSH || in->kind == COLD)
         release();
-    else if (tells)
+    else if (shows)
         settle();
     printf(" %u %u %u %u %zu %zu %" PRIu64 " %zu %zu\n", last.mode, last.level, last.brake, last.limit_m_per_h, held, peak, requests,
            greatest, stack);
@@ -233,7 +233,7 @@ int main(int count, char **words) {
     size_t stack;
     int counts = 0;
     measures_stack = count > 1 && strcmp(words[1], "stack") == 0;
-    tells = count > 1 && strcmp(words[1], "told") == 0;
+    shows = count > 1 && strcmp(words[1], "show") == 0;
     disk.bytes = sectors;
     while (fgets(line, sizeof line, stdin)) {
         const struct input in = read_from(line);

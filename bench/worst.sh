@@ -1,22 +1,24 @@
 #!/bin/bash
-# The most that was found of one call of the unit from C (include/etcs_unit.h), by kind of call: its instructions, counted
-# by callgrind within the call of the library, with all that it calls; what the unit holds of the heap; and how far it
-# writes down the stack. The heap is the harness's own (bench/worst.c). The scenarios are kept in bench/worst.scenarios:
-# each one's last line is the call that is counted, and its first line says what was found for it. Then what one thing
-# more costs, of those that nothing bounds, and the bound of the stack (bench/stack_bound.py).
+# Print the maximum that was found of one call of the unit from C (include/etcs_unit.h), by kind of call: its instructions, counted
+# by callgrind within the call of the library, with all that it calls; what the unit holds of the heap; and the depth of its stack.
 #
-#     bench/worst.sh                         counts them again
-#     bench/worst.sh --search [TRIES SEED]   looks for more (10,000 tries, seed 46), keeps what takes more, and counts them
-#     bench/worst.sh --minutes MINUTES SEED  the same, for so many minutes
-#     bench/worst.sh --hand                  keeps what was made by hand where it takes more, and counts them
-#     bench/worst.sh --build                 builds what counts, and no more; then bench/worst_bound.py has a bound next to it
+#     bench/worst.sh                         count the kept scenarios again
+#     bench/worst.sh --search [TRIES SEED]   search for scenarios that take more (default: 10000 tries, seed 46), keep and count them
+#     bench/worst.sh --minutes MINUTES SEED  the same, for MINUTES minutes
+#     bench/worst.sh --hand                  keep the hand-written scenarios where they take more, and count them
+#     bench/worst.sh --build                 only build the harness; then bench/worst_bound.py has a bound next to each count
 #     bench/worst.sh --grown                 a reading where restrictions and gradients double, of the unit and of the peer
+#     bench/worst.sh --help                  print this
 #
-# The search is a hill climb (bench/worst_search.py): it begins with what is kept, with what was made by hand and with
-# lives at random, then changes the scenario of a kind by a few steps, and keeps it where a call takes at least as much.
-# Its figures are the greatest that were found, and no bound.
+# The heap is the harness's own (bench/worst.c). bench/worst.scenarios keeps the scenarios: the last line of each is the call that is
+# counted, and its first line has the count when it was found. Then it prints the cost of one element more, of those that nothing
+# bounds, and the bound of the stack (bench/stack_bound.py). The search is a hill climb (bench/worst_search.py): it starts with the
+# kept scenarios, with hand-written ones and with random lives, then changes the scenario of a kind by a few steps, and keeps it
+# where a call takes at least as much. Its figures are the maximum that was found, and no bound.
 set -e
 top=$(cd "$(dirname "$(readlink -f -- "$0")")/.." && pwd)
+. "$top/bench/usage"
+case $#${1:-} in 0|1--search|3--search|1--hand|3--minutes|1--build|1--grown) ;; *) wrong "$@" ;; esac
 out=$top/bench/out
 # What the library calls to take memory is in the toolchain's C library.
 memory=$(dirname "$(rt doc)")/c/liblibc_c.a
@@ -43,7 +45,6 @@ case ${1:-} in
     --build) exit ;;
     --grown) "$top/bench/peer.sh" --build >&2; exec "$top/bench/worst_search.py" --grown ;;
     '') ;;
-    *) sed -n '2,/^set/{/^set/d;s/^# \{0,1\}//;p}' "$0"; exit 2 ;;
 esac
 
 printf '%-44s %12s %12s %5s %8s\n' 'instructions of a call' now found mode limit

@@ -1,18 +1,21 @@
 #!/usr/bin/env python3
-"""What docs/project/performance.md argues that a call takes at most, along with what was counted: of each kept scenario (bench/worst.scenarios), each row of the
-doubling and of the stairs, each crowd of gradients, and each reading that takes the forgetting mark past such a crowd. WHAT, COUNTED, BOUND, and the numbers that the bound goes by, a line each, tab between. It
-ends with status 1 where more was counted.
+"""Compare counts of calls with the bound that docs/project/performance.md argues: of each kept scenario (bench/worst.scenarios), each
+row of the doubling and of the stairs, each crowd of gradients, and each reading that takes the forgetting mark past such a crowd.
 
-    bench/worst_bound.py [kept] [grown] [stairs] [anew] [crowds] [forgotten]     all of them, or some
+    bench/worst_bound.py [kept] [grown] [stairs] [anew] [crowds] [forgotten]    (default: all)
+    bench/worst_bound.py --help                                                 print this
 
-What lies ahead is reported by the plain program of tests/plain, which lives each scenario. `bench/worst.sh --build` builds what counts.
+Print a line for each, separated by tabs: WHAT, COUNTED, BOUND, and the numbers that the bound is made of. Exit status 1 where more
+was counted. The plain program of tests/plain lives each scenario and gives what lies ahead. `bench/worst.sh --build` builds the
+harness.
 """
 import sys
 from pathlib import Path
 
 TOP = Path(__file__).resolve().parent.parent
 sys.dont_write_bytecode = True
-sys.path[:0] = [str(TOP / "bench"), str(TOP / "tests" / "plain")]
+sys.path[:0] = [str(TOP / "bench"), str(TOP / "tests" / "plain"), str(TOP / "tools")]
+import usage  # noqa: E402
 import life as lives  # noqa: E402
 from mixed import in_plain_words  # noqa: E402
 from worst_search import ANEW, CROWDS, FORGOTTEN, GROWN, STAIRS, TWICE, anew, backwards, counted, crowded, forgetting, kept, stairs, text_of  # noqa: E402
@@ -76,20 +79,20 @@ def bound_of(lines, is_start):
     return most + (KNOWN * (gradients + statics) if is_start else 0), (gradients, targets, back)
 
 
-def told(words):
+def scenarios_of(words):
     """WHAT, the lines."""
     if "kept" in words:
         for _, kind, lines in kept():
             yield kind, [line for line in lines if line != "count"]
     if "grown" in words:
         for grades, restricted, order in GROWN:
-            yield (f"reading: {grades} gradients, {restricted} restrictions, told {order}",
+            yield (f"reading: {grades} gradients, {restricted} restrictions, sent {order}",
                    [text_of(line) for line in backwards(restricted, grades, turns=order == "by turns", near=order == "near to far")])
     if "stairs" in words:
         for grades, reaction, near_end, many in STAIRS:
             for rising in (True, False):
                 what = ", ".join(f"{number} {name}" for name, number in many.items())
-                yield (f"reading: {grades} gradients, {what}, {'rising' if rising else 'falling'}, the end {'before' if near_end else 'behind'} them, "
+                yield (f"reading: {grades} gradients, {what}, {'rising' if rising else 'falling'}, the end {'before' if near_end else 'beyond'} them, "
                        f"{reaction / 1000:g} s", [text_of(line) for line in stairs(grades, rising=rising, reaction=reaction, near_end=near_end, **many)])
     if "crowds" in words:
         for crowd in CROWDS:
@@ -106,7 +109,8 @@ def told(words):
 
 
 def main(words):
-    cases = list(told(words or ["kept", "grown", "stairs", "anew", "crowds", "forgotten"]))
+    usage.check(__doc__, set(words) <= {"kept", "grown", "stairs", "anew", "crowds", "forgotten"})
+    cases = list(scenarios_of(words or ["kept", "grown", "stairs", "anew", "crowds", "forgotten"]))
     took = counted([(4, [*lines[:-1], "count", lines[-1]]) for _, lines in cases])
     broken = 0
     for at, (what, lines) in enumerate(cases, 1):

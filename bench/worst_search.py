@@ -1,18 +1,19 @@
 #!/usr/bin/env python3
-"""Looks for the events that take the most instructions, by a hill climb over scenarios that callgrind counts.
+"""Search for the events that take the most instructions, by a hill climb over scenarios that callgrind counts.
 
-    bench/worst_search.py TRIES SEED     writes bench/worst.scenarios: for each kind of call the scenario whose last line took most, of
-                                         those that it found and those that were kept before
-    bench/worst_search.py --minutes MINUTES SEED     the same, with as many tries as these minutes take
-    bench/worst_search.py --hand         keeps what was made by hand where it takes more
-    bench/worst_search.py --count        counts these again: KIND, INSTRUCTIONS, MODE, LIMIT, FOUND, a line each, tab between
-    bench/worst_search.py --more         what one thing more costs: a restriction, a static speed, a gradient, a slot
-    bench/worst_search.py --grown        a reading where restrictions and gradients double: WHAT, INSTRUCTIONS, THOSE OF THE PEER
-    bench/worst_search.py --stairs       a reading before stairs of restrictions, areas and static speeds: WHAT, INSTRUCTIONS where each is
-                                         faster than the nearer one, and where each is slower
-    bench/worst_search.py --memory       heap and stack of each call of the scenarios: KIND, HELD, PEAK, REQUESTS, GREATEST, STACK
+    bench/worst_search.py TRIES SEED                 write bench/worst.scenarios: for each kind of call the scenario whose last line took
+                                                     most, of those found and those kept before
+    bench/worst_search.py --minutes MINUTES SEED     the same, with as many tries as fit into MINUTES
+    bench/worst_search.py --hand                     keep the hand-written scenarios where they take more
+    bench/worst_search.py --count                    count the kept ones again: KIND, INSTRUCTIONS, MODE, LIMIT, FOUND, separated by tabs
+    bench/worst_search.py --more                     the cost of one element more: a restriction, a static speed, a gradient, a slot
+    bench/worst_search.py --grown                    a reading where restrictions and gradients double: WHAT, INSTRUCTIONS, THE PEER'S
+    bench/worst_search.py --stairs                   a reading before stairs of restrictions, areas and static speeds: WHAT, INSTRUCTIONS
+                                                     where each is faster than the nearer one, and where each is slower
+    bench/worst_search.py --memory                   heap and stack of each call: KIND, HELD, PEAK, REQUESTS, GREATEST, STACK
+    bench/worst_search.py --help                     print this
 
-bench/worst.sh builds what it runs (bench/out/worst), and says more.
+bench/worst.sh builds what it runs (bench/out/worst), and explains more.
 """
 import itertools
 import os
@@ -24,7 +25,8 @@ import time
 from pathlib import Path
 
 TOP = Path(__file__).resolve().parent.parent
-sys.path.insert(0, str(TOP / "tests" / "plain"))
+sys.path[:0] = [str(TOP / "tests" / "plain"), str(TOP / "tools")]
+import usage  # noqa: E402
 sys.dont_write_bytecode = True
 import decoded  # noqa: E402
 import named  # noqa: E402
@@ -198,10 +200,10 @@ def text_of(line):
     if isinstance(line, str):
         return line
     _, values, packets = line
-    told = ", ".join(f"{name} {values[name]}" for name in HEADER)
+    text = ", ".join(f"{name} {values[name]}" for name in HEADER)
     for number, fields in packets:
-        told += f"; {number}: " + ", ".join(f"{name} {value}" for name, value in fields)
-    return "telegram " + written(told)
+        text += f"; {number}: " + ", ".join(f"{name} {value}" for name, value in fields)
+    return "telegram " + written(text)
 
 
 # ---- scenarios: lines
@@ -232,13 +234,13 @@ ENTERED = ["cold 0", "identity 41", "action 2", "train 20000 160000 70 0 15", "a
 
 
 def seeds(r):
-    """Lives in Full Supervision over a reported track, and lives at random after the entries."""
-    told = [heard(number, fitting([packet(r, kind) for kind in kinds]))
+    """Lives in Full Supervision over an announced track, and lives at random after the entries."""
+    telegrams = [heard(number, fitting([packet(r, kind) for kind in kinds]))
             for number, kinds in ((2, (12,)), (3, (21,)), (4, (27,)), (5, (65,) * 10), (6, (5,)), (7, (80,)), (8, (3, 41)))]
-    full = [*ENTERED, *told, "action 7", *(["odometer 100 100000"] * 4), "clock 1000", "odometer 1400 100000"]
+    full = [*ENTERED, *telegrams, "action 7", *(["odometer 100 100000"] * 4), "clock 1000", "odometer 1400 100000"]
     yield full
     yield [*full, "flush"]
-    yield [*ENTERED, *told, "flush"]
+    yield [*ENTERED, *telegrams, "flush"]
     for reaction in (0, 1_000):
         yield [*track(restricted=RESTRICTIONS, speeds=25, grades=25, reaction=reaction), "clock 1000"]
     for grades, step, reaction in ((660, 2, 0), (600, 1, 10_000), (480, 3, 1_000)):
@@ -333,9 +335,9 @@ def changed(r, lines, others):
     for _ in range(r.choice((1, 1, 1, 2, 2, 3, 5))):
         way = r.randrange(14)
         at = r.randrange(1, len(lines))
-        told = [place for place, line in enumerate(lines) if not isinstance(line, str)]
-        if way < 6 and told:
-            at = r.choice(told)
+        telegrams = [place for place, line in enumerate(lines) if not isinstance(line, str)]
+        if way < 6 and telegrams:
+            at = r.choice(telegrams)
             lines[at] = changed_telegram(r, lines[at])
         elif way < 8:
             lines.insert(at, any_line(r))
@@ -345,8 +347,8 @@ def changed(r, lines, others):
             lines[at] = nudged_text(r, lines[at])
         elif way == 10:
             lines.insert(at, lines[r.randrange(1, len(lines))])
-        elif way == 11 and told:
-            at = r.choice(told)
+        elif way == 11 and telegrams:
+            at = r.choice(telegrams)
             lines[at:at + 1] = whole_group(r, lines[at])
         elif way == 12:
             other = r.choice(others)
@@ -394,7 +396,7 @@ def kinds_of(texts):
             yield "driver: " + ACTIONS.get(int(value), "none")
         else:
             yield {"clock": "moment of the clock", "identity": "driver: enter identity", "number": "driver: enter running number",
-                   "train": "driver: enter train data", "flush": "prepare, behind up to eight inputs"}[word]
+                   "train": "driver: enter train data", "flush": "prepare, after up to eight inputs"}[word]
 
 
 def kind_of_telegram(assembler, sums, read):
@@ -408,7 +410,7 @@ def kind_of_telegram(assembler, sums, read):
     return "telegram that closes a group" if assembler.take(Reading(read, sums)) else kind
 
 
-def ran(program, scenarios, *words):
+def run_program(program, scenarios, *words):
     """Runs scenarios, each the number of slots and lines of text; the lines that were printed, as numbers."""
     text = "".join(f"scenario {slots}\n" + "".join(line + "\n" for line in lines) for slots, lines in scenarios)
     done = subprocess.run([*program, *words], input=text, capture_output=True, text=True, cwd=OUT, env={"PATH": "/usr/bin:/bin"})
@@ -417,13 +419,13 @@ def ran(program, scenarios, *words):
     return [tuple(map(int, line.split())) for line in done.stdout.splitlines()]
 
 
-def counted(scenarios, told=False):
+def counted(scenarios, shows=False):
     """What callgrind counted of each counted line: (scenario, line) to (instructions, status, mode, limit). Mode and limit are those after
-    the line where they are to be reported."""
+    the line where `shows` asks for them."""
     profile = OUT / f"profile.{os.getpid()}"
     toggles = [f"--toggle-collect=etcs_unit_{call}_" for call in CALLS]
-    lines = ran(["valgrind", "--tool=callgrind", f"--callgrind-out-file={profile}", "--combine-dumps=yes", "--collect-atstart=no", *toggles],
-                scenarios, "./worst", "told" if told else "mute")  # (as long a word, since counts go by the place of the stack)
+    lines = run_program(["valgrind", "--tool=callgrind", f"--callgrind-out-file={profile}", "--combine-dumps=yes", "--collect-atstart=no", *toggles],
+                scenarios, "./worst", "show" if shows else "mute")  # (of the same length, since counts depend on the place of the stack)
     took = {}
     label = None
     with open(profile) as dumps:
@@ -438,7 +440,7 @@ def counted(scenarios, told=False):
     return {(at, line): (took[at, line], status, mode, limit) for at, line, status, mode, _, _, limit, *_ in lines}
 
 
-def tried(many):
+def counted_lines(many):
     """Each counted line that was taken: (kind, instructions, scenario up to it)."""
     texts = [[text_of(line) for line in lines] for lines in many]
     marked = [(4, [*lines[:-COUNTED], "count", *lines[-COUNTED:]]) for lines in texts]
@@ -456,7 +458,7 @@ class Best:
         self.of = {}
 
     def take(self, many):
-        for kind, instructions, lines in tried(many):
+        for kind, instructions, lines in counted_lines(many):
             if instructions >= self.of.get(kind, (0,))[0]:
                 self.of[kind] = (instructions, lines)
 
@@ -513,9 +515,9 @@ class Best:
 
     def add_kept(self):
         """Takes what was kept before where it takes more."""
-        told = kept() if SCENARIOS.exists() else []
-        took = counted([(4, lines) for _, _, lines in told])
-        for number, (_, kind, lines) in enumerate(told, 1):
+        before = kept() if SCENARIOS.exists() else []
+        took = counted([(4, lines) for _, _, lines in before])
+        for number, (_, kind, lines) in enumerate(before, 1):
             again = took[number, len(lines)][0]
             if again > self.of.get(kind, (0,))[0]:
                 self.of[kind] = (again, [line for line in lines if line != "count"])
@@ -537,7 +539,7 @@ def by_hand():
     *others, gradients, restrictions = before
     calls = [[*before, start], *([*before, start, *more, one] for more in ((), (last,)) for one in (*LAST, last)), [*before, start, "telegram 00"],
              [*before, start, restrictions], [*others, restrictions, start, gradients], [*before, start, parts[0]],
-             [*crowded(**TWICE, behind=131)[:-1], parts[0], "odometer 1301 50000"]]
+             [*crowded(**TWICE, offset=131)[:-1], parts[0], "odometer 1301 50000"]]
     for lines in calls:
         yield list(kinds_of([text_of(line) for line in lines]))[-1], lines
 
@@ -554,12 +556,12 @@ def telegram_again(line):
     if word != "telegram":
         return line
     try:
-        told = decoded.telegram_of(bytes.fromhex(text))
+        telegram = decoded.telegram_of(bytes.fromhex(text))
     except decoded.Fault:
         return line
-    header = dict(told.header)
+    header = dict(telegram.header)
     again = ("telegram", {name: header[name] for name in HEADER},
-             [(one.number, [field for field in one.fields if field[0] != "L_PACKET"]) for one in told.packets])
+             [(one.number, [field for field in one.fields if field[0] != "L_PACKET"]) for one in telegram.packets])
     return again if text_of(again) == line else line
 
 
@@ -576,18 +578,18 @@ def kept():
 
 
 def count_again():
-    told = kept()
-    took = counted([(4, lines) for _, _, lines in told], told=True)
-    for number, (found, kind, lines) in enumerate(told, 1):
+    scenarios = kept()
+    took = counted([(4, lines) for _, _, lines in scenarios], shows=True)
+    for number, (found, kind, lines) in enumerate(scenarios, 1):
         instructions, _, mode, limit = took[number, len(lines)]
         print(kind, instructions, MODES.get(mode, mode), limit, found, sep="\t")
 
 
 def memory():
-    told = kept()
-    for at, *numbers in ran(["./worst"], [(4, lines) for _, _, lines in told], "stack"):
+    scenarios = kept()
+    for at, *numbers in run_program(["./worst"], [(4, lines) for _, _, lines in scenarios], "stack"):
         held, peak, requests, greatest, stack = numbers[-5:]
-        print(told[at - 1][1], held, peak, requests, greatest, stack, sep="\t")
+        print(scenarios[at - 1][1], held, peak, requests, greatest, stack, sep="\t")
 
 
 def track(restricted=0, speeds=1, grades=1, reaction=0):
@@ -609,7 +611,7 @@ def track(restricted=0, speeds=1, grades=1, reaction=0):
 
 def backwards(restricted, grades, step=2, reaction=0, turns=False, near=False):
     """Full Supervision with brakes that hardly act, so many gradients ahead, one every so many metres, and so many restrictions: stops after
-    them, one every metre, reported from the farthest to the nearest, or from the nearest on; or by turns one such and one before all gradients, each 5 km/h slower."""
+    them, one every metre, announced from the farthest to the nearest, or from the nearest on; or by turns one such and one before all gradients, each 5 km/h slower."""
     whole = [("Q_DIR", 2), ("Q_SCALE", 1)]
     lines = [*ENTERED, f"train 20000 160000 1 {reaction} 15"]
     lines.append(heard(2, [(12, [*whole, ("V_MAIN", 120), ("V_LOA", 0), ("T_LOA", 1023), ("N_ITER", 0), ("L_ENDSECTION", 32_767),
@@ -633,17 +635,17 @@ def stairs(grades, restricted=0, areas=0, speeds=0, rising=True, step=2, reactio
     *lines, action, first, last = [line.replace("160000", "600000") if isinstance(line, str) else line
                                    for line in backwards(0, grades, step, reaction)]
     kinds = [kind for _, kind in sorted((at, kind) for kind, many in enumerate((restricted, areas, speeds)) for at in range(many))]
-    told = [[], [], []]
+    places = [[], [], []]
     for at, kind in enumerate(kinds):
-        told[kind].append((grades * step + 5 * (at + 1), 1 + at if rising else 119 - at))
+        places[kind].append((grades * step + 5 * (at + 1), 1 + at if rising else 119 - at))
     whole = [("Q_DIR", 2), ("Q_SCALE", 1)]
-    packets = [[restricted_at(whole, *one) for one in told[0][first:first + 10]] for first in range(0, restricted, 10)]
+    packets = [[restricted_at(whole, *one) for one in places[0][first:first + 10]] for first in range(0, restricted, 10)]
     if areas:
         packets.append([(80, whole + listed([[("D_MAMODE", after), ("M_MAMODE", 0), ("V_MAMODE", speed), ("L_MAMODE", 2), ("L_ACKMAMODE", 0)]
-                                             for after, speed in each_after(told[1])]))])
+                                             for after, speed in each_after(places[1])]))])
     if speeds:
         packets.append([(27, whole + listed([[("D_STATIC", after), ("V_STATIC", speed), ("Q_FRONT", 0), ("N_ITER", 0)]
-                                             for after, speed in each_after(told[2])]))])
+                                             for after, speed in each_after(places[2])]))])
     after = [heard(group, some) for group, some in enumerate(packets, 400)]
     ended = [ended_at(line, grades * step + 1 if near_end else 32_767) for line in heard_in(lines)]
     return [*(line for line in lines if isinstance(line, str)), *ended, *after, action, first, last]
@@ -651,16 +653,16 @@ def stairs(grades, restricted=0, areas=0, speeds=0, rising=True, step=2, reactio
 
 def anew(grades, reaction=0, step=2):
     """The same train and gradients, and after all of them in turn the end of the authority, its danger point, two restrictions, of which the farther
-    one was reported first, and a static speed, after which none is known. Each is slower than the next one, and nearer: so the sums for all but the two
+    one was announced first, and a static speed, after which none is known. Each is slower than the next one, and nearer: so the sums for all but the two
     last targets, for the end and for the danger point each begin anew, and go along all gradients."""
     *lines, action, first, last = [line.replace("160000", "600000") if isinstance(line, str) else line
                                    for line in backwards(0, grades, step, reaction)]
-    whole, behind = [("Q_DIR", 2), ("Q_SCALE", 1)], grades * step
-    told = [[restricted_at(whole, behind + 30, 20), restricted_at(whole, behind + 20, 10)],
+    whole, past = [("Q_DIR", 2), ("Q_SCALE", 1)], grades * step
+    packets = [[restricted_at(whole, past + 30, 20), restricted_at(whole, past + 20, 10)],
             [(27, whole + listed([[("D_STATIC", after), ("V_STATIC", speed), ("Q_FRONT", 0), ("N_ITER", 0)]
-                                  for after, speed in each_after([(0, 120), (behind + 40, 30), (behind + 50, 127)])]))]]
-    after = [heard(group, some) for group, some in enumerate(told, 400)]
-    return [*(line for line in lines if isinstance(line, str)), *(ended_at(line, behind + 1, 9) for line in heard_in(lines)), *after, action, first, last]
+                                  for after, speed in each_after([(0, 120), (past + 40, 30), (past + 50, 127)])]))]]
+    after = [heard(group, some) for group, some in enumerate(packets, 400)]
+    return [*(line for line in lines if isinstance(line, str)), *(ended_at(line, past + 1, 9) for line in heard_in(lines)), *after, action, first, last]
 
 
 def ended_at(line, metres, beyond=0):
@@ -670,23 +672,23 @@ def ended_at(line, metres, beyond=0):
     return (*line[:2], [(number, [it for name, value in fields for it in ends.get(name, [(name, value)])]) for number, fields in line[2]])
 
 
-def crowded(grades, statics, restricted, end, location, deceleration=300, reaction=10_000, first=131, steep=121, beyond=90, behind=0):
+def crowded(grades, statics, restricted, end, location, deceleration=300, reaction=10_000, first=131, steep=121, beyond=90, offset=0):
     """Full Supervision at up to 600 km/h, with so many gradients ahead, one every 10 cm, which lie within the way that the train runs before its
     brakes act. So the way back to where they act at a lower speed passes them. Static speeds and restrictions are places, in steps of 10 cm
     after the group, and steps of 5 km/h; the authority ends at a place, and its location another one. All of them may lie farther on."""
     whole = [("Q_DIR", 2), ("Q_SCALE", 0)]
     lines = [*ENTERED, f"train 20000 600000 {deceleration} {reaction} 15"]
-    lines.append(heard(2, [(12, [*whole, ("V_MAIN", 120), ("V_LOA", 0), ("T_LOA", 1023), ("N_ITER", 0), ("L_ENDSECTION", behind + end), ("Q_SECTIONTIMER", 0),
+    lines.append(heard(2, [(12, [*whole, ("V_MAIN", 120), ("V_LOA", 0), ("T_LOA", 1023), ("N_ITER", 0), ("L_ENDSECTION", offset + end), ("Q_SECTIONTIMER", 0),
                                  ("Q_ENDTIMER", 0), ("Q_DANGERPOINT", 1), ("D_DP", location - end), ("V_RELEASEDP", 126), ("Q_OVERLAP", 0)])]))
     lines.append(heard(3, [(27, whole + listed([[("D_STATIC", after), ("V_STATIC", speed), ("Q_FRONT", 0), ("N_ITER", 0)]
-                                               for after, speed in each_after([(0, 120), *((behind + at, to) for at, to in statics)])]))]))
-    first += behind
-    told = [(0, beyond), *((first + at, steep - at % 2) for at in range(grades)), (first + grades, beyond)]
-    for group, at in enumerate(range(0, len(told), 30), 4):
+                                               for after, speed in each_after([(0, 120), *((offset + at, to) for at, to in statics)])]))]))
+    first += offset
+    gradients = [(0, beyond), *((first + at, steep - at % 2) for at in range(grades)), (first + grades, beyond)]
+    for group, at in enumerate(range(0, len(gradients), 30), 4):
         lines.append(heard(group, [(21, whole + listed([[("D_GRADIENT", after), ("Q_GDIR", 1), ("G_A", gradient)]
-                                                        for after, gradient in each_after(told[at:at + 30])]))]))
+                                                        for after, gradient in each_after(gradients[at:at + 30])]))]))
     for group, at in enumerate(range(0, len(restricted), 10), 400):
-        lines.append(heard(group, [(65, [*whole, ("NID_TSR", 255), ("D_TSR", behind + place), ("L_TSR", 10), ("Q_FRONT", 0), ("V_TSR", speed)])
+        lines.append(heard(group, [(65, [*whole, ("NID_TSR", 255), ("D_TSR", offset + place), ("L_TSR", 10), ("Q_FRONT", 0), ("V_TSR", speed)])
                                    for place, speed in restricted[at:at + 10]]))
     return [*lines, "action 7", "odometer 0 50000"]
 
@@ -702,9 +704,9 @@ def heard_in(lines):
     return [line for line in lines if not isinstance(line, str)]
 
 
-def each_after(told):
+def each_after(places):
     """How far each lies after the one before it, and its speed."""
-    return [(place - before, speed) for before, (place, speed) in zip((0, *(place for place, _ in told)), told)]
+    return [(place - before, speed) for before, (place, speed) in zip((0, *(place for place, _ in places)), places)]
 
 
 def restricted_at(head, metres, speed):
@@ -732,15 +734,15 @@ def grown():
         took = counted([(4, [*lines[:-1], "count", lines[-1]])])[1, len(lines) + 1][0]
         words = [f"{word} {value}".strip() for word, value in in_plain_words(lines[1:])]
         few, many = (peer_reading(words + words[-1:] * more) for more in (0, 1))
-        print(f"{grades} gradients, {restricted} restrictions, told {order}", took, many - few, sep="\t", flush=True)
+        print(f"{grades} gradients, {restricted} restrictions, sent {order}", took, many - few, sep="\t", flush=True)
 
 
-def told_stairs():
+def print_stairs():
     for grades, reaction, near_end, many in STAIRS:
         texts = [[text_of(line) for line in stairs(grades, rising=rising, reaction=reaction, near_end=near_end, **many)] for rising in (True, False)]
         took = counted([(4, [*lines[:-1], "count", lines[-1]]) for lines in texts])
         what = ", ".join(f"{number} {name}" for name, number in many.items())
-        ends = "before them" if near_end else "behind them"
+        ends = "before them" if near_end else "beyond them"
         print(f"{grades} gradients, {what}, the end {ends}, a reaction of {reaction / 1000:g} s",
               *(took[at, len(lines) + 1][0] for at, lines in enumerate(texts, 1)), sep="\t", flush=True)
 
@@ -762,7 +764,7 @@ STAIRS = [(grades, reaction, near_end, many) for near_end in (False, True) for r
           for many in KINDS]
 
 
-# Crowds of gradients, and what is reported ahead of them: each place is nearer than where the brakes act at the speed so far.
+# Crowds of gradients, and what is announced ahead of them: each place is nearer than where the brakes act at the speed so far.
 # (The static speed is no stop: before one, no further static speed would be asked for.)
 STOPS = {"statics": [(16_263, 1), (16_264, 127)], "restricted": [(5_381, 0), (2_046, 0)], "end": 875, "location": 875}
 CROWDS = [{"grades": grades, **STOPS, "reaction": reaction} for grades, reaction in ((172, 10_000), (345, 10_000), (690, 10_000), (690, 5_000), (690, 1_000))]
@@ -774,10 +776,13 @@ TWICE = {"grades": 690, "statics": [(4_374, 23), (4_375, 127)], "restricted": [(
 
 
 def main(words):
+    numbers = [word for word in words if word.isdigit()]
+    usage.check(__doc__, len(words) == 1 and words[0] in ("--grown", "--stairs", "--hand", "--count", "--memory", "--more")
+                or len(numbers) == 2 and [word for word in words if word not in numbers] in ([], ["--minutes"]))
     if words == ["--grown"]:
         grown()
     elif words == ["--stairs"]:
-        told_stairs()
+        print_stairs()
     elif words == ["--hand"]:
         best = Best()
         best.add_by_hand()
@@ -789,15 +794,13 @@ def main(words):
         memory()
     elif words == ["--more"]:
         more()
-    elif len(words) == 2 or len(words) == 3 and words[0] == "--minutes":
+    else:
         r, best = random.Random(int(words[-1])), Best()
         best.climb(r, int(words[0]) if len(words) == 2 else 0, int(words[1]) if len(words) == 3 else None)
         best.shorten()
         best.add_by_hand()
         best.add_kept()
         best.write(SCENARIOS)
-    else:
-        sys.exit(__doc__)
 
 
 if __name__ == "__main__":

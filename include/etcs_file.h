@@ -501,8 +501,9 @@ static inline uint32_t etcs_file_format(etcs_file *file, const char *path, uint3
  *     ...
  *     etcs_archive_close(&archive);
  *
- * `./lab join` makes one image of a larger ring of the archive and the image (docs/howto/investigating.md). An archive grows
- * by 3,072 bytes a block; docs/howto/embedding.md has a table.
+ * `./lab join` makes one image of a larger ring of the archive and the image (docs/howto/long-journals.md). An archive grows
+ * by 3,072 bytes a block; docs/howto/c-archive.md has a table. Which block of a slot is kept is decided by the library, and
+ * proved (etcs_image_slot_start); what is read, appended and synced, and when, is only tested.
  *
  * Both files are settled when they are opened, as a journal is: what an earlier process left half written is dropped, and
  * what is read then is what the medium has. A sync that failed is owed from then on: each later call writes again what it
@@ -519,9 +520,6 @@ extern "C" {
 
 /** The bytes of a block in an archive. */
 #define ETCS_ARCHIVE_ENTRY (6 * ETCS_UNIT_SECTOR)
-
-/** The greatest number of a block (docs/reference/format.md). */
-#define ETCS_ARCHIVE_NUMBERS (UINT64_C(1) << 40)
 
 /** A mark's moment is below this one, as a unit's clock is. */
 #define ETCS_TIMES_MOMENTS (UINT64_C(1) << 40)
@@ -629,67 +627,29 @@ static inline uint32_t etcs_file_drop_(etcs_file *file, uint64_t end, uint32_t *
     return ftruncate(file->descriptor, (off_t)end) == 0 ? (uint32_t)ETCS_FILE_OK : etcs_file_failed_(file, ETCS_FILE_CANT_WRITE);
 }
 
-/* ---- which block a slot holds */
-
-/* A number of `len` bytes, the highest byte first: `len` turns. */
-static inline uint64_t etcs_archive_big_(const uint8_t *bytes, int len) {
-    uint64_t number = 0;
-    for (int at = 0; at < len; at++)
-        number = number << 8 | bytes[at];
-    return number;
-}
-
-/* Whether a gate is closed: all its bytes are zero. At most a sector's turns. */
-static inline int etcs_archive_is_closed_(const uint8_t *gate) {
-    int at = 0;
-    while (at < ETCS_UNIT_SECTOR && gate[at] == 0)
-        at++;
-    return at == ETCS_UNIT_SECTOR;
-}
-
-/* Whether a head begins with the mark of one of the three formats. */
-static inline int etcs_archive_is_head_(const uint8_t *head) {
-    return memcmp(head, "ETCSHEAD", 8) == 0 || memcmp(head, "ETCSHED2", 8) == 0 || memcmp(head, "ETCSHED3", 8) == 0;
-}
-
-/* The number of the block whose gate and head these are; 0 where they aren't those of one block: a gate just as a unit
- * writes it, with a number from 1 to 2^40, and a head of a known format with the same number. One bit altered in either
- * number, or in the gate, names no block. At most a sector's turns. */
-static inline uint64_t etcs_archive_block_(const uint8_t *slot) {
-    const uint64_t number = etcs_archive_big_(slot + 8, 8);
-    if (memcmp(slot, "ETCSGATE", 8) != 0 || number > ETCS_ARCHIVE_NUMBERS)
-        return 0;
-    for (int at = 16; at < ETCS_UNIT_SECTOR; at++)
-        if (slot[at] != 0)
-            return 0;
-    const uint8_t *const head = slot + ETCS_UNIT_SECTOR;
-    return etcs_archive_is_head_(head) && etcs_archive_big_(head + 8, 8) == number ? number : 0;
-}
+/* ---- which block a slot holds: the library decides (etcs_image_slot_start) */
 
 static inline uint64_t etcs_archive_place_(uint64_t slot) {
     return ETCS_UNIT_SECTOR + ETCS_ARCHIVE_ENTRY * slot;
 }
 
-/* Reads the slot of a block, and says which block it holds; 0 where it holds none that belongs there. */
-static inline uint32_t etcs_archive_look_(etcs_file *file, uint64_t slots, uint64_t number, uint8_t *slot, uint64_t *found) {
-    const uint32_t answer = etcs_file_read_(file, slot, ETCS_ARCHIVE_ENTRY, etcs_archive_place_(number % slots));
-    *found = answer == ETCS_FILE_OK ? etcs_archive_block_(slot) : 0;
-    if (*found % slots != number % slots)
-        *found = 0;
-    return answer;
+/* Reads `len` bytes of the slot of a block, and which block it holds. */
+static inline uint32_t etcs_archive_look_(etcs_file *own, etcs_file *file, uint64_t slots, uint64_t number, uint8_t *bytes, size_t len, etcs_slot_start *found) {
+    const uint32_t answer = etcs_file_read_(file, bytes, len, etcs_archive_place_(number % slots));
+    return answer == ETCS_FILE_OK ? etcs_file_status_(own, etcs_image_slot_start(bytes, len, slots, number % slots, found)) : answer;
 }
 
 /* The number of the newest block of the image; 0 where it has none. `slots` turns. */
-static inline uint32_t etcs_archive_newest_(etcs_file *file, uint64_t slots, uint64_t *newest) {
+static inline uint32_t etcs_archive_newest_(etcs_file *own, etcs_file *file, uint64_t slots, uint64_t *newest) {
     uint8_t start[2 * ETCS_UNIT_SECTOR];
+    etcs_slot_start found;
     *newest = 0;
     for (uint64_t slot = 0; slot < slots; slot++) {
-        const uint32_t answer = etcs_file_read_(file, start, sizeof start, etcs_archive_place_(slot));
-        const uint64_t number = answer == ETCS_FILE_OK ? etcs_archive_block_(start) : 0;
+        const uint32_t answer = etcs_archive_look_(own, file, slots, slot, start, sizeof start, &found);
         if (answer != ETCS_FILE_OK)
             return answer;
-        if (number % slots == slot && number > *newest)
-            *newest = number;
+        if (found.number > *newest)
+            *newest = found.number;
     }
     return ETCS_FILE_OK;
 }
@@ -749,22 +709,34 @@ static inline uint32_t etcs_archive_append_new_(etcs_archive *archive, const uin
     return etcs_archive_append_(archive, slot);
 }
 
+/* The number of the archive's last block; 0 where it has none, or its last entry holds none. */
+static inline uint32_t etcs_archive_last_(etcs_archive *archive, uint64_t *last) {
+    uint8_t start[2 * ETCS_UNIT_SECTOR];
+    etcs_slot_start found = {0, 0, 0};
+    uint32_t answer = ETCS_FILE_OK;
+    if (archive->entries > 0)
+        answer = etcs_file_read_(&archive->file, start, sizeof start, etcs_archive_place_(archive->entries - 1));
+    if (archive->entries > 0 && answer == ETCS_FILE_OK)
+        answer = etcs_file_status_(&archive->file, etcs_image_slot_start(start, sizeof start, 1, 0, &found));
+    *last = found.number;
+    return answer;
+}
+
 /* Appends all blocks of the image after `archive->newest`, unless the end of the archive has them just so: a loss of power
  * may have left other bytes there, or somebody may have put an older image back. A ring holds no number that is `slots` or
  * more below its newest, so there are at most `slots` turns. */
 static inline uint32_t etcs_archive_catch_up_(etcs_archive *archive, etcs_file *file) {
     uint8_t slot[ETCS_ARCHIVE_ENTRY];
+    etcs_slot_start found;
     const uint64_t before = archive->entries, slots = archive->slots;
-    uint64_t last = 0, newest = 0, found = 0;
-    uint32_t answer = etcs_archive_newest_(file, slots, &newest);
-    if (answer == ETCS_FILE_OK && before > 0) {
-        answer = etcs_file_read_(&archive->file, slot, sizeof slot, etcs_archive_place_(before - 1));
-        last = answer == ETCS_FILE_OK ? etcs_archive_block_(slot) : 0;
-    }
+    uint64_t last = 0, newest = 0;
+    uint32_t answer = etcs_archive_newest_(&archive->file, file, slots, &newest);
+    if (answer == ETCS_FILE_OK)
+        answer = etcs_archive_last_(archive, &last);
     const uint64_t oldest = newest > slots ? newest - slots : 0;
     for (uint64_t number = (oldest > archive->newest ? oldest : archive->newest) + 1; answer == ETCS_FILE_OK && number <= newest; number++) {
-        answer = etcs_archive_look_(file, slots, number, slot, &found);
-        if (answer == ETCS_FILE_OK && found == number)
+        answer = etcs_archive_look_(&archive->file, file, slots, number, slot, sizeof slot, &found);
+        if (answer == ETCS_FILE_OK && found.number == number)
             answer = etcs_archive_append_new_(archive, slot, before + number - last - 1, before); /* (wraps below 0, and is no entry then) */
     }
     if (answer == ETCS_FILE_OK)
@@ -777,22 +749,23 @@ static inline uint32_t etcs_archive_catch_up_(etcs_archive *archive, etcs_file *
  * over. A greater number means that some blocks were overwritten. At most `slots` turns. */
 static inline uint32_t etcs_archive_follow_(etcs_archive *archive, etcs_file *file) {
     uint8_t slot[ETCS_ARCHIVE_ENTRY];
+    etcs_slot_start found;
     const uint64_t first = archive->newest + 1;
-    uint64_t found = 0;
     int closed = 0;
     for (uint64_t turn = 0; turn < archive->slots && closed < 2; turn++) {
-        uint32_t answer = etcs_archive_look_(file, archive->slots, first + turn, slot, &found);
-        if (answer == ETCS_FILE_OK && found > first + turn)
-            return etcs_archive_catch_up_(archive, file);
-        if (answer == ETCS_FILE_OK && found == first + turn) {
-            answer = etcs_archive_append_(archive, slot);
-            archive->newest = answer == ETCS_FILE_OK ? found : archive->newest;
-        } else if (found != 0) {
-            break;
-        }
+        uint32_t answer = etcs_archive_look_(&archive->file, file, archive->slots, first + turn, slot, sizeof slot, &found);
         if (answer != ETCS_FILE_OK)
             return answer;
-        closed = etcs_archive_is_closed_(slot) ? closed + 1 : 0;
+        if (found.number > first + turn)
+            return etcs_archive_catch_up_(archive, file);
+        if (found.number != 0 && found.number != first + turn)
+            break;
+        if (found.number != 0)
+            answer = etcs_archive_append_(archive, slot);
+        if (answer != ETCS_FILE_OK)
+            return answer;
+        archive->newest = found.number != 0 ? found.number : archive->newest;
+        closed = found.is_closed ? closed + 1 : 0;
     }
     return ETCS_FILE_OK;
 }
@@ -814,8 +787,8 @@ static inline uint32_t etcs_archive_look_first_(etcs_archive *archive, etcs_file
  * the archive has all of these blocks on its medium; any other answer, that some may be missing: `error` of the archive's
  * file, or of the image's, says why. Then call it again: a sync that is owed is made good first.
  *
- * A block is kept where its gate and its head are those of one block, of a known format, with one number from 1 to 2^40 that
- * belongs to its slot; a damaged slot is passed over. The first call reads two sectors of each slot and then at most all
+ * etcs_image_slot_start decides from gate and head which block of a slot is kept: one of a known format, with one number
+ * from 1 to 2^40 that belongs to its slot; a damaged slot is passed over. The first call reads two sectors of each slot and then at most all
  * slots, each other one what is new and at most two slots more, unless slots are damaged. */
 static inline uint32_t etcs_archive_keep(etcs_archive *archive, etcs_file *file, uint64_t *count) {
     const uint64_t before = archive->entries;
@@ -844,30 +817,38 @@ static inline uint32_t etcs_archive_keep(etcs_archive *archive, etcs_file *file,
 /** The bytes of a line, at most. */
 #define ETCS_TIMES_LINE 160
 
-/* How many lives there were, as the head of this slot has it. */
-static inline uint32_t etcs_times_lives_(const uint8_t *slot) {
-    return (uint32_t)etcs_archive_big_(slot + ETCS_UNIT_SECTOR + 24, 4);
+/* A number of `len` bytes, the highest byte first: `len` turns. */
+static inline uint64_t etcs_times_big_(const uint8_t *bytes, int len) {
+    uint64_t number = 0;
+    for (int at = 0; at < len; at++)
+        number = number << 8 | bytes[at];
+    return number;
 }
 
-/* Whether a slot holds the block of this number, though its gate or its head may have a bit altered. */
+/* How many lives there were, as the head of this slot has it. */
+static inline uint32_t etcs_times_lives_(const uint8_t *slot) {
+    return (uint32_t)etcs_times_big_(slot + ETCS_UNIT_SECTOR + 24, 4);
+}
+
+/* Whether a slot whose gate is open holds the block of this number, though its gate or its head may have a bit altered. */
 static inline int etcs_times_is_block_(const uint8_t *slot, uint64_t number) {
-    return !etcs_archive_is_closed_(slot)
-           && (etcs_archive_big_(slot + 8, 8) == number || etcs_archive_big_(slot + ETCS_UNIT_SECTOR + 8, 8) == number);
+    return etcs_times_big_(slot + 8, 8) == number || etcs_times_big_(slot + ETCS_UNIT_SECTOR + 8, 8) == number;
 }
 
 /* The life of the newest block: what its head has. The blocks after the newest whole one count too, as a unit counts them,
  * where only their gate or head is damaged. Lives never fall, so the greater number holds. At most `slots` turns. */
 static inline uint32_t etcs_times_life_(etcs_times *times, etcs_file *file) {
     uint8_t start[2 * ETCS_UNIT_SECTOR];
+    etcs_slot_start found;
     uint32_t slots = 0;
     uint64_t newest = 0;
     uint32_t answer = etcs_archive_slots_(&times->file, file, &slots);
     if (answer == ETCS_FILE_OK)
-        answer = etcs_archive_newest_(file, slots, &newest);
+        answer = etcs_archive_newest_(&times->file, file, slots, &newest);
     times->life = 0;
     for (uint64_t turn = 0; answer == ETCS_FILE_OK && turn <= slots; turn++) {
-        answer = etcs_file_read_(file, start, sizeof start, etcs_archive_place_((newest + turn) % slots));
-        if (answer != ETCS_FILE_OK || (newest + turn > 0 && !etcs_times_is_block_(start, newest + turn)))
+        answer = etcs_archive_look_(&times->file, file, slots, newest + turn, start, sizeof start, &found);
+        if (answer != ETCS_FILE_OK || (newest + turn > 0 && (found.is_closed || !etcs_times_is_block_(start, newest + turn))))
             break;
         if (newest + turn > 0 && etcs_times_lives_(start) > times->life)
             times->life = etcs_times_lives_(start);

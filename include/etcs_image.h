@@ -132,6 +132,13 @@ typedef struct {
     uint32_t fault_record; /**< in which record that field is, from 1 on; 0 where in none */
 } etcs_slot;
 
+/** What gate and head of a slot hold. */
+typedef struct {
+    uint64_t number;    /**< the number of the block that an archive keeps of the slot, 1 to 2^40; 0 where there is none to keep */
+    uint32_t is_closed; /**< 1 where the gate is closed, else 0 */
+    uint32_t reserved;  /**< zero */
+} etcs_slot_start;
+
 /** National values (SUBSET-026, 3.18.2). */
 typedef struct {
     uint32_t shunting_m_per_h;              /**< V_NVSHUNT */
@@ -246,6 +253,7 @@ typedef struct {
 
 ETCS_UNIT_ASSERT(sizeof(etcs_image) == 32u && offsetof(etcs_image, newest) == 24u);
 ETCS_UNIT_ASSERT(sizeof(etcs_slot) == 32u && offsetof(etcs_slot, state) == 16u && offsetof(etcs_slot, fault_record) == 28u);
+ETCS_UNIT_ASSERT(sizeof(etcs_slot_start) == 16u && offsetof(etcs_slot_start, is_closed) == 8u && offsetof(etcs_slot_start, reserved) == 12u);
 ETCS_UNIT_ASSERT(sizeof(etcs_national) == 112u && offsetof(etcs_national, count) == 44u && offsetof(etcs_national, countries) == 48u);
 ETCS_UNIT_ASSERT(sizeof(etcs_kept) == 176u && offsetof(etcs_kept, train) == 8u && offsetof(etcs_kept, running_number) == 28u
                  && offsetof(etcs_kept, identity) == 40u && offsetof(etcs_kept, identity_len) == 56u && offsetof(etcs_kept, national) == 64u);
@@ -262,6 +270,7 @@ ETCS_UNIT_ASSERT(sizeof(etcs_why) == 160u && offsetof(etcs_why, trip_event) == 8
 
 uint32_t etcs_image_facts_(const uint8_t *image, uint64_t size, uint32_t abi, etcs_image *facts);
 uint32_t etcs_image_slot_(const uint8_t *image, uint64_t size, uint32_t abi, uint64_t newest, uint64_t slot, etcs_slot *found);
+uint32_t etcs_image_slot_start_(const uint8_t *start, uint64_t size, uint32_t abi, uint64_t slots, uint64_t slot, etcs_slot_start *found);
 uint32_t etcs_image_block_(const uint8_t *image, uint64_t size, uint32_t abi, uint64_t number, etcs_block *block);
 uint32_t etcs_image_record_(const uint8_t *image, uint64_t size, uint32_t abi, uint64_t number, uint32_t index, etcs_record *record);
 uint32_t etcs_journal_open_(const uint8_t *image, uint64_t size, uint32_t abi, etcs_journal *journal);
@@ -337,6 +346,16 @@ static inline uint32_t etcs_image_facts(const uint8_t *image, size_t size, etcs_
  * IMAGE_NOT_FORMATTED, OUT_OF_RANGE (a newest number above 2^40), or NO_SUCH_SLOT. */
 static inline uint32_t etcs_image_slot(const uint8_t *image, size_t size, uint64_t newest, uint64_t slot, etcs_slot *found) {
     return ((image != NULL) && (found != NULL)) ? etcs_image_slot_(image, size, ETCS_UNIT_ABI, newest, slot, found) : (uint32_t)ETCS_UNIT_NULL_POINTER;
+}
+
+/** Decides from gate and head of a slot which block an archive keeps of it. `start` has the first two sectors of the slot,
+ * or all six; `slots` is how many slots the ring has, `slot` which of them it is. A block is to be kept where its gate is
+ * written as a unit writes it for one number from 1 to 2^40, and its head begins with the mark of a known format and with
+ * the same number, which belongs to the slot. The head's other fields and the records aren't read: etcs_image_slot does.
+ * An entry of an archive is in no ring: pass 1 slot and slot 0, to which each number belongs. Returns OK, OTHER_ABI,
+ * OUT_OF_RANGE (fewer than 1,024 bytes, or more than 1,048,576 slots), or NO_SUCH_SLOT where the ring has no such slot. */
+static inline uint32_t etcs_image_slot_start(const uint8_t *start, size_t size, uint64_t slots, uint64_t slot, etcs_slot_start *found) {
+    return ((start != NULL) && (found != NULL)) ? etcs_image_slot_start_(start, size, ETCS_UNIT_ABI, slots, slot, found) : (uint32_t)ETCS_UNIT_NULL_POINTER;
 }
 
 /** Reads the head of the block of this number. Returns OK, OTHER_ABI, IMAGE_NOT_FORMATTED, or NO_SUCH_BLOCK where its slot

@@ -2,7 +2,7 @@
 """What a release says of itself: `sbom.spdx.json` (SPDX 2.3) and `provenance.json` (a statement of in-toto with a
 predicate of SLSA, version 1), of the artefacts in a folder.
 
-    packaging/statements.py TOP TOLD MADE    TOLD is what tools/release notes: facts, and parts with whether they are proved
+    packaging/statements.py TOP FACTS MADE    FACTS is the folder that tools/release fills: facts, and parts with whether they are proved
 """
 import datetime
 import hashlib
@@ -23,13 +23,13 @@ def digest(path: Path) -> str:
     return hashlib.sha256(path.read_bytes()).hexdigest()
 
 
-def write(path: Path, told: object) -> None:
+def write(path: Path, value: object) -> None:
     """Writes JSON, always the same of the same."""
-    path.write_text(json.dumps(told, indent=1, sort_keys=True) + "\n", encoding="utf-8")
+    path.write_text(json.dumps(value, indent=1, sort_keys=True) + "\n", encoding="utf-8")
 
 
 def kit_crates(top: Path) -> list[str]:
-    """The kit's crates that crates of this repository use, as crates.txt reports."""
+    """The kit's crates that crates of this repository use, as crates.txt lists them."""
     used: set[str] = set()
     for line in (top / "crates.txt").read_text(encoding="utf-8").splitlines():
         if ":" in line and not line.startswith("#"):
@@ -39,8 +39,8 @@ def kit_crates(top: Path) -> list[str]:
 
 def debian(names: list[str]) -> dict[str, str]:
     """The versions of these packages of Debian, where they are installed."""
-    told = subprocess.run(["dpkg-query", "-W", "-f", "${Package} ${Version}\n", *names], capture_output=True, text=True)
-    return dict(line.split(" ", 1) for line in told.stdout.splitlines() if not line.endswith(" "))
+    done = subprocess.run(["dpkg-query", "-W", "-f", "${Package} ${Version}\n", *names], capture_output=True, text=True)
+    return dict(line.split(" ", 1) for line in done.stdout.splitlines() if not line.endswith(" "))
 
 
 def sbom(top: Path, facts: dict[str, str], made: Path, stamp: str) -> dict[str, object]:
@@ -97,12 +97,12 @@ def provenance(facts: dict[str, str], parts: dict[str, str], made: Path, stamp: 
             "runDetails": {"builder": {"id": "urn:gaknifur:tools/release"}, "metadata": {"startedOn": stamp}}}}
 
 
-def main(top: Path, told: Path, made: Path) -> None:
+def main(top: Path, noted: Path, made: Path) -> None:
     """Writes both."""
     facts = dict(zip(("version", "commit", "sources", "kit", "gate", "depends"),
-                     (told / "facts").read_text(encoding="utf-8").splitlines(), strict=True))
+                     (noted / "facts").read_text(encoding="utf-8").splitlines(), strict=True))
     parts = {name: word for name, _, word in
-             (line.partition("=") for line in (told / "parts").read_text(encoding="utf-8").splitlines())}
+             (line.partition("=") for line in (noted / "parts").read_text(encoding="utf-8").splitlines())}
     moment = datetime.datetime.fromtimestamp(int(os.environ["SOURCE_DATE_EPOCH"]), datetime.timezone.utc)
     stamp = moment.strftime("%Y-%m-%dT%H:%M:%SZ")
     bill, statement = sbom(top, facts, made, stamp), provenance(facts, parts, made, stamp)

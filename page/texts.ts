@@ -219,7 +219,7 @@ export const BRIEF = {
         "the driver has revalidated, which isn't counted as an intervention",
 };
 
-/** Of the time of day by marks (docs/howto/investigating.md). */
+/** Of the time of day by marks (docs/howto/time-of-day.md). */
 export const DAY = {
     noMarks: "A journal has no time of day. Marks may give one, outside the journal and outside the proof.",
     count: (marks: number): string => marks === 1 ? "1 mark" : `${marks.toLocaleString("en")} marks`,

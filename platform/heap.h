@@ -21,8 +21,8 @@ rattle_tried rattle_realloc(void *piece, uint64_t kept, uint64_t size, uint64_t 
 /* Gives back what one of the two answered. */
 void rattle_dealloc(void *piece);
 
-/* What they answer where there is a piece at this place, or none. */
-static inline rattle_tried rattle_tells(void *at) {
+/* What both calls return: the piece, or that there is none. */
+static inline rattle_tried rattle_result(void *at) {
     static uint8_t nothing[16];
     const rattle_tried tried = {at != NULL ? 1u : 0u, at != NULL ? at : nothing};
     return tried;

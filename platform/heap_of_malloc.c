@@ -9,12 +9,12 @@ static size_t at_least(uint64_t size, uint64_t align) {
 }
 
 rattle_tried rattle_alloc(uint64_t size, uint64_t align) {
-    return rattle_tells(malloc(at_least(size, align)));
+    return rattle_result(malloc(at_least(size, align)));
 }
 
 rattle_tried rattle_realloc(void *piece, uint64_t kept, uint64_t size, uint64_t align) {
     (void)kept; /* realloc keeps all that fits */
-    return rattle_tells(realloc(piece, at_least(size, align)));
+    return rattle_result(realloc(piece, at_least(size, align)));
 }
 
 void rattle_dealloc(void *piece) {

@@ -44,7 +44,7 @@ typedef struct {
 
 static pool *our = NULL;
 
-/* What is reported of it. It doesn't lie in the buffer, which a maker may write to once nothing is out. */
+/* Its figures. They aren't in the buffer, which a maker may write to once nothing is out. */
 static etcs_memory_info counts;
 
 /* The place of the highest and of the lowest bit of a number that isn't 0. */
@@ -71,7 +71,7 @@ static int is_free(const block *one) {
     return (one->size & IS_FREE) != 0u;
 }
 
-static block *behind(block *one) {
+static block *following(block *one) {
     return (block *)((uint8_t *)one + HEAD + size_of(one));
 }
 
@@ -165,11 +165,11 @@ static block *found_for(uint64_t size) {
 
 /* Joins a block that isn't free to a free one after it. */
 static void join(block *one) {
-    block *const next = behind(one);
+    block *const next = following(one);
     if (is_free(next)) {
         delist(next);
         one->size += HEAD + next->size;
-        behind(one)->before = one;
+        following(one)->before = one;
     }
 }
 
@@ -180,7 +180,7 @@ static void cut(block *one, uint64_t size) {
         rest->before = one;
         rest->size = one->size - size - HEAD;
         one->size = size;
-        behind(rest)->before = rest;
+        following(rest)->before = rest;
         join(rest);
         enlist(rest);
     }
@@ -231,8 +231,8 @@ void etcs_piece_give(void *piece) {
     if (one->before != NULL && is_free(one->before)) {
         one = one->before;
         delist(one);
-        one->size += HEAD + behind(one)->size;
-        behind(one)->before = one;
+        one->size += HEAD + following(one)->size;
+        following(one)->before = one;
     }
     enlist(one);
 }
@@ -252,7 +252,7 @@ void *etcs_piece_resize(void *piece, uint64_t size) {
     void *answer = NULL;
     if (is_refused(size) == 0) {
         const uint64_t wanted = rounded(size), had = one->size;
-        block *const next = behind(one);
+        block *const next = following(one);
         const uint64_t room = is_free(next) ? had + HEAD + size_of(next) : had;
         if (room >= wanted) {
             if (wanted > had) {
@@ -282,7 +282,7 @@ int etcs_piece_more(uint64_t size) {
         /* The end becomes a block that is given back. */
         block *const one = our->end;
         one->size = more - HEAD;
-        end_at(behind(one), one);
+        end_at(following(one), one);
         counts.size += more;
         counts.pieces++;
         counts.used += more;
@@ -309,21 +309,21 @@ uint32_t etcs_memory_use(void *buffer, uint64_t size) {
         (void)memset(&counts, 0, sizeof counts);
         first->before = NULL;
         first->size = has - head - (2u * HEAD);
-        end_at(behind(first), first);
+        end_at(following(first), first);
         counts.size = has - head - HEAD;
         enlist(first);
     }
     return status;
 }
 
-uint32_t etcs_memory_state(etcs_memory_info *told) {
+uint32_t etcs_memory_state(etcs_memory_info *info) {
     uint32_t status = ETCS_UNIT_OK;
-    if (told == NULL) {
+    if (info == NULL) {
         status = ETCS_UNIT_NULL_POINTER;
     } else if (our == NULL) {
         status = ETCS_UNIT_NOT_OPEN;
     } else {
-        *told = counts;
+        *info = counts;
     }
     return status;
 }

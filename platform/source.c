@@ -153,28 +153,28 @@ void etcs_source_ends(void) {
 
 /* ---- etcs_memory.h */
 
-static const char *const told_fields = "8";
+static const char *const info_fields = "8";
 
-uint32_t etcs_memory_state(etcs_memory_info *told) {
+uint32_t etcs_memory_state(etcs_memory_info *info) {
     uint32_t status = (uint32_t)ETCS_UNIT_NOT_OPEN;
-    if (told == NULL) {
+    if (info == NULL) {
         status = (uint32_t)ETCS_UNIT_NULL_POINTER;
     } else if (etcs_source_begins() != 0) {
-        const uint32_t at = etcs_source_put(told, sizeof *told, told_fields);
+        const uint32_t at = etcs_source_put(info, sizeof *info, info_fields);
         status = Z_etcsZ_etcs_memory_state(&instance, at);
-        etcs_source_read(told, at, sizeof *told, told_fields);
+        etcs_source_read(info, at, sizeof *info, info_fields);
     }
     return status;
 }
 
 uint32_t etcs_memory_use(void *with, uint64_t size) {
-    etcs_memory_info told = {0};
+    etcs_memory_info info = {0};
     uint32_t status = (uint32_t)ETCS_UNIT_OK;
     if (with == NULL) {
         status = (uint32_t)ETCS_UNIT_NULL_POINTER;
     } else if (size < ETCS_MEMORY_OF_SOURCE + ETCS_MEMORY_LEAST || size > UINT32_MAX) {
         status = (uint32_t)ETCS_UNIT_OUT_OF_RANGE;
-    } else if (etcs_memory_state(&told) == (uint32_t)ETCS_UNIT_OK && told.pieces > 0u) {
+    } else if (etcs_memory_state(&info) == (uint32_t)ETCS_UNIT_OK && info.pieces > 0u) {
         status = (uint32_t)ETCS_UNIT_IS_OPEN;
     } else {
         buffer = with;

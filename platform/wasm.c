@@ -44,7 +44,7 @@ void etcs_memory_give(void *piece) {
 
 rattle_tried rattle_alloc(uint64_t size, uint64_t align) {
     (void)align;
-    return rattle_tells(etcs_memory_take(size));
+    return rattle_result(etcs_memory_take(size));
 }
 
 rattle_tried rattle_realloc(void *piece, uint64_t kept, uint64_t size, uint64_t align) {
@@ -54,7 +54,7 @@ rattle_tried rattle_realloc(void *piece, uint64_t kept, uint64_t size, uint64_t 
     if (other == NULL && has_grown(size) != 0) {
         other = etcs_piece_resize(piece, size);
     }
-    return rattle_tells(other);
+    return rattle_result(other);
 }
 
 void rattle_dealloc(void *piece) {

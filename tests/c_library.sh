@@ -1,8 +1,8 @@
 #!/bin/bash
-# The C library as C and C++ programs call it: telegrams whose answers were worked out by hand (check.c), the program of its README, and random
-# telegrams compared with the plain decoder. Each program is compiled as C and as C++. It needs gcc, g++ and Python.
+# Test the C library from C and C++: telegrams with hand-written answers (check.c), the program of its README, and random
+# telegrams compared with the plain decoder. Each program is compiled as C and as C++. Needs gcc, g++ and Python.
 #
-#     tests/c_library.sh [LIBRARY]    proves and builds the library first, or takes this one
+#     tests/c_library.sh [LIBRARY]    test LIBRARY (default: prove and build the library first)
 export PYTHONDONTWRITEBYTECODE=1
 top=$(cd "$(dirname "$(readlink -f -- "$0")")/.." && pwd) || exit 1
 readme=$top/crates/etcs_c/README.md

@@ -1,9 +1,9 @@
-"""What is compared with what is wanted, and runs of the programs."""
+"""Comparisons with what is wanted, and runs of the programs."""
 import json
 import subprocess
 import threading
 
-from ran import ran
+from processes import run_to_end
 
 SHOWN = 20
 
@@ -15,35 +15,35 @@ class Compared:
         self.count = self.differ = 0
 
     def same(self, name, found, wanted):
-        """Whether what was found is what is wanted."""
+        """Whether the result is what is wanted."""
         return self.unless(found == wanted, f"{name}:\n  found  {str(found)[:1500]}\n  wanted {str(wanted)[:1500]}")
 
     def unless(self, holds, text):
-        """Whether it holds; else the text is reported."""
+        """Counts a comparison, and reports the text where it doesn't hold."""
         self.count += 1
         if not holds:
-            self.tell(text)
+            self.report(text)
         return holds
 
-    def tell(self, text):
-        """Reports a difference."""
+    def report(self, text):
+        """Counts a difference, and prints the first ones."""
         self.differ += 1
         if self.differ <= SHOWN:
             print(text)
 
     def end(self, what):
-        """Reports what was compared, and answers the exit status. Nothing compared is a failure too."""
+        """Prints what was compared, and returns the exit status. It is a failure to compare nothing."""
         print(f"{what}, {self.differ} failures")
         return 1 if self.differ or not self.count else 0
 
 
 def run(program, words, text=None, **how):
-    """What a program prints, what it says, and its status; `text` stands on its standard input, and the program may
-    have words of its own."""
+    """Standard output, standard error and exit status of a program; `text` is its standard input. A program may be a list:
+    a command and its first arguments."""
     first = program if isinstance(program, (list, tuple)) else [program]
     if text is None and not how.keys() - {"env"} and threading.current_thread() is threading.main_thread():
         try:
-            status, printed, said = ran([*map(str, first), *map(str, words)], **how)
+            status, printed, said = run_to_end([*map(str, first), *map(str, words)], **how)
         except TimeoutError:
             return "", "", "no end"
         return printed.decode(), said.decode(), status
@@ -62,7 +62,7 @@ def status_of_full(program, words):
 
 
 def loaded(text):
-    """The value of a text, or that it is none."""
+    """The value of a text in JSON, or a text that says that it isn't JSON."""
     try:
         return json.loads(text)
     except ValueError:

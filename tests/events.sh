@@ -1,9 +1,9 @@
 #!/bin/bash
-# The lines of `etcs_lab events`, read back as JSON and compared with what plain readers find in the same images: of the program's rows and
-# examples, whole and damaged, and of pseudo-random blocks in all three formats. And all that the program prints as JSON, compared with
-# docs/reference/json.md.
+# Test `etcs_lab events`: its lines, parsed as JSON, are compared with what plain readers find in the same images: those of the
+# program's rows and examples, whole and damaged, and pseudo-random blocks in all three formats. Then compare all JSON that the
+# program prints with docs/reference/json.md.
 #
-#     tests/events.sh [PROGRAM [RINGS [SEED]]]    on another program, with more or other rings
+#     tests/events.sh [PROGRAM [RINGS [SEED]]]    test another program, with more or other rings
 program=$(realpath "${1:-$(dirname "$(readlink -f -- "$0")")/../crates/etcs_lab/out/etcs_lab}") || exit 1
 cd "$(dirname "$(readlink -f -- "$0")")" || exit 1
 export PYTHONDONTWRITEBYTECODE=1

@@ -1,15 +1,14 @@
 #!/bin/bash
-# The built programs under hostile use: every request for memory refused in turn, an output that can't be written, power
-# cut at each write of an image file, syncs that fail and power that is lost after them, altered bytes, the bytes and
-# the calls of image files over random lives, random telegrams and scenarios. What they must answer stands in the plain
-# programs, or in the tests themselves.
+# Test the built programs under hostile use: each request for memory is refused in turn, output can't be written, power is lost
+# at each write of an image file, syncs fail and power is lost after them, bytes are altered; the bytes and the calls of image
+# files over random lives; random telegrams and scenarios. The wanted answers come from the plain programs, or from the tests.
 #
-#     tests/hostile.sh                                        all parts, side by side
+#     tests/hostile.sh                                        all parts, in parallel
 #     tests/hostile.sh memory | lab | cuts | syncs | bytes    one part; lab is memory and output of the program etcs_lab
 #     tests/hostile.sh files [LIVES [SEED]]                   lives on image files, more or others
 #     tests/hostile.sh inputs [TELEGRAMS SCENARIOS [SEED]]    random inputs, more or others
 #
-# ETCS=PROGRAM and ETCS_LAB=PROGRAM name other programs than those that the gate leaves after.
+# ETCS=PROGRAM and ETCS_LAB=PROGRAM name other programs than those that the full check leaves.
 [ -z "$ETCS" ] || ETCS=$(realpath "$ETCS") || exit 1
 [ -z "$ETCS_LAB" ] || ETCS_LAB=$(realpath "$ETCS_LAB") || exit 1
 cd "$(dirname "$(readlink -f -- "$0")")" || exit 1

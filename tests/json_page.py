@@ -4,8 +4,8 @@ other units.
 
     tests/json_page.py PROGRAM..
 
-Each object has to have the members of its table, in their order, with values of their kinds; and each member, each word
-and each null of a table has to come up in some object, unless the page's last table names it.
+Each object has to have the members of its table, in their order, with values of their kinds; and each member, each keyword
+and each null of a table has to occur in some object, unless the page's last table names it.
 """
 import json
 import os
@@ -138,7 +138,7 @@ class Page(Compared):
             if self.is_kind(kind, more, one):
                 self.seen.add((table, name, kind if more is None else more))
                 return
-        self.tell(f"{table}, {name}: {one!r} is none of {kinds}")
+        self.report(f"{table}, {name}: {one!r} is none of {kinds}")
 
     def is_kind(self, kind, more, value):
         if kind == "number":
@@ -162,7 +162,7 @@ class Page(Compared):
     def object(self, table, value):
         """Compares an object with its table, whole: that it can't be another one is known where it is called."""
         if table not in self.tables:
-            self.tell(f"the page has no table {table}")
+            self.report(f"the page has no table {table}")
             return True
         names = [name for name, *_ in self.tables[table]]
         if table in ("a-telegram", "a-refusal") and ("refused" in value) != (table == "a-refusal"):
@@ -171,19 +171,19 @@ class Page(Compared):
             return False
         self.count += 1
         if [name for name in names if name in value] != list(value):
-            self.tell(f"{table}: members {list(value)}, where the page has {names}")
+            self.report(f"{table}: members {list(value)}, where the page has {names}")
             return True
         for name in names:
             cases = list(self.cases_of(table, name))
             wanted = [self.is_there(when, value) for _, when in cases]
             if name not in value:
                 if True in wanted:
-                    self.tell(f"{table}: {name} is missing in {value}")
+                    self.report(f"{table}: {name} is missing in {value}")
                 continue
             self.seen.add((table, name, "is there"))
             may_be = [what for (what, _), where in zip(cases, wanted) if where is not False]
             if not any(self.fits(table, name, what, value[name]) for what in may_be):
-                self.tell(f"{table}: {name} is {value[name]!r} in {value}, where the page has {may_be}")
+                self.report(f"{table}: {name} is {value[name]!r} in {value}, where the page has {may_be}")
         self.groups(table, value)
         return True
 
@@ -196,9 +196,9 @@ class Page(Compared):
                     by_condition.setdefault(when, []).append(name in value)
         for when, there in by_condition.items():
             if any(there) and not all(there):
-                self.tell(f"{table}: {when}: only some members are there in {value}")
+                self.report(f"{table}: {when}: only some members are there in {value}")
         if not value:
-            self.tell(f"{table}: an object without members")
+            self.report(f"{table}: an object without members")
 
     # ---- what came up
 
@@ -224,9 +224,9 @@ class Page(Compared):
             self.count += 1
             if ((table, name, what) in self.seen) == excused:
                 why = "comes up, though the page says that it doesn't" if excused else "never comes up"
-                self.tell(f"{table}, {name}, {what}: {why}")
+                self.report(f"{table}, {name}, {what}: {why}")
         if self.count < LEAST_OBJECTS or len(self.tables) < LEAST_TABLES:
-            self.tell(f"too few: {self.count} comparisons, {len(self.tables)} tables")
+            self.report(f"too few: {self.count} comparisons, {len(self.tables)} tables")
 
 
 # ---- what the program prints
@@ -294,8 +294,8 @@ def all_read(page, program, room):
     played(page, program, room)
     file.write_text('{"groups": [], "groups": [], "steps": []}')
     read(page, program, "lint", "--json", file)
-    for told, _ in lint_faults.FAULTS:
-        file.write_text(told if isinstance(told, str) else json.dumps(told))
+    for scenario, _ in lint_faults.FAULTS:
+        file.write_text(scenario if isinstance(scenario, str) else json.dumps(scenario))
         read(page, program, "lint", "--json", file)
     for data in [bytes(LONG), *islice(known_telegrams(), 0, None, 4)]:
         read(page, program, "decode", "--json", data.hex())
@@ -317,18 +317,18 @@ def played(page, program, room):
 
 
 def other_units(page, program, room):
-    """What `./lab against` prints of units that are right, wrong in each member, break off, report little, and are none."""
+    """What `./lab against` prints of units that are right, wrong in each member, break off, answer little, and are none."""
     image, records, asked = room / "image", room / "records", room / "program"
     lives = [[blocks.entry(3 * life + at, one) for at, one in enumerate([("powerup", 0), ("clock", 5), ("clock", 6)])]
              for life in range(LIVES)]
-    parts = [(life, blocks.data_of(blocks.block(3, life, 3 * life, life, told))) for life, told in enumerate(lives, 1)]
+    parts = [(life, blocks.data_of(blocks.block(3, life, 3 * life, life, entries))) for life, entries in enumerate(lives, 1)]
     image.write_bytes(slots_of(parts, LIVES + 1))
     records.write_text(run(program, ["events", image])[0])
     asked.write_text(f'#!/bin/sh\nexec {shlex.join(map(str, program))} "$@"\n')
     asked.chmod(0o755)
-    recorded, how = TOP / "tests/oracle/recorded.py", {"env": {**os.environ, "GAKNIFUR_ETCS_LAB": str(asked)}}
+    program_of_unit, how = TOP / "tests/oracle/recorded.py", {"env": {**os.environ, "GAKNIFUR_ETCS_LAB": str(asked)}}
     before = page.count
-    for unit in (*(shlex.join([str(recorded), str(records), word]) for word in ("right", "wrong", "breaks")),
+    for unit in (*(shlex.join([str(program_of_unit), str(records), word]) for word in ("right", "wrong", "breaks")),
                  str(TOP / "examples/oracle/unit.py"), "false"):
         read(page, [TOP / "lab"], "against", "--json", image, unit, **how)
     page.unless(page.count >= before + 2 * LIVES, f"./lab against: {page.count - before} comparisons")

@@ -1,8 +1,9 @@
 #!/bin/bash
-# What an investigator asks: images of each state of a slot, cut off, altered and big ones, on the program etcs_lab that the gate leaves after; and
-# each command of docs/start/investigate.md, docs/howto/investigating.md and docs/howto/laboratory.md, in one folder. And examination and replay in one (etcs_lab check).
+# Test what an investigator asks of the program etcs_lab that the full check leaves: images of each state of a slot, cut off,
+# altered and big ones; examination and replay in one (etcs_lab check); and each command of the pages for
+# investigators (docs/start, docs/howto), in one folder.
 #
-#     tests/lab.sh [ETCS_LAB ETCS]    on other programs
+#     tests/lab.sh [ETCS_LAB ETCS]    test other programs
 lab=${1:-$(dirname "$(readlink -f -- "$0")")/../crates/etcs_lab/out/etcs_lab}
 etcs=${2:-$(dirname "$(readlink -f -- "$0")")/../crates/etcs/out/etcs}
 lab=$(realpath "$lab") && etcs=$(realpath "$etcs") || exit 1
@@ -15,5 +16,6 @@ status=0
 ../tools/python --checks || exit 1
 python3 lab/image_rows.py "$lab" "$etcs" || status=1
 python3 lab/verdict_rows.py "$lab" || status=1
-ETCS=$etcs ETCS_LAB=$lab python3 pages.py start/investigate howto/investigating howto/laboratory || status=1
+ETCS=$etcs ETCS_LAB=$lab python3 pages.py start/investigate howto/why-did-it-brake howto/damaged-image howto/replay howto/seal howto/compare-images howto/long-journals \
+    howto/time-of-day howto/report howto/tables howto/sql || status=1
 exit $status

@@ -1,7 +1,7 @@
 #!/bin/bash
 # Tests the package python/gaknifur and its script ./lab on the programs that the full check built: types, the package's own tests,
-# exit statuses, tables and database compared with plain readers, reports, sealed copies, releases, differences of images, archives
-# of blocks, and lab follow.
+# exit statuses, the page of all commands, tables and database compared with plain readers, reports, sealed copies, releases,
+# differences of images, archives of blocks, and lab follow.
 #
 #     tests/lab_package.sh [ETCS_LAB ETCS [IMAGES [SEED]]]    on other programs, with more or other images
 lab=${1:-$(dirname "$(readlink -f -- "$0")")/../crates/etcs_lab/out/etcs_lab}
@@ -22,6 +22,7 @@ status=0
 "$python" tests/lab_package/seal_rows.py "$lab" || status=1
 "$python" tests/lab_package/verdict_rows.py "$lab" || status=1
 "$python" tests/lab_package/status_rows.py "$etcs" "$lab" || status=1
+tools/commands --check "$lab" || status=1
 "$python" tests/lab_package/release_rows.py || status=1
 "$python" tests/lab_package/diff_rows.py "$lab" || status=1
 "$python" tests/lab_package/join_rows.py "$lab" || status=1

@@ -1,13 +1,15 @@
 #!/bin/bash
-# The library on machines that the toolchain doesn't compile for: with pointers of 32 bits, with the highest byte first, and by other compilers. The
-# script of tests/targets.sh is carried out by its driver over the proved library on x86-64, and over what tools/library makes of its module: for
-# ARMv7, Cortex-M7 and Cortex-R52 (by qemu-user), for Cortex-M7 on a bare board (by qemu-system), and as C source on x86-64 by gcc and by clang, and on
-# PowerPC (by qemu-user). Each answer, output and byte of the medium is the same. Sizes and places of the structs are the same too.
+# Test the library on machines that the toolchain doesn't compile for: with pointers of 32 bits, with the highest byte first, and
+# by other compilers. The driver of tests/targets.sh executes its script over the proved library on x86-64, and over what
+# tools/library makes from its module: for ARMv7, Cortex-M7 and Cortex-R52 (by qemu-user), for Cortex-M7 on a bare board (by
+# qemu-system), and as C source on x86-64 by gcc and by clang, and on PowerPC (by qemu-user). Each answer, output and byte of the
+# medium has to be the same, and so have the sizes and offsets of the structs.
 #
-#     tests/narrow.sh [LIVES CALLS TELEGRAMS]    100 6000 2000; the long form is 400 20000 20000
+#     tests/narrow.sh [LIVES CALLS TELEGRAMS]    (default: 100 6000 2000; the long form is 400 20000 20000)
 #
-# It needs gcc, gcc-arm-none-eabi, gcc-arm-linux-gnueabihf, gcc-powerpc-linux-gnu, qemu-user, qemu-system-arm, wabt and python3-pycparser. $NARROW names a
-# folder that has the libraries already, one folder for each. UNPROVED=yes makes them without proof.
+# Needs gcc, gcc-arm-none-eabi, gcc-arm-linux-gnueabihf, gcc-powerpc-linux-gnu, qemu-user, qemu-system-arm, wabt and
+# python3-pycparser. $NARROW names a folder that has the libraries already, one folder for each. UNPROVED=yes makes them without
+# proof.
 export PYTHONDONTWRITEBYTECODE=1
 top=$(cd "$(dirname "$(readlink -f -- "$0")")/.." && pwd) || exit 1
 kit=$(dirname "$(rt doc)") || exit 1
@@ -43,7 +45,7 @@ module "$good" | "$top/tools/narrow" "$layout" armv7 >"$made/narrow" 2>"$made/sa
 while IFS='|' read -r inside outside; do
     module "$inside" "$outside" | "$top/tools/narrow" "$layout" armv7 >"$made/narrow" 2>"$made/said" && fails "a form that isn't known is taken: $inside$outside"
     [ -s "$made/narrow" ] && fails "a module that is refused is written: $inside$outside"
-    grep -q "a form that isn't known" "$made/said" && refused=$((refused + 1)) || fails "it isn't told which form isn't known: $inside$outside"
+    grep -q "a form that isn't known" "$made/said" && refused=$((refused + 1)) || fails "the form that isn't known isn't reported: $inside$outside"
 done <<'FORMS'
 %v = alloca { ptr, i64 }, align 8|
 %v = alloca [2 x ptr], align 8|
@@ -139,24 +141,24 @@ for target in armv7-none-eabi thumbv7em-none-eabi armv8r-none-eabi; do side_by_s
 side_by_side board board
 first=$libraries/x86_64-linux-gnu
 gcc "${strict[@]}" -O2 -I "$made" -I "$first/include" -I "$here" "$here/driver.c" "$here/hosted.c" "$first/lib/libetcs_unit.a" -o "$made/driver.first" || fails "the driver doesn't compile"
-"$made/driver.first" <"$made/script" >"$made/told.x86_64" || fails "the driver ends with another status than 0"
+"$made/driver.first" <"$made/script" >"$made/printed.x86_64" || fails "the driver ends with another status than 0"
 for name in source_clang source_powerpc source_gcc driver_{armv7,thumbv7em,armv8r}-none-eabi board; do ended $name; done
 [ $status -eq 0 ] || exit 1
 
 # ---- the same script everywhere
 
 # runs NAME COMMAND..: carries out the script
-runs() { "${@:2}" <"$made/script" >"$made/told.$1"; }
+runs() { "${@:2}" <"$made/script" >"$made/printed.$1"; }
 side_by_side run_powerpc runs source_powerpc qemu-ppc "$made/driver.source_powerpc"
 side_by_side run_m7 timeout 600 qemu-system-arm -M mps2-an500 -cpu cortex-m7 -semihosting-config enable=on,target=native -display none -monitor none \
-    -serial "file:$made/told.board_m7" -kernel "$made/m7.elf" -device loader,file="$made/script",addr=0x60D00000,force-raw=on
+    -serial "file:$made/printed.board_m7" -kernel "$made/m7.elf" -device loader,file="$made/script",addr=0x60D00000,force-raw=on
 side_by_side run_armv7 runs armv7 qemu-arm -cpu cortex-a9 "$made/driver.armv7-none-eabi"
 side_by_side run_thumbv7em runs thumbv7em qemu-arm -cpu cortex-a15 "$made/driver.thumbv7em-none-eabi"
 side_by_side run_armv8r runs armv8r qemu-arm -cpu max "$made/driver.armv8r-none-eabi"
 for name in source_gcc source_clang; do side_by_side run_$name runs $name "$made/driver.$name"; done
 for name in run_{powerpc,m7,armv7,thumbv7em,armv8r,source_gcc,source_clang}; do ended $name; done
-"$python" "$here/scripts.py" compare "$made/script" "$made"/told.{x86_64,armv7,thumbv7em,armv8r,board_m7,source_gcc,source_clang,source_powerpc} || status=1
-echo "narrow: $(wc -l <"$made/told.x86_64") lines compared on each machine"
+"$python" "$here/scripts.py" compare "$made/script" "$made"/printed.{x86_64,armv7,thumbv7em,armv8r,board_m7,source_gcc,source_clang,source_powerpc} || status=1
+echo "narrow: $(wc -l <"$made/printed.x86_64") lines compared on each machine"
 
 # ---- sizes and places
 

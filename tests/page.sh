@@ -1,11 +1,11 @@
 #!/bin/bash
-# The page of tools/page in headless Chromium, on the programs that the gate leaves after: its types; what is driven along with `etcs run`, also with
-# cuts of power, and along with the library for C; what is asked along with `etcs_lab`, also of altered images; telegrams that are taken apart; hostile files
-# and texts; that it connects to nobody; contrast and names; how long an image takes.
+# Test the page of tools/page in headless Chromium, on the programs that the full check leaves: its types; driving, compared with
+# `etcs run`, also with cuts of power, and with the library for C; journal images, compared with `etcs_lab`, also altered ones;
+# parsed telegrams; hostile files and texts; that it connects to nobody; contrast and names; how long an image takes.
 #
-#     tests/page.sh [ETCS_LAB ETCS [PAGE [NAME..]]]    on other programs, of a page that is there, these checks alone
+#     tests/page.sh [ETCS_LAB ETCS [PAGE [NAME..]]]    test other programs, an existing page, only these checks
 #
-# GAKNIFUR_ETCS_UNIT names a library for C that is there. GAKNIFUR_BROWSER=firefox runs the checks in Firefox, outside the gate.
+# GAKNIFUR_ETCS_UNIT names an existing library for C. GAKNIFUR_BROWSER=firefox runs the checks in Firefox, outside the full check.
 cd "$(dirname "$(readlink -f -- "$0")")/.." || exit 1
 lab=${1:-crates/etcs_lab/out/etcs_lab} etcs=${2:-crates/etcs/out/etcs}
 lab=$(realpath "$lab") && etcs=$(realpath "$etcs") || exit 1

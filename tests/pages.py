@@ -1,13 +1,13 @@
 #!/usr/bin/env python3
 """Runs the commands of pages of docs/ in their order and compares what each prints, on both streams, with what is below it.
-Several pages are run one after another in one folder, as a reader goes through them: none uses the names of another one.
+Several pages are run one after another in one folder, as a reader goes through them: no two use the same file names.
 
-    tests/pages.py [--write] PAGE..    as howto/laboratory. With --write what is printed replaces what is there
+    tests/pages.py [--write] PAGE..    as howto/sql. With --write replace the output on the page
 
-A command stands after `$ `, indented by four or in a block of `console`; lines after `> `, or after a backslash, go on
+A command follows `$ `, indented by four or in a block of `console`; lines after `> `, or after a backslash, go on
 with it. A block of C or Python becomes the file of the HOME that the line above it names. The folder has what the
 repository has at its top, and as ./etcs and ./etcs_lab the programs that $ETCS and $ETCS_LAB name, else those of the
-gate.
+full check.
 """
 import os
 import re
@@ -19,9 +19,14 @@ from pathlib import Path
 TOP = Path(__file__).resolve().parents[1]
 PROGRAMS = {name: Path(os.environ.get(name.upper()) or TOP / f"crates/{name}/out/{name}").resolve()
             for name in ("etcs", "etcs_lab")}
-COMMANDS = {"howto/investigating": 86, "howto/laboratory": 33, "howto/testing-a-train": 60, "howto/closed-loop": 19, "howto/embedding": 20, "howto/oracle": 9,
-            "howto/searching": 8, "howto/sequences": 9, "howto/wireshark": 5, "start/c": 9, "start/tests": 6, "start/investigate": 8,
-            "start/code": 8}
+COMMANDS = {"start/c": 9, "start/code": 8, "start/investigate": 8, "start/tests": 6, "howto/c-display": 2,
+            "howto/c-flash": 2, "howto/c-guard": 2, "howto/c-installed-tracks": 2, "howto/c-journal": 6,
+            "howto/c-loop": 2, "howto/c-static-memory": 2, "howto/closed-loop": 9, "howto/compare-images": 8,
+            "howto/coverage": 9, "howto/cpp": 2, "howto/damaged-image": 20, "howto/lint": 10,
+            "howto/long-journals": 9, "howto/oracle": 7, "howto/play": 5, "howto/python": 1, "howto/replay": 11,
+            "howto/report": 3, "howto/rust": 2, "howto/seal": 11, "howto/searching": 7, "howto/sequences": 9,
+            "howto/sql": 16, "howto/sweep": 4, "howto/tables": 10, "howto/telegrams": 7, "howto/time-of-day": 8,
+            "howto/why-did-it-brake": 8, "howto/wireshark": 5, "howto/write-test-cases": 14}
 """How many commands a page has, at least."""
 COMMAND = re.compile(r"^(    |)\$ ((?:.*\\\n)*.*\n(?:\1> .*\n)*)((?:(?!\1\$ |```)\1.*\n)*)", re.MULTILINE)
 FILE = re.compile(r"`~/([\w.]+)`:\n+```(?:c|python)\n(.*?)^```$", re.DOTALL | re.MULTILINE)
@@ -65,9 +70,20 @@ class Page:
         return COMMAND.sub(self.run, self.text)
 
 
+def unrun():
+    """Pages whose commands no runner runs."""
+    runners = "".join(path.read_text() for path in (TOP / ".ci/run", *TOP.glob("tests/*.sh")))
+    for path in sorted((*TOP.glob("docs/start/*.md"), *TOP.glob("docs/howto/*.md"))):
+        name = f"{path.parent.name}/{path.stem}"
+        if COMMAND.search(path.read_text()) and not (name in COMMANDS and re.search(rf"pages\.py(.|\\\n)* {name}\b(?!-)", runners)):
+            yield f"docs/{name}.md: its commands aren't run: name it in COMMANDS, and in a runner of tests/"
+
+
 def main(words):
+    wrong = [*unrun()]
+    print(*wrong, sep="\n", end="\n" if wrong else "")
     with tempfile.TemporaryDirectory() as room:
-        return in_folder(words, room)
+        return in_folder(words, room) or bool(wrong)
 
 
 def in_folder(words, room):

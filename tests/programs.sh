@@ -1,7 +1,7 @@
 #!/bin/bash
-# The rows of the program and the examples, on the program that the gate leaves after; and each example as ./etcs --example runs it.
+# Test the program that the full check leaves: its rows and the examples; and each example as ./etcs --example runs it.
 #
-#     tests/programs.sh [PROGRAM]    the rows alone, on another program
+#     tests/programs.sh [PROGRAM]    only the rows, on another program
 program=
 [ $# -eq 0 ] || program=$(realpath "$1") || exit 1
 cd "$(dirname "$(readlink -f -- "$0")")" || exit 1

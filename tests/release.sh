@@ -1,9 +1,9 @@
 #!/bin/bash
-# A release of this folder: made twice, in two folders with other names and times, it is the same byte for byte; tools/verify names whatever is
-# altered in it; and where its packages are unpacked, without the kit and these sources, the commands of README.md run, a report is made, the
-# package is imported, and a program in C is built with the library.
+# Test a release of this folder. Made twice, in two folders with other names and times, it is the same byte for byte; tools/verify
+# names whatever is altered in it; and where its packages are unpacked, without the kit and these sources, the commands of README.md
+# run, a report is made, the package is imported, and a program in C is built with the library.
 #
-#     tests/release.sh    on the programs and the library that the gate leaves after; else on tried programs, and the library that
+#     tests/release.sh    on the programs and the library that the full check leaves; else on unproved programs, and the library that
 #                         ETCS_UNIT_ARCHIVE names
 self=$(readlink -f -- "$0" && echo .) || exit 1
 top=${self%/*/*}
@@ -44,13 +44,13 @@ for folder in "$first" "$second"; do
         find "crates/$name/out" -maxdepth 1 -type f \( -name "$name" -o -name "$name.*" -o -name "lib$name.a*" \) -exec cp {} "$folder/crates/$name/out" \; 2>/dev/null
     done
 done
-refuses "no gate" "no gate passed on commit" "$first/tools/release" "$room/none"
+refuses "no full check" "no full check passed on commit" "$first/tools/release" "$room/none"
 [ ! -e "$room/none" ] || fails "a refused release leaves a folder"
 commit=$(git -C "$first" rev-parse HEAD)
 for folder in "$first" "$second"; do mkdir -p "$folder/out" && printf '%s\nthe kit\nran: all\n' "$commit" >"$folder/out/gate"; done
 if [ "$words" = --unproved ]; then
     echo "tests/release.sh: there are no proved programs and library of these sources, so an unproved release is tried"
-    refuses "no proved program" "isn't the one that the gate proved" "$first/tools/release" "$room/none"
+    refuses "no proved program" "isn't the one that the full check proved" "$first/tools/release" "$room/none"
 fi
 ssh-keygen -q -t ed25519 -N '' -C '' -f "$room/key" && ssh-keygen -q -t ed25519 -N '' -C '' -f "$room/other" || exit 1
 printf 'maker %s\n' "$(cat "$room/key.pub")" >"$room/signers"
@@ -69,7 +69,7 @@ count=$(find "$room/one" -type f | wc -l)
 tried=$((tried + 1))
 refuses "a folder that is there" "is there already, and stays as it is" "$first/tools/release" $words "$room/one"
 echo more >>"$first/README.md"
-refuses "a folder with changes" "changes that no commit has" "$first/tools/release" $words "$room/none"
+refuses "a folder with changes" "uncommitted changes" "$first/tools/release" $words "$room/none"
 
 # ---- what is altered is named
 version=$(dpkg-deb -f "$room"/one/gaknifur_*.deb Version)
@@ -85,23 +85,23 @@ altered() {
     (cd "$room/altered" && eval "$3") || fails "$1: can't be altered"
     refuses "$1" "$2" tools/verify --signers "${4:-$room/signers}" "$room/altered"
 }
-# (the digests reported anew, as one would who alters more)
+# (writes the digests again, as somebody would who alters more)
 again='sha256sum -- $(ls | grep -v "^SHA256SUMS") >SHA256SUMS; rm -f SHA256SUMS.sig; ssh-keygen -q -Y sign -f "$room/key" -n gaknifur-release SHA256SUMS 2>/dev/null'
-altered "a byte of a package" "$deb is another one than SHA256SUMS tells" "printf x >>$deb"
+altered "a byte of a package" "$deb differs from its digest in SHA256SUMS" "printf x >>$deb"
 altered "a package that is gone" "$deb is missing" "rm $deb"
 altered "a file more" "more is in no line of SHA256SUMS" "echo >more"
 altered "a line more" "no signature of SHA256SUMS" "sha256sum /dev/null | sed s,/dev/null,more, >>SHA256SUMS; : >more"
-altered "no line" "SHA256SUMS has a line that is none" "echo x >>SHA256SUMS"
+altered "no line" "SHA256SUMS has a malformed line" "echo x >>SHA256SUMS"
 altered "no signature" "the release isn't signed" "rm SHA256SUMS.sig"
 altered "others' signature" "no signature of SHA256SUMS" true "$room/others"
-altered "digests told anew" "provenance.json tells another digest of $deb than SHA256SUMS" "printf x >>$deb; $again"
-altered "no part of the bill" "sbom.spdx.json doesn't tell $deb" "sed -i 's/$deb/other.deb/' sbom.spdx.json; $again"
+altered "new digests" "provenance.json and SHA256SUMS have different digests of $deb" "printf x >>$deb; $again"
+altered "no part of the bill" "sbom.spdx.json doesn't list $deb" "sed -i 's/$deb/other.deb/' sbom.spdx.json; $again"
 altered "another commit" "sbom.spdx.json is of another version or commit" "sed -i 's/\"commit\": \"./\"commit\": \"x/' provenance.json; $again"
 altered "proved or not" "provenance.json contradicts itself" "sed -i '/^    \"proved\"/{s/true/0/;s/false/true/;s/0/false/}' provenance.json; $again"
 altered "no JSON" "can't be read as a release" "echo '{' >provenance.json; $again"
 altered "another version" "is no package of version" "mkdir x && dpkg-deb -R $deb x && sed -i 's/^Version: .*/Version: 9/' x/DEBIAN/control && \
     dpkg-deb -Znone -b x $deb >/dev/null && rm -r x; $again"
-altered "another program" "the program etcs in $deb isn't the one that it tells" "mkdir x && dpkg-deb -R $deb x && echo >>x/usr/lib/gaknifur/programs/etcs && \
+altered "another program" "the program etcs in $deb isn't the one that it lists" "mkdir x && dpkg-deb -R $deb x && echo >>x/usr/lib/gaknifur/programs/etcs && \
     dpkg-deb -Znone -b x $deb >/dev/null && rm -r x; $again"
 
 # ---- unpacked, without the kit and the sources
@@ -121,7 +121,7 @@ inside() { (cd "$room/work" && env -i "HOME=$room/work" "PATH=$root/usr/bin:/usr
 inside sh -c 'command -v rt' && fails "the kit is on the path"
 [ "$words" = --unproved ] && state="not proved: the program is not of a proved build" || state="proved: the program is that of the release"
 site=$root/usr/share/doc/gaknifur/html
-for one in index.html search.html searchindex.js python.html c/index.html howto/embedding.html generated/tables.html generated/review-sheets.html pictures/page_drive.png; do
+for one in index.html search.html searchindex.js python.html c/index.html howto/c-loop.html generated/tables.html generated/review-sheets.html pictures/page_drive.png; do
     tried=$((tried + 1))
     [ -s "$site/$one" ] || fails "the site has no $one"
 done
@@ -176,17 +176,17 @@ fi
 # ---- manual pages and completion have each word
 for name in etcs etcs_lab lab; do
     case $name in
-        lab | etcs_lab) told=$(inside $name --help 2>/dev/null | sed -n 's/^  \([a-z]*\)  *[A-Z].*/\1/p') ;;
-        *) told=$(inside $name --help 2>/dev/null | sed -n "s/^  $name \([a-z]*\) .*/\1/p" | sort -u) ;;
+        lab | etcs_lab) listed=$(inside $name --help 2>/dev/null | sed -n 's/^  \([a-z]*\)  *[A-Z].*/\1/p') ;;
+        *) listed=$(inside $name --help 2>/dev/null | sed -n "s/^  $name \([a-z]*\) .*/\1/p" | sort -u) ;;
     esac
-    [ "$(wc -w <<<"$told")" -ge 4 ] || fails "$name --help tells only \"$told\""
+    [ "$(wc -w <<<"$listed")" -ge 4 ] || fails "$name --help lists only \"$listed\""
     completed=$(inside bash -c '. "$1"; COMP_WORDS=("$2" ""); COMP_CWORD=1; $(complete -p "$2" | sed "s/.*-F \([^ ]*\).*/\1/") "$2"; echo "${COMPREPLY[@]}"' \
         bash "$root/usr/share/bash-completion/completions/$name" $name 2>/dev/null)
     manual=$(zcat "$root/usr/share/man/man1/$name.1.gz")
-    for word in $told; do
+    for word in $listed; do
         tried=$((tried + 1))
         case " $completed " in *" $word "*) ;; *) fails "$name $word isn't completed" ;; esac
-        grep -q "\b$word\b" <<<"$manual" || fails "the manual page of $name doesn't tell $word"
+        grep -q "\b$word\b" <<<"$manual" || fails "the manual page of $name doesn't have $word"
     done
 done
 

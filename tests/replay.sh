@@ -1,8 +1,8 @@
 #!/bin/bash
-# Replays of journals, on the program etcs_lab that the gate leaves after, along with those of a plain replay; and the table of altered fields in
-# docs/project/tests.md.
+# Test replays of journals by the program etcs_lab that the full check leaves: compare them with a plain replay, and with the table
+# of altered fields in docs/project/tests.md.
 #
-#     tests/replay.sh [PROGRAM..]    on another program, with its words
+#     tests/replay.sh [PROGRAM..]    test another program, with its arguments
 lab=$(dirname "$(readlink -f -- "$0")")/../crates/etcs_lab/out/etcs_lab
 if [ $# -eq 0 ]; then
     lab=$(realpath "$lab") || exit 1

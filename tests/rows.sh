@@ -1,8 +1,9 @@
 #!/bin/bash
-# The rows of the crates, by a program that is compiled for them of the crates' sources, unproved (rows/tried). Each module of rows/ makes
-# numbers of its rows, all are asked in one go, and each makes words of what it was reported, and compares with the answers that are wanted.
-# The rows are those by hand (rows/*.row) and the ones that plain/make_rows.py makes. Fails where one differs, where the sources don't compile, where a run came to no end or an answer is missing, where fewer rows were tried
-# than stand here, and where a question that is too long for the program is asked.
+# Test the rows of the crates, by a program that is compiled for them from the crates' sources, unproved (rows/tried). Each module of
+# rows/ converts its rows to numbers, the program answers all of them in one run, and each module converts the replies back and
+# compares them with the wanted answers. The rows are the hand-written ones (rows/*.row) and those that plain/make_rows.py makes.
+# Fails where an answer differs or is missing, the sources don't compile, a run doesn't end, fewer rows were tried than are listed
+# below, or a question is too long for the program.
 #
 #     tests/rows.sh          with the program etcs that rt ci leaves in crates/, for the rows that ask it
 #     tests/rows.sh ETCS     with another one
@@ -25,7 +26,7 @@ status=0
 # rows NAME FLOOR: the rows of a module
 rows() {
     local found count
-    found=$(python3 "$1.py" --told "$made/answers") || status=1
+    found=$(python3 "$1.py" --compare "$made/answers") || status=1
     echo "$found"
     count=$(sed -n '$s/.*: \([0-9]*\) rows, .*/\1/p' <<< "$found")
     [ -n "$SEED" ] && [ "${count:-0}" -gt 0 ] || [ "${count:-0}" -ge "$2" ] || { echo "$1: fewer rows than $2"; status=1; }

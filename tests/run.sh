@@ -1,8 +1,7 @@
 #!/bin/bash
-# The plain program along with the kernel's rows and the program's: the answers that the kernel's rows want are its own too,
-# and there are as many rows, events and answers as stand here. So are the answers that the rows of the program and the
-# examples want. The reader that was written from the page of the format alone lists what the plain unit wrote. The tables
-# of the plain program are those of the definitions. The safety laws hold after each event of the kernel's rows.
+# Test the plain programs. They have to answer the kernel's rows, the program's rows and the examples as wanted, with as many rows,
+# events and answers as are listed below. The reader that was written only from the page of the format lists what the plain unit
+# wrote. The tables of the plain program are those of the definitions. The safety laws hold after each event of the kernel's rows.
 #
 #     tests/run.sh           the variable ROWS may name a folder in which plain/make_rows.py made all rows before
 #     SEED=7 tests/run.sh    with other pseudo-random rows, whose numbers aren't compared

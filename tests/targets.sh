@@ -1,13 +1,14 @@
 #!/bin/bash
-# The library on each machine that tools/library names: built and installed for it, and asked the same there as here. A script of lives with losses
-# of power, of calls in any order with wild numbers, and of telegrams (tests/targets/scripts.py) is carried out by a driver on x86-64, on aarch64 under
-# Linux (by qemu-user), on a bare board of aarch64 (by qemu-system), and in WebAssembly (by node); each answer, output and byte of the medium is the
-# same. Then the tests of the unit from C, and the examples, on aarch64; and find_package and pkg-config.
+# Test the library on each machine that tools/library supports: built and installed for it, it has to answer as here. A driver executes
+# a script of lives with losses of power, of calls in any order with random numbers, and of telegrams (tests/targets/scripts.py) on
+# x86-64, on aarch64 under Linux (by qemu-user), on a bare board of aarch64 (by qemu-system), and in WebAssembly (by node); each answer,
+# output and byte of the medium has to be the same. Then the tests of the unit from C, and the examples, on aarch64; and find_package
+# and pkg-config.
 #
-#     tests/targets.sh [LIVES CALLS TELEGRAMS]    40 2000 300; the long form is 400 20000 20000
+#     tests/targets.sh [LIVES CALLS TELEGRAMS]    (default: 40 2000 300; the long form is 400 20000 20000)
 #
-# It needs gcc, gcc-aarch64-linux-gnu, qemu-user, qemu-system-arm, nodejs, cmake, pkg-config and valgrind. $TARGETS names a folder that has the libraries
-# already, one folder for each target.
+# Needs gcc, gcc-aarch64-linux-gnu, qemu-user, qemu-system-arm, nodejs, cmake, pkg-config and valgrind. $TARGETS names a folder that has
+# the libraries already, one folder for each target.
 export PYTHONDONTWRITEBYTECODE=1
 top=$(cd "$(dirname "$(readlink -f -- "$0")")/.." && pwd) || exit 1
 python=/usr/bin/python3
@@ -54,16 +55,16 @@ done
 "$cross" -std=c11 -O2 "${strict[@]}" "${bare_words[@]}" -I "$made" -I "$here" "$here/driver.c" "$here/bare.c" "$bare/lib/libetcs_unit_static.a" -o "$made/board.elf" ||
     fails "the driver doesn't compile for the board"
 "$python" "$here/scripts.py" script "$lives" "$calls" "$telegrams" >"$made/script" || fails "there is no script"
-"$made/here" <"$made/script" >"$made/told.x86_64" || fails "the driver ends with another status than 0"
-"$made/here_static" <"$made/script" >"$made/told.x86_64_own_memory" || fails "the driver over a buffer ends with another status than 0"
-qemu-aarch64 "$made/aarch64" <"$made/script" >"$made/told.aarch64" || fails "the driver on aarch64 ends with another status than 0"
-qemu-aarch64 "$made/aarch64_static" <"$made/script" >"$made/told.aarch64_own_memory" || fails "the driver over a buffer on aarch64 ends with another status than 0"
-board "$made/board.elf" "$made/script" >"$made/told.board"
+"$made/here" <"$made/script" >"$made/printed.x86_64" || fails "the driver ends with another status than 0"
+"$made/here_static" <"$made/script" >"$made/printed.x86_64_own_memory" || fails "the driver over a buffer ends with another status than 0"
+qemu-aarch64 "$made/aarch64" <"$made/script" >"$made/printed.aarch64" || fails "the driver on aarch64 ends with another status than 0"
+qemu-aarch64 "$made/aarch64_static" <"$made/script" >"$made/printed.aarch64_own_memory" || fails "the driver over a buffer on aarch64 ends with another status than 0"
+board "$made/board.elf" "$made/script" >"$made/printed.board"
 # (after a version of node that has such memories as they are, the word is unknown)
 wide=--experimental-wasm-memory64
 node $wide -e '' 2>/dev/null || wide=
-node $wide --no-warnings "$here/driver.mjs" "$wasm/lib/etcs.wasm" <"$made/script" >"$made/told.wasm64" || fails "the driver in WebAssembly ends with another status than 0"
-"$python" "$here/scripts.py" compare "$made/script" "$made"/told.{x86_64,x86_64_own_memory,aarch64,aarch64_own_memory,board,wasm64} || status=1
+node $wide --no-warnings "$here/driver.mjs" "$wasm/lib/etcs.wasm" <"$made/script" >"$made/printed.wasm64" || fails "the driver in WebAssembly ends with another status than 0"
+"$python" "$here/scripts.py" compare "$made/script" "$made"/printed.{x86_64,x86_64_own_memory,aarch64,aarch64_own_memory,board,wasm64} || status=1
 
 # ---- the tests of the unit from C, on aarch64
 

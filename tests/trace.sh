@@ -1,6 +1,6 @@
 #!/bin/bash
-# Whether tools/trace finds each fault that is planted in what it reads, whether what it prints has its form, and whether
-# browsers can show the pictures of the pages.
+# Test whether tools/trace finds each fault that is planted in what it reads, whether its output is well-formed, and whether browsers
+# can show the pictures of the pages.
 #
 #     tests/trace.sh
 cd "$(dirname "$(readlink -f -- "$0")")/.." || exit 1

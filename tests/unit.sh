@@ -1,11 +1,12 @@
 #!/bin/bash
-# The unit as C, C++, Python and Rust programs call it, all of it built from the folder that tools/library makes: the headers alone, the names
-# that the library shows, sizes and places, wrong calls, files, archives of blocks and marks along with the journal, two units at once, the
-# examples, images along with `etcs journal`, random lives along with `etcs run`, instructions along with kept counts and bounds, memory that is refused,
-# and the commands of docs/howto/embedding.md. It needs gcc, g++, valgrind, rustc and Debian's Python; clang is tried where it is there.
+# Test the unit from C, C++, Python and Rust, all built from the folder that tools/library makes: each header by itself, the names that
+# the library exports, sizes and offsets, wrong calls, files, archives of blocks and marks next to the journal, starts of slots, two units at once, the
+# examples, images compared with `etcs journal`, random lives compared with `etcs run`, instructions compared with kept counts and
+# bounds, memory that is refused, and the commands of the pages for makers. Needs gcc, g++, valgrind, rustc and Debian's Python; clang
+# is used where it is installed.
 #
-#     tests/unit.sh [PREFIX [LIVES]]    builds and installs the library first, or takes the one below PREFIX; 400 lives; $ETCS and $ETCS_LAB name
-#                                       other programs than the gate's
+#     tests/unit.sh [PREFIX [LIVES]]    test the library below PREFIX (default: build and install it first) with LIVES lives (default: 400);
+#                                       $ETCS and $ETCS_LAB name other programs than those of the full check
 export PYTHONDONTWRITEBYTECODE=1
 top=$(cd "$(dirname "$(readlink -f -- "$0")")/.." && pwd) || exit 1
 python=/usr/bin/python3 # Debian's packages belong to this one
@@ -94,7 +95,7 @@ twice=$(LC_ALL=C comm -12 "$made/types" "$made/names" | tr '\n' ' ')
 [ -z "$twice" ] || fails "a type and a call have one name: $twice"
 asked=$(nm -u "$static" | sed -n 's/^ *U //p' | LC_ALL=C sort -u | tr '\n' ' ')
 [ "$asked" = "memcpy memmove memset " ] || fails "the library without malloc asks for $asked"
-counted "names of the library" "$(wc -l <"$made/shown")" 116
+counted "names of the library" "$(wc -l <"$made/shown")" 118
 "$python" "$top/tests/unit/symbols.py" "$shared" $(cat "$made/shown") || fails "the calls as symbols"
 "$python" "$top/tests/unit/names.py" "$shared" $(cat "$made/shown") || fails "names of numbers"
 needed=$(objdump -p "$shared" | sed -n 's/^ *NEEDED *//p' | tr '\n' ' ')
@@ -114,13 +115,13 @@ build() {
 built=0
 link=("$archive")
 "$python" "$top/tests/unit/layout.py" --program >"$made/places.c" || fails "layout.py prints no program"
-for name in layout misuse sectors files kept two life reading listing again explained telegrams guard; do
+for name in layout misuse sectors files kept two life reading starts listing again explained telegrams guard; do
     source=$top/tests/unit/$name.c
     [ "$name" != layout ] || source=$made/places.c
     for compiler in "${compilers[@]}"; do build "$name.$compiler" "$source" "$compiler" -x c -std=c99 -O2; done
     build "$name.cpp" "$source" g++ -x c++ -std=c++17 -O2 -Wno-missing-field-initializers
 done
-for name in misuse sectors files kept two life reading listing again explained telegrams guard; do
+for name in misuse sectors files kept two life reading starts listing again explained telegrams guard; do
     build "$name.checked" "$top/tests/unit/$name.c" gcc -x c -std=c99 -O1 "${sanitizers[@]}"
 done
 for name in brake flash why; do
@@ -136,10 +137,10 @@ link=("$archive" -Wl,--wrap=malloc,--wrap=realloc,--wrap=free)
 build refused.gcc "$top/tests/unit/refused.c" gcc -x c -std=c99 -O2
 build refused.checked "$top/tests/unit/refused.c" gcc -x c -std=c99 -O1 "${sanitizers[@]}"
 link=(-L "$prefix/lib" -letcs_unit)
-for name in misuse two reading; do build "$name.shared" "$top/tests/unit/$name.c" gcc -x c -std=c99 -O2; done
+for name in misuse two reading starts; do build "$name.shared" "$top/tests/unit/$name.c" gcc -x c -std=c99 -O2; done
 rustc --edition 2021 -D warnings -O -L "$prefix/lib" -l static=etcs_unit "$top/examples/embedding/rust/brake.rs" -o "$made/brake.rs" &&
     built=$((built + 1)) || fails "examples/embedding/rust doesn't compile"
-counted "programs built" $built 49
+counted "programs built" $built 53
 
 # ---- what they answer
 
@@ -151,7 +152,7 @@ runs_well() {
 }
 
 "$python" "$top/tests/unit/layout.py" "$made"/layout.* || fails "sizes and places differ"
-for program in "$made"/misuse.* "$made"/sectors.* "$made"/two.* "$made"/reading.* "$made"/telegrams.* "$made"/guard.*; do runs_well "$program"; done
+for program in "$made"/misuse.* "$made"/sectors.* "$made"/two.* "$made"/reading.* "$made"/starts.* "$made"/telegrams.* "$made"/guard.*; do runs_well "$program"; done
 for program in "$made"/files.* "$made"/kept.*; do
     rm -rf "$made/room"
     mkdir "$made/room"
@@ -159,25 +160,25 @@ for program in "$made"/files.* "$made"/kept.*; do
 done
 for program in "$made"/flash.*; do runs_well "$program"; done
 mv "$made/said" "$made/flash"
-for program in misuse.gcc sectors.gcc two.gcc reading.gcc telegrams.gcc guard.gcc "files.gcc $made/room" "kept.gcc $made/room" "brake.gcc $made/image.valgrind" flash.gcc "why.gcc $made/image.valgrind" \
+for program in misuse.gcc sectors.gcc two.gcc reading.gcc starts.gcc telegrams.gcc guard.gcc "files.gcc $made/room" "kept.gcc $made/room" "brake.gcc $made/image.valgrind" flash.gcc "why.gcc $made/image.valgrind" \
     "again.gcc $made/image.valgrind why 7"; do
     rm -rf "$made/room"
     mkdir "$made/room"
     # shellcheck disable=SC2086
     runs_well valgrind -q --error-exitcode=9 --leak-check=full --errors-for-leak-kinds=all --show-leak-kinds=all $(echo "$made/$program")
 done
-counted "runs of them, 12 of them under valgrind" $runs 41
+counted "runs of them, 13 of them under valgrind" $runs 46
 
 # ---- the examples: the same train in each language, over the same file
 
 trains=0
 for program in "$made"/brake.*; do
     name=$(basename "$program")
-    "$program" "$made/image.$name" >"$made/told.$name" || fails "$name ends with another status than 0"
+    "$program" "$made/image.$name" >"$made/lines.$name" || fails "$name ends with another status than 0"
 done
-PYTHONPATH=$top/python "$python" "$top/examples/embedding/use.py" "$made/image.py" >"$made/told.py" || fails "use.py ends with another status than 0"
-for told in "$made"/told.*; do
-    "$python" "$top/tests/unit/brake_told.py" "$told" >"$made/said" || { cat "$made/said"; fails "$(basename "$told") has other lines"; }
+PYTHONPATH=$top/python "$python" "$top/examples/embedding/use.py" "$made/image.py" >"$made/lines.py" || fails "use.py ends with another status than 0"
+for lines in "$made"/lines.*; do
+    "$python" "$top/tests/unit/brake_lines.py" "$lines" >"$made/said" || { cat "$made/said"; fails "$(basename "$lines") has other lines"; }
     trains=$((trains + 1))
 done
 for image in "$made"/image.*; do cmp "$image" "$made/image.brake.gcc" || fails "the journals of the examples differ"; done
@@ -256,6 +257,7 @@ for program in "$made"/refused.*; do "$python" "$top/tests/unit/refused_lives.py
 (cd "$top/python" && "$python" -m unittest -q tests.test_unit) >"$made/said" 2>&1 && grep -q '^Ran 24 tests' "$made/said" && ! grep -q skipped "$made/said" ||
     { cat "$made/said"; fails "python/tests/test_unit.py: failures, or other than 24 tests"; }
 "$python" "$top/tests/unit/integration.py" || status=1
-ETCS_LAB=$lab ETCS_UNIT_ARCHIVE=$raw ETCS_C_ARCHIVE=${ETCS_C_ARCHIVE:-$top/crates/etcs_c/out/libetcs_c.a} "$python" "$top/tests/pages.py" howto/embedding start/c || status=1
+ETCS_LAB=$lab ETCS_UNIT_ARCHIVE=$raw ETCS_C_ARCHIVE=${ETCS_C_ARCHIVE:-$top/crates/etcs_c/out/libetcs_c.a} "$python" "$top/tests/pages.py" start/c howto/c-loop howto/c-flash \
+    howto/c-static-memory howto/c-display howto/c-guard howto/c-installed-tracks howto/c-journal howto/cpp howto/python howto/rust || status=1
 echo "the unit: $([ $status -eq 0 ] && echo "no failures" || echo "failures, see above")"
 exit $status

@@ -1,8 +1,9 @@
 #!/bin/bash
-# Why each brake was commanded, on the program etcs_lab that the gate leaves after, along with the causes that a plain program works out: of images
-# (etcs_lab why), and of scenarios that are played (etcs_lab run), which etcs has to play alike. And many scenarios in one process (etcs_lab play).
+# Test the causes of brakes by the program etcs_lab that the full check leaves, compared with the causes that a plain program works
+# out: of images (etcs_lab why), and of scenarios that are played (etcs_lab run), which etcs has to play alike. And many scenarios in
+# one process (etcs_lab play).
 #
-#     tests/why.sh [ETCS_LAB ETCS]    on other programs
+#     tests/why.sh [ETCS_LAB ETCS]    test other programs
 lab=${1:-$(dirname "$(readlink -f -- "$0")")/../crates/etcs_lab/out/etcs_lab}
 etcs=${2:-$(dirname "$(readlink -f -- "$0")")/../crates/etcs/out/etcs}
 lab=$(realpath "$lab") && etcs=$(realpath "$etcs") || exit 1

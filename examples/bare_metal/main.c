@@ -1,6 +1,6 @@
 /* The unit on a board without an operating system and without a C library: QEMU's `virt`, 64 bits of ARM. Its memory is a
- * buffer, its journal lies where a reset leaves it, and what is commanded goes to the serial line. The unit holds no copy of
- * the journal: it is handed the sectors that it wants.
+ * buffer, its journal is in memory that survives a reset, and the commands go to the serial line. The unit holds no copy of
+ * the journal: it gets the sectors that it asks for.
  *
  * A cycle of 100 ms, as a timer would call it: the odometer, the clock, and where there is one a telegram; then all of it
  * goes onto the medium, and the most restrictive brake of what is released holds until the next release. Only then the
@@ -88,7 +88,7 @@ static uint32_t power_up(etcs_unit *unit) {
     return status;
 }
 
-/* Prepares: the unit wants the gate of the slot that it will write to, where it doesn't know it. */
+/* Prepares a flush: the unit asks for the gate of the slot that it will write to, where it doesn't know it. */
 static uint32_t prepare(etcs_unit *unit) {
     uint64_t sector = 0;
     uint32_t status;
@@ -181,7 +181,7 @@ static uint32_t make_ready(etcs_unit *unit) {
     return (status == ETCS_UNIT_OK) ? etcs_unit_action(unit, ETCS_START) : status;
 }
 
-/* One cycle: what the sensors say, onto the medium, and what comes of it. */
+/* One cycle: the inputs of the sensors, a flush to the medium, and the outputs. */
 static uint32_t cycle(etcs_unit *unit, train *our) {
     etcs_unit_output outputs[ETCS_UNIT_OUTPUTS];
     uint32_t count = 0;
@@ -234,7 +234,7 @@ static uint32_t live(int is_ready, int cycles) {
 }
 
 int main(void) {
-    etcs_memory_info told = {0, 0, 0, 0, 0};
+    etcs_memory_info info = {0, 0, 0, 0, 0};
     board_paint();
     board_watch(WATCHDOG_MS);
     uint32_t status = etcs_memory_use(memory, sizeof memory);
@@ -248,14 +248,14 @@ int main(void) {
         status = live(0, 2); /* the board was reset */
     }
     if (status == ETCS_UNIT_OK) {
-        status = etcs_memory_state(&told);
+        status = etcs_memory_state(&info);
     }
     say((status == ETCS_UNIT_OK) ? "memory: " : "emergency brake: ");
     say((status == ETCS_UNIT_OK) ? "" : etcs_status_name(status));
     say((status == ETCS_UNIT_OK) ? "" : ", ");
-    say_number(told.most_used);
+    say_number(info.most_used);
     say(" of ");
-    say_number(told.size);
+    say_number(info.size);
     say(" bytes; stack: ");
     say_number(board_stack());
     say(" bytes\n");

@@ -15,7 +15,7 @@ _start:
     isb
 
     /* the first GB is devices, the second one memory, both where they are */
-    ldr     x0, =0xff00             /* kind 0: devices; kind 1: memory behind caches */
+    ldr     x0, =0xff00             /* kind 0: devices; kind 1: cached memory */
     msr     mair_el1, x0
     ldr     x0, =(25 | 1 << 8 | 1 << 10 | 3 << 12 | 1 << 23 | 2 << 32)
     msr     tcr_el1, x0

@@ -1,12 +1,12 @@
-/* The unit in a cyclic task on Linux: on a Cortex-A, or where else there are threads of POSIX.
+/* The unit in a cyclic task on Linux: on a Cortex-A, or any other machine with POSIX threads.
  *
  *     cyclic IMAGE [CYCLES [MILLISECONDS [LATE]]]    a journal that etcs_file_format made; where there is no such file it is made
  *
  * One task opens the unit, and hands it to the cyclic one under a lock. The cyclic task runs every 100 ms by the system's
  * clock: sensors, medium, outputs. Memory is a buffer of the program's own and is locked, so no cycle waits for a page.
  * A cycle that ends LATE milliseconds after it was due, or later, means the emergency brake and the end of the task, and so
- * does any answer that is a fault. What a driver enters wrongly is said to him, and entered again. Hardware of its own has to brake where this program stops: here `alive` stands
- * for what it watches. */
+ * does any answer that is a fault. A wrong entry is shown to the driver, who enters it again. Separate hardware has to brake where this
+ * program stops: here `alive` is the signal that it watches. */
 #include "etcs_file.h"
 #include "etcs_memory.h"
 
@@ -128,7 +128,7 @@ static uint32_t power_up(const char *path) {
 
 int main(int count, char **words) {
     pthread_t task;
-    etcs_memory_info told = {0, 0, 0, 0, 0};
+    etcs_memory_info info = {0, 0, 0, 0, 0};
     if (count < 2 || etcs_memory_use(memory, sizeof memory) != ETCS_UNIT_OK)
         return 2;
     most_cycles = count > 2 ? strtoull(words[2], NULL, 10) : most_cycles;
@@ -145,9 +145,9 @@ int main(int count, char **words) {
     }
     pthread_join(task, NULL);
     pthread_mutex_lock(&our.lock);
-    (void)etcs_memory_state(&told);
+    (void)etcs_memory_state(&info);
     printf("%" PRIu64 " cycles, event %" PRIu64 ": brake %u; %s\n", our.cycles, our.command.event, (unsigned)our.command.brake, etcs_status_name(our.fault));
-    printf("memory: %" PRIu64 " of %" PRIu64 " bytes\n", told.most_used, told.size);
+    printf("memory: %" PRIu64 " of %" PRIu64 " bytes\n", info.most_used, info.size);
     if (our.is_late)
         puts("emergency brake: a cycle ended too late");
     fprintf(stderr, "the longest cycle took %" PRIu64 " us\n", our.longest_us);

@@ -32,7 +32,7 @@ private:
 // A unit over a file. It stays where it is made: it is neither copied nor moved.
 class Unit {
 public:
-    Unit(const std::string &path, etcs_cold cold) { told("opening", etcs_file_open(&file, path.c_str(), &unit, cold)); }
+    Unit(const std::string &path, etcs_cold cold) { check("opening", etcs_file_open(&file, path.c_str(), &unit, cold)); }
     ~Unit() { etcs_file_close(&file, &unit); }
     Unit(const Unit &) = delete;
     Unit &operator=(const Unit &) = delete;
@@ -50,7 +50,7 @@ public:
     std::vector<etcs_unit_output> flush() {
         std::array<etcs_unit_output, ETCS_UNIT_OUTPUTS> outputs;
         std::uint32_t count = 0;
-        told("a flush", etcs_file_flush(&file, &unit, outputs.data(), &count));
+        check("a flush", etcs_file_flush(&file, &unit, outputs.data(), &count));
         return {outputs.begin(), outputs.begin() + count};
     }
 
@@ -61,7 +61,7 @@ private:
         return bytes ? bytes : &nothing;
     }
 
-    void told(const char *where, std::uint32_t answer) const {
+    void check(const char *where, std::uint32_t answer) const {
         if (answer != ETCS_FILE_OK)
             throw Refused(where, answer, file.status, file.error);
     }

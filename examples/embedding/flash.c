@@ -184,7 +184,7 @@ int main(void) {
         const int is_there = event == BATCH + 2;
         if ((!is_there && event != 2) || (answer == ETCS_UNIT_OK && !is_there) || released != (answer == ETCS_UNIT_OK ? BATCH : 0))
             return 1;
-        printf("power lost behind %d requests: %" PRIu32 " outputs released; then %s of the batch on the flash\n", requests, released,
+        printf("power lost after %d requests: %" PRIu32 " outputs released; then %s of the batch on the flash\n", requests, released,
                is_there ? "all" : "nothing");
         if (answer == ETCS_UNIT_OK)
             return 0;

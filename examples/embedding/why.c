@@ -1,7 +1,7 @@
-/* Why a train braked: runs the life of an event through the kernel again, by the calls of etcs_image.h alone.
+/* Explains why a train braked: replays the life of an event through the kernel, only by the calls of etcs_image.h.
  *
- *     why IMAGE          says about each life whether the journal agrees with the kernel, and of each command to the brakes why it was given
- *     why IMAGE EVENT    says about one event
+ *     why IMAGE          print whether the journal of each life agrees with the kernel, and why each brake command was given
+ *     why IMAGE EVENT    explain one event
  */
 #include <stdio.h>
 #include <stdlib.h>
@@ -15,10 +15,10 @@ static const char *const causes[ETCS_BRAKE_CAUSES] = {
     "it moves where it must stand", "an acknowledgement is owed too long"};
 static const char *const trips[] = {"", "the end of authority was passed", "linking or a group asked for it", "an authority with V_MAIN 0 was used",
                                     "the path in Staff Responsible was too long", "level 1 without an authority or a known track"};
-static const char *const verdicts[] = {"", "agrees", "a record differs", "a head differs", "begins before the oldest block", "comes behind a gap",
-                                       "begins within a block", "comes behind a record that differs"};
+static const char *const verdicts[] = {"", "agrees", "a record differs", "a head differs", "begins before the oldest block", "comes after a gap",
+                                       "begins within a block", "comes after a record that differs"};
 
-static void tell(const etcs_why *why) {
+static void print_why(const etcs_why *why) {
     printf("event %llu: brake %s, limit %u m/h, speed %u m/h\n", (unsigned long long)why->event, brakes[why->brake], (unsigned)why->limit_m_per_h,
            (unsigned)why->speed_m_per_h);
     for (unsigned i = 0; i < ETCS_BRAKE_CAUSES; i++)
@@ -57,7 +57,7 @@ static uint32_t brakings(const uint8_t *image, size_t size, int only, unsigned l
             continue;
         answer = etcs_image_why(image, size, record.block, record.event, &why);
         if (answer == ETCS_UNIT_OK)
-            tell(&why);
+            print_why(&why);
         else if (answer == ETCS_UNIT_NOT_REPLAYED)
             printf("event %llu: its life can't be run again\n", (unsigned long long)record.event);
         if (answer == ETCS_UNIT_NOT_REPLAYED)

@@ -4,7 +4,7 @@ the proved unit answers what it would do.
 
     examples/oracle/ask.py ./lab serve <EVENTS
 
-EVENTS has an object on a line for each event, with the members that the page reports; `life` and `event` are counted
+EVENTS has an object on a line for each event, with the members that the page lists; `life` and `event` are counted
 here.
 """
 import json
@@ -12,13 +12,13 @@ import subprocess
 import sys
 
 
-class Asked:
+class UnitProcess:
     """A unit that is asked."""
 
     def __init__(self, words):
         self.process = subprocess.Popen(words, stdin=subprocess.PIPE, stdout=subprocess.PIPE, text=True)
         self.life, self.event = 0, 0
-        self.told = self.ask({"protocol": 1, "case": "asked by hand"})
+        self.greeting = self.ask({"protocol": 1, "case": "asked by hand"})
 
     def ask(self, message):
         """The answer to a message."""
@@ -43,8 +43,8 @@ class Asked:
 
 
 def main(words):
-    unit = Asked(words)
-    print(unit.told["unit"])
+    unit = UnitProcess(words)
+    print(unit.greeting["unit"])
     for line in sys.stdin:
         answer = unit.answer(json.loads(line))
         number, mode, brake, limit = (answer[name] for name in ("event", "mode", "brake", "limit_m_per_h"))

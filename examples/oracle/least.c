@@ -1,9 +1,9 @@
-/* The least unit that speaks the protocol of docs/howto/oracle.md, in C, as unit.py is in Python: it chooses a level, and brakes.
+/* A minimal unit that speaks the protocol of docs/howto/oracle.md, in C, like unit.py in Python: it chooses a level, and brakes.
  *
  *     gcc -std=c99 examples/oracle/least.c -o least
  *     ./lab test suites --against ./least
  *
- * It reads of each event what it needs, by the names of its members: the tester writes no space between them. */
+ * It reads only the members of an event that it needs, by their names: the tester writes no space between them. */
 #include <stdio.h>
 #include <stdlib.h>
 #include <string.h>

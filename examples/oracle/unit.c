@@ -1,5 +1,5 @@
-/* A unit under the protocol of docs/howto/oracle.md, in C: what stands between `./lab test --against` and a maker's own unit. Here
- * the unit is that of etcs_unit.h, with its journal in memory; where its calls stand, a maker puts his own.
+/* A unit under the protocol of docs/howto/oracle.md, in C: an adapter between `./lab test --against` and your own unit. Here the
+ * unit is that of etcs_unit.h, with its journal in memory; replace its calls with those of your own unit.
  *
  *     gcc -std=c99 -I PREFIX/include examples/oracle/unit.c PREFIX/lib/libetcs_unit.a -o unit
  *     ./lab test suites --against ./unit

@@ -42,9 +42,9 @@ class Unit:
         return {"event": event["event"], "mode": "SB", "level": self.level, "brake": "emergency"}
 
 
-def say(told):
+def say(message):
     """A line, at once."""
-    print(json.dumps(told), flush=True)
+    print(json.dumps(message), flush=True)
 
 
 def main():

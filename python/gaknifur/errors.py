@@ -82,7 +82,7 @@ def caught(do: Callable[[], int]) -> int:
         say(f"{error.filename}: {error.strerror}" if error.filename else f"{error.strerror or error}")
         return DEVICE
     except Exception as error:
-        say(f"internal error: {describe(error)}; docs/howto/laboratory.md says how to report it")
+        say(f"internal error: {describe(error)}; docs/reference/lab.md says how to report it")
         if os.environ.get(TRACEBACK):
             traceback.print_exc()
         return OWN_FAULT

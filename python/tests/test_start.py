@@ -196,7 +196,7 @@ class Nets(Room):
     def test_each_is_reported_in_a_line(self) -> None:
         status, message = self.caught(KeyError("a\nb"))
         self.assertEqual(status, 5)
-        self.assertRegex(message, r"^internal error: KeyError: 'a\\nb' at errors.py:\d+; docs/howto/laboratory.md says how to report it$")
+        self.assertRegex(message, r"^internal error: KeyError: 'a\\nb' at errors.py:\d+; docs/reference/lab.md says how to report it$")
         for error in (RecursionError("deep"), AssertionError(), UnicodeEncodeError("utf-8", "\ud800", 0, 1, "surrogates"), StopIteration()):
             self.assertIn(f"internal error: {type(error).__name__}", self.caught(error)[1])
         self.assertEqual(self.caught(MemoryError()), (3, "out of memory"))
@@ -210,7 +210,7 @@ class Nets(Room):
             done = subprocess.run([sys.executable, "-I", "-c", started, str(TOP / "python")], capture_output=True, text=True,
                                   env=os.environ | ({errors.TRACEBACK: "1"} if asked else {}))
             self.assertEqual((done.returncode, "Traceback" in done.stderr), (5, asked))
-            self.assertRegex(done.stderr, r"^lab: internal error: KeyError: 'a' at commands.py:\d+; docs/howto/laboratory.md says how")
+            self.assertRegex(done.stderr, r"^lab: internal error: KeyError: 'a' at commands.py:\d+; docs/reference/lab.md says how")
 
     def test_streams_that_are_full_or_closed(self) -> None:
         (self.work / "a.yaml").write_text("steps: [start]\n")

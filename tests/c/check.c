@@ -1,5 +1,5 @@
-/* Calls what include/etcs.h declares, on telegrams whose answers were worked out by hand, and prints those that differ.
- * That a C program hands over a pointer and a length as the library takes them is what no proof covers. */
+/* Calls what include/etcs.h declares, on telegrams with hand-written answers, and prints those that differ.
+ * No proof covers that a C program passes a pointer and a length as the library takes them. */
 #include <stdint.h>
 #include <stdio.h>
 

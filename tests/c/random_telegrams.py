@@ -1,5 +1,5 @@
 #!/usr/bin/env python3
-"""Random telegrams, the same in every run: what the C library answers is what the plain decoder reports.
+"""Random telegrams, the same in every run: the C library answers what the plain decoder answers.
 
     tests/c/random_telegrams.py PROGRAM [COUNT [SEED]]    PROGRAM is answers.c with the library; 2,000 telegrams, seed 2026
 """
@@ -34,7 +34,7 @@ def main(words):
     if ran.returncode or len(answers) != count:
         found.append(f"status {ran.returncode}, {len(answers)} answers")
     read = sum(one.startswith("0 ") for one in asked)
-    print(*found[:20], f"{count} telegrams from C, {read} of which can be read, {len(found)} differences", sep="\n")
+    print(*found[:20], f"{count} telegrams from C, {read} can be read, {len(found)} differences", sep="\n")
     return 1 if found else 0
 
 

@@ -2,8 +2,8 @@
 """The lines of `etcs_lab events`, read back as JSON and compared field by field with what the plain readers find in the image.
 
     tests/events/event_rows.py PROGRAM [RINGS [SEED]]     on a built program
-    tests/events/event_rows.py --images FOLDER            writes the images, to be reported by an unproved run (rt try --cases)
-    tests/events/event_rows.py --reported FILE                compares what such a run printed
+    tests/events/event_rows.py --images FOLDER            write the images, to be listed by an unproved run (rt try --cases)
+    tests/events/event_rows.py --compare FILE             compare what such a run printed
 """
 import json
 import subprocess
@@ -14,12 +14,12 @@ from pathlib import Path
 sys.path.insert(0, str(Path(__file__).resolve().parents[1] / "plain"))
 
 from images import MARKUP, blocks, cut_images, damaged_images, example_images, random_images, slots_of, worked_images  # noqa: E402
-from told import Refused, told  # noqa: E402
+from event_lines import Refused, image_lines  # noqa: E402
 
 RINGS, SEED = 300, 41
 LEAST_LINES, LEAST_IMAGES = 45_000, 2_800
 SOURCES = {"journal", "after_gap", "replaced", "unwritten", "misplaced", "damaged"}
-# Each image is reported with and without the other blocks; of the damaged forms of an image each so many.
+# Each image is listed with and without the other blocks.
 EACH = 5
 
 
@@ -38,7 +38,7 @@ def all_images(rings, seed):
 def wanted(image, all_blocks):
     """Status and lines; of a refusal its name in place of lines."""
     try:
-        lines, whole = told(image, all_blocks)
+        lines, whole = image_lines(image, all_blocks)
     except Refused as refused:
         return 1, str(refused)
     return (0 if whole else 4), lines
@@ -57,7 +57,7 @@ class Count:
     def differs(self, name, got, want):
         self.differ += 1
         if self.differ <= 5:
-            print(f"{name}:\n  told   {got}\n  wanted {want}")
+            print(f"{name}:\n  found  {got}\n  wanted {want}")
 
     def compare(self, name, status, text, image, all_blocks):
         want_status, want = wanted(image, all_blocks)
@@ -110,10 +110,10 @@ def by_hand_rows(run):
     wrong = 0
     for all_blocks, wanted in ((True, [*copies, "unreadable", *others]), (False, ["unreadable"])):
         status, out = run(image, all_blocks)
-        told = [json.loads(line) for line in out.splitlines()][1:-1]
-        found = [(one["source"], one["block"], one["byte"], one["event"], one["life"]) if "event" in one else next(iter(one)) for one in told]
+        records = [json.loads(line) for line in out.splitlines()][1:-1]
+        found = [(one["source"], one["block"], one["byte"], one["event"], one["life"]) if "event" in one else next(iter(one)) for one in records]
         if (found, status) != (wanted, 4):
-            print(f"by hand:\n  told   {found}\n  wanted {wanted}")
+            print(f"by hand:\n  found  {found}\n  wanted {wanted}")
             wrong += 1
     print(f"events: 2 listings by hand of a damaged and a misplaced block, {wrong} differ")
     return wrong
@@ -144,7 +144,7 @@ def body_row(run):
                   f'"skipped_bits":{count},"body":"{digits}"}}],"bits":{81 + count}}},"unused":[{{"packet":44,'
                   f'"name":"Data used by applications outside the ERTMS/ETCS system","bit":50,"bits":{23 + count},"why":"not_known"}}]}}')
         if not out.splitlines()[1].endswith(wanted):
-            print(f"a body of {count} bits:\n  told   {out.splitlines()[1]}\n  wanted {wanted}")
+            print(f"a body of {count} bits:\n  found  {out.splitlines()[1]}\n  wanted {wanted}")
             wrong += 1
     print(f"events: 5 bodies of packets by hand, {wrong} differ")
     return wrong
@@ -161,7 +161,7 @@ def unused_row(run):
     rows = [
         ("none", nominal, []),
         ("one that is skipped", stop + nominal, [(137, "Stop if in Staff Responsible", 50, 24, "not_known")]),
-        ("behind infill", nominal + infill + nominal + stop, [
+        ("after infill", nominal + infill + nominal + stop, [
             (136, "Infill location reference", 81, 38, "infill"), (66, "Temporary Speed Restriction Revocation", 119, 31, "infill"),
             (137, "Stop if in Staff Responsible", 150, 24, "infill")]),
         ("without a name", nameless + stop, [(99, None, 50, 23, "not_known"), (137, "Stop if in Staff Responsible", 73, 24, "not_known")]),
@@ -174,7 +174,7 @@ def unused_row(run):
         _, out = run(slots_of([(1, blocks.data_of(blocks.block(3, 1, 1, 1, [blocks.entry(0, ("telegram", data))])))], 2), False)
         found = [tuple(one.values()) for one in json.loads(out.splitlines()[1])["unused"]]
         if found != wanted:
-            print(f"unused, {what}:\n  told   {found}\n  wanted {wanted}")
+            print(f"unused, {what}:\n  found  {found}\n  wanted {wanted}")
             wrong += 1
     print(f"events: {len(rows)} telegrams with packets that no mode uses by hand, {wrong} differ")
     return wrong
@@ -187,7 +187,7 @@ def main(words):
         for k, (name, image) in enumerate(all_images(RINGS, SEED)):
             (folder / f"{k:05}").write_bytes(image)
         return 0
-    if words[0] == "--told":
+    if words[0] == "--compare":
         parts = Path(words[1]).read_text().split("== ")[1:]
         texts = {part.partition("\n")[0]: part.partition("\n")[2] for part in parts}
         for k, (name, image) in enumerate(all_images(RINGS, SEED)):

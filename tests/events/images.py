@@ -199,8 +199,8 @@ def damaged_images():
     """A ring of three blocks of each format, of which the second, or the newest, has an altered byte in each field of its head and of its
     records, or is without a sector; also after a closed gate, and in a slot of another number."""
     for form in (1, 2, 3):
-        told = [("powerup", 0) if kind == "powerup" else (kind, *values) for kind, *values in EIGHT]
-        three = [(n, blocks.block(form, n, 8 * n, n, [blocks.entry(8 * n - 8 + k, one, moment=k) for k, one in enumerate(told)])) for n in (1, 2, 3)]
+        events = [("powerup", 0) if kind == "powerup" else (kind, *values) for kind, *values in EIGHT]
+        three = [(n, blocks.block(form, n, 8 * n, n, [blocks.entry(8 * n - 8 + k, one, moment=k) for k, one in enumerate(events)])) for n in (1, 2, 3)]
         whole = [(n, blocks.data_of(b)) for n, b in three]
         width = 128 if form == 1 else 256
         places = [SECTOR + at for at in (0, 8, 15, 16, 28, 30, 71, 100, 198, 511)]
@@ -214,7 +214,7 @@ def damaged_images():
                 if n == 2 or k % 3 == 0:
                     yield name, slots_of([*whole, (n, other)], 4)
                 if k % 3 == n - 2:
-                    yield f"{name} behind a closed gate", slots_of([*whole, (n, bytes(SECTOR) + other[SECTOR:])], 4)
+                    yield f"{name} after a closed gate", slots_of([*whole, (n, bytes(SECTOR) + other[SECTOR:])], 4)
                 if k % 3 == n - 1:
                     yield f"{name} in slot 0", slots_of([*whole, (4, other)], 4)
 
@@ -227,7 +227,7 @@ def worked_images():
     telegrams = [b"\x90", b"\x10" * 7, b"\x92" * 7, b"\x90\xff" * 4, skipped(72, 40), skipped(0, 0), skipped(254, 700), bytes(104)]
     events = [("driver", data) for data in actions] + [("telegram", data) for data in telegrams] + [("powerup", word) for word in (0, 1, 2)]
     for form in (1, 2, 3):
-        for k, told in enumerate(events):
-            told = ("powerup", 0) if told[0] == "powerup" and form < 3 else told
-            b = blocks.block(form, 1, 1, 1, [blocks.entry(0, told)])
+        for k, event in enumerate(events):
+            event = ("powerup", 0) if event[0] == "powerup" and form < 3 else event
+            b = blocks.block(form, 1, 1, 1, [blocks.entry(0, event)])
             yield f"format {form}, event {k}", slots_of([(1, blocks.data_of(b))], 2)

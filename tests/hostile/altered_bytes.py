@@ -1,13 +1,13 @@
 #!/usr/bin/env python3
 """Alters the bytes of an image file, one at a time: of its first sector, of the head of the newest block, and of gates. Each listing, each
-next life and the bytes that this life leaves are compared: with those of the image as it was, where an open gate was altered, since what
-it holds is never compared; with what the plain unit answers over the same bytes, everywhere else.
+next life and the bytes that this life leaves are compared with what the plain unit answers over the same bytes. Where an open gate was
+altered they are compared with those of the unaltered image, since the content of an open gate has no meaning.
 """
 import json
 import sys
 from pathlib import Path
 
-from built import SECTOR, SLOT, STAFF_RESPONSIBLE, formatted, ran, room
+from built import SECTOR, SLOT, STAFF_RESPONSIBLE, formatted, run_program, room
 from compared import Compared
 from plain_images import bytes_of, disk_of, listed, lived
 
@@ -35,7 +35,7 @@ class Altered:
         self.next.write_text(json.dumps(NEXT))
         formatted(self.image, SLOTS)
         for _ in range(2):
-            ran(["run", scenario, self.image])
+            run_program(["run", scenario, self.image])
         self.whole = self.image.read_bytes()
 
     def with_byte(self, at, value):
@@ -44,10 +44,10 @@ class Altered:
     def answers(self, data):
         """What a listing answers, what the next life answers, and the bytes after it."""
         self.image.write_bytes(data)
-        return ran(["journal", self.image]), ran(["run", self.next, self.image]), self.image.read_bytes()
+        return run_program(["journal", self.image]), run_program(["run", self.next, self.image]), self.image.read_bytes()
 
     def compare(self, data, wanted, said):
-        for found, one, name in zip(self.answers(data), wanted, ("the listing", "the next life", "the bytes behind it")):
+        for found, one, name in zip(self.answers(data), wanted, ("the listing", "the next life", "the bytes after it")):
             self.failures.unless(found == one, f"{said}: {name} {'' if name.endswith('it') else found}")
 
     def compare_with_plain(self, data, said):
@@ -59,7 +59,7 @@ def main():
     with room() as name:
         altered = Altered(Path(name), failures)
         whole = altered.whole
-        undisturbed = listing, life, behind = altered.answers(whole)
+        undisturbed = listing, life, image_after = altered.answers(whole)
         altered.compare_with_plain(whole, "nothing is altered")
 
         for at in range(SECTOR):
@@ -67,7 +67,7 @@ def main():
                 altered.compare_with_plain(altered.with_byte(at, value), f"byte {at} of the first sector is {value}")
         altered.compare_with_plain(whole[:-SECTOR], "one sector less")
         altered.compare_with_plain(whole + bytes(SECTOR), "one sector more")
-        altered.compare_with_plain(whole + b"\xff" * (SECTOR - 1), "bytes behind the last sector")
+        altered.compare_with_plain(whole + b"\xff" * (SECTOR - 1), "bytes after the last sector")
 
         # Each life makes a block of its power-up and two of its nine events, so the sixth block is the newest; it stands in slot 2.
         newest = int(listing[1].splitlines()[-1].split()[1])
@@ -80,14 +80,14 @@ def main():
         oldest = SECTOR + SLOT * ((newest + 1) % SLOTS)
         for at in range(SECTOR):
             value = whole[gate + at] ^ 0x55
-            kept = behind[:gate + at] + bytes([value]) + behind[gate + at + 1:]
+            kept = image_after[:gate + at] + bytes([value]) + image_after[gate + at + 1:]
             altered.compare(altered.with_byte(gate + at, value), (listing, life, kept), f"byte {at} of an open gate is {value}")
             altered.compare(altered.with_byte(oldest + at, whole[oldest + at] ^ 0x55), undisturbed, f"byte {at} of the oldest gate is altered")
         closed = whole[:gate] + bytes(SECTOR) + whole[gate + SECTOR:]
         altered.compare_with_plain(closed, "a gate is closed")
         for at in range(SECTOR):
             opened = closed[:gate + at] + b"\x01" + closed[gate + at + 1:]
-            kept = behind[:gate] + opened[gate:gate + SECTOR] + behind[gate + SECTOR:]
+            kept = image_after[:gate] + opened[gate:gate + SECTOR] + image_after[gate + SECTOR:]
             altered.compare(opened, (listing, life, kept), f"a gate has 1 in byte {at} alone")
     return failures.end(f"altered bytes: {failures.count} comparisons")
 

@@ -1,4 +1,4 @@
-"""The built program, as tests run it, and what is given to it. `ETCS` names another one than the gate leaves after."""
+"""The built program as tests run it, and its inputs. `ETCS` names another one than the full check leaves."""
 import os
 import struct
 import subprocess
@@ -12,7 +12,7 @@ PROGRAM = os.environ.get("ETCS") or str(TOP / "crates/etcs/out/etcs")
 
 sys.path[:0] = [str(TOP / "tests/plain"), str(TOP / "tests")]
 
-from ran import ran as run_to_end  # noqa: E402
+from processes import run_to_end  # noqa: E402
 
 SECTOR = 512
 SLOT = 6 * SECTOR
@@ -26,7 +26,7 @@ STAFF_RESPONSIBLE = {"groups": [], "steps": [{"telegram": RESTRICTION}, *ENTRIES
 FULL_SUPERVISION = {"groups": [], "steps": [{"telegram": AUTHORITY}, *ENTRIES]}
 
 
-def ran(words, preload=None, **environment):
+def run_program(words, preload=None, **environment):
     """Status and text of a run. Nothing is ever written to standard error."""
     env = None
     if preload or environment:
@@ -56,7 +56,7 @@ def recorded_by(record, image, words, **environment):
     """Status and text of a run, and the calls of an image file and of standard output that it made: letter, place, bytes (record.c)."""
     to = Path(f"{image}.calls")
     to.unlink(missing_ok=True)
-    answer = ran(words, record, RECORD_OF=str(image), RECORD_TO=str(to), **environment)
+    answer = run_program(words, record, RECORD_OF=str(image), RECORD_TO=str(to), **environment)
     return answer, calls_of(to)
 
 
@@ -87,6 +87,6 @@ def sectors_of(place, body):
 
 
 def formatted(path, slots):
-    status, text = ran(["format", path, slots])
+    status, text = run_program(["format", path, slots])
     if (status, text) != (0, f"formatted {slots} blocks {SECTOR + SLOT * slots} bytes\n"):
         raise SystemExit(f"format: {status} {text}")

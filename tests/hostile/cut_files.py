@@ -11,7 +11,7 @@ import random
 import sys
 from pathlib import Path
 
-from built import ENTRIES, FULL_SUPERVISION, SECTOR, STAFF_RESPONSIBLE, built, formatted, ran, recorded_by, room, sectors_of
+from built import ENTRIES, FULL_SUPERVISION, SECTOR, STAFF_RESPONSIBLE, built, formatted, run_program, recorded_by, room, sectors_of
 from compared import Compared
 from program import Image, listed
 
@@ -105,7 +105,7 @@ def cut_run(name, scenario, slots, lives, folder, record, failures, numbers):
     (folder / "next").write_text(json.dumps(NEXT))
     formatted(image, slots)
     for _ in range(lives):
-        ran(["run", folder / "scenario", image])
+        run_program(["run", folder / "scenario", image])
         plain.run(scenario)
     before, ring = image.read_bytes(), Ring(slots, len(plain.blocks))
     _, recorded = recorded_by(record, image, ["run", folder / "scenario", image])
@@ -115,16 +115,16 @@ def cut_run(name, scenario, slots, lives, folder, record, failures, numbers):
         count, settled, said = count + 1, data, f"{name}, cut {count + 1}"
         image.write_bytes(data)
         listing = text_of(listed(number, record) for number in range(first, newest + 1) for record in plain.blocks[number - 1])
-        failures.unless(ran(["journal", image]) == (0, listing), f"{said}: the listing isn't that of the blocks {first} to {newest}")
+        failures.unless(run_program(["journal", image]) == (0, listing), f"{said}: the listing isn't that of the blocks {first} to {newest}")
         found = up_to(plain, newest)
         released = printed.splitlines()
         is_there = undisturbed.startswith(printed) and (not released or int(released[-1].split()[1]) < found.events)
         failures.unless(is_there, f"{said}: what was printed isn't in the blocks up to {newest}")
         lines, status = found.run(NEXT)
-        answer = ran(["run", folder / "next", image])
-        failures.unless(answer == (status, text_of(lines)), f"{said}: the next life answers {answer} behind block {newest}")
+        answer = run_program(["run", folder / "next", image])
+        failures.unless(answer == (status, text_of(lines)), f"{said}: the next life answers {answer} after block {newest}")
         failures.unless(all(" mode SB " in line and " brake emergency " in line for line in lines), f"{said}: {lines}")
-        failures.unless(ran(["journal", image]) == (0, text_of(found.listing())), f"{said}: the listing behind the next life is another one")
+        failures.unless(run_program(["journal", image]) == (0, text_of(found.listing())), f"{said}: the listing after the next life differs")
     failures.unless(settled == whole and ring.next == len(plain.blocks) + 1, f"{name}: the recorded calls don't make the file as it is")
     print(f"{name}: {count} images")
 
@@ -138,7 +138,7 @@ def main():
         cut_run("a first life", STAFF_RESPONSIBLE, 8, 0, folder, record, failures, numbers)
         cut_run("a second life, over used slots", FULL_SUPERVISION, 4, 3, folder, record, failures, numbers)
         cut_run("one event a block, two slots", {"groups": [], "steps": [{"clock": 5}]}, 2, 2, folder, record, failures, numbers)
-        cut_run("a flush behind each event", flushing, 16, 1, folder, record, failures, numbers)
+        cut_run("a flush after each event", flushing, 16, 1, folder, record, failures, numbers)
     return failures.end("cuts of a file")
 
 

@@ -2,7 +2,7 @@
 """One sync of a life fails, lives go on, and then power is lost at each later call: no event that was released is lost, and each image is
 listed.
 
-A life is recorded with one of its syncs failing, each in turn, and two more lives after it. What a failed sync leaves is reported in two ways:
+A life is recorded with one of its syncs failing, each in turn, and two more lives after it. What a failed sync leaves is modelled in two ways:
 
 - as `crates/disk/README.md` has it: nothing is settled, and the next sync that succeeds settles it;
 - as Linux does: what was written may have reached the medium or not, or in part; later syncs write it no more; and reads find what was written
@@ -18,7 +18,7 @@ import sys
 from copy import deepcopy
 from pathlib import Path
 
-from built import ENTRIES, SECTOR, built, formatted, ran, recorded_by, room, sectors_of, settled
+from built import ENTRIES, SECTOR, built, formatted, run_program, recorded_by, room, sectors_of, settled
 from compared import Compared
 from cut_files import images
 
@@ -49,7 +49,7 @@ class Medium:
         found = list(dict.fromkeys(images(self.kept, self.waiting, numbers)))
         return found if len(found) <= CUTS else numbers.sample(found, CUTS)
 
-    def behind_failure(self, numbers):
+    def after_failure(self, numbers):
         """What the medium may be after the failed sync: here no other than before."""
         return [self]
 
@@ -60,7 +60,7 @@ class Medium:
 class Linux(Medium):
     """The pages of a failed sync are written no more, and are read until they are dropped."""
 
-    def behind_failure(self, numbers):
+    def after_failure(self, numbers):
         for image in self.left(numbers):
             made = type(self)(image)
             made.read = bytearray(self.read)
@@ -98,9 +98,9 @@ def released_in(body):
 
 def is_kept(answer, released, slots):
     """Whether a listing (its status and text) has all that was released and whose block wasn't overwritten since, each event as it was released."""
-    told = [line.split() for line in answer[1].splitlines()]
-    events = {int(fields[3]): fields[5:9] for fields in told}
-    blocks = {int(fields[1]) for fields in told}
+    records = [line.split() for line in answer[1].splitlines()]
+    events = {int(fields[3]): fields[5:9] for fields in records}
+    blocks = {int(fields[1]) for fields in records}
     first, newest = min(events, default=0), max(blocks, default=0)
     wanted = [(int(fields[1]), [fields[3], fields[5], fields[7], fields[11]]) for fields in map(str.split, released)]
     numbers = [event for event, _ in wanted]
@@ -117,7 +117,7 @@ class Tried:
 
     def listing_of(self, data):
         self.image.write_bytes(data)
-        return ran(["journal", self.image])
+        return run_program(["journal", self.image])
 
     def cuts(self, medium, released):
         """Some of the images that a loss of power may leave now."""
@@ -152,7 +152,7 @@ class Tried:
         if not self.life(medium, released, False, RECORD_FAILS_AT=str(number)):
             return False
         self.seen.clear()
-        for left in medium.behind_failure(self.numbers):
+        for left in medium.after_failure(self.numbers):
             self.listed(deepcopy(left))
             known = list(released)
             self.cuts(left, known)
@@ -169,7 +169,7 @@ def tried(way, slots, lives, folder, record, numbers):
     image, earlier = folder / "image", []
     formatted(image, slots)
     for _ in range(lives):
-        earlier += released_in(ran(["run", folder / "scenario", image])[1])
+        earlier += released_in(run_program(["run", folder / "scenario", image])[1])
     before, one, number = image.read_bytes(), Tried(slots, folder, record, numbers), 1
     while not (way is Keeping and one.lost) and one.fails_at(way, before, earlier, number):
         number += 1
@@ -182,12 +182,12 @@ def main():
         folder = Path(name)
         record = built("record")
         (folder / "scenario").write_text(json.dumps(BATCHES))
-        for told, way in WAYS.items():
+        for model, way in WAYS.items():
             images_of = [tried(way, slots, lives, folder, record, numbers) for slots, lives in SHAPES[:1 if way is Keeping else 2]]
             syncs, count, lost = map(sum, zip(*images_of))
-            failures.unless(syncs >= LEAST[told][0] and count >= LEAST[told][1], f"{told}: {syncs} syncs and {count} cuts are too few")
-            failures.unless((lost > 0) == (way is Keeping), f"{told}: {lost} images lose what was released, or aren't listed")
-            print(f"by {told}: {syncs} failed syncs, {count} cuts behind them, {lost} lose what was released or aren't listed")
+            failures.unless(syncs >= LEAST[model][0] and count >= LEAST[model][1], f"{model}: {syncs} syncs and {count} cuts are too few")
+            failures.unless((lost > 0) == (way is Keeping), f"{model}: {lost} images lose what was released, or aren't listed")
+            print(f"by {model}: {syncs} failed syncs, {count} cuts after them, {lost} lose what was released or aren't listed")
     return failures.end("failed syncs")
 
 

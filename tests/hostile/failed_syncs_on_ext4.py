@@ -16,7 +16,7 @@ import tempfile
 from contextlib import contextmanager
 from pathlib import Path
 
-from built import TOP, built, formatted, ran, recorded_by
+from built import TOP, built, formatted, run_program, recorded_by
 from compared import Compared
 from failed_syncs import BATCHES, is_kept, released_in
 
@@ -78,7 +78,7 @@ def first_byte_of(image):
         try:
             places = [struct.unpack("I", fcntl.ioctl(file, FIBMAP, struct.pack("I", block)))[0] for block in range(count)]
         except OSError as error:
-            raise NotHere(f"the system doesn't tell where a file lies: {error.strerror}") from error
+            raise NotHere(f"the system doesn't report where a file lies: {error.strerror}") from error
     return min(place for place in places if place) * BLOCK
 
 
@@ -95,12 +95,12 @@ def fails_at(number, loop, folder, record, failures):
     released = released_in(text)
     subprocess.run([TOP / "tools/settle", image], check=True)
     for _ in range(2):
-        status, text = ran(["run", scenario, image])
-        failures.unless(status == 0, f"sync {number}: a life behind it ends with {status}, {text}")
+        status, text = run_program(["run", scenario, image])
+        failures.unless(status == 0, f"sync {number}: a life after it ends with {status}, {text}")
         released += released_in(text)
     must("umount", str(folder))
     must("mount", loop, str(folder))
-    failures.unless(is_kept(ran(["journal", image]), released, SLOTS), f"sync {number}: not all that was released is listed behind a loss of power")
+    failures.unless(is_kept(run_program(["journal", image]), released, SLOTS), f"sync {number}: not all that was released is listed after a loss of power")
     return len(syncs) >= number, "f" in syncs
 
 
@@ -112,7 +112,7 @@ def main():
             (folder.parent / "scenario").write_text(json.dumps(BATCHES))
             formatted(image, SLOTS)
             for _ in range(LIVES):
-                ran(["run", folder.parent / "scenario", image])
+                run_program(["run", folder.parent / "scenario", image])
             number, is_there = 1, True
             while is_there:
                 is_there, did = fails_at(number, loop, folder, record, failures)

@@ -1,8 +1,8 @@
 #!/usr/bin/env python3
-"""Refuses the requests for memory of the program etcs_lab, each in turn, over all its words. A refused run either does all as the undisturbed
-one does, or says so: by one line on standard error (`decode` by its answer), with status 1, and what it printed before is what the
+"""Refuses the requests for memory of the program etcs_lab, each in turn, over all its commands. A refused run either does all that the undisturbed
+one does, or reports it: by one line on standard error (`decode` by its answer), with status 1, and what it printed before is what the
 undisturbed run prints first, but for the last line of `run`, which says why the life stopped; `play` says it in the line of a scenario, and
-goes on. At least each word with a file asks for memory, so a series in which nothing is refused fails.
+goes on. Each command with a file allocates memory, so a series without a refusal fails.
 
     tests/hostile/lab_memory.py
 """

@@ -1,7 +1,7 @@
 #!/usr/bin/env python3
-"""Runs all words of the program etcs_lab where standard output takes nothing: a full device, a stream that is closed, a pipe that nobody
+"""Runs all commands of the program etcs_lab where standard output can't be written: a full device, a closed stream, a pipe that nobody
 reads. Each run that has something to print says so by one line on standard error and ends with status 1; one that prints nothing ends as
-ever.
+usual. No run says so where the output can be written.
 
     tests/hostile/lab_unwritten.py
 """
@@ -46,6 +46,7 @@ def main():
         for words in all_words(files):
             stdin = str(files["telegram"]) if words[-1] == "-" else None
             status, printed, said = lab_ran(words, stdin)
+            failures.unless(not SAYS.search(said), f"{words}: nothing hinders it, and it says {said!r}")
             count += bool(printed)
             for way in (to_full, to_closed, to_nobody):
                 found = way(words, stdin)

@@ -1,10 +1,10 @@
-"""Every word of the program etcs_lab on small inputs, as the tests of this folder run it. `ETCS_LAB` names another program than the one
-that the gate leaves after."""
+"""Every command of the program etcs_lab on small inputs, for the tests of this folder. `ETCS_LAB` names another program than the one
+that the full check leaves."""
 import json
 import os
 import subprocess
 
-from built import AUTHORITY, FULL_SUPERVISION, RESTRICTION, STAFF_RESPONSIBLE, TOP, formatted, ran
+from built import AUTHORITY, FULL_SUPERVISION, RESTRICTION, STAFF_RESPONSIBLE, TOP, formatted, run_program
 
 LAB = os.environ.get("ETCS_LAB") or str(TOP / "crates/etcs_lab/out/etcs_lab")
 HEADER = {"Q_UPDOWN": 1, "M_VERSION": 16, "Q_MEDIA": 0, "N_PIG": 0, "N_TOTAL": 0, "M_DUP": 0, "M_MCOUNT": 255, "NID_C": 1, "NID_BG": 2, "Q_LINK": 1}
@@ -19,9 +19,9 @@ def laid(folder):
     files = {name: folder / name for name in ("image", "altered", "telegram", "twice", "no_telegram", "good", "advised", "faulty", "names", "lines")}
     formatted(files["image"], 4)
     files["good"].write_text(json.dumps(STAFF_RESPONSIBLE))
-    for told in (STAFF_RESPONSIBLE, FULL_SUPERVISION):
-        (folder / "scenario").write_text(json.dumps(told))
-        ran(["run", folder / "scenario", files["image"]])
+    for scenario in (STAFF_RESPONSIBLE, FULL_SUPERVISION):
+        (folder / "scenario").write_text(json.dumps(scenario))
+        run_program(["run", folder / "scenario", files["image"]])
     data = bytearray(files["image"].read_bytes())
     data[512 + 512 + 700] ^= 1
     files["altered"].write_bytes(data)
@@ -31,7 +31,7 @@ def laid(folder):
     files["advised"].write_text(json.dumps(ADVISED))
     files["faulty"].write_text(json.dumps(FAULTY))
     files["names"].write_text(NAMES_TWICE)
-    files["lines"].write_text("".join(json.dumps({"id": name, "scenario": told}) + "\n" for name, told in (("good", STAFF_RESPONSIBLE), ("faulty", FAULTY))))
+    files["lines"].write_text("".join(json.dumps({"id": name, "scenario": scenario}) + "\n" for name, scenario in (("good", STAFF_RESPONSIBLE), ("faulty", FAULTY))))
     return files
 
 

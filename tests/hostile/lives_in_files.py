@@ -2,10 +2,10 @@
 """Pseudo-random lives on image files, since no contract speaks of a file of the system: after each life the file holds the bytes that the
 plain unit leaves on the plain disk, and its calls were right.
 
-Calls are right where the file is synced before anything is read or written; where a sync stands between any write of a gate and a write of
-what lies beyond a gate, and before anything is printed and at the end; and where they say the story of the plain unit: between two syncs just
-the sectors that the plain disk is handed there, with their bytes, and between the same two just what is released there. A format syncs the
-file and its folder before it says that it is done.
+Calls are right where the file is synced before anything is read or written; where there is a sync between any write of a gate and a write of
+the sectors after a gate, and before anything is printed and at the end; and where they are those of the plain unit: between two syncs exactly
+the sectors that the plain disk gets there, with their bytes, and between the same two exactly the outputs that are released there. A format
+syncs the file and its folder before it prints that it is done.
 
     tests/hostile/lives_in_files.py [LIVES [SEED]]    1,000 lives, seed 2026
 """
@@ -19,7 +19,7 @@ from disk import SECTOR_BYTES, Disk
 from items import Kept
 from journal import first_sector
 from life import Life
-from plain_images import answer_of, bytes_of, kept_on, told
+from plain_images import answer_of, bytes_of, kept_on, life_texts
 from random_inputs import Made
 from random_lists import Numbers
 
@@ -49,8 +49,8 @@ class Story:
             self.parts.append(text)
 
 
-class Telling(Disk):
-    """A disk that says its story."""
+class RecordedDisk(Disk):
+    """A disk that records its writes and syncs."""
 
     story = Story()
 
@@ -64,7 +64,7 @@ class Telling(Disk):
 
 
 class Known:
-    """What stands on an image, as the lives of random scenarios ask for it."""
+    """The content of an image, as the lives of random scenarios need it."""
 
     def __init__(self, kept):
         self.kept, self.lives = kept, []
@@ -77,7 +77,7 @@ class Known:
 def part_of(sector):
     """The slot of a sector, and whether it is a gate or lies beyond one."""
     slot, at = divmod(sector - 1, 6)
-    return (slot, "what lies behind the gate" if at else "the gate") if sector else (FIRST, "the first sector")
+    return (slot, "a sector after the gate" if at else "the gate") if sector else (FIRST, "the first sector")
 
 
 def wrong_calls(recorded):
@@ -142,7 +142,7 @@ def life(name, scenario, disk, folder, record, failures):
     image, path = folder / "image", folder / "scenario"
     path.write_text(json.dumps(scenario))
     disk.story = Story()
-    for text in told(disk, scenario):
+    for text in life_texts(disk, scenario):
         disk.story.print(text)
     wanted = answer_of("".join(part for part in disk.story.parts if isinstance(part, str)))
     found, recorded = recorded_by(record, image, ["run", path, image])
@@ -164,7 +164,7 @@ def main(words):
             if number % LIVES == 0:
                 slots = 2 + numbers.below(MOST_SLOTS - 1)
                 formats(folder / "image", slots, record, failures)
-                disk = Telling([first_sector(slots)] + [bytes(SECTOR)] * 6 * slots)
+                disk = RecordedDisk([first_sector(slots)] + [bytes(SECTOR)] * 6 * slots)
                 failures.unless((folder / "image").read_bytes() == bytes_of(disk), f"life {number}: an image that was made holds other bytes")
             scenario = Made(numbers, Known(kept_on(disk) or Kept())).scenario()
             calls += life(f"life {number}", scenario, disk, folder, record, failures)

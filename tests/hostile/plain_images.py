@@ -37,8 +37,8 @@ def kept_on(disk):
     return found and kept_in(found)
 
 
-def told(disk, scenario):
-    """What a life on a disk prints, text by text; before each of them the disk is changed."""
+def life_texts(disk, scenario):
+    """Yields each text that a life on a disk prints; the disk is changed before each."""
     def released_now():
         return "".join(released((number, None, output, None, None)) + "\n" for number, output in unit.flush())
 
@@ -61,4 +61,4 @@ def answer_of(text):
 
 def lived(disk, scenario):
     """Status and text of a life on a disk, which is changed."""
-    return answer_of("".join(told(disk, scenario)))
+    return answer_of("".join(life_texts(disk, scenario)))

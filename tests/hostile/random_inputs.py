@@ -8,7 +8,7 @@ import random
 import sys
 from pathlib import Path
 
-from built import formatted, ran, room
+from built import formatted, run_program, room
 from compared import Compared
 import decoded
 import pools
@@ -59,7 +59,7 @@ def telegrams(count, numbers, failures):
         wanted = decoded.answer(data)
         status = 1 if wanted.startswith("refused") else 0
         read += status == 0
-        found = ran(["decode", data.hex()])
+        found = run_program(["decode", data.hex()])
         failures.unless(found == (status, wanted), f"decode {data.hex()}: {found}, wanted {wanted!r}")
     return read
 
@@ -141,21 +141,21 @@ def scenarios(count, numbers, folder, failures):
         if number % LIVES == 0:
             formatted(image, SLOTS)
             plain = program.Image(SLOTS)
-        told = Made(numbers, plain).scenario()
-        text = json.dumps(told)
+        scenario = Made(numbers, plain).scenario()
+        text = json.dumps(scenario)
         judge(f"scenario {number}, changed", cut_text(text, numbers), path, folder, failures)
         path.write_text(text)
-        lines, status = plain.run(told)
-        found, wanted = ran(["run", path, image]), (status, "".join(line + "\n" for line in lines))
+        lines, status = plain.run(scenario)
+        found, wanted = run_program(["run", path, image]), (status, "".join(line + "\n" for line in lines))
         failures.unless(found == wanted, f"scenario {number}: {text}\n  printed {found}\n  wanted  {wanted}")
         listing = "".join(line + "\n" for line in plain.listing())
-        failures.unless(ran(["journal", image]) == (0, listing), f"scenario {number}: the journal is another one")
+        failures.unless(run_program(["journal", image]) == (0, listing), f"scenario {number}: the journal is another one")
 
 
 def judge(name, text, path, folder, failures):
-    """A text that is no value is reported so; one that is a scenario asks for an image that isn't there, or has another fault."""
+    """A text that is no JSON value is refused so; one that is a scenario asks for an image that isn't there, or has another fault."""
     path.write_text(text)
-    status, said = ran(["run", path, folder / "none"])
+    status, said = run_program(["run", path, folder / "none"])
     is_fault = (status, said) == (1, "refused 1 NotJson\n")
     failures.unless(is_fault != has_value(text), f"{name}: {said!r}")
     failures.unless(is_fault or (status, said) == (3, "device\n") or status == 1 and said.startswith("refused "),

@@ -1,6 +1,6 @@
 // Records, in the file that RECORD_TO names, each read, write and sync of the file that RECORD_OF names and each write to standard output
 // of the program that it is loaded before, in their order. An entry is a letter (r: a read of the file, w: a write to it, s: a sync of it,
-// f: a sync of it that failed, d: the system is reported to drop its copies of all pages, n: a sync of the folder that has its name, l: its length
+// f: a sync of it that failed, d: the system is asked to drop its copies of all pages, n: a sync of the folder that has its name, l: its length
 // was set, o: a write to standard output), two numbers of 8 bytes (where it begins; its length) and the bytes written.
 //
 // RECORD_FAILS_AT makes one sync of the file fail, counted from 1 on: the system isn't asked. Where RECORD_LIMIT names a loop device and a number
@@ -49,7 +49,7 @@ static void put(const void *bytes, size_t length) {
     }
 }
 
-static void tell(char kind, uint64_t at, uint64_t length, const void *bytes) {
+static void record_call(char kind, uint64_t at, uint64_t length, const void *bytes) {
     if (log_file < 0) {
         const char *to = getenv("RECORD_TO");
         if (!to)
@@ -66,7 +66,7 @@ static void tell(char kind, uint64_t at, uint64_t length, const void *bytes) {
 ssize_t pread64(int file, void *bytes, size_t length, off64_t at) {
     ssize_t done = syscall(SYS_pread64, file, bytes, length, at);
     if (done > 0 && is_recorded(file))
-        tell('r', (uint64_t)at, (uint64_t)done, NULL);
+        record_call('r', (uint64_t)at, (uint64_t)done, NULL);
     return done;
 }
 
@@ -76,14 +76,14 @@ ssize_t read(int file, void *bytes, size_t length) {
     off_t at = lseek(file, 0, SEEK_CUR);
     ssize_t done = syscall(SYS_read, file, bytes, length);
     if (done > 0 && is_recorded(file))
-        tell('r', (uint64_t)at, (uint64_t)done, NULL);
+        record_call('r', (uint64_t)at, (uint64_t)done, NULL);
     return done;
 }
 
 ssize_t pwrite64(int file, const void *bytes, size_t length, off64_t at) {
     ssize_t done = syscall(SYS_pwrite64, file, bytes, length, at);
     if (done > 0 && is_recorded(file))
-        tell('w', (uint64_t)at, (uint64_t)done, bytes);
+        record_call('w', (uint64_t)at, (uint64_t)done, bytes);
     return done;
 }
 
@@ -93,9 +93,9 @@ ssize_t write(int file, const void *bytes, size_t length) {
     off_t at = lseek(file, 0, SEEK_CUR);
     ssize_t done = syscall(SYS_write, file, bytes, length);
     if (done > 0 && file == 1)
-        tell('o', 0, (uint64_t)done, bytes);
+        record_call('o', 0, (uint64_t)done, bytes);
     else if (done > 0 && is_recorded(file))
-        tell('w', (uint64_t)at, (uint64_t)done, bytes);
+        record_call('w', (uint64_t)at, (uint64_t)done, bytes);
     return done;
 }
 
@@ -136,9 +136,9 @@ static int synced(int file, long call) {
     const int failed = fails ? failing_sync(file, call) : (int)syscall(call, file);
     const int error = errno;
     if (recorded)
-        tell(failed ? 'f' : 's', 0, 0, NULL);
+        record_call(failed ? 'f' : 's', 0, 0, NULL);
     else if (!failed && is_folder(file))
-        tell('n', 0, 0, NULL);
+        record_call('n', 0, 0, NULL);
     errno = error;
     return failed;
 }
@@ -162,7 +162,7 @@ static void drop(void) {
 
 int posix_fadvise64(int file, off64_t at, off64_t length, int advice) {
     if (advice == POSIX_FADV_DONTNEED && at == 0 && length == 0 && is_recorded(file)) {
-        tell('d', 0, 0, NULL);
+        record_call('d', 0, 0, NULL);
         drop();
     }
     return syscall(SYS_fadvise64, file, at, length, advice) == 0 ? 0 : errno;
@@ -173,7 +173,7 @@ int posix_fadvise(int file, off_t at, off_t length, int advice) { return posix_f
 int ftruncate64(int file, off64_t length) {
     int failed = (int)syscall(SYS_ftruncate, file, length);
     if (!failed && is_recorded(file))
-        tell('l', 0, (uint64_t)length, NULL);
+        record_call('l', 0, (uint64_t)length, NULL);
     return failed;
 }
 

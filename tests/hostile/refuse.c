@@ -48,7 +48,7 @@ int posix_memalign(void **out, size_t to, size_t size) {
     return *out ? 0 : ENOMEM;
 }
 
-__attribute__((destructor)) static void tell(void) {
+__attribute__((destructor)) static void write_count(void) {
     char text[24];
     long requests = count;
     const char *counts = getenv("REFUSE_COUNTS");

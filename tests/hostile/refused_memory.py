@@ -1,9 +1,9 @@
 #!/usr/bin/env python3
-"""Refuses the program's requests for memory, each in turn, until a run meets no refusal. A refused run says so, by one line in the
+"""Refuses the program's requests for memory, each in turn, until a run gets no refusal. A refused run says so, by one line in
 place of what it had no memory for, and ends with status 1; what it printed before is what the undisturbed run prints, and the image
 holds every event that it printed. After up to three requests a run of a scenario does all as the undisturbed one: those for the tape
-that its text is laid on, in whose place a tree is made (`crates/json_values`). A series in which nothing is refused fails: each run
-asks for memory at least for its words, so there refusing does not work.
+that its text is laid on, in whose place a tree is made (`crates/json_values`). A series without a refusal fails: each run
+allocates memory at least for its arguments, so there the refusing doesn't work.
 
     tests/hostile/refused_memory.py [FILE ..]    over the rows below, and over these scenarios
 """
@@ -12,7 +12,7 @@ import shutil
 import sys
 from pathlib import Path
 
-from built import AUTHORITY, FULL_SUPERVISION, RESTRICTION, STAFF_RESPONSIBLE, built, formatted, ran, room
+from built import AUTHORITY, FULL_SUPERVISION, RESTRICTION, STAFF_RESPONSIBLE, built, formatted, run_program, room
 from compared import Compared
 
 # What a run without memory says: words, decoding, a scenario, an opening, a step, a listing.
@@ -31,13 +31,13 @@ def is_refusal(status, text, undisturbed):
 
 def found(image, text):
     """Each event that was printed stands in the journal, with its number, mode, brake and indications."""
-    status, listing = ran(["journal", image])
-    told = {fields[3]: fields for fields in (line.split() for line in listing.splitlines())}
+    status, listing = run_program(["journal", image])
+    listed = {fields[3]: fields for fields in (line.split() for line in listing.splitlines())}
     for line in text.splitlines():
         fields = line.split()
         if fields[0] == "event":
             number, mode, level, brake, indications = fields[1], fields[3], fields[5], fields[7], fields[11]
-            record = told.get(number)
+            record = listed.get(number)
             if record is None or record[5:9] != [mode, level, brake, indications]:
                 return False
     return status == 0
@@ -48,13 +48,13 @@ def series(name, words, folder, refuse, failures, image=None):
     said, kept = folder / "said", folder / "kept"
     if image:
         shutil.copy(image, kept)
-    undisturbed = ran(words)
+    undisturbed = run_program(words)
     count = of_tape = 0
     for at in range(1, MOST):
         said.unlink(missing_ok=True)
         if image:
             shutil.copy(kept, image)
-        status, text = ran(words, refuse, REFUSE_AT=str(at), REFUSE_SAYS=str(said))
+        status, text = run_program(words, refuse, REFUSE_AT=str(at), REFUSE_SAYS=str(said))
         if not said.exists():
             failures.unless((status, text) == undisturbed, f"{name}: with all memory {status} {text!r}")
             break
@@ -65,10 +65,10 @@ def series(name, words, folder, refuse, failures, image=None):
             failures.unless(is_refusal(status, text, undisturbed[1]), f"{name}, request {at}: {status} {text[-200:]!r}")
         if image:
             failures.unless(found(image, text), f"{name}, request {at}: what was printed isn't in the journal")
-            again = ran(words)
+            again = run_program(words)
             failures.unless(again[0] == undisturbed[0], f"{name}, request {at}: the next run ends with {again[0]}")
     failures.unless(count, f"{name}: no request was refused")
-    failures.unless(count > of_tape, f"{name}: no refusal was told")
+    failures.unless(count > of_tape, f"{name}: no refusal was reported")
     print(f"{name}: {count} requests refused, {of_tape} of them for a tape")
     return count
 
@@ -88,7 +88,7 @@ def main(paths):
         for row, scenario in rows:
             (folder / "scenario").write_text(json.dumps(scenario))
             formatted(image, 4)
-            ran(["run", folder / "scenario", image])
+            run_program(["run", folder / "scenario", image])
             counts.append(series(f"run, {row}", ["run", folder / "scenario", image], folder, refuse, failures, image))
             counts.append(series(f"journal, {row}", ["journal", image], folder, refuse, failures))
     return failures.end(f"memory refused: {sum(counts)} requests in {len(counts)} runs")

@@ -75,7 +75,7 @@ GROUPS_BY_HAND = (
      "; group 1 3 in mode FS, direction not known: not used, since a balise of it was not read, announcement 0, asks for a trip (3.16.2); group 1 8 "
      f"in mode FS, direction not known: accepted, linking not being in use (3.4.4), {LIMIT_NAME}"),
     # Balise 1 repeats the next one, which wasn't read; its packet 5 announces group 3, so that the second group isn't announced.
-    ("two groups, the first tells links", (heard(announcing(10, 2), group="10, N_TOTAL 1, M_DUP 1"), heard(group=8)), 2,
+    ("two groups, the first announces links", (heard(announcing(10, 2), group="10, N_TOTAL 1, M_DUP 1"), heard(group=8)), 2,
      "; group 1 10 in mode SB, direction not known: accepted, linking not being in use (3.4.4), packet 5 Linking; group 1 8 in mode SB, direction "
      "not known: not used, since it is not announced while others are (3.4.4)"),
 )

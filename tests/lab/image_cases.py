@@ -31,7 +31,7 @@ def image_of(slots, held, version=2):
 
 def blocks_of(last, form=3, per=2, life=4):
     """The blocks of a journal from 1 to a last number: a power-up every so many blocks, else so many clock events in each."""
-    told, event, lives, moment = {}, 0, 0, 0
+    by_number, event, lives, moment = {}, 0, 0, 0
     for number in range(1, last + 1):
         up = number % life == 1
         lives, moment = (lives + 1, 0) if up else (lives, moment)
@@ -41,14 +41,14 @@ def blocks_of(last, form=3, per=2, life=4):
             what = ("powerup", number % 3 if form == 3 else 0) if up else ("clock", moment)
             records.append(entry(event, what, moment=moment, mode=6, estimate=event, uncertainty=500 + event))
             event += 1
-        told[number] = block(form, number, event, lives, records)
-    return told
+        by_number[number] = block(form, number, event, lives, records)
+    return by_number
 
 
-def ring(slots, told, skip=()):
+def ring(slots, by_number, skip=()):
     """The last blocks in their slots."""
-    newest = max(told)
-    return {n % slots: data_of(told[n]) for n in told if n > newest - slots and n not in skip}
+    newest = max(by_number)
+    return {n % slots: data_of(by_number[n]) for n in by_number if n > newest - slots and n not in skip}
 
 
 def patched(data, at, value):
@@ -63,10 +63,10 @@ def shut(data):
 
 def states():
     """Each state of a slot, alone and along with others."""
-    told = blocks_of(11)
-    good = ring(6, told)
+    by_number = blocks_of(11)
+    good = ring(6, by_number)
     yield "whole", image_of(6, good)
-    yield "never turned", image_of(16, ring(16, told))
+    yield "never turned", image_of(16, ring(16, by_number))
     yield "empty", image_of(4, {})
     yield "of version 1", image_of(6, good, 1)
     for number in range(6, 12):
@@ -77,7 +77,7 @@ def states():
                    "number 0": patched(data, SECTOR + 8, bytes(8)), "number beyond": patched(data, SECTOR + 8, (2**40 + 1).to_bytes(8, "big")),
                    "other number": patched(data, SECTOR + 8, (number + 1).to_bytes(8, "big")), "remains": shut(patched(data, SECTOR, b"\0")),
                    "one byte": bytes(SLOT - 1) + b"\1", "open gate alone": gate(number) + bytes(5 * SECTOR),
-                   "gate and noise": gate(number) + bytes(range(256)) * 10, "older": data_of(told[number - 5]),
+                   "gate and noise": gate(number) + bytes(range(256)) * 10, "older": data_of(by_number[number - 5]),
                    "a turn older": data_of(block(3, number - 6, number - 3, 1, [entry(number - 4, ("clock", 5), moment=5)])) if number > 6 else bytes(SLOT)}
         for name, changed in changes.items():
             yield f"block {number} {name}", image_of(6, {**good, slot: changed})
@@ -96,8 +96,8 @@ def states():
 def formats():
     """Formats side by side, each alone, and what is kept."""
     for form in (1, 2, 3):
-        told = blocks_of(9, form)
-        yield f"format {form}", image_of(5, ring(5, told))
+        by_number = blocks_of(9, form)
+        yield f"format {form}", image_of(5, ring(5, by_number))
         yield f"format {form} full", image_of(4, {1: data_of(full(form, number=1, events=7) if form < 3 else full(form))})
         yield f"format {form} kept", image_of(5, {0: data_of(with_(full(form), identity=b'A"\\z ~', running=99_999_999, trip=0))})
         yield f"format {form} nothing kept", image_of(5, {0: data_of(with_(full(form), identity=None, running=None, train=None, level=(0, 0), position=(0, 0, 0, 0)))})
@@ -115,18 +115,18 @@ def formats():
 
 def lost():
     """Blocks that are lost, at each place and several at once; and neighbours that contradict."""
-    told = blocks_of(23)
+    by_number = blocks_of(23)
     for slots in (5, 8, 24):
         newest = range(max(1, 24 - slots), 24)
         for number in newest:
-            yield f"{slots} slots without {number}", image_of(slots, ring(slots, told, (number,)))
+            yield f"{slots} slots without {number}", image_of(slots, ring(slots, by_number, (number,)))
         for seed in range(12):
             gone = random.Random(seed).sample(newest, 3)
-            yield f"{slots} slots without {gone}", image_of(slots, ring(slots, told, gone))
-        yield f"{slots} slots with the newest alone", image_of(slots, ring(slots, told, newest[:-1]))
-    good = {n: told[n] for n in range(12, 24)}
+            yield f"{slots} slots without {gone}", image_of(slots, ring(slots, by_number, gone))
+        yield f"{slots} slots with the newest alone", image_of(slots, ring(slots, by_number, newest[:-1]))
+    good = {n: by_number[n] for n in range(12, 24)}
     for number in range(13, 24):
-        b = told[number]
+        b = by_number[number]
         more = len(b["records"])
         moved = [{**r, "number": r["number"] + 1} for r in b["records"]]
         fewer = [{**r, "number": r["number"] - 1} for r in b["records"]]
@@ -138,15 +138,15 @@ def lost():
                               ("a moment back", {**b, "records": [{**r, "moment": max(0, r["moment"] - 300)} for r in b["records"]]}),
                               ("a moment back within", {**b, "records": [{**r, "moment": 100 * (more - k)} for k, r in enumerate(b["records"])]})):
             yield f"block {number}, {name}", image_of(12, {n % 12: data_of(changed if n == number else c) for n, c in good.items()})
-        yield f"events back behind a gap at {number}", image_of(12, {n % 12: data_of({**c, "events": c["events"] - 3, "records": [{**r, "number": r["number"] - 3} for r in c["records"]]} if n > number else c)
+        yield f"events back after a gap at {number}", image_of(12, {n % 12: data_of({**c, "events": c["events"] - 3, "records": [{**r, "number": r["number"] - 3} for r in c["records"]]} if n > number else c)
                                                                      for n, c in good.items() if n != number})
 
 
 def lives():
     """Lives at each limit: of the first readable block, of a neighbour and after a gap; and at the greatest number."""
-    def alone(count, events, number, told, kinds):
+    def alone(count, events, number, others, kinds):
         records = [entry(events - len(kinds) + k, (name, 0)) for k, name in enumerate(kinds)]
-        return f"{count} lives, events up to {events}, {' '.join(kinds)}", image_of(4, {number % 4: data_of(block(3, number, events, count, records)), **told})
+        return f"{count} lives, events up to {events}, {' '.join(kinds)}", image_of(4, {number % 4: data_of(block(3, number, events, count, records)), **others})
 
     for kinds in (("powerup",), ("clock",), ("powerup", "clock", "powerup")):
         for before_it in (0, 1, 3):
@@ -163,7 +163,7 @@ def lives():
 
 
 def given():
-    """Images whose first sector is damaged, or reports other slots, read as images of a given number of slots."""
+    """Images whose first sector is damaged, or has another number of slots, read as images of a given number of slots."""
     good = image_of(6, ring(6, blocks_of(11)))
     for at in (0, 7, 8, 11, 12, 13, 14, 15, 16, 300, 511):
         for bit in (1, 4, 128):
@@ -181,10 +181,10 @@ def given():
 def cuts():
     """What a cut leaves within a commit: the gate being closed, each choice of the sectors after it, the gate being opened."""
     for slots, newest in ((4, 2), (4, 7)):
-        told = blocks_of(newest + 1)
-        before = ring(slots, {n: told[n] for n in range(1, newest + 1)})
+        by_number = blocks_of(newest + 1)
+        before = ring(slots, {n: by_number[n] for n in range(1, newest + 1)})
         slot = (newest + 1) % slots
-        old, new = before.get(slot, bytes(SLOT)), data_of(told[newest + 1])
+        old, new = before.get(slot, bytes(SLOT)), data_of(by_number[newest + 1])
         for torn in (bytes(SECTOR), b"\0" * 8 + old[8:SECTOR], old[:8] + bytes(504), bytes(511) + b"\7"):
             yield f"{slots} slots at {newest}, the gate closed as {torn[:16].hex()}", image_of(slots, {**before, slot: torn + old[SECTOR:]})
         for choice in range(32):
@@ -245,7 +245,7 @@ def sizes():
     for at in (0, 7, 8, 11, 12, 15, 16, 511):
         yield f"first sector byte {at}", patched(good, at, b"\xff")
     for slots in (0, 1, 2, 5, 7, 1_048_576, 1_048_577):
-        yield f"told {slots} slots", first_sector(slots) + good[SECTOR:]
+        yield f"a first sector with {slots} slots", first_sector(slots) + good[SECTOR:]
     for version in (0, 1, 3):
         yield f"version {version}", first_sector(6, version) + good[SECTOR:]
 

@@ -1,11 +1,11 @@
 #!/usr/bin/env python3
-"""Images of each state of a slot, and what `etcs_lab examine` is to print of them.
+"""Images of each state of a slot, and what `etcs_lab examine` has to print.
 
-    tests/lab/image_rows.py PROGRAM [ETCS]      runs the program on each image, and compares; with the program etcs, times of both on big images
-    tests/lab/image_rows.py --cases FOLDER      lays the images, their words and what is to be printed into a folder, for rt try --cases
+    tests/lab/image_rows.py PROGRAM [ETCS]      run the program on each image, and compare; with the program etcs, the times of both on big images
+    tests/lab/image_rows.py --cases FOLDER      write the images, the arguments and the wanted output into a folder, for rt try --cases
 
-The images are written from docs/reference/format.md (tests/plain/blocks.py), and what is to be printed is worked out by examined.py, which was written
-from the pages too. Both forms are compared: lines as they stand, JSON as a value.
+The images are written from docs/reference/format.md (tests/plain/blocks.py), and examined.py, which was written
+from the pages too, works out the wanted output. Both forms are compared: lines as text, JSON as a value.
 """
 import fcntl
 import json
@@ -106,11 +106,11 @@ def compare_words(program, room, compared):
         printed, said, status = run(program, words)
         compared.same(f"words {words}", (printed, said.startswith("error: "), status), ("", True, 2))
     compare_help(program, compared)
-    compared.same("an option behind the image", run(program, ["examine", str(good), "--json"]), run(program, ["examine", "--json", str(good)]))
-    compared.same("the end of the options behind the image", run(program, ["examine", str(good), "--"])[::2], (text, 0))
-    compared.same("behind --", run(program, ["examine", "--", "-odd"], cwd=room)[2], 3)
+    compared.same("an option after the image", run(program, ["examine", str(good), "--json"]), run(program, ["examine", "--json", str(good)]))
+    compared.same("the end of the options after the image", run(program, ["examine", str(good), "--"])[::2], (text, 0))
+    compared.same("after --", run(program, ["examine", "--", "-odd"], cwd=room)[2], 3)
     (room / "-odd").write_bytes(image)
-    compared.same("behind -- a file", run(program, ["examine", "--", "-odd"], cwd=room)[::2], (text, 0))
+    compared.same("after -- a file", run(program, ["examine", "--", "-odd"], cwd=room)[::2], (text, 0))
     for words in (["examine", "--slots", "6", str(good)], ["examine", str(good), "--slots", "6", "--"]):
         compared.same(f"words {words}", run(program, words)[::2], (text, 0))
     good.chmod(0o444)
@@ -182,7 +182,7 @@ def compare_cut_off(program, room, compared):
 
 
 def compare_given(program, etcs, room, compared):
-    """Of an image whose first sector is damaged, all words report with its slots what they say about the image as it was."""
+    """With its slots given, all commands say of an image whose first sector is damaged what they say of it undamaged."""
     image, damaged = room / "lives", room / "damaged"
     for words in (["format", str(image), "16"], *(["run", str(HERE.parents[1] / f"examples/{name}.json"), str(image)] for name in ("power_cut/scenario", "power_cut/restart"))):
         subprocess.run([etcs, *words], check=True, stdout=subprocess.DEVNULL)
@@ -238,7 +238,7 @@ def compare_huge(program, room, compared):
 
 
 def watch_memory(process, seen):
-    """Notes the most memory that a process held, in kB, until it ends. (What a parent is reported beyond its end counts the parent's own.)"""
+    """Notes the most memory that a process held, in kB, until it ends. (The figure that a parent gets after its end includes the parent's own memory.)"""
     while True:
         try:
             status = Path(f"/proc/{process}/status").read_text()
@@ -279,14 +279,14 @@ def big_journal(path, slots, newest):
 def timed_on_terminal(words):
     """The same on a terminal, and what was shown there; it is less than a terminal holds before it is read."""
     shown, terminal = pty.openpty()
-    told = timed(words, terminal)
+    result = timed(words, terminal)
     os.write(terminal, b"end")
     text = b""
     while not text.endswith(b"end"):
         text += os.read(shown, 4_096)
     os.close(terminal)
     os.close(shown)
-    return told, text.removesuffix(b"end").decode()
+    return result, text.removesuffix(b"end").decode()
 
 
 def compare_big(program, etcs, room, compared):

@@ -18,14 +18,14 @@ TRAIN = "enter-train-data 20000 160000 70 0 15"
 DRIVER = (*ENTERED, TRAIN, "start")
 
 
-def authority(metres, main=24, end_speed=0, behind="Q_DANGERPOINT 0, Q_OVERLAP 0"):
-    return (f"12: V_MAIN {main}, V_LOA {end_speed}, T_LOA 1023, N_ITER 0, L_ENDSECTION {metres}, Q_SECTIONTIMER 0, Q_ENDTIMER 0, {behind}")
+def authority(metres, main=24, end_speed=0, beyond="Q_DANGERPOINT 0, Q_OVERLAP 0"):
+    return (f"12: V_MAIN {main}, V_LOA {end_speed}, T_LOA 1023, N_ITER 0, L_ENDSECTION {metres}, Q_SECTIONTIMER 0, Q_ENDTIMER 0, {beyond}")
 
 
-def statics(*told):
-    """Each so many metres behind the one before, with V_STATIC."""
-    elements = [f"D_STATIC {metres}, V_STATIC {speed}, Q_FRONT 0, N_ITER 0" for metres, speed in told]
-    return f"27: {elements[0]}, N_ITER {len(told) - 1}" + "".join(f", {it}" for it in elements[1:])
+def statics(*speeds):
+    """Static speeds: the metres from the one before, and V_STATIC."""
+    elements = [f"D_STATIC {metres}, V_STATIC {speed}, Q_FRONT 0, N_ITER 0" for metres, speed in speeds]
+    return f"27: {elements[0]}, N_ITER {len(speeds) - 1}" + "".join(f", {it}" for it in elements[1:])
 
 
 LEVEL = "21: D_GRADIENT 0, Q_GDIR 1, G_A 0, N_ITER 0"
@@ -91,15 +91,15 @@ BY_HAND = (
      "event 5: brake none, limit 73160 m/h, speed 0 m/h, rolled backward 0 cm of 200 cm; the limit is that of the end of authority: 0 m/h at "
      "30000 cm (3.8, 3.13)\n"),
     # A danger point at 32,000 with 100 km/h: 181,440 * 31,500 = 5,715,360,000, the square of 75,600.
-    ("supervised_location", (heard(authority(300, behind=danger_point(20, 20)), LEVEL, FAST), *DRIVER),
+    ("supervised_location", (heard(authority(300, beyond=danger_point(20, 20)), LEVEL, FAST), *DRIVER),
      "event 5: brake none, limit 75600 m/h, speed 0 m/h, rolled backward 0 cm of 200 cm; the limit is that of the supervised location: 0 m/h at "
      "32000 cm (3.8, 3.13)\n"),
     # At 27,000 the front is at 27,000 + 500 + 1,350: for the end 14,444 m/h, for the danger point 23,906; 20 km/h to release.
-    ("release_speed", (heard(authority(300, behind=danger_point(20, 4)), LEVEL, FAST), *DRIVER, *["move 9000 10000"] * 3),
+    ("release_speed", (heard(authority(300, beyond=danger_point(20, 4)), LEVEL, FAST), *DRIVER, *["move 9000 10000"] * 3),
      "event 8: brake none, limit 20000 m/h, speed 10000 m/h, rolled backward 0 cm of 200 cm; the limit is the release speed of the authority: "
      "20000 m/h (3.8, 3.13)\n"),
     # .. for a danger point at 40,000 it is 44,978, and V_NVREL is 40 km/h.
-    ("national_release_speed", (heard(authority(300, behind=danger_point(100, 127)), LEVEL, FAST), *DRIVER, *["move 9000 10000"] * 3),
+    ("national_release_speed", (heard(authority(300, beyond=danger_point(100, 127)), LEVEL, FAST), *DRIVER, *["move 9000 10000"] * 3),
      "event 8: brake none, limit 40000 m/h, speed 10000 m/h, rolled backward 0 cm of 200 cm; the limit is the national release speed V_NVREL: "
      "40000 m/h (3.8, 3.13)\n"),
 )
@@ -110,7 +110,7 @@ Track = namedtuple("Track", "main maximum end statics restrictions areas moves")
 
 
 def random_track(numbers):
-    """Metres and steps of 5 km/h; each static speed lies so many metres behind the one before."""
+    """Metres and steps of 5 km/h; each static speed has its metres from the one before."""
     end = 150 + numbers.below(600)
     return Track(
         main=3 + numbers.below(30),
@@ -127,8 +127,8 @@ def inputs_of(track):
     packets = [f"65: NID_TSR {number}, D_TSR {at}, L_TSR {metres}, Q_FRONT 1, V_TSR {speed}" for number, at, metres, speed in track.restrictions]
     packets += [authority(track.end, main=track.main), LEVEL, statics(*track.statics)]
     if track.areas:
-        told = [f"D_MAMODE {at}, M_MAMODE 0, V_MAMODE {speed}, L_MAMODE {metres}, L_ACKMAMODE 0" for at, speed, metres in track.areas]
-        packets.append(f"80: {told[0]}, N_ITER {len(told) - 1}" + "".join(f", {it}" for it in told[1:]))
+        areas = [f"D_MAMODE {at}, M_MAMODE 0, V_MAMODE {speed}, L_MAMODE {metres}, L_ACKMAMODE 0" for at, speed, metres in track.areas]
+        packets.append(f"80: {areas[0]}, N_ITER {len(areas) - 1}" + "".join(f", {it}" for it in areas[1:]))
     driver = (*ENTERED, f"enter-train-data 20000 {track.maximum} 70 0 15", "start")
     return (heard(*packets), *driver, *(f"move {moved} 1000" for moved in track.moves))
 
@@ -142,9 +142,9 @@ def places(distances):
     return found
 
 
-def without(track, told):
+def without(track, reason):
     """The track without what decides, by its kind, its place and its number; None where that isn't one thing of it."""
-    kind, place, number = told["limit_cause"], told["limit_cause_place_cm"], told["limit_cause_number"]
+    kind, place, number = reason["limit_cause"], reason["limit_cause_place_cm"], reason["limit_cause_number"]
     if kind == "train_maximum":
         return track._replace(maximum=FASTEST)
     if kind == "main_speed":
@@ -161,7 +161,7 @@ def without(track, told):
     if kind in ("mode_area", "mode_area_ahead"):
         starts = places(it[0] for it in track.areas)
         left = [(at, *it[1:]) for at, it in zip(starts, track.areas)]
-        covering = [it for it in left if it[0] <= place < it[0] + 100 * it[2] and 5_000 * it[1] == told["limit_cause_speed_m_per_h"]]
+        covering = [it for it in left if it[0] <= place < it[0] + 100 * it[2] and 5_000 * it[1] == reason["limit_cause_speed_m_per_h"]]
         if len(covering) != 1:
             return None
         left.remove(covering[0])
@@ -177,17 +177,17 @@ def forces(inputs):
         life.take(*parts(said))
     it = life.situation()
     over = [*it.maximum(), *it.static_speeds(), *it.restriction_speeds(), *it.area_speeds(), *([it.main] if it.end else [])]
-    ahead = [Target(told.place, told.speed) for told in targets_ahead(life, it)]
+    ahead = [Target(target.place, target.speed) for target in targets_ahead(life, it)]
     ahead += [Target(it.end.place, it.end.speed)] if it.end else []
     return over + [it.greatest(FASTEST, [target]) for target in ahead]
 
 
 def unanswered(inputs):
-    """An image with a life of which it isn't reported what was answered: who runs it again doesn't ask."""
+    """An image of a life with one output in all its records: a replay for `why` doesn't compare them."""
     life = Life()
     kept, output, place = life.kept(), life.now.output, life.place()
     said = [("powerup", 0), *(event_of(*parts(it)) for it in inputs)]
-    records = [record_of(number, told, 0, output, place) for number, told in enumerate(said)]
+    records = [record_of(number, event, 0, output, place) for number, event in enumerate(said)]
     ends = ends_of(records, 5, False)
     return image_of(16, [block_of(number, records[first:end], replace(kept, events=end)) for number, (first, end) in enumerate(zip([0, *ends], ends), 1)])
 

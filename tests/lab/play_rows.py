@@ -1,6 +1,6 @@
 #!/usr/bin/env python3
 """What `etcs_lab play` prints of many scenarios in one process: random scenarios and the examples, compared with the reference model (each
-output, each count, and the image byte by byte), and with `etcs run` on an image in a file; by hand what can't be played or read.
+output, each count, and the image byte by byte), and with `etcs run` on an image in a file; hand-written cases that can't be played or read.
 
     tests/lab/play_rows.py ETCS_LAB ETCS
 """
@@ -23,7 +23,7 @@ from disk import SECTOR_BYTES, Disk  # noqa: E402
 from journal import first_sector  # noqa: E402
 from page_rows import live  # noqa: E402
 from random_lists import Numbers  # noqa: E402
-from run_rows import Played, Tried, lived, wanted_of  # noqa: E402
+from run_rows import Played, RunRows, lived, wanted_of  # noqa: E402
 
 SCENARIOS, SEED, LEAST_OUTPUTS = 400, 7, 5_000
 OUTPUT = ("event", "mode", "level", "brake", "limit_m_per_h", "indications")
@@ -165,7 +165,7 @@ class Plays(Compared):
             one = found[0]
             same = self.play(None, "--outputs", "all", "--slots", case.slots, path)
             self.same(f"a file, {case.name}", same, ([one | {"line": None, "sha256": None}], other, ""))
-            printed = Tried.as_printed("".join(json.dumps(output) + "\n" for output in one["outputs"]))
+            printed = RunRows.as_printed("".join(json.dumps(output) + "\n" for output in one["outputs"]))
             if one["status"] == "stopped":
                 printed += f"stopped {one['number']} {one['name']}\n"
             self.same(f"etcs run, {case.name}", (status, lines, hashlib.sha256(image.read_bytes()).hexdigest()), (other, printed, one["sha256"]))

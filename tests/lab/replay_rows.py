@@ -1,11 +1,11 @@
 #!/usr/bin/env python3
-"""Images of journals, and what `etcs_lab replay` is to print of them: lives of the plain unit on the plain disk, in all three
-formats, on rings that were overwritten, with damaged blocks, and with each field of a head and of a record altered. What is wanted
-is worked out by the plain replay (tests/plain/replay.py).
+"""Images of journals, and what `etcs_lab replay` has to print: lives of the plain unit on the plain disk, in all three
+formats, on rings that were overwritten, with damaged blocks, and with each field of a head and of a record altered. The wanted
+output is worked out by the plain replay (tests/plain/replay.py).
 
-    tests/lab/replay_rows.py PROGRAM..          runs the program on each image, as people and as programs read it, and compares
-    tests/lab/replay_rows.py --cases FOLDER WORD..     lays images, words and what is to be printed into a folder, for rt try --cases
-    tests/lab/replay_rows.py --table            prints which altered fields are found, as docs/project/tests.md has it
+    tests/lab/replay_rows.py PROGRAM..          run the program on each image, with text and with JSON, and compare
+    tests/lab/replay_rows.py --cases FOLDER WORD..     write images, arguments and the wanted output into a folder, for rt try --cases
+    tests/lab/replay_rows.py --table            print which altered fields are found, as in docs/project/tests.md
 """
 import json
 import subprocess
@@ -71,18 +71,18 @@ def life_on(disk, word, inputs, flushes=5):
 def blocks_of(lives, form, per=None):
     """The blocks of lives in a format: a power-up has one of its own, and so many inputs each. Where a list is to have power-ups within
     blocks, `per` records stand in each, whatever they are."""
-    kept, records, behind = Kept(), [], []
+    kept, records, kept_after = Kept(), [], []
     for word, inputs in lives:
         life = Life(kept, word if form == 3 else "unknown")
         said = [(("powerup", COLD.index(word) if form == 3 else 0), None), *((event_of(*part), part) for part in map(parts, inputs))]
-        for told, part in said:
+        for happened, part in said:
             if part:
                 life.take(*part)
-            records.append(record_of(life.kept().events - 1, told, life.moment(), life.now.output, life.place()))
-            behind.append(life.kept())
+            records.append(record_of(life.kept().events - 1, happened, life.moment(), life.now.output, life.place()))
+            kept_after.append(life.kept())
         kept = life.kept()
     ends = ends_of(records, per or 5, bool(per))
-    return [block_of(number, records[first:end], behind[end - 1], form) for number, (first, end) in enumerate(zip([0, *ends], ends), 1)]
+    return [block_of(number, records[first:end], kept_after[end - 1], form) for number, (first, end) in enumerate(zip([0, *ends], ends), 1)]
 
 
 def parts(said):
@@ -178,7 +178,7 @@ def damaged():
 
 RECORD = (("kind of the event", 0, 1), ("mode", 1, 1), ("brake", 2, 1), ("bytes of the payload", 3, 1), ("level", 4, 1), ("zero at 5", 5, 1),
           ("indications", 6, 2), ("number of the event", 8, 8), ("moment", 16, 8), ("estimated place", 24, 8), ("uncertainty", 32, 8),
-          ("limit", 40, 4), ("zero at 44", 44, 4), ("payload", 48, None), ("zeros behind it", None, None))
+          ("limit", 40, 4), ("zero at 44", 44, 4), ("payload", 48, None), ("zeros after it", None, None))
 HEAD = (("mark", 0, 8), ("number of the block", 8, 8), ("events", 16, 8), ("lives", 24, 4), ("count of records", 28, 1), ("trip outstanding", 29, 1),
         ("driver's identity", 30, 18), ("running number", 48, 8), ("train data", 56, 14), ("level", 70, 2), ("position", 72, 16),
         ("national values", 88, 44), ("countries", 132, 66), ("zeros", 198, 314))
@@ -195,7 +195,7 @@ def fields_of_record(record):
         if count:
             yield name, range(at, at + count)
     yield "payload", range(48, 48 + size)
-    yield "zeros behind it", range(48 + size, 256, 41)
+    yield "zeros after it", range(48 + size, 256, 41)
 
 
 def altered():

@@ -1,9 +1,8 @@
 #!/usr/bin/env python3
-"""What `etcs_lab run` is to print of scenarios: by hand, and compared with the plain program all lines of the examples and of random scenarios, with
-the causes that it works out (tests/plain/why.py); and what `etcs run` prints of the same scenario on an empty image says the same of each
-output.
+"""What `etcs_lab run` has to print: hand-written cases, and all lines of the examples and of random scenarios, compared with the plain program and
+the causes that it works out (tests/plain/why.py). `etcs run` has to print the same outputs of the same scenario on an empty image.
 
-    tests/lab/run_rows.py ETCS_LAB ETCS     runs both programs on each scenario, and compares
+    tests/lab/run_rows.py ETCS_LAB ETCS     run both programs on each scenario, and compare
 """
 import json
 import sys
@@ -27,7 +26,7 @@ SCENARIOS, SEED = 2_000, 42
 LEAST_LINES = 20_000  # so many outputs at least
 MOST_PENDING = 8
 COLD = ("unknown", "moved", "not_moved")
-BEHIND = "allowed_backward_cm"  # after this member come those of the step and of the output
+BEFORE_STEP = "allowed_backward_cm"  # the members of the step and of the output follow this one
 
 # By hand. Each step of a scenario gives the events that it says: a drive of 250 m three readings, and a telegram where it passes a balise.
 SR_STEPS = [{"driver": [1, "A 1"]}, {"driver": [4, 1]}, {"driver": [3, 20000, 160000, 70, 0, 15]}, {"driver": [6]}]
@@ -62,8 +61,8 @@ def placed(scenario):
             yield at, (key, *(value if key == "driver" else [value]))
 
 
-class Told(Life):
-    """A life that says about each event what `etcs_lab run` does, but for the step."""
+class ReportingLife(Life):
+    """A life that reports each event as `etcs_lab run` does, but for the step."""
 
     def __init__(self, kept=Kept(), cold="unknown"):
         super().__init__(kept, cold)
@@ -84,41 +83,41 @@ class Told(Life):
 
 def joined(members, step, more):
     """One object, its members in their order."""
-    told = {}
+    line = {}
     for name, value in members.items():
-        told[name] = value
-        if name == BEHIND:
-            told |= {"step": step} | more
-    return told
+        line[name] = value
+        if name == BEFORE_STEP:
+            line |= {"step": step} | more
+    return line
 
 
 def wanted_of(scenario, lines):
-    """The lines of a run and its status, by what is reported of each event of the life."""
+    """The lines of a run and its status, from the line of each event of the life."""
     steps = scenario["steps"]
-    told, pending, moment, event = [{"scenario": {"cold": COLD[scenario.get("cold", 0)], "steps": len(steps)}}], [], 0, 0
+    printed, pending, moment, event = [{"scenario": {"cold": COLD[scenario.get("cold", 0)], "steps": len(steps)}}], [], 0, 0
     for at, asked in placed(scenario):
         if asked is None or len(pending) == MOST_PENDING:
-            told += pending
+            printed += pending
             pending = []
         if asked is None:
             continue
         if asked[0] == "clock":
             if asked[1] < moment:
-                return [*told, ends_of((at, 11, "ClockBack"))], 1
+                return [*printed, ends_of((at, 11, "ClockBack"))], 1
             moment = asked[1]
         members, more = lines[event]
         pending.append(joined(members, at, more))
         event += 1
-    return [*told, *pending, ends_of("done")], 0
+    return [*printed, *pending, ends_of("done")], 0
 
 
-def text_of(told):
-    return "".join(json.dumps(line, separators=(",", ":")) + "\n" for line in told)
+def text_of(lines):
+    return "".join(json.dumps(line, separators=(",", ":")) + "\n" for line in lines)
 
 
 def lived(scenario):
-    """What is reported of each event of a scenario, worked out anew."""
-    life = Told(Kept(), program.WORDS[scenario.get("cold", 0)])
+    """The line of each event of a scenario, worked out anew."""
+    life = ReportingLife(Kept(), program.WORDS[scenario.get("cold", 0)])
     for asked in program.inputs_of(scenario):
         if asked is not None:
             life.take(*program.event_of(*asked)[1:3])
@@ -126,7 +125,7 @@ def lived(scenario):
 
 
 class Played(Made):
-    """A random scenario, made along with a life that is reported."""
+    """A random scenario, made along with a life and its lines."""
 
     def __init__(self, numbers):
         super().__init__(numbers, self)
@@ -135,10 +134,10 @@ class Played(Made):
 
     @staticmethod
     def begun(cold):
-        return Told(Kept(), cold)
+        return ReportingLife(Kept(), cold)
 
 
-class Tried(Compared):
+class RunRows(Compared):
     def __init__(self, lab, etcs, folder):
         super().__init__()
         self.lab, self.etcs, self.folder = lab, etcs, folder
@@ -158,8 +157,8 @@ class Tried(Compared):
     def by_hand(self):
         for name, steps, places, end in STEPS_BY_HAND:
             status, text, said = self.play(json.dumps({"groups": BALISE if "balise" in name else [], "steps": steps}))
-            told = [json.loads(line) for line in text.splitlines()]
-            first, events, last = told[:1], told[1:-1], told[-1:]
+            printed = [json.loads(line) for line in text.splitlines()]
+            first, events, last = printed[:1], printed[1:-1], printed[-1:]
             self.unless(
                 status == (0 if end == "done" else 1) and not said and first == [{"scenario": {"cold": "unknown", "steps": len(steps)}}]
                 and [line["step"] for line in events] == places and [line["event"] for line in events] == list(range(1, len(places) + 1))
@@ -179,18 +178,18 @@ class Tried(Compared):
         status = status_of_full(self.lab, ["run", self.path])
         self.unless(status == 1, f"a full device: status {status}")
 
-    def beside(self, name, scenario, lines):
+    def compare_with_plain(self, name, scenario, lines):
         """Compared with the plain program, and along with `etcs run` on an empty image."""
         status, text, said = self.play(json.dumps(scenario))
-        told, wanted = wanted_of(scenario, lines)
-        self.unless((status, text, said) == (wanted, text_of(told), ""), f"{name}: {json.dumps(scenario)}\n  printed {status} {said}{text}\n"
-                    f"  wanted  {wanted} {text_of(told)}")
+        wanted_lines, wanted = wanted_of(scenario, lines)
+        self.unless((status, text, said) == (wanted, text_of(wanted_lines), ""), f"{name}: {json.dumps(scenario)}\n  printed {status} {said}{text}\n"
+                    f"  wanted  {wanted} {text_of(wanted_lines)}")
         self.as_run(name, status, text)
-        for line in told[1:-1]:
+        for line in wanted_lines[1:-1]:
             self.outputs += 1
             self.met.update(word for word, *_ in WORDS.values() if line[word] is not None)
             self.met[f"trip {line['trip_cause']}"] += 1
-        self.met["stopped"] += told[-1]["end"] == "stopped"
+        self.met["stopped"] += wanted_lines[-1]["end"] == "stopped"
 
     def as_run(self, name, status, text):
         """As `etcs run` does on an empty image."""
@@ -217,11 +216,11 @@ class Tried(Compared):
         self.faults()
         for path in sorted((TOP / "examples").glob("*/*.json")):
             scenario = json.loads(path.read_text())
-            self.beside(f"example {path.parent.name}", scenario, lived(scenario))
+            self.compare_with_plain(f"example {path.parent.name}", scenario, lived(scenario))
         numbers = Numbers(SEED)
         for number in range(SCENARIOS):
             made = Played(numbers)
-            self.beside(f"scenario {number}", made.scenario(), made.life.lines)
+            self.compare_with_plain(f"scenario {number}", made.scenario(), made.life.lines)
         print(f"run: {self.count} comparisons, {self.outputs} outputs of {SCENARIOS} random scenarios and the examples, {self.differ} differ")
         for word in ["stopped", *(word for word, *_ in WORDS.values()), *(f"trip {why}" for why in TRIPS)]:
             if not self.met[word] and word != "in_system_failure":  # 2^40 cm would take more events than a scenario has
@@ -232,7 +231,7 @@ class Tried(Compared):
 
 def main(lab, etcs):
     with tempfile.TemporaryDirectory() as folder:
-        return Tried(lab, etcs, Path(folder)).judged()
+        return RunRows(lab, etcs, Path(folder)).judged()
 
 
 if __name__ == "__main__":

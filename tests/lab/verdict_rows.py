@@ -1,8 +1,8 @@
 #!/usr/bin/env python3
-"""What `etcs_lab check` is to print: the lines of `examine`, those of `replay`, and a last one, as docs/howto/investigating.md has it. The lines are
-those of the plain examiner (examined.py) and of the plain replay (tests/plain/replay.py), of which neither takes anything from the program.
+"""What `etcs_lab check` has to print: the lines of `examine`, those of `replay`, and a last one, as docs/reference/json.md has it. The lines are
+those of the plain examiner (examined.py) and of the plain replay (tests/plain/replay.py), which share nothing with the program.
 
-    tests/lab/verdict_rows.py PROGRAM     runs the program on each image, as people and as programs read it, and compares
+    tests/lab/verdict_rows.py PROGRAM     run the program on each image, with text and with JSON, and compare
 """
 import json
 import sys

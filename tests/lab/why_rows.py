@@ -1,10 +1,10 @@
 #!/usr/bin/env python3
-"""Images of journals, and what `etcs_lab why` is to print of them. By hand, for each cause of a brake, each kind of what decides a limit and
-each outcome of a balise group, a life and the words that its line has; compared with the plain program (tests/plain/why.py) all lines of the
-examples, of pseudo-random lives, of all formats, and of damaged journals; and tracks from which what decides the limit is taken away: then
-the limit is a greater one.
+"""Images of journals, and what `etcs_lab why` has to print. Hand-written: for each cause of a brake, each kind of what decides a limit and
+each outcome of a balise group, a life and the text of its line. Compared with the plain program (tests/plain/why.py) all lines of the
+examples, of pseudo-random lives, of all formats, and of damaged journals; and tracks without the element that decides the limit: then
+the limit is greater.
 
-    tests/lab/why_rows.py PROGRAM..     runs the program on each image, and compares
+    tests/lab/why_rows.py PROGRAM..     run the program on each image, and compare
 """
 import json
 import sys
@@ -23,14 +23,14 @@ from limit_tracks import BY_HAND as LIMITS_BY_HAND, FAST, LEVEL, TRAIN, authorit
 from onboard import Unit  # noqa: E402
 from random_lists import SUPERVISION, TRACK, Numbers, event  # noqa: E402
 from replay_rows import blocks_of, bytes_of, damaged, examples, formats, formatted, image_of, on, parts, random_lives  # noqa: E402
-from why import TRIPS, WORDS, told_of, walk_of  # noqa: E402
+from why import TRIPS, WORDS, explained, walk_of  # noqa: E402
 
 LEAST = 400  # so many comparisons at least
 LEAST_LINES = 2_000  # so many lines with what decides a limit
 TRACKS, LEAST_RAISED = 560, 500  # so many tracks, and limits that are greater without what decided them
 # 2^40 cm would take more events than an image holds; the two modes that supervise by train data are entered with valid ones, and keep them.
 UNMET = ("in_system_failure", "no_train_data")
-LEFT_OUT = ("before_oldest_block", "gap", "within_block", "unreadable")  # what is reported of events and blocks that aren't run again
+LEFT_OUT = ("before_oldest_block", "gap", "within_block", "unreadable")  # the reasons of events and blocks that aren't replayed
 RANDOM = 150  # images of pseudo-random lives, along with those of the replays
 
 SR = ("enter-identity A 1", "choose-level 1", "enter-train-data 20000 160000 70 0 15", "start")
@@ -74,8 +74,8 @@ TRIPS_BY_HAND = (
      "; the train was tripped: the level was 1, and the authority or the track ahead was not known (event 5, 5.10); no train may run in this "
      "mode: 0 m/h (4.4); group 1 2 in mode UN, direction not known: accepted, linking not being in use (3.4.4), packet 41 Level Transition "
      "Order\n"),
-    # It stays reported while the trip is owed.
-    ("the event behind a trip", (*SUPERVISED, heard(authority(3_000, main=0), group=3), "move 10 0"), 7,
+    # It stays listed while the trip is owed.
+    ("the event after a trip", (*SUPERVISED, heard(authority(3_000, main=0), group=3), "move 10 0"), 7,
      "; the train was tripped: an authority with V_MAIN 0 was used (event 6, 3.11.6); no train may run in this mode: 0 m/h (4.4)\n"),
 )
 # .. and of the examples: in "trip" the minimum safe front is past the end of authority at event 10, which the driver acknowledges at event 13;
@@ -135,7 +135,7 @@ def images():
         yield from made()
 
 
-class Tried(Compared):
+class WhyRows(Compared):
     """The program, an image for it, and what came of its runs."""
 
     def __init__(self, program, image):
@@ -160,18 +160,18 @@ class Tried(Compared):
     def groups_by_hand(self):
         for name, data, asked, says in groups_by_hand():
             status, text = self.run(data, "@", str(asked))
-            told = "".join(text.partition("; group")[1:])
-            self.unless(status == 0 and told == says + "\n" * bool(says), f"groups by hand: {name}: status {status}, {text}--- wanted in it\n{says}")
+            found = "".join(text.partition("; group")[1:])
+            self.unless(status == 0 and found == says + "\n" * bool(says), f"groups by hand: {name}: status {status}, {text}--- wanted in it\n{says}")
             self.met.update(f"group {kind}" for kind, (sentence, _) in GROUP_KINDS.items() if f": {sentence}" in says)
         _, data, asked, _ = next(groups_by_hand())
         status, text = self.run(data, "--json", "@", str(asked))
         self.unless(status == 0 and json.loads(text)["groups"] == GROUPS_AS_JSON, f"groups as JSON: status {status}, {text}")
 
-    def beside_the_plain(self):
+    def compare_with_plain(self):
         for number, (name, data) in enumerate(images()):
             walk = walk_of(data)
             for is_json, only in ((False, None), (True, None), (True, number % 40)):
-                wanted = told_of(walk, is_json, only)
+                wanted = explained(walk, is_json, only)
                 found = self.run(data, *(["--json"] if is_json else []), "@", *([] if only is None else [str(only)]))
                 self.unless(found == wanted, f"{name}: status {found[0]}, wanted {wanted[0]}\n{found[1]}--- wanted\n{wanted[1]}")
                 if is_json and only is None:
@@ -179,14 +179,14 @@ class Tried(Compared):
 
     def take(self, text):
         for line in text.splitlines():
-            told = json.loads(line)
-            if "event" not in told:
-                self.met[told.get("reason", told["replay"])] += 1
+            record = json.loads(line)
+            if "event" not in record:
+                self.met[record.get("reason", record["replay"])] += 1
                 continue
             self.lines += 1
-            self.met.update(word for word, *_ in WORDS.values() if told[word] is not None)
-            self.met[told["limit_cause"]] += 1
-            self.met[f"trip {told['trip_cause']}"] += 1
+            self.met.update(word for word, *_ in WORDS.values() if record[word] is not None)
+            self.met[record["limit_cause"]] += 1
+            self.met[f"trip {record['trip_cause']}"] += 1
 
     def decided(self, inputs):
         """What decides the limit after the last event of a life, or None where the program says nothing."""
@@ -199,25 +199,25 @@ class Tried(Compared):
         counted = Counter()
         for track in tracks(TRACKS):
             inputs = inputs_of(track)
-            told = self.decided(inputs)
-            other = told and without(track, told)
+            reason = self.decided(inputs)
+            other = reason and without(track, reason)
             after = other and self.decided(inputs_of(other))
-            if told is None or (other is not None and after is None):
-                self.tell(f"{track}: nothing is told")
+            if reason is None or (other is not None and after is None):
+                self.report(f"{track}: no reason is reported")
             elif other is None:
                 counted["of more than one thing"] += 1
-            elif after["limit_m_per_h"] > told["limit_m_per_h"]:
+            elif after["limit_m_per_h"] > reason["limit_m_per_h"]:
                 counted["greater"] += 1
-            elif sum(speed <= told["limit_m_per_h"] for speed in forces(inputs)) > 1:
+            elif sum(speed <= reason["limit_m_per_h"] for speed in forces(inputs)) > 1:
                 counted["of equal force"] += 1
             else:
-                self.tell(f"{track}: without {told['limit_cause']} the limit is no greater")
+                self.report(f"{track}: without {reason['limit_cause']} the limit is no greater")
         return counted
 
     def judged(self):
         self.by_hand()
         self.groups_by_hand()
-        self.beside_the_plain()
+        self.compare_with_plain()
         counted = self.taken_away()
         print(f"why: {self.count} comparisons, {self.lines} lines with what decides a limit, {self.differ} differ")
         print(f"tracks without what decides: limit greater {counted['greater']}, another of equal force {counted['of equal force']}, left out "
@@ -225,15 +225,15 @@ class Tried(Compared):
         kinds = [*KINDS, *(f"trip {why}" for why in TRIPS), *(f"group {kind}" for kind in GROUP_KINDS)]
         for word in [*(word for word, *_ in WORDS.values()), *kinds, *LEFT_OUT]:
             if not self.met[word] and word not in UNMET:
-                self.tell(f"no image has {word}")
+                self.report(f"no image has {word}")
         if self.count < LEAST or self.lines < LEAST_LINES or counted["greater"] < LEAST_RAISED:
-            self.tell(f"too few: {LEAST} comparisons, {LEAST_LINES} lines and {LEAST_RAISED} greater limits are wanted")
+            self.report(f"too few: {LEAST} comparisons, {LEAST_LINES} lines and {LEAST_RAISED} greater limits are wanted")
         return 1 if self.differ else 0
 
 
 def main(program):
     with tempfile.TemporaryDirectory() as folder:
-        return Tried(program, Path(folder) / "image").judged()
+        return WhyRows(program, Path(folder) / "image").judged()
 
 
 if __name__ == "__main__":

@@ -130,7 +130,7 @@ def rows(room):
 
     def swap(folder):
         shutil.copyfile(room / "bomb.deb", folder / DEB)
-    yield "a package that is a bomb", swap, f"{DEB} is another one than SHA256SUMS tells"
+    yield "a package that is a bomb", swap, f"{DEB} differs from its digest in SHA256SUMS"
     yield "a package that is a bomb, with its digest", lambda folder: [swap(folder), sums(folder)], f"{DEB} has more than"
     for name in ("provenance.json", "sbom.spdx.json"):
         for text in (DEEP, b"[" * 200_000, b"\xff", b"{", b"[]", b"null", b'{"a": 1, "a": 1}', b"1" * 5_000):

@@ -33,11 +33,11 @@ from gaknifur.journal import causes, database, reading, report, tables  # noqa: 
 from gaknifur.program import Run  # noqa: E402
 from replay import replayed  # noqa: E402
 from replay_rows import damaged, examples, formats, random_lives  # noqa: E402
-from why import WORDS, told_of, walk_of  # noqa: E402
+from why import WORDS, explained, walk_of  # noqa: E402
 from why_rows import more_lives  # noqa: E402
 from images import MARKUP, blocks, random_images, slots_of  # noqa: E402
 from journal import SIGNS  # noqa: E402
-from told import Refused, told  # noqa: E402
+from event_lines import Refused, image_lines  # noqa: E402
 
 IMAGES, SEED = 200, 44
 LIVES, EACH = 25, 7
@@ -64,14 +64,14 @@ WHERE (mode_before, level_before, brake_before, speed_before_m_per_h, next_event
 
 def plain_records(image, all_blocks):
     """The records as dictionaries, and the numbers of blocks that can't be read."""
-    lines, _ = told(image, all_blocks)
+    lines, _ = image_lines(image, all_blocks)
     lines = [line for line in map(dict, lines[1:-1]) if line.get("source") not in ("misplaced", "damaged")]
     return [line for line in lines if "event" in line], [dict(line["unreadable"])["block"] for line in lines if "unreadable" in line]
 
 
 def plain_strays(image):
     """The records of blocks that are damaged or in a wrong slot, as dictionaries."""
-    return [line for line in map(dict, told(image, True)[0][1:-1]) if line.get("source") in ("misplaced", "damaged")]
+    return [line for line in map(dict, image_lines(image, True)[0][1:-1]) if line.get("source") in ("misplaced", "damaged")]
 
 
 def with_speeds(records):
@@ -293,7 +293,7 @@ def plain_reasons(image):
 
 def plain_lines(walk, event=None):
     """What the plain program says about each event that it has a line of, or of one event."""
-    return [line for line in map(json.loads, told_of(walk, True, event)[1].splitlines()) if "event" in line]
+    return [line for line in map(json.loads, explained(walk, True, event)[1].splitlines()) if "event" in line]
 
 
 def plain_causes(lines):

@@ -1,4 +1,4 @@
-"""Telegrams that are taken apart: what bits are read as, where a fault is, and what comes of a number that is altered in its field."""
+"""Parsed telegrams: what bits are read as, where a fault is, and the effect of a number that is altered in its field."""
 import random
 import sys
 from pathlib import Path
@@ -47,7 +47,7 @@ setTimeout(() => done(document.getElementById('telegram-hex').value), 1);
 """
 
 
-class Made(track_packets.Walk):
+class RandomFields(track_packets.Walk):
     """A packet that is made up while its layout is walked."""
 
     def __init__(self, dice: random.Random) -> None:
@@ -63,10 +63,10 @@ class Made(track_packets.Walk):
 
 def packet_of(number: int, dice: random.Random) -> str:
     """The bits of a packet that the kernel skips; now and then with another length."""
-    made = Made(dice)
+    made = RandomFields(dice)
     made.bits, made.at = f"{number:08b}{dice.randrange(4):02b}" + "0" * 13, 23
     made.all(track_packets.parts_of(track_packets.LAYOUTS[number]))
-    bits = made.bits + "".join(dice.choice("01") for _ in range(dice.randrange(30) if number in track_packets.WITH_BITS_BEHIND else 0))
+    bits = made.bits + "".join(dice.choice("01") for _ in range(dice.randrange(30) if number in track_packets.WITH_TRAILING_BITS else 0))
     length = max(23, len(bits) + (dice.choice((-5, 1, 7)) if dice.random() < 0.1 else 0))
     return f"{bits[:10]}{length:013b}{bits[23:]}"
 
@@ -84,7 +84,7 @@ def read(browser: Browser, _page: Path, _folder: Path) -> int:
     for data, (end, _, packets) in zip(tried, browser.run(TAKE, [data.hex() for data in tried])):
         listed, (ends, place) = track_packets.packets_in_order(data)
         assert end == (place if ends == "end" else None), (data.hex(), end, ends)
-        found = {at: (number, is_told, fields) for at, number, is_told, fields in packets}
+        found = {at: (number, is_decoded, fields) for at, number, is_decoded, fields in packets}
         for number, _, at, length in listed:
             fields, why = track_packets.fields_of(data, number, at, length)
             if number not in track_packets.LAYOUTS and not track_packets.is_kernels(number, length):
@@ -103,8 +103,8 @@ def read(browser: Browser, _page: Path, _folder: Path) -> int:
 
 def spoiled(digits: str, dice: random.Random) -> bytes:
     """A telegram with another number in a variable."""
-    told = telegrams.telegram(digits)
-    pairs = [*told.header, *(pair for packet in told.packets for pair in packet)]
+    telegram = telegrams.telegram(digits)
+    pairs = [*telegram.header, *(pair for packet in telegram.packets for pair in packet)]
     at = dice.randrange(len(pairs))
     name, _ = pairs[at]
     width = telegrams.WIDTH[name]
@@ -159,15 +159,15 @@ def by_fields(browser: Browser, _page: Path, folder: Path) -> int:
     browser.click("tab-telegram")
     assert browser.run(TYPE, "telegram-words", "NID_BG 2; 12: V_MAIN 24, L_ENDSECTION 300")[0] == digits_of("NID_BG 2; 12: V_MAIN 24, L_ENDSECTION 300")
     assert "120 km/h" in browser.text("telegram-form") and "300.00 m" in browser.text("telegram-form")
-    told = "NID_BG 2; 12: V_MAIN {}, N_ITER {}{} L_ENDSECTION 300{}"
+    template = "NID_BG 2; 12: V_MAIN {}, N_ITER {}{} L_ENDSECTION 300{}"
     steps: list[tuple[Any, int, str]] = [
-        (["Q_DANGERPOINT", 0], 1, told.format(24, 0, ",", ", Q_DANGERPOINT 1, D_DP 0, V_RELEASEDP 0")),
-        (["N_ITER", 0], 2, told.format(24, 2, ", L_SECTION 0, L_SECTION 0,", ", Q_DANGERPOINT 1, D_DP 0, V_RELEASEDP 0")),
-        (["L_SECTION", 1], 70, told.format(24, 2, ", L_SECTION 0, L_SECTION 70,", ", Q_DANGERPOINT 1, D_DP 0, V_RELEASEDP 0")),
-        (["N_ITER", 0], 3, told.format(24, 3, ", L_SECTION 0, L_SECTION 70, L_SECTION 70,", ", Q_DANGERPOINT 1, D_DP 0, V_RELEASEDP 0")),
-        (["N_ITER", 0], 1, told.format(24, 1, ", L_SECTION 0,", ", Q_DANGERPOINT 1, D_DP 0, V_RELEASEDP 0")),
-        (["Q_DANGERPOINT", 0], 0, told.format(24, 1, ", L_SECTION 0,", "")), (["N_ITER", 0], 0, told.format(24, 0, ",", "")),
-        (["Q_SCALE", 0], 0, told.format(24, 0, ",", ", Q_SCALE 0")), (["NID_BG", 0], 77, told.format(24, 0, ",", ", Q_SCALE 0").replace("NID_BG 2", "NID_BG 77"))]
+        (["Q_DANGERPOINT", 0], 1, template.format(24, 0, ",", ", Q_DANGERPOINT 1, D_DP 0, V_RELEASEDP 0")),
+        (["N_ITER", 0], 2, template.format(24, 2, ", L_SECTION 0, L_SECTION 0,", ", Q_DANGERPOINT 1, D_DP 0, V_RELEASEDP 0")),
+        (["L_SECTION", 1], 70, template.format(24, 2, ", L_SECTION 0, L_SECTION 70,", ", Q_DANGERPOINT 1, D_DP 0, V_RELEASEDP 0")),
+        (["N_ITER", 0], 3, template.format(24, 3, ", L_SECTION 0, L_SECTION 70, L_SECTION 70,", ", Q_DANGERPOINT 1, D_DP 0, V_RELEASEDP 0")),
+        (["N_ITER", 0], 1, template.format(24, 1, ", L_SECTION 0,", ", Q_DANGERPOINT 1, D_DP 0, V_RELEASEDP 0")),
+        (["Q_DANGERPOINT", 0], 0, template.format(24, 1, ", L_SECTION 0,", "")), (["N_ITER", 0], 0, template.format(24, 0, ",", "")),
+        (["Q_SCALE", 0], 0, template.format(24, 0, ",", ", Q_SCALE 0")), (["NID_BG", 0], 77, template.format(24, 0, ",", ", Q_SCALE 0").replace("NID_BG 2", "NID_BG 77"))]
     for place, number, text in steps:
         assert browser.run_later(ALTER, place, str(number))[0] == digits_of(text), (place, number)
     assert "30.00 m" in browser.text("telegram-form")
@@ -187,7 +187,7 @@ def by_fields(browser: Browser, _page: Path, folder: Path) -> int:
     assert [number for name, _, _, number in fields if name == "X_TEXT"] == [72, 105]
     browser.run_later(ADD, 65)
     browser.run_later(REMOVE, 72)
-    last = told.format(24, 0, ",", ", Q_SCALE 0").replace("NID_BG 2", "NID_BG 77")
+    last = template.format(24, 0, ",", ", Q_SCALE 0").replace("NID_BG 2", "NID_BG 77")
     assert browser.run_later(REMOVE, 12) == digits_of("NID_BG 77; 65: NID_TSR 2, D_TSR 300, L_TSR 100, Q_FRONT 1, V_TSR 8"), last
     path = folder / "image"
     path.write_bytes(image(folder, [{"steps": [{"telegram": before}]}], 4))

@@ -1,4 +1,4 @@
-"""Asking images: what the page reports is what `etcs_lab` reports, also of altered ones."""
+"""Journal images, also altered ones: the page shows what `etcs_lab` prints."""
 import hashlib
 import json
 import random
@@ -78,24 +78,24 @@ def altered(data: bytes, dice: random.Random) -> bytes:
     return bytes(it)
 
 
-def compare_slots(told: dict[str, Any], wanted: dict[str, Any], at: str) -> int:
+def compare_slots(findings: dict[str, Any], wanted: dict[str, Any], at: str) -> int:
     """What each slot holds, and whether all is whole."""
-    found = {number: (STATES[slot["state"]], slot["number"] or None) for number, slot in enumerate(told["slots"]) if slot["state"]}
+    found = {number: (STATES[slot["state"]], slot["number"] or None) for number, slot in enumerate(findings["slots"]) if slot["state"]}
     slots = {slot["slot"]: (slot["state"], slot.get("block")) for slot in wanted["slots"]}
     assert found == slots, (at, found, slots)
     for number, slot in ((slot["slot"], slot) for slot in wanted["slots"] if slot["state"] == "unreadable"):
-        one = told["slots"][number]
+        one = findings["slots"][number]
         byte = SECTOR + SLOT * number + SECTOR + one["faultAt"] if one["hasFault"] else None
         assert byte == slot.get("byte"), (at, byte, slot)
-    assert told["digest"] == wanted["image"]["sha256"], at
-    assert (told["facts"]["slots"], told["facts"]["whole"]) == (wanted["image"]["slots"] if "slots" in wanted["image"] else
+    assert findings["digest"] == wanted["image"]["sha256"], at
+    assert (findings["facts"]["slots"], findings["facts"]["whole"]) == (wanted["image"]["slots"] if "slots" in wanted["image"] else
                                                               wanted["image"]["first_sector"]["slots"], wanted["image"]["whole_slots"]), at
-    assert told["isWhole"] == wanted["whole"], (at, told["isWhole"], wanted["whole"], wanted["between"])
+    assert findings["isWhole"] == wanted["whole"], (at, findings["isWhole"], wanted["whole"], wanted["between"])
     return len(slots)
 
 
-def told_of(line: dict[str, Any]) -> Any:
-    """What the page reports by a line of a replay."""
+def life_of(line: dict[str, Any]) -> Any:
+    """A life of a replay as the page shows it."""
     first, last, verdict = line["first"], line["last"], line["verdict"]
     if verdict == 2:
         return "differs", line["event"], RECORD[line["field"]]
@@ -115,33 +115,33 @@ def line_of(line: dict[str, Any]) -> Any:
     return (line["reason"], line["first_event"], line["last_event"]) if line.get("replay") == "not_replayed" else None
 
 
-def compare_replay(told: dict[str, Any], path: Path, at: str) -> int:
+def compare_replay(findings: dict[str, Any], path: Path, at: str) -> int:
     """What each life came to."""
     _, lines = lab("replay", "--json", str(path))
     wanted, count = [line_of(line) for line in lines], 0
     unreadable = [line["block"] for line in lines if line.get("replay") == "unreadable"]
-    assert told["unreadable"] == unreadable, (at, told["unreadable"], unreadable)
-    found = [told_of(line) for line in told["lives"] or []]
+    assert findings["unreadable"] == unreadable, (at, findings["unreadable"], unreadable)
+    found = [life_of(line) for line in findings["lives"] or []]
     assert found == [line for line in wanted if line], (at, found, lines)
     count += len(found)
-    bad = sum(life["verdict"] in (2, 3) for life in told["lives"] or [])
-    assert bool(bad) == any(one and one[0] in ("differs", "head") for one in wanted), (at, told["lives"], lines)
+    bad = sum(life["verdict"] in (2, 3) for life in findings["lives"] or [])
+    assert bool(bad) == any(one and one[0] in ("differs", "head") for one in wanted), (at, findings["lives"], lines)
     return count
 
 
 def compare_why(index: int, why: dict[str, Any] | None, event: int, path: Path) -> int:
     """The causes where an intervention began."""
     status, lines = lab("why", "--json", str(path), str(event))
-    told = next((line for line in lines if line.get("event") == event and "limit_cause" in line), None)
+    explained = next((line for line in lines if line.get("event") == event and "limit_cause" in line), None)
     if why is None:
-        assert status and told is None, (index, event, lines)
+        assert status and explained is None, (index, event, lines)
         return 0
-    assert told is not None, (path, event, lines)
+    assert explained is not None, (path, event, lines)
     assert {CAUSES[n]: why["since"][n] for n, holds in enumerate(why["holds"]) if holds} == {
-        cause: told[cause] for cause in CAUSES if told[cause] is not None}, (event, why, told)
+        cause: explained[cause] for cause in CAUSES if explained[cause] is not None}, (event, why, explained)
     assert (LIMITS[why["limitCause"]], why["causeAt"], why["causeSpeed"], why["restriction"], TRIPS[why["tripCause"]]) == (
-        told["limit_cause"], told["limit_cause_place_cm"], told["limit_cause_speed_m_per_h"], told["limit_cause_number"],
-        told["trip_cause"]), (event, why, told)
+        explained["limit_cause"], explained["limit_cause_place_cm"], explained["limit_cause_speed_m_per_h"], explained["limit_cause_number"],
+        explained["trip_cause"]), (event, why, explained)
     return 1
 
 
@@ -153,21 +153,21 @@ def alterations(browser: Browser, _page: Path, folder: Path) -> int:
     for number, data in enumerate(tried):
         path, at = folder / f"image{number}", f"image {number}"
         path.write_bytes(data)
-        told = browser.ask(path)
+        findings = browser.ask(path)
         status, found = lab("examine", "--json", str(path))
-        if not told["facts"]:
+        if not findings["facts"]:
             assert status == 1, (at, status)
             continue
         [wanted] = found
-        count += compare_slots(told, wanted, at)
-        whole += told["isWhole"]
-        if told["status"] == 38:
-            count += compare_replay(told, path, at)
-            differs += any(life["verdict"] in (2, 3) for life in told["lives"])
-            causes = {index: why for index, why in told["causes"]}
-            steps = {step["index"] for one in told["interventions"] for step in one["steps"]}
-            assert steps | set(told["trips"]) <= set(causes), at
-            for index, event in list(zip(causes, told["events"]))[:6]:
+        count += compare_slots(findings, wanted, at)
+        whole += findings["isWhole"]
+        if findings["status"] == 38:
+            count += compare_replay(findings, path, at)
+            differs += any(life["verdict"] in (2, 3) for life in findings["lives"])
+            causes = {index: why for index, why in findings["causes"]}
+            steps = {step["index"] for one in findings["interventions"] for step in one["steps"]}
+            assert steps | set(findings["trips"]) <= set(causes), at
+            for index, event in list(zip(causes, findings["events"]))[:6]:
                 count += compare_why(index, causes[index], event, path)
         lost += not wanted["whole"]
     assert whole >= 7 and lost >= 20 and differs >= 8, (whole, lost, differs)
@@ -175,15 +175,15 @@ def alterations(browser: Browser, _page: Path, folder: Path) -> int:
 
 
 def case(browser: Browser, page: Path, folder: Path) -> int:
-    """The case of docs/howto/investigating.md: its questions are answered."""
+    """The case of docs/howto/damaged-image.md: its questions are answered."""
     data = bytearray(image(folder, [example("power_cut"), example("power_cut", "restart.json"), example("trip")], 6))
     data[512 * 7:512 * 8] = bytes(512)
     data[14352] = 0o377
     path = folder / "case"
     path.write_bytes(data)
     browser.open(page, "#event=24")
-    told = browser.ask(path)
-    assert told["digest"] == hashlib.sha256(data).hexdigest() == "ee636b1dfea516705c04c8235a93cf1eb4f86594fcdce11bc49e9be9cd547df3"
+    findings = browser.ask(path)
+    assert findings["digest"] == hashlib.sha256(data).hexdigest() == "ee636b1dfea516705c04c8235a93cf1eb4f86594fcdce11bc49e9be9cd547df3"
     assert "Event 24 of life 3, block 6: moved 100.00 m, at 15.0 km/h" in browser.text("event-said")
     assert "emergency brake; limit 0.0 km/h, front at 300.00 m ± 20.00 m" in browser.text("ask-texts")
     fields = browser.run("return [...document.querySelectorAll('#fields tr')].map(row => [...row.cells].map(cell => cell.textContent))")

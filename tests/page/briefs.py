@@ -1,4 +1,4 @@
-"""In brief: what the page says at the top of an image is what the report says there, and the page opens at the last intervention."""
+"""The summary: the page says at the top of an image what the report says there, and opens at the last intervention."""
 import random
 from pathlib import Path
 from typing import Any
@@ -9,12 +9,12 @@ from gaknifur.journal import reading, summary, tables
 
 TRIED = 50
 OUTPUT = """
-const { ask } = window.gaknifur, { findings: told } = ask, known = new Map(told.counted.filter(([, why]) => typeof why === 'object')), { records } = ask;
-const last = [...told.interventions].reverse().find(one => !one.isPowerUp), all = last ? [...Array(last.last - last.first + 1).keys()].map(n => n + last.first) : [];
+const { ask } = window.gaknifur, { findings } = ask, known = new Map(findings.counted.filter(([, why]) => typeof why === 'object')), { records } = ask;
+const last = [...findings.interventions].reverse().find(one => !one.isPowerUp), all = last ? [...Array(last.last - last.first + 1).keys()].map(n => n + last.first) : [];
 const since = new Set(all.flatMap(n => known.get(n) ? known.get(n).holds.map((is, c) => is ? c + ' ' + known.get(n).since[c] : '').filter(one => one) : []));
 const rows = [...document.querySelectorAll('#brief dt')].map(one => [one.textContent, one.nextElementSibling.textContent]);
 return [last ? [records.event(last.first), records.event(last.last), last.goesOn, last.steps.map(one => one.brake)] : null, [...since].sort(),
-    told.trips.map(n => [records.event(n), known.get(n) ? known.get(n).tripCause : null]), Object.fromEntries(rows), records.event(ask.index)];
+    findings.trips.map(n => [records.event(n), known.get(n) ? known.get(n).tripCause : null]), Object.fromEntries(rows), records.event(ask.index)];
 """
 BRAKES = ("none", "service", "emergency")
 
@@ -47,8 +47,8 @@ def in_brief(browser: Browser, _page: Path, folder: Path) -> int:
     for number, data in enumerate([*made, *(altered(dice.choice(made), dice) for _ in range(TRIED))]):
         path = folder / f"image{number}"
         path.write_bytes(data)
-        told = browser.ask(path)
-        if not told["facts"] or told["status"] != 38 or not told["count"]:
+        findings = browser.ask(path)
+        if not findings["facts"] or findings["status"] != 38 or not findings["count"]:
             continue
         one, causes, trips, rows, opened = browser.run(OUTPUT)
         found, since, entered, newest = wanted_of(path)

@@ -1,4 +1,4 @@
-"""A browser with the page open, and how the page is asked, for the tests and the pictures of the page."""
+"""A browser with the page open, and calls of the page, for the tests and the pictures of the page."""
 import base64
 import time
 from pathlib import Path
@@ -82,6 +82,6 @@ class Browser:
 
     def image(self) -> bytes:
         """The image of the desk."""
-        told = self.run_later("const done = arguments[0], reader = new FileReader(); reader.onload = () => done(reader.result);"
+        url = self.run_later("const done = arguments[0], reader = new FileReader(); reader.onload = () => done(reader.result);"
                               " reader.readAsDataURL(new Blob([window.gaknifur.drive.image()]))")
-        return base64.b64decode(told.partition(",")[2])
+        return base64.b64decode(url.partition(",")[2])

@@ -43,8 +43,8 @@ def in_utc(browser: Browser, _page: Path, folder: Path) -> int:
     plain = browser.run(TICKS)
     assert plain[:3] == ["0", "2", "4"], plain
     browser.ask(path, marks)
-    told = browser.run(TICKS)
-    assert told[:3] == ["10:02:11", "10:02:13", "10:02:15"] and len(told) == len(plain), told
+    ticks = browser.run(TICKS)
+    assert ticks[:3] == ["10:02:11", "10:02:13", "10:02:15"] and len(ticks) == len(plain), ticks
     assert "UTC by marks, from 2026-03-01 on" in browser.text("time-chart")
     browser.ask(path)
     assert browser.run(TICKS) == plain

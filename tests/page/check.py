@@ -1,9 +1,9 @@
 #!/usr/bin/python3 -IB
 """The page of tools/page in headless Chromium, along with the programs `etcs` and `etcs_lab` and the library for C.
 
-    tests/page/check.py PAGE [NAME..]    all checks of a page, or those of these names; `opens_long` runs by its name alone
+    tests/page/check.py PAGE [NAME..]    run all checks of a page, or those of these names; `opens_long` runs only by its name
 
-Where GAKNIFUR_BROWSER is `firefox`, in Firefox, but for what asks for Chromium's driver. The last line counts what was compared.
+Where GAKNIFUR_BROWSER is `firefox`, run them in Firefox, except those that need Chromium's driver. The last line has the number of comparisons.
 """
 import os
 import sys

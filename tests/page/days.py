@@ -1,4 +1,4 @@
-"""The time of day by marks along with an image: what the page reports is what the package reports, by random files of marks."""
+"""The time of day by marks along with an image: the page shows what the package computes, by random files of marks."""
 import base64
 import json
 import random
@@ -67,8 +67,8 @@ def odd(dice: random.Random) -> str:
 
 def checked(dice: random.Random, line: str) -> str:
     """A line with its checksum, which is wrong now and then."""
-    told = f"{zlib.crc32(line.encode('utf-8', errors='surrogatepass')):08x}"
-    return f"{line},{told if dice.random() < 0.93 else dice.choice((told.upper() + '0', told[1:], '', f'{told}0', '00000000'))}"
+    checksum = f"{zlib.crc32(line.encode('utf-8', errors='surrogatepass')):08x}"
+    return f"{line},{checksum if dice.random() < 0.93 else dice.choice((checksum.upper() + '0', checksum[1:], '', f'{checksum}0', '00000000'))}"
 
 
 def of_marks(dice: random.Random, journal: reading.Journal, drift: int) -> bytes:
@@ -90,13 +90,13 @@ def of_marks(dice: random.Random, journal: reading.Journal, drift: int) -> bytes
 
 
 def by_package(journal: reading.Journal, path: Path, drift: int) -> tuple[Any, str]:
-    """What the package reports: of each record the time of day and its bound, the faults and what it says; or why it refuses the file."""
+    """What the package computes: of each record the time of day and its bound, the faults and what it says; or why it refuses the file."""
     try:
         journal.times = times.Times.of(journal, path, drift)
     except Failed as failed:
         return None, str(failed).replace(str(path), path.name) + "."
-    told = times.columns(journal)
-    utc = [None if one is None else [one, off] for one, off in zip(told["utc_by_marks"], told["utc_uncertainty_ms"], strict=True)]
+    columns = times.columns(journal)
+    utc = [None if one is None else [one, off] for one, off in zip(columns["utc_by_marks"], columns["utc_uncertainty_ms"], strict=True)]
     return {"utc": utc, "faults": journal.times.faults(), "says": journal.times.note()}, ""
 
 
@@ -127,9 +127,9 @@ def random_marks(browser: Browser, _page: Path, folder: Path) -> int:
             marks = folder / dice.choice(("image.times", "a\u202e.times"))
             marks.write_bytes(of_marks(dice, journal, min(drift, 1_000)))
             set_drift(browser, drift)
-            told, error, said, faults = browser.run_later(TAKE, marks.name, base64.b64encode(marks.read_bytes()).decode())
+            utc, error, said, faults = browser.run_later(TAKE, marks.name, base64.b64encode(marks.read_bytes()).decode())
             wanted, refusal = by_package(journal, marks, drift)
-            assert (told, error) == (wanted, refusal), (number, marks.read_bytes(), told, error, wanted, refusal)
+            assert (utc, error) == (wanted, refusal), (number, marks.read_bytes(), utc, error, wanted, refusal)
             assert faults == (wanted["faults"] if wanted else []) and (not wanted or wanted["says"] in said), (faults, said)
             refused += wanted is None
             if wanted:
@@ -142,7 +142,7 @@ def random_marks(browser: Browser, _page: Path, folder: Path) -> int:
     return count
 
 
-def shown(browser: Browser, event: int) -> str:
+def shown_time(browser: Browser, event: int) -> str:
     """What is said of the time of day of an event."""
     browser.run("window.gaknifur.ask.chooseEvent(arguments[0])", event)
     return browser.text("ask-day")
@@ -163,27 +163,27 @@ def by_hand(browser: Browser, _page: Path, folder: Path) -> int:
     browser.ask(path, marks)
     outside = " (outside the journal and outside the proof)."
     for event, utc, off in ((5, "10:00:00.001", 49), (9, "10:00:30.004", 49), (11, "10:00:54.006", 50), (17, "10:03:00.019", 49)):
-        assert shown(browser, event) == f"UTC by marks: 2026-03-01T{utc}Z ± {off} ms{outside}", (event, shown(browser, event))
+        assert shown_time(browser, event) == f"UTC by marks: 2026-03-01T{utc}Z ± {off} ms{outside}", (event, shown_time(browser, event))
     assert "3 marks. UTC is by marks next to the journal (timed.times), which are outside the journal and outside the proof" in browser.text("day-said")
     for table in ("lives", "interventions"):
         assert "UTC by marks, outside the journal and the proof" in browser.text(table) and "2026-03-01T10:0" in browser.text(table), table
     set_drift(browser, 0)  # then the mark at 180 s says -30 to 70 ms, and both -30 to 50
-    assert shown(browser, 5) == f"UTC by marks: 2026-03-01T10:00:00.010Z ± 40 ms{outside}"
+    assert shown_time(browser, 5) == f"UTC by marks: 2026-03-01T10:00:00.010Z ± 40 ms{outside}"
     set_drift(browser, 100)
     marks.write_text(BY_HAND + "1,54000,,2026-03-01T10:01:54.000Z,50,<b>watch</b>\n", encoding="utf-8")
     browser.hand(marks, "marks-file")
     browser.until("return document.getElementById('day-faults').childElementCount === 2")
     assert browser.text("day-faults").startswith("line 2 (life 1, 0 ms: 2026-03-01T10:00:00.000Z, by GNSS) and line 5 (life 1, 54000 ms: "
                                                  "2026-03-01T10:01:54.000Z, by <b>watch</b>) contradict, so life 1 has no UTC")
-    assert shown(browser, 5) == f"There is no UTC for this moment of life 1 by these marks{outside}"
+    assert shown_time(browser, 5) == f"There is no UTC for this moment of life 1 by these marks{outside}"
     marks.write_text(f"{times.FIRST}\n1,0,,10:00,50,GNSS\n", encoding="utf-8")
     browser.hand(marks, "marks-file")
     browser.until('return document.getElementById("day-faults").textContent.startsWith("line 2 isn\'t used: it isn\'t a mark (life and moment_ms")')
-    assert shown(browser, 5) == f"There is no UTC for this moment of life 1 by these marks{outside}"
+    assert shown_time(browser, 5) == f"There is no UTC for this moment of life 1 by these marks{outside}"
     marks.write_text("life,moment_ms\n", encoding="utf-8")
     browser.hand(marks, "marks-file")
     browser.until("return document.getElementById('day-error').textContent.startsWith('timed.times: line 1 isn')")
-    assert shown(browser, 5) == "" and "UTC" not in browser.text("lives")
+    assert shown_time(browser, 5) == "" and "UTC" not in browser.text("lives")
     browser.ask(path)
     assert browser.text("day-error") == "" and "no time of day" in browser.text("day-said")
     assert not browser.run("return document.querySelector('main b')") and browser.complaints() == []

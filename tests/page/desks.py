@@ -1,4 +1,4 @@
-"""The desk: what is driven leaves the image that `etcs run` makes of the same scenarios."""
+"""The desk: driving leaves the same image as `etcs run` on the same scenarios."""
 import base64
 import json
 import random
@@ -59,17 +59,19 @@ def name_of(browser: Browser, example: str) -> str:
 
 
 def stories(browser: Browser, _page: Path, folder: Path) -> int:
-    """The story of each example, played by its button, leaves the image of its own files."""
+    """The story of each example is shown, and played by its button leaves the image of its own files."""
     for example in EXAMPLES:
         board(browser, name_of(browser, example))
+        story = (TOP / "examples" / example / "session.row").read_text(encoding="utf-8").splitlines()[0].removeprefix("# ")
+        assert browser.text("track-text").startswith(story), (example, browser.text("track-text"))
         browser.click("story")
         assert browser.text("drive-error") == ""
         files = [TOP / "examples" / example / name for name in ("scenario.json", "restart.json")]
         wanted, printed = image_of(folder, [json.loads(path.read_bytes()) for path in files if path.exists()])
         assert browser.image() == wanted, example
         events = browser.run("return window.gaknifur.drive.course.lives.flatMap(life => life.outputs.map(o => [o.event, o.limit]))")
-        told = [line.split() for line in printed]
-        assert events == [[int(words[1]), int(words[9])] for words in told], example
+        outputs = [line.split() for line in printed]
+        assert events == [[int(words[1]), int(words[9])] for words in outputs], example
     return len(EXAMPLES)
 
 
@@ -152,8 +154,8 @@ def random_lives(browser: Browser, _page: Path, folder: Path) -> int:
         text, found = browser.run(PLAY, slots, lives)
         wanted, printed = image_of(folder, [one["scenario"] for one in found], slots)
         assert base64.b64decode(text) == wanted, (count, lives)
-        told = [[int(words[1]), int(words[9])] for words in (line.split() for line in printed)]
-        assert [[one[0], one[3]] for life in found for one in life["released"]] == told
+        released = [[int(words[1]), int(words[9])] for words in (line.split() for line in printed)]
+        assert [[one[0], one[3]] for life in found for one in life["released"]] == released
         count += len(lives)
     return count
 
@@ -182,7 +184,7 @@ class Lost(Exception):
 
 
 class Cut(unit.MemoryMedium):
-    """A medium that loses power within a request: of the write that is open then each sector is left as it is reported."""
+    """A medium that loses power within a request: of the write that is open then each sector is left as `left` says."""
 
     left: list[str] | None = None
     request = 0
@@ -211,7 +213,7 @@ class Cut(unit.MemoryMedium):
 
 
 def act(one: unit.Unit, step: dict[str, Any]) -> None:
-    """Hands the unit of the library for C what a step of a scenario reports."""
+    """Gives the unit of the library for C the inputs of a step of a scenario."""
     (word, value), = step.items()
     if word == "telegram":
         one.telegram(bytes.fromhex(value))
@@ -255,7 +257,7 @@ def by_library(slots: int, lives: list[dict[str, Any]]) -> tuple[bytes, list[Any
     return medium.read(), found
 
 
-def beside_c(browser: Browser, _page: Path, _folder: Path) -> int:
+def against_c(browser: Browser, _page: Path, _folder: Path) -> int:
     """Random lives that end by a cut, between two writes or within one, leave the bytes and released the outputs of the library for C."""
     dice, count, torn = random.Random(689), 0, 0
     while count < CUT_LIVES:
@@ -355,10 +357,10 @@ def motion(browser: Browser, _page: Path, _folder: Path) -> int:
             it.ask(200 * step, braking)
             it.move(200 * step, 200, power)
             wanted.append([it.place, it.speed, it.braking, it.stands, round(it.m_per_h)])
-        found = browser.run("""const { Motion, round } = window.gaknifur.parts, [n, asked] = arguments, told = [];
+        found = browser.run("""const { Motion, round } = window.gaknifur.parts, [n, asked] = arguments, result = [];
             const it = new Motion({ acceleration: n[0], service: n[1], emergency: n[2], reaction: n[3], buildUp: n[4] });
             asked.forEach(([braking, power], step) => { it.ask(200 * step, braking); it.move(200 * step, 200, power);
-            told.push([it.place, it.speed, it.braking, it.stands, round(it.metresPerHour)]); }); return told""", numbers, asked)
+            result.push([it.place, it.speed, it.braking, it.stands, round(it.metresPerHour)]); }); return result""", numbers, asked)
         assert found == wanted
         count += len(wanted)
     return count
@@ -390,5 +392,5 @@ def offers(browser: Browser, _page: Path, _folder: Path) -> int:
 
 
 CHECKS = {"stories": (stories, 6), "by_buttons": (by_buttons, 7), "by_time": (by_time, 1),
-          "beside_c": (beside_c, CUT_LIVES), "tracks": (tracks, TRACKS_TRIED), "random_lives": (random_lives, LIVES),
+          "against_c": (against_c, CUT_LIVES), "tracks": (tracks, TRACKS_TRIED), "random_lives": (random_lives, LIVES),
           "torn": (torn, 48), "motion": (motion, 1200), "offers": (offers, 6)}

@@ -43,12 +43,12 @@ class Firefox(Browser):
 
     def port(self) -> int:
         """Where it listens, once it does."""
-        told, end = self.profile / "MarionetteActivePort", time.monotonic() + OPENED
-        while not (told.is_file() and told.read_text(encoding="ascii").strip()):
+        file, end = self.profile / "MarionetteActivePort", time.monotonic() + OPENED
+        while not (file.is_file() and file.read_text(encoding="ascii").strip()):
             if time.monotonic() > end or self.process.poll() is not None:
                 raise Failed("Firefox doesn't open")
             time.sleep(0.1)
-        return int(told.read_text(encoding="ascii"))
+        return int(file.read_text(encoding="ascii"))
 
     def answer(self) -> Any:
         """The next message: its length, a colon, and JSON."""

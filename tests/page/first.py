@@ -1,4 +1,4 @@
-"""What a newcomer meets: what the page is for, the steps of a start, greyed buttons, wrong entries, and a damaged first sector."""
+"""What a newcomer sees: the purpose of the page, the steps of a start, greyed buttons, wrong entries, and a damaged first sector."""
 import json
 from pathlib import Path
 
@@ -77,11 +77,11 @@ def by_slots(browser: Browser, _page: Path, folder: Path) -> int:
         browser.run("document.getElementById('slots').value = '16'; window.before = window.gaknifur.ask.id")
         browser.click("read-slots")
         browser.until("const a = window.gaknifur.ask; return a.id > window.before && a.isDone")
-        told = browser.run("return JSON.parse(JSON.stringify(window.gaknifur.ask.findings))")
+        findings = browser.run("return JSON.parse(JSON.stringify(window.gaknifur.ask.findings))")
         _, [wanted] = lab("examine", "--json", "--slots", "16", str(path))
-        found = {number: STATES[slot["state"]] for number, slot in enumerate(told["slots"]) if slot["state"]}
+        found = {number: STATES[slot["state"]] for number, slot in enumerate(findings["slots"]) if slot["state"]}
         assert found == {slot["slot"]: slot["state"] for slot in wanted["slots"]} and len(found) >= 4, (at, found)
-        assert told["digest"] == wanted["image"]["sha256"] and told["count"] == wanted["journal"]["last_event"] + 1, (at, told["count"])
+        assert findings["digest"] == wanted["image"]["sha256"] and findings["count"] == wanted["journal"]["last_event"] + 1, (at, findings["count"])
         assert browser.text("verdict").startswith("Not whole") and "entered by hand" in browser.text("facts"), browser.text("facts")
         assert "something is lost" in browser.text("brief") and browser.text("ask-error") == "", browser.text("brief")
     path.write_bytes(data)

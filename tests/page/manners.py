@@ -10,8 +10,7 @@ from chromium import Chromium
 from desks import START, TOP
 
 TRIES = """
-const url = arguments[0], done = arguments[1], told = [];
-const note = (name, isOut) => told.push([name, isOut]);
+const url = arguments[0], done = arguments[1];
 const image = new Promise(end => { const it = new Image(); it.onload = () => end(true); it.onerror = () => end(false); it.src = url + 'image'; });
 const sheet = document.createElement('link'); sheet.rel = 'stylesheet'; sheet.href = url + 'sheet'; document.head.append(sheet);
 const script = document.createElement('script'); script.src = url + 'script'; document.head.append(script);
@@ -21,7 +20,7 @@ const events = new Promise(end => { try { const it = new EventSource(url + 'even
     catch { end(false); } });
 Promise.all([fetch(url + 'fetch').then(() => true, () => false), image, socket, events,
     new Promise(end => { const it = new XMLHttpRequest(); it.onload = () => end(true); it.onerror = () => end(false); it.open('GET', url + 'xhr'); it.send(); })])
-    .then(all => { note('beacon', navigator.sendBeacon(url + 'beacon', 'x') && false); setTimeout(() => done(all), 300); });
+    .then(all => { navigator.sendBeacon(url + 'beacon', 'x'); setTimeout(() => done(all), 300); });
 """
 LEAVES = """
 const url = arguments[0], done = arguments[1];
@@ -90,8 +89,8 @@ class Listener:
 def connections(browser: Browser, page: Path, folder: Path) -> int:
     """The page reaches nobody; the same page without its policy does, so the test can fail."""
     listener = Listener()
-    told = browser.run_later(TRIES, listener.url)
-    assert told == [False] * 5 and listener.count == 0, (told, listener.count, listener.asked)
+    reached = browser.run_later(TRIES, listener.url)
+    assert reached == [False] * 5 and listener.count == 0, (reached, listener.count, listener.asked)
     # Where a frame or a form is to leave the page, Chromium connects before it asks the policy, and then sends nothing. The sources
     # have neither (see `sources`).
     browser.run_later(LEAVES, listener.url)

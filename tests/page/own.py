@@ -1,4 +1,4 @@
-"""What is one's own: scenarios that are opened, and what was driven as a test case."""
+"""The user's own data: scenarios that are opened, and a drive as a test case."""
 import json
 import os
 import random
@@ -15,7 +15,7 @@ from desks import EXAMPLES, START, TELEGRAMS, TOP, board, image_of, name_of, ran
 from gaknifur import program
 from gaknifur.testing import cases, telegrams
 
-OPENED, FAULTY, TOLD, NEAR = 12, 160, 600, 68
+OPENED, FAULTY, CHANGED_TEXTS, NEAR = 12, 160, 600, 68
 GOOD: dict[str, Any] = {
     "cold": 1, "groups": [{"at": 5000, "spacing": 300, "balises": [TELEGRAMS[1], TELEGRAMS[3]]}],
     "steps": [{"driver": [1, "IC 704"]}, {"driver": [2, 704]}, {"driver": [3, 20000, 160000, 70, 0, 15]}, {"driver": [4, 1]}, {"driver": [5, 1]},
@@ -67,9 +67,9 @@ def opened(browser: Browser, _page: Path, folder: Path) -> int:
 
 def altered(dice: random.Random) -> str:
     """The text of a scenario in which something may not be as it has to be."""
-    told = json.loads(json.dumps(GOOD))
+    scenario = json.loads(json.dumps(GOOD))
     for _ in range(dice.choice((1, 1, 1, 2))):
-        at, key = told, dice.choice(list(told))
+        at, key = scenario, dice.choice(list(scenario))
         while isinstance(at[key], (dict, list)) and at[key] and dice.random() < 0.85:
             at = at[key]
             key = dice.choice(list(at) if isinstance(at, dict) else range(len(at)))
@@ -82,9 +82,9 @@ def altered(dice: random.Random) -> str:
             at.append(dice.choice(ODD))
         else:
             at[key] = dice.choice(ODD)
-        if not told:
+        if not scenario:
             break
-    text = re.sub(r'"\{([^"]*)\}"', r"\1", json.dumps(told))
+    text = re.sub(r'"\{([^"]*)\}"', r"\1", json.dumps(scenario))
     if dice.random() < 0.1:
         text = dice.choice((text[:-1], text + ",", "\ufeff" + text, "[" + text + "]", text.replace('"groups"', '"steps": [], "groups"'), text + "\n\t"))
     return text
@@ -95,12 +95,12 @@ def near(text: str) -> list[tuple[str, bool]]:
     found = []
     for place, (least, most) in BOUNDS:
         for number in (least - 1, least, most, most + 1):
-            told = json.loads(text)
-            at = told
+            scenario = json.loads(text)
+            at = scenario
             for key in place[:-1]:
                 at = at[key]
             at[place[-1]] = number
-            found.append((json.dumps(told), not least <= number <= most))
+            found.append((json.dumps(scenario), not least <= number <= most))
     odd = [("7000", one) for one in ("-0", "7000.0", "7e3", "07000")]
     odd += [("[20000, 30000]", "[20000, 30000, 0]"), ("[20000, 30000]", "[20000]"), ('"flush": true', '"flush": 1'), ("[10, 1]", "[10, 1, 1]")]
     return found + [(text.replace(one, other), True) for one, other in odd]
@@ -136,13 +136,13 @@ def faulty(browser: Browser, _page: Path, folder: Path) -> int:
 
 
 def texts() -> list[str]:
-    """The telegrams of the corpus that are reported by their variables."""
+    """The telegrams of the corpus that are written by their variables."""
     found: list[str] = []
 
-    def walk(told: Any) -> None:
-        if isinstance(told, str) and "NID_BG" in told:
-            found.append(told)
-        for one in told.values() if isinstance(told, dict) else told if isinstance(told, list) else ():
+    def walk(value: Any) -> None:
+        if isinstance(value, str) and "NID_BG" in value:
+            found.append(value)
+        for one in value.values() if isinstance(value, dict) else value if isinstance(value, list) else ():
             walk(one)
     for path in sorted([*(TOP / "suites").glob("*.yaml"), *(TOP / "page/tracks").glob("*.yaml")]):
         for document in yaml.safe_load_all(path.read_text(encoding="utf-8")):
@@ -167,10 +167,10 @@ def changed(text: str, dice: random.Random) -> str:
 
 
 DECODE = """
-const { telegrams } = window.gaknifur.parts, told = telegrams.read(arguments[0]);
-let text = telegrams.text(told), again = '';
+const { telegrams } = window.gaknifur.parts, decoded = telegrams.read(arguments[0]);
+let text = telegrams.text(decoded), again = '';
 try { again = telegrams.digits(telegrams.parsed(text)); } catch (error) { again = error.message; }
-return [told.header, told.packets, again];
+return [decoded.header, decoded.packets, again];
 """
 ENCODE = """
 const { telegrams } = window.gaknifur.parts;
@@ -194,7 +194,7 @@ def front_of(digits: str, count: int) -> str:
 def variables(browser: Browser, _page: Path, _folder: Path) -> int:
     """Telegrams by their variables come to the bits that the package writes, or are refused by both; of bits the fields are those of `etcs decode`."""
     dice, corpus = random.Random(683), texts()
-    tried = corpus + [changed(dice.choice(corpus), dice) for _ in range(TOLD)]
+    tried = corpus + [changed(dice.choice(corpus), dice) for _ in range(CHANGED_TEXTS)]
     found = browser.run(ENCODE, tried)
     wanted = [by_package(text) for text in tried]
     wrong = [(text, one, other) for text, one, other in zip(tried, found, wanted) if not (one == other or one[0] == other[0] == "!")]
@@ -299,4 +299,4 @@ def as_cases(browser: Browser, _page: Path, folder: Path) -> int:
     return count
 
 
-CHECKS = {"opened": (opened, OPENED), "faulty": (faulty, FAULTY + NEAR), "variables": (variables, TOLD + 100), "edited": (edited, 14), "as_cases": (as_cases, 15)}
+CHECKS = {"opened": (opened, OPENED), "faulty": (faulty, FAULTY + NEAR), "variables": (variables, CHANGED_TEXTS + 100), "edited": (edited, 14), "as_cases": (as_cases, 15)}

@@ -1,4 +1,4 @@
-"""How long an image takes to be reported, and that the page stays usable meanwhile. A busy machine makes single runs slow, so the best of several counts."""
+"""How long an image takes to be shown, and that the page stays usable meanwhile. A busy machine makes single runs slow, so the best of several counts."""
 import base64
 import json
 import time
@@ -50,22 +50,22 @@ def long_image(folder: Path, events: int) -> Path:
 
 
 def measured(browser: Browser, folder: Path, events: int, runs: int, is_long: bool = False) -> int:
-    """Opens an image several times, and goes through its events. One that is long reports meanwhile how far it is."""
+    """Opens an image several times, and goes through its events. A long one shows its progress meanwhile."""
     path, found = long_image(folder, events), []
     for _ in range(runs):
         browser.run(WATCH)
         begun = time.monotonic()
-        told = browser.ask(path, seconds=120)
+        findings = browser.ask(path, seconds=120)
         found.append((time.monotonic() - begun, *browser.run("return [window.seen.busy, window.seen.progress]")))
-        assert told["count"] == events and told["isWhole"] and len(told["causes"]) >= len(told["interventions"]) >= 4, told["count"]
-        assert all(life["verdict"] == 1 for life in told["lives"]) and len(told["lives"]) == 4
+        assert findings["count"] == events and findings["isWhole"] and len(findings["causes"]) >= len(findings["interventions"]) >= 4, findings["count"]
+        assert all(life["verdict"] == 1 for life in findings["lives"]) and len(findings["lives"]) == 4
     seconds = min(one[0] for one in found)
     pause = max(min(one[1].get(kind, 0) for one in found) for kind in found[0][1])
     took = browser.run(STEP, events // 2, STEPS)
     step = took[len(took) // 20]
     print(f"page: {events} events in {seconds:.2f} s, a report of the worker keeps the page busy for {pause:.0f} ms at most; a step of the scrubber {step:.1f} ms", flush=True)
     assert seconds <= OPENS_S and pause <= PAUSE_MS and step <= FRAME_MS, (seconds, pause, step)
-    assert not is_long or max(one[2] for one in found) >= 1, "no progress was told"
+    assert not is_long or max(one[2] for one in found) >= 1, "no progress was reported"
     return runs + STEPS
 
 

@@ -1,4 +1,4 @@
-"""The acknowledgement of a kind: nothing, asked, done, or owed since a moment (SUBSET-026, 5.7, 5.9 and 5.10; the table is this
+"""The state of an acknowledgement: nothing, asked, done, or owed since a moment (SUBSET-026, 5.7, 5.9 and 5.10; the table is this
 project's)."""
 from collections import namedtuple
 
@@ -16,14 +16,14 @@ settled       nothing  nothing  nothing  same
 """
 
 
-def cells_told():
+def cells():
     head, *lines = BECOMES.strip("\n").splitlines()
     for line in lines:
         happening, *cells = line.split()
         yield happening, dict(zip(head.split(), cells))
 
 
-TABLE = dict(cells_told())
+TABLE = dict(cells())
 
 
 class Acknowledgement(namedtuple("Acknowledgement", "state since")):

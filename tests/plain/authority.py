@@ -1,4 +1,4 @@
-"""The movement authority: its end, and what is supervised there (SUBSET-026, 3.8; timers and release speeds are this
+"""The movement authority: its end, and the supervised location (SUBSET-026, 3.8; timers and release speeds are this
 project's). It is read off the latest packet 12 and all that was seen since: the moment and the fronts after each event, from
 the one that accepted it on."""
 from collections import namedtuple
@@ -25,7 +25,7 @@ class Authority:
         for section in (*self.packet.sections, self.packet.end_section):
             self.sections.append((entry, section))
             entry += self.cm(section.length)
-        self.told_end = entry
+        self.announced_end = entry
 
     def cm(self, distance):
         return distance * self.packet.scale_cm
@@ -42,8 +42,8 @@ class Authority:
             seen.min_front >= entry + self.cm(stop) for seen in self.sights if not is_over(time_s, self.accepted, seen.moment))
 
     def ran_out_before_end(self, time_s, start, now):
-        """A timer that starts where the greatest front is first at or above the end as it was reported, less a distance."""
-        started = next((seen.moment for seen in self.sights if seen.max_front >= self.told_end - self.cm(start)), None)
+        """A timer that starts where the greatest front is first at or above the end as it was announced, less a distance."""
+        started = next((seen.moment for seen in self.sights if seen.max_front >= self.announced_end - self.cm(start)), None)
         return started is not None and is_over(time_s, started, now)
 
     def taken_back_to(self, now):
@@ -65,11 +65,11 @@ class Authority:
         else the end itself."""
         overlap = self.packet.overlap
         if overlap and not self.ran_out_before_end(overlap.time_s, overlap.start, now):
-            return self.told_end + self.cm(overlap.distance), overlap.release
+            return self.announced_end + self.cm(overlap.distance), overlap.release
         if self.packet.danger_point:
             distance, release = self.packet.danger_point
-            return self.told_end + self.cm(distance), release
-        return self.told_end, ONBOARD
+            return self.announced_end + self.cm(distance), release
+        return self.announced_end, ONBOARD
 
     def end(self, now, national_release):
         """An end that was taken back has no V_LOA, danger point or overlap. While V_LOA is above 0 there is no release
@@ -80,4 +80,4 @@ class Authority:
         speed = self.end_speed(now)
         location, release = self.supervised(now)
         release_speed = {ONBOARD: 0, NATIONAL: national_release}.get(release, speed_of(release))
-        return End(self.told_end, speed, location, 0 if speed else release_speed)
+        return End(self.announced_end, speed, location, 0 if speed else release_speed)

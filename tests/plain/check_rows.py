@@ -1,7 +1,6 @@
 #!/usr/bin/env python3
-"""Works each answer of the kernel's rows out by the plain program, and prints where it is another one than the row wants. A
-telegram that a row hears is named after its bytes; its fields stand along with the name at the head of the part, and have to spell
-those bytes.
+"""Works out each answer of the kernel's rows by the plain program, and prints each that differs from the row's. A telegram in a row has
+its name after its bytes; its fields are listed with the name at the head of the part, and have to encode to those bytes.
 
     tests/plain/check_rows.py [FILE ..]
 
@@ -36,13 +35,13 @@ def misnamed(text):
     """The telegrams whose fields spell other bytes, and those that a row hears under a name which isn't theirs, or under none.
     Bytes that carry no telegram need no name; nor do those of the pseudo-random lists, which are made of fields."""
     for part in text.partition(GENERATED)[0].split("\n# ====")[1:]:
-        told = {}
+        bytes_of = {}
         for name, data, fields in NAMED.findall(part):
-            told[name] = data
+            bytes_of[name] = data
             if written(fields.replace("#", " ")) != data:
                 yield f"{name}: its fields spell {written(fields.replace('#', ' '))}"
         for data, name in HEARD.findall(part):
-            if told.get(name) != data and (name or telegrams.read(bytes.fromhex(data))):
+            if bytes_of.get(name) != data and (name or telegrams.read(bytes.fromhex(data))):
                 yield f"hear {data}: {name or 'no name'}"
 
 

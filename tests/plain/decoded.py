@@ -1,4 +1,4 @@
-"""Telegrams as `etcs decode` reports them: each field by its name, or the first fault in the order of the bits (SUBSET-026, chapters 7
+"""Telegrams as `etcs decode` prints them: each field by its name, or the first fault in the order of the bits (SUBSET-026, chapters 7
 and 8; packet 3 in this project's order).
 """
 from collections import namedtuple
@@ -34,7 +34,7 @@ class Fields:
 
     def __init__(self, data):
         self.bits = "".join(f"{byte:08b}" for byte in data)
-        self.at, self.told = 0, []
+        self.at, self.taken = 0, []
 
     def left(self):
         return len(self.bits) - self.at
@@ -53,7 +53,7 @@ class Fields:
             raise Fault("Spare")
         if name.startswith("V_") and number > GREATEST_SPEED and number not in SPECIAL_SPEEDS.get(name, ()):
             raise Fault("OutOfRange")
-        self.told.append((name, number))
+        self.taken.append((name, number))
         return number
 
     def all(self, names):
@@ -125,7 +125,7 @@ BODIES = {
 
 
 def packet(fields, number):
-    begun, fields.told = fields.at - 8, []
+    begun, fields.taken = fields.at - 8, []
     if number in BODIES or number == 66:
         fields.take("Q_DIR")
         length = fields.take("L_PACKET")
@@ -136,7 +136,7 @@ def packet(fields, number):
             BODIES[number](fields)
         if fields.at - begun != length:
             raise Fault("WrongLength")
-        return Packet(number, fields.told, False)
+        return Packet(number, fields.taken, False)
     direction, length = fields.number(2), fields.number(13)
     if length < 23:
         raise Fault("WrongLength")
@@ -149,9 +149,9 @@ def packet(fields, number):
 def header(fields):
     for name in HEADER.split():
         fields.take(name)
-        if name == "N_TOTAL" and fields.told[3][1] > fields.told[4][1]:
+        if name == "N_TOTAL" and fields.taken[3][1] > fields.taken[4][1]:
             raise Fault("OutOfRange")
-    return fields.told
+    return fields.taken
 
 
 def telegram_of(data):
@@ -159,10 +159,10 @@ def telegram_of(data):
     if len(data) > LONGEST:
         raise Fault("TooLong")
     fields = Fields(data)
-    told, packets = header(fields), []
+    fields_of_header, packets = header(fields), []
     while (number := fields.number(8, "NoEnd")) != 255:
         packets.append(packet(fields, number))
-    return Telegram(told, packets, fields.at)
+    return Telegram(fields_of_header, packets, fields.at)
 
 
 def line_of(first, fields):
@@ -170,9 +170,9 @@ def line_of(first, fields):
 
 
 def lines_of(data):
-    told = telegram_of(data)
-    packets = [line_of(f"packet {one.number}", one.fields) + " skipped" * one.is_skipped for one in told.packets]
-    return [line_of("telegram", told.header), *packets, f"end {told.bits}"]
+    telegram = telegram_of(data)
+    packets = [line_of(f"packet {one.number}", one.fields) + " skipped" * one.is_skipped for one in telegram.packets]
+    return [line_of("telegram", telegram.header), *packets, f"end {telegram.bits}"]
 
 
 def answer(data):

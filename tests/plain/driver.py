@@ -1,4 +1,4 @@
-"""What the driver does, and when it is accepted (SUBSET-026, 4.6 and 5; the table is this project's)."""
+"""The driver's actions, and when they are accepted (SUBSET-026, 4.6 and 5; the table is this project's)."""
 from items import UNKNOWN, VALID
 
 ENTERED = {"enter-identity": "identity", "enter-running-number": "running-number", "enter-train-data": "train-data",

@@ -1,4 +1,4 @@
-"""What is reported of the balise groups that an event closed (SUBSET-026, 3.4.4, 3.16.2 and 4.8; the words are this project's)."""
+"""What `etcs_lab why` prints of the balise groups that an event closed (SUBSET-026, 3.4.4, 3.16.2 and 4.8; the words are this project's)."""
 
 from links import ACCEPT, IGNORE, SERVICE, TRIP
 from modes import used_in
@@ -82,9 +82,9 @@ def members(closed, verdict, mode):
 
 def line(closed, verdict, mode):
     """.. and for people."""
-    told = members(closed, verdict, mode)
-    announced = "" if told["announcement"] is None else f", announcement {told['announcement']}"
-    asks = {"trip": ", asks for a trip", "service": ", asks for the service brake", None: ""}[told["reaction"]]
-    packets = "".join(f", packet {p['packet']} {p['name'] or 'without a name'}{SAID[p['why']]}" for p in told["packets"])
-    return (f"; group {told['country']} {told['group']} in mode {mode}, direction {told['direction'] or 'not known'}: {KINDS[told['outcome']][0]}"
-            f"{announced}{asks} ({told['section']}){packets}")
+    group = members(closed, verdict, mode)
+    announced = "" if group["announcement"] is None else f", announcement {group['announcement']}"
+    asks = {"trip": ", asks for a trip", "service": ", asks for the service brake", None: ""}[group["reaction"]]
+    packets = "".join(f", packet {p['packet']} {p['name'] or 'without a name'}{SAID[p['why']]}" for p in group["packets"])
+    return (f"; group {group['country']} {group['group']} in mode {mode}, direction {group['direction'] or 'not known'}: {KINDS[group['outcome']][0]}"
+            f"{announced}{asks} ({group['section']}){packets}")

@@ -1,4 +1,4 @@
-"""What is read off a life: all that happened is kept, an entry for each event and a fact for each packet that was used, and each
+"""The quantities of a life: all that happened is kept, an entry for each event and a fact for each packet that was used, and each
 quantity is worked out anew from these (this project's profile)."""
 from collections import namedtuple
 from dataclasses import dataclass, field
@@ -172,21 +172,21 @@ class History:
         return authority.Authority(facts[-1], [e.seen for e in self.entries[facts[-1].entry:] if e.seen]) if facts else None
 
     def end(self):
-        told = self.authority()
-        return told.end(self.moment(), self.national.in_force.values.release) if told else None
+        authority = self.authority()
+        return authority.end(self.moment(), self.national.in_force.values.release) if authority else None
 
     def areas(self):
         """Those of the latest packet 80 that no packet 12 follows."""
-        told = [fact for fact in self.facts if fact.packet.kind in (12, 80)]
+        sent = [fact for fact in self.facts if fact.packet.kind in (12, 80)]
         live = self.facts_of(80)
-        return areas_of(live[-1]) if live and told[-1].packet.kind == 80 else []
+        return areas_of(live[-1]) if live and sent[-1].packet.kind == 80 else []
 
     def announcement(self):
         """The latest announced level that did not come into force."""
-        told = [fact for fact in self.facts_of(41) if announced_by(fact)]
-        if not told or any(entry.came_in is not None for entry in self.entries[told[-1].entry:]):
+        announcing = [fact for fact in self.facts_of(41) if announced_by(fact)]
+        if not announcing or any(entry.came_in is not None for entry in self.entries[announcing[-1].entry:]):
             return None
-        return announced_by(told[-1])
+        return announced_by(announcing[-1])
 
     def stretch(self):
         train = self.train()

@@ -1,4 +1,4 @@
-"""What the driver enters, and what outlives a power-up (this project's profile)."""
+"""The driver's entries, and what survives a power-up (this project's profile)."""
 from collections import namedtuple
 from dataclasses import dataclass
 

@@ -1,12 +1,11 @@
 #!/usr/bin/env python3
-"""Tries the safety laws on the plain program: each is looked at after each event of the kernel's rows, and may fail nowhere. The
-last lines say of each law how often its premise held.
+"""Checks the safety laws on the plain program: each has to hold after each event of the kernel's rows. The last lines say how often
+the premise of each law held.
 
     tests/plain/law_rows.py [LAW ..]
 
-Speeds are metres per hour, places centimetres, moments milliseconds. A law is a function of the life after an event, of what was
-remembered before it (`Before`), and of the line that the row has. It answers None where its premise doesn't hold, else whether it
-is kept. The exit status is 1 where one isn't, or where fewer events met its premise than are reported here.
+Speeds are metres per hour, places centimetres, moments milliseconds. A law is a function of the life after an event, of the state before it
+(`Before`), and of the line of the row. It returns None where its premise doesn't hold, else whether the law holds. The exit status is 1 where one isn't, or where fewer events met its premise than LEAST wants.
 """
 import os
 import sys
@@ -94,23 +93,23 @@ def no_brake_only_where(life, before, line):
         return None
     limit, mode, values = life.now.output.limit, life.mode(), life.national.in_force.values
     moments = moments_of(life, limit)
-    behind = since(stood, moments)
+    later = since(stood, moments)
     return (life.is_revalidated() and mode not in ("TR", "SF") and not before.trip and life.speed() <= limit + 5_000
             and (life.speed() == 0 or mode not in ("SB", "PT")) and rolled(moments) <= values.roll
             and all(life.moment() < owed.since + 5_000 for owed in map(life.acknowledgement, ("on-sight", "shunting", "level-0"))
                     if owed.state == "owed")
-            and not any(entry.asks_service() for entry, *_ in behind)
-            and all(speed <= at + 10_000 for _, speed, at in behind))
+            and not any(entry.asks_service() for entry, *_ in later)
+            and all(speed <= at + 10_000 for _, speed, at in later))
 
 
 def passing_end_trips(life, before, line):
     """Where the mode stays one of these, the end is that after the event; where it deletes the authority, that before, unless this event
-    reported another one."""
+    announced another one."""
     stays = life.mode() in END_MODES
     end = life.end() if stays else before.end
     if before.mode not in END_MODES or end is None or end.speed or life.stretch().min_front <= end.place:
         return None
-    if life.is_overridden() or (not stays and (before.overridden or tells_authority(life))):
+    if life.is_overridden() or (not stays and (before.overridden or hears_authority(life))):
         return None
     return life.mode() == "TR" or (life.mode() == "SF" and life.now.overrun) or (life.mode() == "SB" and line.word == "close-desk" and before.speed == 0)
 
@@ -132,13 +131,13 @@ def national_speeds_are_kept(life, before, line):
     return life.now.output.limit <= most
 
 
-def tells_authority(life):
+def hears_authority(life):
     return any(fact.packet.kind == 12 and fact.entry == len(life.entries) - 1 for fact in life.facts)
 
 
 def end_never_moves_forward(life, before, line):
-    told = tells_authority(life)
-    if line.word == "power-up" or life.end() is None or told:
+    is_heard = hears_authority(life)
+    if line.word == "power-up" or life.end() is None or is_heard:
         return None
     return before.end is not None and life.end().place <= before.end.place
 
@@ -246,13 +245,13 @@ def passes_by_at_most(life, before, line):
     later = -(-(limit + margin) * reaction // 36000) + (-limit * reaction // 36000)
     distance, beyond = max(0, end.location - front), 0
     while True:
-        behind = front + distance + later + beyond
-        slowing = [situation.deceleration_at(place) for place in pieces(situation.gradients.starts(), front, behind - 1)]
+        past = front + distance + later + beyond
+        slowing = [situation.deceleration_at(place) for place in pieces(situation.gradients.starts(), front, past - 1)]
         if not slowing or not min(slowing):
             return None
         rest = 2 * limit * margin + margin * margin + 2592 * max(slowing) * later
         if rest <= 2592 * min(slowing) * (later + beyond):
-            return Course(situation, limit + margin).square_at(behind) == 0
+            return Course(situation, limit + margin).square_at(past) == 0
         beyond = -(-rest // (2592 * min(slowing))) - later
 
 
@@ -296,11 +295,11 @@ def main(names):
                 broken += 1
                 print(f"{row.name}, line {line.number}: {law.__name__} fails")
     for law in laws:
-        print(f"{law.__name__}: its premise held behind {held[law]} events")
+        print(f"{law.__name__}: its premise held after {held[law]} events")
         least = min(1, LEAST[law]) if os.environ.get("SEED") else LEAST[law]  # other rows meet a premise less or more often
         if held[law] < least:
             broken += 1
-            print(f"{law.__name__}: its premise is to hold behind {least} events")
+            print(f"{law.__name__}: its premise is to hold after {least} events")
     return 1 if broken else 0
 
 

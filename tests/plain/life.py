@@ -82,7 +82,7 @@ class Life(History):
         self.remember()
         self.now.seen = authority.Sight(self.moment(), self.stretch().min_front, max_front)
         row = row_of(self.mode(), self.conditions(accepted))
-        told = self.acknowledgements(accepted, *(row or (None, self.mode())))
+        states = self.acknowledgements(accepted, *(row or (None, self.mode())))
         if row:
             if row[0] in TRIPPED:
                 self.now.tripped = self.why_trips()
@@ -90,9 +90,9 @@ class Life(History):
             if fate("linking", self.mode()) == "D":
                 self.links.left = []
             if fate("acknowledgements", self.mode()) == "D":
-                told = {kind: told[kind].deleted() for kind in told}
+                states = {kind: states[kind].deleted() for kind in states}
         left = self.left()
-        self.now.acknowledgements = {kind: told[kind] if left[kind] else told[kind].settled() for kind in told}
+        self.now.acknowledgements = {kind: states[kind] if left[kind] else states[kind].settled() for kind in states}
         self.remember()
         self.now.output = output_of(self)
 
@@ -118,7 +118,7 @@ class Life(History):
 
     def acknowledgements(self, accepted, row, mode):
         """The driver's own comes first, then the transition, then what asks where the mode is not the kind's."""
-        here, told = self.stretch(), {}
+        here, states = self.stretch(), {}
         for kind in driver.KINDS:
             state = self.acknowledgement(kind)
             if accepted == ("acknowledge", kind):
@@ -127,8 +127,8 @@ class Life(History):
                 state = state.turned(self.moment())
             if self.asks(kind, here) and mode != {"on-sight": "OS", "shunting": "SH"}.get(kind):
                 state = state.asked()
-            told[kind] = state
-        return told
+            states[kind] = state
+        return states
 
     # ---- a group that closed: judged, fixed, and its packets used
 
@@ -147,7 +147,7 @@ class Life(History):
             nominal = verdict.entry.nominal  # with one place read, what linking announces
         taken = [p for p in closed.packets if p.kind in used and (p.direction == 2 or p.direction == nominal)]
         for packet in sorted(taken, key=lambda packet: packet.kind):
-            self.tell(Fact(packet, closed.group, place, self.moment(), len(self.entries) - 1))
+            self.add(Fact(packet, closed.group, place, self.moment(), len(self.entries) - 1))
 
     def judged(self, closed, verdict):
         self.now.verdicts.append(verdict)
@@ -170,7 +170,7 @@ class Life(History):
     def fix_at(self, place, accuracy, closed):
         return type(self.fix)(place, accuracy, closed.sums, closed.missed)
 
-    def tell(self, fact):
+    def add(self, fact):
         self.facts.append(fact)
         if fact.packet.kind == 3:
             self.national.announce(fact)

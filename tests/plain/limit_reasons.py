@@ -1,5 +1,5 @@
-"""What decides the limit of the plain unit (SUBSET-026, 3.11 to 3.13 and 4.4; which of those of equal force is named: this project's
-profile). Each candidate is asked alone whether it gives the limit. Places are centimetres, speeds metres per hour."""
+"""The cause of the plain unit's limit (SUBSET-026, 3.11 to 3.13 and 4.4; the choice between causes of equal force is this project's
+profile). Each candidate is checked by itself for whether it gives the limit. Places are centimetres, speeds metres per hour."""
 from collections import namedtuple
 
 import areas
@@ -7,7 +7,7 @@ from authority import NATIONAL
 from speed import Target
 from track import covers, pieces, speed_for
 
-Told = namedtuple("Told", "kind speed place number", defaults=(None, None))
+Cause = namedtuple("Cause", "kind speed place number", defaults=(None, None))
 
 # Of each kind what it says, and the sections that it is from.
 KINDS = {
@@ -47,7 +47,7 @@ def met_restriction(life, it, limit):
     for restriction, number in numbered(life):
         first = max(it.from_where(restriction.front), restriction.start, it.mark)
         if first <= it.stretch.max_front and covers(restriction, first, it.mark) and restriction.speed == limit:
-            return Told("restriction", limit, restriction.start, number)
+            return Cause("restriction", limit, restriction.start, number)
     return None
 
 
@@ -56,7 +56,7 @@ def first_static(it, limit):
     for place in pieces(it.speeds.starts() | {it.stretch.min_front}, it.stretch.min_rear, it.stretch.max_front):
         static = it.speeds.at(place)
         if static and place >= it.from_where(static.front) and speed_for(static, it.category) == limit:
-            return Told("static_speed", limit, place)
+            return Cause("static_speed", limit, place)
     return None
 
 
@@ -64,13 +64,13 @@ def over_train(life, it, limit):
     """What limits the train to a speed where it is."""
     for area in it.areas:
         if areas.is_met(area, it.stretch.min_front, it.stretch.max_front) and it.area_speed(area) == limit:
-            return Told("mode_area", limit, area.start)
+            return Cause("mode_area", limit, area.start)
     found = met_restriction(life, it, limit) or first_static(it, limit)
     if found:
         return found
     if it.end and it.stretch.max_front >= it.end.place and 0 < it.end.speed == limit:
-        return Told("end_speed", limit)
-    return Told("main_speed" if it.end and it.main == limit else "train_maximum", limit)
+        return Cause("end_speed", limit)
+    return Cause("main_speed" if it.end and it.main == limit else "train_maximum", limit)
 
 
 def statics_ahead(it):
@@ -79,9 +79,9 @@ def statics_ahead(it):
     for place in pieces(starts, first, max(starts)):
         static = it.speeds.at(place)
         if static:
-            yield Told("static_speed_ahead", speed_for(static, it.category), place)
+            yield Cause("static_speed_ahead", speed_for(static, it.category), place)
         elif it.end and place < it.end.place:
-            yield Told("unknown_speed_ahead", 0, place)
+            yield Cause("unknown_speed_ahead", 0, place)
 
 
 def targets_ahead(life, it):
@@ -91,20 +91,20 @@ def targets_ahead(life, it):
     for restriction, number in numbered(life):
         place = max(first, restriction.start, it.mark)
         if covers(restriction, place, it.mark):
-            yield Told("restriction_ahead", restriction.speed, place, number)
+            yield Cause("restriction_ahead", restriction.speed, place, number)
     for area in it.areas:
         place = max(first, area.start)
         if areas.covers(area, place):
-            yield Told("mode_area_ahead", it.area_speed(area), place)
+            yield Cause("mode_area_ahead", it.area_speed(area), place)
 
 
-def unfit(it, told, speed):
-    return not it.fits(speed, Target(told.place, told.speed))
+def unfit(it, cause, speed):
+    return not it.fits(speed, Target(cause.place, cause.speed))
 
 
-def release_told(life):
-    told = life.authority()
-    _, release = told.supervised(life.moment())
+def release_kind(life):
+    authority = life.authority()
+    _, release = authority.supervised(life.moment())
     return "national_release_speed" if release == NATIONAL else "release_speed"
 
 
@@ -115,14 +115,14 @@ def supervised(life, limit):
         return over_train(life, it, limit)
     ahead = list(targets_ahead(life, it))
     if it.end:
-        end, location = Told("end_of_authority", it.end.speed, it.end.place), Told("supervised_location", 0, it.end.location)
-        if not any(unfit(it, told, limit) for told in [*ahead, end]):
+        end, location = Cause("end_of_authority", it.end.speed, it.end.place), Cause("supervised_location", 0, it.end.location)
+        if not any(unfit(it, cause, limit) for cause in [*ahead, end]):
             ahead.append(end)
-        elif it.end.release == limit and not any(unfit(it, told, limit + 1) for told in [*ahead, location]):
-            return Told(release_told(life), limit)
+        elif it.end.release == limit and not any(unfit(it, cause, limit + 1) for cause in [*ahead, location]):
+            return Cause(release_kind(life), limit)
         else:
             ahead.append(location)
-    return next(told for told in ahead if not unfit(it, told, limit) and unfit(it, told, limit + 1))
+    return next(cause for cause in ahead if not unfit(it, cause, limit) and unfit(it, cause, limit + 1))
 
 
 def by_values(life, limit, kind, national, override=None):
@@ -132,23 +132,23 @@ def by_values(life, limit, kind, national, override=None):
     if found:
         return found
     if override == limit:
-        return Told("national_override", limit)
+        return Cause("national_override", limit)
     if limit in it.maximum():
-        return Told("train_maximum", limit)
+        return Cause("train_maximum", limit)
     assert limit == national
-    return Told(kind, limit)
+    return Cause(kind, limit)
 
 
 def limit_cause(life):
     """What decides the limit that was answered to the last event."""
     mode, limit, values = life.mode(), life.now.output.limit, life.national.in_force.values
     if mode in ("FS", "OS"):
-        told = supervised(life, limit) if life.train() else Told("no_train_data", limit)
+        cause = supervised(life, limit) if life.train() else Cause("no_train_data", limit)
     elif mode == "SR":
         override = values.override_speed if life.is_overridden() else None
-        told = by_values(life, limit, "national_staff_responsible", values.staff_responsible, override)
+        cause = by_values(life, limit, "national_staff_responsible", values.staff_responsible, override)
     elif mode == "UN":
-        told = by_values(life, limit, "national_unfitted", values.unfitted)
+        cause = by_values(life, limit, "national_unfitted", values.unfitted)
     else:
-        told = Told("national_shunting" if mode == "SH" else "no_speed", limit)
-    return told
+        cause = Cause("national_shunting" if mode == "SH" else "no_speed", limit)
+    return cause

@@ -16,7 +16,7 @@ Slope = namedtuple("Slope", "place gradient")
 
 
 class Track:
-    """What was reported, each question answered at one centimetre."""
+    """A track, with each question answered at one centimetre."""
 
     def __init__(self, numbers):
         self.said = []
@@ -27,18 +27,18 @@ class Track:
         self.say("authority", self.main, self.end, self.end_speed)
         self.on_sight, self.shunting = 5_000 * (1 + numbers.below(8)), 5_000 * (1 + numbers.below(6))
         self.say("national", self.on_sight, self.shunting)
-        self.statics = self.tell_statics(numbers)
-        self.slopes = self.tell_slopes(numbers)
-        self.areas = self.tell_areas(numbers)
-        self.restrictions = [self.tell_restriction(numbers) for _ in range(OF_EACH)]
+        self.statics = self.make_statics(numbers)
+        self.slopes = self.make_slopes(numbers)
+        self.areas = self.make_areas(numbers)
+        self.restrictions = [self.make_restriction(numbers) for _ in range(OF_EACH)]
 
     def say(self, word, *values, answer=""):
         line = " ".join([word, *map(str, values)])
         self.said.append(f"{line}:" + "".join(f" {number}" for number in answer))
 
-    def tell_statics(self, numbers):
+    def make_statics(self, numbers):
         """Packet 27 from place 0 on; 127 is an end mark, and of equal places the last holds."""
-        place, told = 0, []
+        place, statics = 0, []
         for number in range(OF_EACH):
             distance = 0 if number == 0 else numbers.below(LENGTH_CM // 80)
             speed = 127 if number > 3 and numbers.below(8) == 0 else 2 + numbers.below(9)
@@ -47,10 +47,10 @@ class Track:
             self.say("static", distance, speed, front, len(differences))
             for category, steps in differences:
                 self.say("difference", category, steps)
-            told.append(Static(place, speed, front, differences))
-        steps = [number for static in told for number in (static.place, self.speed_of(static))]
+            statics.append(Static(place, speed, front, differences))
+        steps = [number for static in statics for number in (static.place, self.speed_of(static))]
         self.say("statics", 0, answer=[0, *steps])
-        return told
+        return statics
 
     def speed_of(self, static):
         if static.speed == 127:
@@ -63,44 +63,44 @@ class Track:
         passed = [static for static in self.statics if static.place <= place]
         return None if not passed or any(static.speed == 127 for static in passed) else passed[-1]
 
-    def tell_slopes(self, numbers):
+    def make_slopes(self, numbers):
         """Packet 21 from place 0 on; 255 is an end mark."""
-        place, told = 0, []
+        place, slopes = 0, []
         for number in range(OF_EACH):
             distance = 0 if number == 0 else numbers.below(LENGTH_CM // 80)
             uphill, steepness = numbers.below(2), 255 if number > 5 and numbers.below(8) == 0 else numbers.below(60)
             place += 10 * distance
             self.say("slope", distance, uphill, steepness)
-            told.append(Slope(place, None if steepness == 255 else steepness if uphill else -steepness))
-        steps = [number for slope in told for number in (slope.place, -1 if slope.gradient is None else slope.gradient)]
+            slopes.append(Slope(place, None if steepness == 255 else steepness if uphill else -steepness))
+        steps = [number for slope in slopes for number in (slope.place, -1 if slope.gradient is None else slope.gradient)]
         self.say("slopes", 0, answer=[0, *steps])
-        return told
+        return slopes
 
     def gradient_at(self, place):
         passed = [slope.gradient for slope in self.slopes if slope.place <= place]
         return None if not passed or None in passed else passed[-1]
 
-    def tell_areas(self, numbers):
+    def make_areas(self, numbers):
         """Packet 80 from place 0 on; 32767 is no end, 127 the national value of the area's mode."""
-        start, told = 0, []
+        start, areas = 0, []
         for _ in range(OF_EACH):
             distance = numbers.below(LENGTH_CM // 80)
             length = numbers.one_of((0, 1, 10, 40, 32_767 if numbers.below(4) == 0 else 5))
             mode, speed = numbers.below(2), numbers.one_of((127, 1 + numbers.below(9)))
             start += 10 * distance
             self.say("mode_area", distance, mode, speed, length)
-            told.append(Area(start, None if length == 32_767 else start + 10 * length, mode, speed))
+            areas.append(Area(start, None if length == 32_767 else start + 10 * length, mode, speed))
         self.say("mode_areas", 0)
-        return told
+        return areas
 
     def area_speed(self, area):
         national = self.shunting if area.mode else self.on_sight
         return national if area.speed == 127 else 5_000 * area.speed
 
-    def tell_restriction(self, numbers):
-        told = Restriction(numbers.below(LENGTH_CM), numbers.one_of((0, 1, 50, 400)), 5_000 * (1 + numbers.below(9)), numbers.below(2))
-        self.say("restriction", *told)
-        return told
+    def make_restriction(self, numbers):
+        restriction = Restriction(numbers.below(LENGTH_CM), numbers.one_of((0, 1, 50, 400)), 5_000 * (1 + numbers.below(9)), numbers.below(2))
+        self.say("restriction", *restriction)
+        return restriction
 
     def restrictions_at(self, place):
         return [r for r in self.restrictions if r.start <= place < r.start + r.length]
@@ -193,6 +193,6 @@ def tracks(seed):
         yield track
 
 
-def made(seed):
+def make_rows(seed):
     """Returns the rows."""
     return HEADING + "".join("\nnew:\n" + "".join(f"{row}\n" for row in track.said) for track in tracks(seed))

@@ -1,11 +1,11 @@
 #!/usr/bin/env python3
-"""Makes all rows of the crates: those by hand (tests/rows), and after them the ones that the plain programs make.
+"""Make all rows of the crates: the hand-written ones (tests/rows), followed by those that the plain programs make.
 
     tests/plain/make_rows.py FOLDER [SEED]
 
-The folder is made, and may not be there. With another seed than 0 the pseudo-random rows are others, all with answers of
-the reference model; a row that finds something is kept as one by hand. What came up is printed. The exit status is 1
-where something that has to come up didn't, or a row by hand wants something else than the plain unit answers.
+FOLDER is made, and must not exist. Another SEED than 0 makes other pseudo-random rows, all with answers of the reference
+model; keep a row that finds a fault as a hand-written one. It prints what the rows cover. Exit status 1: something that has
+to be covered isn't, or a hand-written row wants another answer than the plain unit gives.
 """
 import sys
 from pathlib import Path
@@ -22,12 +22,12 @@ BY_HAND = Path(__file__).resolve().parents[1] / "rows"
 def all_rows(seed):
     """Returns the text of each file of rows by its name, and what is wrong."""
     text = {path.name: path.read_text() for path in BY_HAND.glob("*.row")}
-    lists, faults = random_lists.made(seed)
+    lists, faults = random_lists.make_rows(seed)
     text["test_kernel.row"] += "\n" + lists
-    text["test_modes.row"] += limit_rows.made(seed)
-    text["test_parts.row"] += part_rows.made()
-    text["test_onboard.row"], differences = onboard_lives.made(text["test_onboard.row"], seed)
-    text["test_blocks.row"] = blocks.made()
+    text["test_modes.row"] += limit_rows.make_rows(seed)
+    text["test_parts.row"] += part_rows.make_rows()
+    text["test_onboard.row"], differences = onboard_lives.make_rows(text["test_onboard.row"], seed)
+    text["test_blocks.row"] = blocks.make_rows()
     return text, [*faults, *differences]
 
 

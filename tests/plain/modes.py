@@ -1,4 +1,4 @@
-"""The modes: which follows which, what each keeps of what is known, and which packets it uses (SUBSET-026, 4.6, 4.8 and 4.10; the
+"""The modes: their transitions, the items that each keeps, and the packets that it uses (SUBSET-026, 4.6, 4.8 and 4.10; the
 rows and statuses are this project's)."""
 
 # The first row whose source is the old mode and whose conditions all hold is taken.
@@ -65,22 +65,22 @@ EVERY_PACKET = (3, 5, 12, 21, 27, 41, 65, 66, 80)
 USED = {"SH": (3, 65, 66), "TR": (3, 65, 66), "PT": (3, 41, 65, 66), "SF": ()}
 
 
-def rows_told():
+def table_rows():
     for line in ROWS.strip().splitlines():
         number, *words = line.split()
         modes = [word for word in words if word.isupper()]
         yield int(number), modes[:-1], modes[-1], words[len(modes):]
 
 
-def statuses_told():
+def status_rows():
     head, *lines = STATUSES.strip("\n").splitlines()
     for line in lines:
         item, *fates = line.split()
         yield item, dict(zip(head.split(), fates))
 
 
-TABLE = tuple(rows_told())
-FATES = dict(statuses_told())
+TABLE = tuple(table_rows())
+FATES = dict(status_rows())
 
 
 def row_of(mode, conditions):

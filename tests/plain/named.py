@@ -1,11 +1,11 @@
 """Telegrams written from named fields (SUBSET-026, 7.4 and 8.4; packet 3 in this project's order, or in that of the issue, with
 seven fields more).
 
-A telegram is reported as its header and its packets, one after another: `NID_BG 2; 65: NID_TSR 7, D_TSR 100, L_TSR 50, Q_FRONT 1,
+A telegram is written as its header and its packets, one after another: `NID_BG 2; 65: NID_TSR 7, D_TSR 100, L_TSR 50, Q_FRONT 1,
 V_TSR 4; 66: NID_TSR 8`. The fields of a packet stand in their order, each by its name; of the header and of a packet's head only
-what isn't usual is reported. L_PACKET is reckoned, where it isn't reported. A packet with a number alone has no more than its head.
+unusual values are written. L_PACKET is computed where it isn't given. A packet that is only a number has only its head.
 
-The widths stand in python/gaknifur/testing/telegrams.py too, on purpose: what tests write doesn't come from the program that they test.
+The widths are in python/gaknifur/testing/telegrams.py too, on purpose: what tests write doesn't come from the program that they test.
 """
 import re
 
@@ -56,10 +56,10 @@ def header_of(text):
 
 def packet_of(text):
     number, _, body = text.partition(":")
-    told = fields_of(body)
-    head = HEAD | {name: value for name, value in told if name in HEAD}
+    fields = fields_of(body)
+    head = HEAD | {name: value for name, value in fields if name in HEAD}
     scale = "" if int(number) in WITHOUT_SCALE else bits_of("Q_SCALE", head["Q_SCALE"])
-    rest = scale + "".join(bits_of(name, value) for name, value in told if name not in HEAD)
+    rest = scale + "".join(bits_of(name, value) for name, value in fields if name not in HEAD)
     length = 23 + len(rest) if head["L_PACKET"] is None else head["L_PACKET"]
     return bits_of("NID_PACKET", int(number)) + bits_of("Q_DIR", head["Q_DIR"]) + bits_of("L_PACKET", length) + rest
 

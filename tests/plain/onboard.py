@@ -1,4 +1,4 @@
-"""The onboard unit (this project's profile): it accepts events, commits them, and only then releases what the kernel answered."""
+"""The onboard unit (this project's profile): it accepts events, commits them, and only then releases the kernel's outputs."""
 from disk import DeviceFault
 from items import Kept
 from journal import COLD, Journal, Refused, event_of, kept_in, record_of

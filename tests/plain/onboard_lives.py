@@ -21,10 +21,10 @@ HEADING = """
 TELEGRAM = "hear 90007F802001506023A0E0190019427F80"  # a restriction, and country 1, group 2
 TRAIN = "enter-train-data 20000 160000 70 0 15"
 STARTED = (TELEGRAM, "enter-identity A", "choose-level 1", TRAIN, "start", "move 9046", "move 1", "move 7268", "move 1")
-BEHIND = "open not-moved; confirm identity; clock 9; flush; close; bytes"
+AFTERWARDS = "open not-moved; confirm identity; clock 9; flush; close; bytes"
 
 
-class Made:
+class RowWriter:
     """Rows as they are made, with what the plain program answers."""
 
     def __init__(self):
@@ -224,7 +224,7 @@ def cuts(made, numbers):
         for number in range(counts[-1] + 1):
             lists = lists_for(numbers, lived(made, number))
             for tried in [f"{EVERY} {text_of(lists)}"] if name in THOROUGH or len(lists) < 3 else some(lists, []):
-                for answers in made.say(f"try {tried}: again; cut {number}; {LIFE}; settle *; blocks; {BEHIND}"):
+                for answers in made.say(f"try {tried}: again; cut {number}; {LIFE}; settle *; blocks; {AFTERWARDS}"):
                     events_found = int(answers[7].split()[-1])
                     assert events_found in allowed(number, counts, events), (name, number, answers)
                     assert answers[8] == "opened", answers
@@ -266,7 +266,7 @@ def cut_again(made, numbers, number, first, before):
         count = 4 ** (sum(len(words) > 1 for words in first) + len(second))
         tries = [f"{BOTH} {text_of(first)} / {text_of(second)}"] if count <= BOTH else some(first, second)
         for lists in tries:
-            for answers in made.say(f"try {lists}: again; cut {number}; {LIFE}; settle *; cut {again}; open moved; settle %; blocks; {BEHIND}"):
+            for answers in made.say(f"try {lists}: again; cut {number}; {LIFE}; settle *; cut {again}; open moved; settle %; blocks; {AFTERWARDS}"):
                 assert int(answers[10].split()[-1]) in before | {count + 1 for count in before}, (number, again, answers)
                 assert answers[11] == "opened", answers
 
@@ -279,12 +279,12 @@ def faults(made):
         _, events = changes_in(made, LIFE)
         for settle in SETTLED:
             made.say(f"group power lost in any call, {name}, then {settle}")
-            for answers in made.say(f"for 0 79: again; cut-any *; {LIFE}; {settle}; blocks; {BEHIND}"):
+            for answers in made.say(f"for 0 79: again; cut-any *; {LIFE}; {settle}; blocks; {AFTERWARDS}"):
                 assert int(answers[7].split()[-1]) in events and answers[8] == "opened", answers
             made.say("end")
         for rest in ("", *(settle + "; " for settle in SETTLED)):
             made.say(f"group faults, {name}{', then ' + rest[:-2] if rest else ''}")
-            for answers in made.say(f"for 0 79: again; fail-any *; {LIFE}; clock 9; flush; close; {rest}blocks; {BEHIND}"):
+            for answers in made.say(f"for 0 79: again; fail-any *; {LIFE}; clock 9; flush; close; {rest}blocks; {AFTERWARDS}"):
                 opened, flushed, after = answers[2], answers[5], answers[6]
                 assert opened in ("opened", "1 DeviceFault"), answers
                 assert opened != "opened" or flushed[:2] in ("re", "20"), answers
@@ -305,7 +305,7 @@ def altered(made):
                          ("newest records", 21)):
         made.say(f"group altered bytes, {name}")
         for mask in ("01", "ff"):
-            for answers in made.say(f"for 0 511: again; flip {sector} * {mask}; blocks; {BEHIND}"):
+            for answers in made.say(f"for 0 511: again; flip {sector} * {mask}; blocks; {AFTERWARDS}"):
                 if sector == 0:
                     assert answers[3] in ("2 NotFormatted", "3 Damaged"), answers
                 if sector in (1, 19):
@@ -314,7 +314,7 @@ def altered(made):
     made.say("# A gate that a cut left closed above a head and records that were written.")
     made.say("format 4; cut 11; open unknown; clock 5; flush; clock 6; flush; settle old; keep; blocks -> 1 to 2, events 2")
     made.say("group altered bytes, a gate that was closed over a block")
-    for answers in made.say(f"for 0 511: again; flip 19 * 01; blocks; {BEHIND}"):
+    for answers in made.say(f"for 0 511: again; flip 19 * 01; blocks; {AFTERWARDS}"):
         assert answers[3] == "opened", answers
     made.say("end")
 
@@ -363,7 +363,7 @@ class World:
             say(said)
         self.found()
         self.made.reader.write(done)
-        self.made.reader.tell(done)
+        self.made.reader.answers(done)
 
     def accepted(self, known):
         self.kept.append(known.kept)
@@ -403,9 +403,9 @@ def make(made, seed):
     random_lives(made, seed)
 
 
-def made(by_hand, seed):
+def make_rows(by_hand, seed):
     """Returns the rows by hand with all others, and where a row by hand wants something else than the plain unit answers."""
-    rows = Made()
+    rows = RowWriter()
     for line in (by_hand.rstrip("\n") + "\n" + HEADING).rstrip("\n").split("\n"):
         rows.reader.take(line)
     make(rows, seed)

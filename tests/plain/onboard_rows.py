@@ -170,7 +170,7 @@ class Session:
 
     def do_kept(self, item):
         journal, _ = self.journal()
-        return rows.told(kept_in(journal.found), item) if journal.found else "no block"
+        return rows.kept_text(kept_in(journal.found), item) if journal.found else "no block"
 
     def loaded(self):
         journal, copy = self.journal()
@@ -214,16 +214,16 @@ class Reader:
         return []
 
     def each(self, each):
-        return [self.tell(self.done(line)) for line in ranged(each)]
+        return [self.answers(self.done(line)) for line in ranged(each)]
 
     def tried_each(self, each):
         before = {}
-        return [self.tell(self.tried(line, before)) for line in combined(each)]
+        return [self.answers(self.tried(line, before)) for line in combined(each)]
 
     def row(self, line):
         done = self.done(line)
         self.write(done)
-        return self.tell(done)
+        return self.answers(done)
 
     def done(self, line):
         """The commands of a line with their answers."""
@@ -258,7 +258,7 @@ class Reader:
         """Writes a line of its own: in a group without the answers."""
         self.written.append("; ".join(said for said, _ in done) if self.group else written(done))
 
-    def tell(self, done):
+    def answers(self, done):
         """The answers to a line's commands; a group takes them."""
         answers = [answer for _, answer in done]
         if self.group:

@@ -22,13 +22,13 @@ service    while  owed too long
 """
 
 
-def rows_told():
+def table_rows():
     for line in ROWS.strip().splitlines():
         brake, how, *words = re.split(" {2,}", line)
         yield brake, how, words[0], words[2] if how == "from" else None
 
 
-TABLE = tuple(rows_told())
+TABLE = tuple(table_rows())
 
 def limit_of(life, mode):
     values = life.national.in_force.values

@@ -1,10 +1,10 @@
 #!/usr/bin/env python3
-"""Whether docs/reference/format.md reports enough: images are listed by the reader that was written from that page (tests/lab/examined.py).
+"""Whether docs/reference/format.md says enough: images are listed by the reader that was written from that page (tests/lab/examined.py).
 
-    tests/plain/page_rows.py     of each case of the program's rows and examples that the plain program works out, the plain unit makes
-                                 the image, byte by byte; the lines are compared with those that the plain program prints. Then each
-                                 slot of the image is closed or damaged, and the lines are compared with those of the blocks that the
-                                 plain journal finds
+    tests/plain/page_rows.py     the plain unit makes the image of each case of the program's rows and examples that the plain program
+                                 works out; the lines are compared with those that the plain program prints. Then each slot of the
+                                 image is closed or damaged, and the lines are compared with those of the blocks that the plain
+                                 journal finds
 """
 import json
 import shlex
@@ -76,12 +76,12 @@ def found(image, lines):
         journal = Journal(disk)
     except Refused as refused:
         return [f"refused {29 + int(str(refused)[0])} {str(refused)[2:]}"], 1
-    told = []
+    listed = []
     for number in range(journal.first, journal.newest + 1):
         if read_block(journal.load(disk, number)) is None:
-            return told + ["refused 32 Damaged"], 1
-        told += [line for line in lines if line.startswith(f"block {number} ")]
-    return told, 0
+            return listed + ["refused 32 Damaged"], 1
+        listed += [line for line in lines if line.startswith(f"block {number} ")]
+    return listed, 0
 
 
 def main():

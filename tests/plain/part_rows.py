@@ -1,11 +1,11 @@
-"""Rows for test_parts that are too many for a hand (make_rows.py): groups of balises of which one is missed or none, and
-permitted speeds, as the definition says, speed by speed and centimetre by centimetre."""
+"""Rows for test_parts that are too many to write by hand (make_rows.py): groups of balises with one or none missed, and
+permitted speeds from the definition, speed by speed and centimetre by centimetre."""
 from collections import namedtuple
 from functools import lru_cache
 
 HEADING = "# ---- Made by tests/plain/part_rows.py.\n"
 
-Gradient = namedtuple("Gradient", "begins changes ends before behind")
+Gradient = namedtuple("Gradient", "begins changes ends before after")
 Train = namedtuple("Train", "deceleration reaction")
 
 # In m/h.
@@ -20,8 +20,8 @@ FRONTS = -7, 0, 4
 
 def balise(place, total, duplicate=0):
     """The words of a balise of group 5: its N_PIG, N_TOTAL and M_DUP."""
-    told = {"N_PIG": (place, 0), "N_TOTAL": (total, 1), "M_DUP": (duplicate, 0)}
-    differing = (f"{name}={number}" for name, (number, usual) in told.items() if number != usual)
+    words = {"N_PIG": (place, 0), "N_TOTAL": (total, 1), "M_DUP": (duplicate, 0)}
+    differing = (f"{name}={number}" for name, (number, usual) in words.items() if number != usual)
     return " ".join(["balises read", *differing])
 
 
@@ -38,13 +38,13 @@ def read(total):
         yield balise(place, total), f"own {whole(total)}" if place == total else "nothing"
 
 
-def missed(total, missing, before, behind):
+def missed(total, missing, before, after):
     """Groups of which one balise isn't read, with these M_DUP before and after it: a neighbour repeats it, or not."""
     yield "balises new", "done"
     for place in range(total + 1):
         if place != missing:
-            yield balise(place, total, before if place < missing else behind), "nothing"
-    is_repeated = before == 1 and missing > 0 or behind == 2 and missing < total
+            yield balise(place, total, before if place < missing else after), "nothing"
+    is_repeated = before == 1 and missing > 0 or after == 2 and missing < total
     yield "balises move 1301", f"left {whole(total, missing)}" if is_repeated else "left 5 broken: missing"
 
 
@@ -53,25 +53,25 @@ def groups():
         yield from read(total)
     for total in range(1, 8):
         for missing in range(total + 1):
-            for before, behind in ((0, 0), (1, 0), (0, 2), (2, 1)):
-                yield from missed(total, missing, before, behind)
+            for before, after in ((0, 0), (1, 0), (0, 2), (2, 1)):
+                yield from missed(total, missing, before, after)
 
 
 # ---- speeds
 
 
 def slowing(train, gradient, place):
-    """The deceleration at a centimetre, in cm/s2, rounded down; 0 where no gradient is reported."""
+    """The deceleration at a centimetre, in cm/s2, rounded down; 0 where no gradient is known."""
     if not gradient.begins <= place < gradient.ends:
         return 0
-    steepness = gradient.before if place < gradient.changes else gradient.behind
+    steepness = gradient.before if place < gradient.changes else gradient.after
     return max(0, train.deceleration + 981 * steepness // 1000)
 
 
 @lru_cache(maxsize=None)
-def taken_off(train, gradient, first, behind):
+def taken_off(train, gradient, first, end):
     """What the centimetres from one up to another, without it, take off the square of the speed: 1 cm/s is 36 m/h."""
-    return sum(2 * 36**2 * slowing(train, gradient, place) for place in range(first, behind))
+    return sum(2 * 36**2 * slowing(train, gradient, place) for place in range(first, end))
 
 
 def fits(speed, train, gradient, front, target):
@@ -110,6 +110,6 @@ def lines():
     yield from (f"{question}: {answer}" for question, answer in speeds())
 
 
-def made():
+def make_rows():
     """Returns the rows."""
     return HEADING + "".join(f"{line}\n" for line in lines())

@@ -17,7 +17,7 @@ class Sums:
 
 @dataclass(frozen=True)
 class Fix:
-    """A place reported by a group: where it lies, how exactly, the sums when its balise was read, and whether balise 1 was
+    """A place given by a group: where it lies, how exactly, the sums when its balise was read, and whether balise 1 was
     missed."""
 
     at: int

@@ -1,4 +1,4 @@
-"""The telegrams of which pseudo-random lists are made, by their fields (named.py)."""
+"""The telegrams in pseudo-random lists, by their fields (named.py)."""
 
 # Restrictions and their revocations, of groups 2 to 11, of one balise but for the last two.
 RESTRICTIONS = (
@@ -13,9 +13,9 @@ RESTRICTIONS = (
     "NID_BG 11; 65: NID_TSR 255, D_TSR 0, L_TSR 12, Q_FRONT 1, V_TSR 7",
     # 7 is revoked.
     "NID_BG 5; 66: NID_TSR 7",
-    # 8 is revoked, and restriction 9 of 15 km/h is reported, from the group on for 2.5 m.
+    # 8 is revoked, and restriction 9 of 15 km/h is announced, from the group on for 2.5 m.
     "NID_BG 6; 66: NID_TSR 8; 65: Q_SCALE 0, NID_TSR 9, D_TSR 0, L_TSR 25, Q_FRONT 1, V_TSR 3",
-    # 255 is revoked, and restriction 7 is reported for the nominal direction.
+    # 255 is revoked, and restriction 7 is announced for the nominal direction.
     "NID_BG 7; 66: NID_TSR 255; 65: Q_DIR 1, NID_TSR 7, D_TSR 0, L_TSR 30, Q_FRONT 1, V_TSR 1",
     # Counter 254.
     "M_MCOUNT 254, NID_BG 2; 65: NID_TSR 7, D_TSR 0, L_TSR 50, Q_FRONT 1, V_TSR 2",

@@ -1,5 +1,5 @@
 """What the program prints of a life on an image: a line for each output that is released, and the lines of the journal. It is written
-from the tables of the scenario and of the records (this project's profile) over the plain kernel, and knows no bytes of an image."""
+from the tables of the scenario and of the records (this project's profile) over the plain kernel, and doesn't know the bytes of an image."""
 import functools
 import itertools
 import struct
@@ -91,12 +91,12 @@ def event_of(kind, *values):
 # ---- an image
 
 @functools.lru_cache(maxsize=4096)
-def kept_behind(lives):
+def kept_after(lives):
     """What is kept after lives, each its word and its events: they are lived again, the same ones once."""
     if not lives:
         return Kept()
     *before, (word, taken) = lives
-    life = Life(kept_behind(tuple(before)), word)
+    life = Life(kept_after(tuple(before)), word)
     for event in taken:
         life.take(*event)
     return life.kept()
@@ -108,7 +108,7 @@ class Image:
 
     def begun(self, cold):
         """The next life, after all that is durable."""
-        kept = kept_behind(tuple((word, tuple(taken)) for word, taken in self.lives))
+        kept = kept_after(tuple((word, tuple(taken)) for word, taken in self.lives))
         self.lives.append((cold, []))
         return Life(kept, cold)
 

@@ -1,8 +1,8 @@
 #!/usr/bin/env python3
-"""Runs the rows of the program: files NAME.row, whose lines are commands of `etcs` with what it is to print and its exit status.
+"""Runs the rows of the program: files NAME.row, whose lines are commands of `etcs` with the wanted output and exit status.
 
-    tests/plain/program_rows.py PROGRAM [FILE ..]     runs them by this program
-    tests/plain/program_rows.py --check [FILE ..]     works out by the plain program what they want
+    tests/plain/program_rows.py PROGRAM [FILE ..]     run them on PROGRAM
+    tests/plain/program_rows.py --check [FILE ..]     work out the wanted output by the plain program
 
 A file has cases, each in a folder of its own that is empty at its start, but for the scenarios (*.json) along with the file:
 
@@ -236,12 +236,12 @@ def run_by(program, cases, is_whole):
             for line in case.lines:
                 runs += line.word in RUNS
                 try:
-                    told = room.does(line)
+                    difference = room.does(line)
                 except OSError as error:
-                    told = str(error)
-                if told:
+                    difference = str(error)
+                if difference:
                     found += 1
-                    print(f"{case.path.name}, case {case.name}, line {line.number}: {line.word} {line.rest[:200]}: {told}")
+                    print(f"{case.path.name}, case {case.name}, line {line.number}: {line.word} {line.rest[:200]}: {difference}")
             room.close()
     print(f"{len(cases)} cases, {runs} runs of the program, {found} differences")
     return 1 if found or is_whole and is_few("runs of the program", runs) else 0
@@ -277,7 +277,7 @@ def misnamed(path):
 
 def check(paths, cases, is_whole):
     found, runs = 0, 0
-    for difference in (told for path in paths for told in misnamed(path)):
+    for difference in (one for path in paths for one in misnamed(path)):
         found += 1
         print(difference)
     for case in cases:

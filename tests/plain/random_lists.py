@@ -105,7 +105,7 @@ def asked(numbers):
     return "place" if numbers.below(2) else "kept " + numbers.one_of(KEPT)
 
 
-class Made:
+class RandomList:
     """A list as it is made: each event is chosen by what the plain program knows after the ones before."""
 
     def __init__(self, name, numbers, telegrams, length):
@@ -159,10 +159,10 @@ def lists(seed):
     numbers = Numbers(2026 + seed)
     for name, telegrams, count, length in KINDS:
         for number in range(count):
-            yield Made(f"random {name} {number + 1}", numbers, telegrams, length)
+            yield RandomList(f"random {name} {number + 1}", numbers, telegrams, length)
 
 
-def made(seed):
+def make_rows(seed):
     """Returns the rows, and what they lack: with the seed 0 each mode, row of the mode table and cause to brake comes up."""
     found = list(lists(seed))
     counted = sum((one.counted for one in found), Counter())

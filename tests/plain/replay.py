@@ -1,7 +1,7 @@
 #!/usr/bin/env python3
 """Replays the journal of an image by the plain kernel: each life from its power-up on, after what the head before it says.
 
-    tests/plain/replay.py [--json] IMAGE     prints what `etcs_lab replay` prints, and ends with its status
+    tests/plain/replay.py [--json] IMAGE     print what `etcs_lab replay` prints, and end with its status
 """
 import json
 import sys
@@ -52,13 +52,13 @@ def input_of(event):
 
 
 def answer_object(record, form):
-    """What is reported of an event along with the event."""
-    told = {"event": record["number"], "time_ms": record["moment"], "mode": MODE_WORDS[record["mode"]],
+    """The answer that is recorded with an event."""
+    members = {"event": record["number"], "time_ms": record["moment"], "mode": MODE_WORDS[record["mode"]],
             "level": None if record["level"] == 255 else record["level"], "brake": BRAKES[record["brake"]],
             "indications": signs_of(record["ind"])}
     if form > 1:
-        told |= {"place_cm": record["estimate"], "uncertainty_cm": record["uncertainty"], "limit_m_per_h": record["limit"]}
-    return told
+        members |= {"place_cm": record["estimate"], "uncertainty_cm": record["uncertainty"], "limit_m_per_h": record["limit"]}
+    return members
 
 
 def kept_object(block):
@@ -114,12 +114,12 @@ class Walk:
         self.lines, self.is_whole = [], True
         self.life, self.reason = None, "before_oldest_block"  # the plain life, or why there is none
         self.open = []  # life and number of each event that no line says yet
-        self.kept = None  # what the head of the block before reports
+        self.kept = None  # what the head of the block before says
 
     def leave(self, life, number):
         self.open.append((max(0, life), number))
 
-    def tell(self):
+    def end_run(self):
         if self.open:
             (life, first), (_, last) = self.open[0], self.open[-1]
             where, members = f"life {life} events {first}..{last}", dict(life=life, first_event=first, last_event=last)
@@ -130,12 +130,12 @@ class Walk:
         self.open = []
 
     def gap(self):
-        self.tell()
+        self.end_run()
         self.life, self.reason, self.kept, self.is_whole = None, "gap", None, False
 
     def begin(self, block, at):
-        """A power-up: after what the head of the block before reports, or the kernel keeps where the life begins in a block."""
-        self.tell()
+        """A power-up: after what the head of the block before says, or the kernel keeps where the life begins in a block."""
+        self.end_run()
         record = block["records"][at]
         if at:
             kept, self.reason = (self.life.kept(), None) if self.life else (None, "within_block")
@@ -176,7 +176,7 @@ class Walk:
         for number in run_of(data, slots):
             at = SECTOR_BYTES * (1 + SLOT_SECTORS * (number % slots))
             self.block(number, data[at:at + SECTOR_BYTES * SLOT_SECTORS])
-        self.tell()
+        self.end_run()
         return True
 
 
@@ -188,11 +188,11 @@ class Replay(Walk):
     def say(self, plain, **members):
         self.lines.append(text(members) if self.is_json else plain)
 
-    def differ(self, where, members, kind, field, told, wanted):
-        self.tell()
+    def differ(self, where, members, kind, field, recorded, wanted):
+        self.end_run()
         self.is_whole = False
-        plain = f"{where} differs in {field}\n  journal: {members_text(told)}\n  kernel:  {members_text(wanted)}"
-        self.say(plain, **members, replay=kind, field=field, journal=told, kernel=wanted)
+        plain = f"{where} differs in {field}\n  journal: {members_text(recorded)}\n  kernel:  {members_text(wanted)}"
+        self.say(plain, **members, replay=kind, field=field, journal=recorded, kernel=wanted)
 
     def event(self, block, record, life):
         form = block["format"]

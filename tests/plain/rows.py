@@ -30,7 +30,7 @@ class Row:
 
 def answer_to(line, life):
     if line.word == "kept":
-        return told(life.kept(), line.value)
+        return kept_text(life.kept(), line.value)
     if line.word == "place":
         return " ".join(map(str, life.place()))
     output = life.now.output
@@ -42,8 +42,8 @@ def is_met(wanted, answer):
     return wanted == answer or (wanted.isdigit() and answer.split()[3:4] == [wanted])
 
 
-def told(kept, name):
-    """An item that is kept, as a row says it."""
+def kept_text(kept, name):
+    """A kept item in the words of a row."""
     if name == "identity":
         return "-" if kept.identity is None else kept.identity.encode().hex()
     if name in ("running-number", "train-data"):

@@ -1,4 +1,4 @@
-"""The speed limit where the train stands, and the permitted speed (this project's profile). Speeds are in metres per hour,
+"""The speed limit at the train, and the permitted speed (this project's profile). Speeds are in metres per hour,
 places in centimetres."""
 from collections import namedtuple
 
@@ -103,12 +103,12 @@ class Situation:
         gradient = self.gradients.at(place)
         return 0 if gradient is None else max(0, self.train.deceleration + 981 * gradient // 1000)
 
-    def taken_off(self, first, behind):
+    def taken_off(self, first, end):
         """What each centimetre from one up to another, and without it, takes off the square of the speed: 1 cm/s is
         36 m/h."""
-        places = pieces(self.gradients.starts(), first, behind - 1)
+        places = pieces(self.gradients.starts(), first, end - 1)
         return sum((after - place) * 2592 * self.deceleration_at(place)
-                   for place, after in zip(places, places[1:] + [behind]))
+                   for place, after in zip(places, places[1:] + [end]))
 
     def fits(self, speed, target):
         """The speed is no greater than the target's, or the brakes act before the target and take off enough."""

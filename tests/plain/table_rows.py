@@ -1,6 +1,6 @@
 #!/usr/bin/env python3
-"""The tables that tools/tables reads from the definitions, along with those of the plain program: the same rows in the same order, the same
-lines and cells. Each kind of table has rows, and whatever differs is reported."""
+"""Compares the tables that tools/tables reads from the definitions with those of the plain program: the same rows in the same order, the same
+lines and cells. Each kind of table has rows, and each difference is printed."""
 import importlib.machinery
 import importlib.util
 import itertools
@@ -115,7 +115,7 @@ def asked_by(case):
     return [(words, ASKED[trip, service]) for words, trip, service in (judged(case, reaction) for reaction in (0, 1, 2))]
 
 
-def told_of_group(words, asks):
+def group_cells(words, asks):
     """The same, as a row of the table says it."""
     began = next(it for it in ("ignored", "not used", "its packets are used", "it makes a fix at p", "missed") if words.startswith(it))
     by_reaction = ["a trip", "the service brake", "nothing"]
@@ -127,7 +127,7 @@ def more_pairs(defined):
     numbers, used = defined.packet_lines()
     yield "packets", [(mode, used[mode]) for mode in sorted(used)], [(mode, list(modes.used_in(mode))) for mode in sorted(used)]
     yield "actions", [by_table(line) for line in defined.action_lines()], [by_plain(key) for key in ACTIONS]
-    yield "groups", [told_of_group(words, asks) for _, words, asks in defined.group_rows()], [asked_by(case) for case in range(10)]
+    yield "groups", [group_cells(words, asks) for _, words, asks in defined.group_rows()], [asked_by(case) for case in range(10)]
 
 
 def pairs(defined):

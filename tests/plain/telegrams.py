@@ -1,7 +1,7 @@
 """Balise telegrams as the plain kernel uses them (SUBSET-026, chapters 7 and 8; packet 3 in this project's order).
 
-`read(data)` gives the telegram that some bytes carry, or None where they carry none. Each value is the number that
-stands in the bits (`decoded.py`); what it means is said where it is used.
+`read(data)` returns the telegram in some bytes, or None. Each value is the number in the bits (`decoded.py`); its meaning is
+explained where it is used.
 """
 from dataclasses import dataclass, field
 from types import SimpleNamespace
@@ -150,21 +150,21 @@ KNOWN = {3: national_values, 5: linking, 12: authority, 21: gradients, 27: stati
 SCALES_CM = (10, 100, 1000)
 
 
-def packet_of(told):
+def packet_of(from_bits):
     """A packet; of one that is skipped no more than its head is known."""
-    fields, packet = Fields(told.fields), SimpleNamespace(kind=told.number)
+    fields, packet = Fields(from_bits.fields), SimpleNamespace(kind=from_bits.number)
     packet.direction, _ = fields.all("Q_DIR L_PACKET")  # Q_DIR: 0 reverse, 1 nominal, 2 both
-    if not told.is_skipped:
-        if told.number != 66:
+    if not from_bits.is_skipped:
+        if from_bits.number != 66:
             packet.scale_cm = SCALES_CM[fields.take("Q_SCALE")]
-        KNOWN[told.number](fields, packet)
+        KNOWN[from_bits.number](fields, packet)
     return packet
 
 
 def read(data):
     """The telegram that these bytes carry, or None."""
     try:
-        told = decoded.telegram_of(data)
+        telegram = decoded.telegram_of(data)
     except decoded.Fault:
         return None
-    return Telegram(*(number for _, number in told.header[3:]), list(map(packet_of, told.packets)))
+    return Telegram(*(number for _, number in telegram.header[3:]), list(map(packet_of, telegram.packets)))

@@ -1,4 +1,4 @@
-"""Gradients, static speeds and restrictions, read off all that a life was reported (SUBSET-026, 3.11; the forgetting mark is
+"""Gradients, static speeds and restrictions, from all that was announced to a life (SUBSET-026, 3.11; the forgetting mark is
 this project's). Each question is answered for one centimetre; `starts` names the centimetres at which an answer may change,
 so it is the same from one of them up to the next."""
 from collections import namedtuple

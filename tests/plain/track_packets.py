@@ -1,10 +1,10 @@
 #!/usr/bin/env python3
-"""The packets that a track of issue 2.3.0 sends, as `track_packets` reports them (SUBSET-026, 7.4.2; docs/reference/packets.md): where they stand in
-a telegram, by L_PACKET alone, and the fields of each; and a telegram with its packet 3 in this project's order, as `installed_values`
+"""The packets that a track of issue 2.3.0 sends, as `track_packets` lists them (SUBSET-026, 7.4.2; docs/reference/packets.md): their places in
+a telegram, by L_PACKET only, and the fields of each; and a telegram with its packet 3 in this project's order, as `installed_values`
 writes it.
 
-A layout is a text of names. `(N_ITER ..)` has a counter and what comes so often; `[Q_NEWCOUNTRY=1 ..]` what comes where that
-field has this number."""
+A layout is a text of names. `(N_ITER ..)` has a counter and the fields that repeat; `[Q_NEWCOUNTRY=1 ..]` the fields that follow where
+that field has this number."""
 import re
 from functools import cache
 from pathlib import Path
@@ -93,10 +93,10 @@ LAYOUTS = {
     141: "Q_GDIR G_TSR",
     254: "",
 }
-WITH_BITS_BEHIND = (44,)
+WITH_TRAILING_BITS = (44,)
 
 # What single numbers mean (SUBSET-026, 7.5.1), as far as it is sure: NAME.. NUMBER=TEXT; ..
-MEANINGS = {name: {int(one.split("=")[0]): one.split("=")[1] for one in told.split("; ")} for names, told in {
+MEANINGS = {name: {int(one.split("=")[0]): one.split("=")[1] for one in texts.split("; ")} for names, texts in {
     "Q_UPDOWN": "0=down link; 1=up link",
     "M_VERSION": "16=version 1.0",
     "Q_MEDIA": "0=balise; 1=loop",
@@ -194,7 +194,7 @@ class Walk:
         return number
 
     def last(self, name):
-        return next(number for told, _, _, number in reversed(self.fields) if told == name)
+        return next(number for field, _, _, number in reversed(self.fields) if field == name)
 
     def all(self, parts, is_listed=False):
         for part in parts:
@@ -242,11 +242,11 @@ def kernel_fields(bits):
     fields = Fields(b"")
     fields.bits, fields.at = bits, 8
     try:
-        told = packet(fields, int(bits[:8], 2)).fields
+        pairs = packet(fields, int(bits[:8], 2)).fields
     except Fault as fault:
         return None, ("refused", str(fault))
     listed, at = [("NID_PACKET", 0, 8, int(bits[:8], 2))], 8
-    for name, number in told:
+    for name, number in pairs:
         listed.append((name, at, WIDTH[name], number))
         at += WIDTH[name]
     return listed, ("rest", 0)
@@ -266,7 +266,7 @@ def fields_of(data, number, start, length):
     except Stopped as stopped:
         return None, stopped.args
     rest = length - walk.at
-    if rest and number in LAYOUTS and number not in WITH_BITS_BEHIND:
+    if rest and number in LAYOUTS and number not in WITH_TRAILING_BITS:
         return None, ("long", None, walk.at)
     return walk.fields, ("rest", rest)
 

@@ -1,9 +1,9 @@
 #!/usr/bin/env python3
-"""Reports why the plain unit brakes, and what decides its limit: each life of an image is run again from its power-up on, after what the
-head before it says, and each event has a line at which brake, limit, a cause of the brake or the kind of the limit's cause is another
-one than before in its life. Events whose life can't be run again have one line with the reason, and each block that can't be read has one.
+"""Explains why the plain unit brakes, and what decides its limit: each life of an image is replayed from its power-up on, after the head
+before it, and each event has a line at which the brake, the limit, a cause of the brake or the kind of limit cause changes in its life.
+Events whose life can't be replayed have one line with the reason, and so has each block that can't be read.
 
-    tests/plain/why.py [--json] IMAGE [EVENT]     prints what `etcs_lab why` prints, and ends with its status
+    tests/plain/why.py [--json] IMAGE [EVENT]     print what `etcs_lab why` prints, and end with its status
 """
 import sys
 from pathlib import Path
@@ -136,18 +136,18 @@ def walked(data):
     return walk and walk.events
 
 
-def told_of(walk, is_json, only=None):
+def explained(walk, is_json, only=None):
     """Status and text."""
     if walk is None:
         return REFUSED, ""
     lines = [members if is_json else line for number, is_new, line, members in walk.lines if (is_new if only is None else number == only)]
-    is_told = walk.is_whole if only is None else bool(lines)
-    return (WHOLE if is_told else LOST), "".join(line + "\n" for line in lines)
+    is_found = walk.is_whole if only is None else bool(lines)
+    return (WHOLE if is_found else LOST), "".join(line + "\n" for line in lines)
 
 
 def main(words):
     is_json, words = "--json" in words, [word for word in words if word != "--json"]
-    status, said = told_of(walk_of(Path(words[0]).read_bytes()), is_json, int(words[1]) if words[1:] else None)
+    status, said = explained(walk_of(Path(words[0]).read_bytes()), is_json, int(words[1]) if words[1:] else None)
     print(said, end="")
     return status
 

@@ -1,16 +1,16 @@
-"""Rows of text as rows of numbers: what the program of rows is asked, and what it answers.
+"""Converts rows of text to rows of numbers, the questions to the program of rows, and its replies back.
 
 A file of rows holds each question with its wanted answer after it: `QUESTION: ANSWER`, or `QUESTION:` and lines that
 are indented. Empty lines, and lines that begin with `#`, are comments.
 
-Each module `test_..` takes these words:
+Each module `test_..` takes these arguments:
 
-    test_disk.py                  asks the program, and compares its answers with those that are wanted
-    test_disk.py --ask FOLDER     writes the questions into FOLDER alone, as cases of the program
-    test_disk.py --reported FOLDER    compares the answers that FOLDER has to these cases
+    test_disk.py                  ask the program, and compare its answers with the wanted ones
+    test_disk.py --ask FOLDER     only write the questions into FOLDER, as cases of the program
+    test_disk.py --compare FOLDER    compare the answers to these cases in FOLDER
 
-The rows are those of the folder that the variable ROWS names, which `tests/plain/make_rows.py` makes; without it, those
-by hand alone, which stand here.
+The rows are those of the folder that the variable ROWS names, which `tests/plain/make_rows.py` makes; without it, only
+the hand-written ones in this folder.
 
 tests/rows.sh has all of them ask first, so that the program is compiled once (tests/rows/tried). A case is a file of
 questions, of which the program answers each on what those before it left. Since a case has bounds, a module's questions
@@ -66,8 +66,8 @@ def signed(number):
     return number - 2**64 if number >= 2**63 else number
 
 
-class Told:
-    """Numbers that a program answered, taken one after the other."""
+class Reply:
+    """The numbers of a program's reply to a question, taken one after the other."""
 
     def __init__(self, numbers):
         self.numbers = list(numbers)
@@ -114,8 +114,8 @@ def ask(cases, folder):
         (Path(folder) / case.name).write_text(text_of(case.name, case.questions))
 
 
-def told(cases, folder):
-    """The rows of numbers that a folder has as answers, one to each question of the blocks."""
+def replies(cases, folder):
+    """The replies in a folder, as rows of numbers, one to each question of the blocks."""
     answers = []
     for case in cases:
         lines = (Path(folder) / case.name).read_text().splitlines()
@@ -132,23 +132,23 @@ def run(name, blocks, compare):
         case ["--ask", folder]:
             ask(cases, folder)
             return 0
-        case ["--told", folder]:
-            return 0 if compare(told(cases, folder)) else 1
+        case ["--compare", folder]:
+            return 0 if compare(replies(cases, folder)) else 1
         case []:
             with tempfile.TemporaryDirectory() as asked, tempfile.TemporaryDirectory() as answered:
                 ask(cases, asked)
                 if subprocess.run([HERE / "tried", asked, answered]).returncode:
                     return 1
-                return 0 if compare(told(cases, answered)) else 1
-    raise SystemExit(f"{name}: no words, or --ask or --told and a folder")
+                return 0 if compare(replies(cases, answered)) else 1
+    raise SystemExit(f"{name}: no words, or --ask or --compare and a folder")
 
 
 def words_of(answer, numbers):
     """The lines that the numbers say; a line that says what is wrong where they say none."""
-    told = Told(numbers)
+    reply = Reply(numbers)
     try:
-        lines = answer(told)
-        told.end()
+        lines = answer(reply)
+        reply.end()
         return lines
     except (ValueError, KeyError, IndexError, OverflowError) as fault:
         return [f"no answer ({fault}): {numbers}"]
@@ -158,7 +158,7 @@ def compare(name, rows, answers, answer_of):
     """Compares the rows of a file, prints what differs, and how many rows were tried. Whether all agree."""
     differ = 0
     for (place, question, wanted), numbers in zip(rows, answers):
-        found = words_of(lambda told: answer_of(question, told), numbers)
+        found = words_of(lambda reply: answer_of(question, reply), numbers)
         if found != wanted:
             differ += 1
             print(f"{name}.row:{place}: {question[:160]}", *(f"  wanted {line}" for line in wanted),
@@ -168,16 +168,16 @@ def compare(name, rows, answers, answer_of):
 
 
 def main(name, question_of, answer_of):
-    """Runs a file of rows. `question_of` makes numbers of a question, `answer_of` makes lines of a question and `Told`."""
+    """Runs a file of rows. `question_of` makes numbers of a question, `answer_of` makes lines of a question and its `Reply`."""
     rows = rows_of(text_in(name))
     questions = [question_of(question) for _, question, _ in rows]
     return run(name, [Block([], questions)], lambda answers: compare(name, rows, answers, answer_of))
 
 
-def answer_to(asking, told):
-    """The lines of a row that has asked, of what it was reported."""
+def answer_to(asking, replies):
+    """The lines of a row from the replies to its questions."""
     try:
-        asking.send(told)
+        asking.send(replies)
     except StopIteration as end:
         return ["  " + line for line in end.value]
     except (ValueError, KeyError, IndexError, OverflowError) as fault:
@@ -187,9 +187,9 @@ def answer_to(asking, told):
 
 def compare_asked(name, rows, askings, questions, answers):
     """Compares all rows, prints what differs, and how many were tried. Whether all agree."""
-    told, differ = iter(map(Told, answers)), 0
+    replies, differ = iter(map(Reply, answers)), 0
     for (place, question, wanted), asking, asked in zip(rows, askings, questions):
-        found = answer_to(asking, [next(told) for _ in asked])
+        found = answer_to(asking, [next(replies) for _ in asked])
         if found != wanted:
             differ += 1
             print(f"{name}.row:{place}: {question[:160]}", *(f"  wanted {line}" for line in wanted),
@@ -199,7 +199,7 @@ def compare_asked(name, rows, askings, questions, answers):
 
 
 def main_by_words(name, asked_by):
-    """Runs a file of rows whose first words are functions: each takes the other words, yields its questions, is sent what they were reported,
+    """Runs a file of rows whose first words are functions: each takes the other words, yields its questions, is sent the replies,
     and returns the lines."""
     rows, askings = rows_of(text_in(name)), []
     for _, question, _ in rows:

@@ -19,7 +19,7 @@
 
 An event is answered by the mode, the level, the brake, the limit (m/h) and the indications: `SR 1 none 40000 0`. The
 numbers stand in program/src/test_kernel.rt.txt."""
-from asking import Told, packed, signed
+from asking import Reply, packed, signed
 
 NEW = [0]  # equipment that never had power
 KNOWN = [3]  # where the train is, and what is kept
@@ -82,10 +82,10 @@ def data(part):
 
 def answers(word, value, numbers):
     """What each way answers to a line. ValueError and the like where the numbers say nothing."""
-    told = Told(numbers)
-    read = output if question(word, value) != KNOWN else lambda told: known(told)[item(word, value)]
-    found = [read(told) for _ in WAYS]
-    told.end()
+    reply = Reply(numbers)
+    read = output if question(word, value) != KNOWN else lambda reply: known(reply)[item(word, value)]
+    found = [read(reply) for _ in WAYS]
+    reply.end()
     return dict(zip(WAYS, found))
 
 
@@ -93,65 +93,65 @@ def item(word, value):
     return value if word == "kept" else word
 
 
-def output(told):
-    if told.take() == REFUSED:
+def output(reply):
+    if reply.take() == REFUSED:
         return "no memory"
-    mode, level, brake, limit, indications = told.take(5)
+    mode, level, brake, limit, indications = reply.take(5)
     return f"{MODES[mode]} {LEVELS[level]} {BRAKES[brake]} {limit} {indications}"
 
 
-def known(told):
+def known(reply):
     """Place and each item that is kept, by name."""
-    return {name: words(told) for name, words in (("place", place), *ITEMS.items())}
+    return {name: words(reply) for name, words in (("place", place), *ITEMS.items())}
 
 
-def place(told):
-    estimate, uncertainty = told.take(2)
+def place(reply):
+    estimate, uncertainty = reply.take(2)
     return f"{signed(estimate)} {uncertainty}"
 
 
-def counts(told):
-    return "{} {}".format(*told.take(2))
+def counts(reply):
+    return "{} {}".format(*reply.take(2))
 
 
-def trip(told):
-    return ["no", "yes"][told.take()]
+def trip(reply):
+    return ["no", "yes"][reply.take()]
 
 
-def identity(told):
-    size = told.take()
-    text = told.data(size, 2)
+def identity(reply):
+    size = reply.take()
+    text = reply.data(size, 2)
     return text.hex() if size else "-"
 
 
-def running_number(told):
-    is_known, number = told.take(2)
+def running_number(reply):
+    is_known, number = reply.take(2)
     return str(number) if is_known else "-"
 
 
-def train_data(told):
-    is_known, *train = told.take(6)
+def train_data(reply):
+    is_known, *train = reply.take(6)
     return " ".join(map(str, train)) if is_known else "-"
 
 
-def level(told):
-    status, number = told.take(2)
+def level(reply):
+    status, number = reply.take(2)
     return f"{STATUS[status]} {number}" if status else STATUS[status]
 
 
-def position(told):
-    status, country, group, distance = told.take(4)
+def position(reply):
+    status, country, group, distance = reply.take(4)
     return f"{STATUS[status]} {country} {group} {signed(distance)}" if status else STATUS[status]
 
 
-def national(told):
-    values = told.take(9)
+def national(reply):
+    values = reply.take(9)
     for _ in ("override_time", "staff_responsible_distance"):
-        is_known, limit = told.take(2)
+        is_known, limit = reply.take(2)
         values.append(limit if is_known else "-")
-    return " ".join(map(str, [*values, "of", *(told.take() for _ in range(told.take()))]))
+    return " ".join(map(str, [*values, "of", *(reply.take() for _ in range(reply.take()))]))
 
 
-# In the order in which they are reported.
+# In the order of the reply.
 ITEMS = {"counts": counts, "trip": trip, "identity": identity, "running-number": running_number,
          "train-data": train_data, "level": level, "position": position, "national": national}

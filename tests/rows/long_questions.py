@@ -1,7 +1,7 @@
 #!/usr/bin/env python3
-"""A question of more numbers than the program takes in a row is refused, before the program is asked.
+"""A question of more numbers than the program takes in a row is refused before the program is asked.
 
-The exit status is 1 where a row goes another way."""
+Exit status 1: a row is not."""
 import sys
 
 from asking import MOST, text_of

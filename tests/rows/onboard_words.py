@@ -12,7 +12,7 @@
     fail-any 3
     open unknown             or moved, not-moved: the unit powers up
     clock 1000               an input: a moment of the clock
-    move 100 5000            .. a reading: the movement, and the speed, which is 0 where none is reported
+    move 100 5000            .. a reading: the movement, and the speed, which is 0 where none is given
     hear 90007F80            .. the bytes of a telegram
     start                    .. an action of the driver (ACTIONS)
     flush                    with each pair that is released: number of the event, mode, level, brake, limit and
@@ -36,7 +36,7 @@ which stand on lines with `;` between them: tests/rows/onboard_words.py <ROWS"""
 import sys
 from functools import lru_cache
 
-from asking import Told, packed, signed
+from asking import Reply, packed, signed
 from kernel_words import BRAKES, COLD, ITEMS, LEVELS, MODES, an_input
 
 SLOT_BYTES = 3_072
@@ -117,8 +117,8 @@ ASKED = {
 def answer(said, rows):
     """The words of what a command's rows were answered; where they say none, what is wrong."""
     word = said.partition(" ")[0]
-    told = rows if word == "list" else rows[-2 if word == "openings" else -1]
-    return words(said if word == "kept" else word, tuple(map(tuple, told)) if word == "list" else tuple(told))
+    rows_read = rows if word == "list" else rows[-2 if word == "openings" else -1]
+    return words(said if word == "kept" else word, tuple(map(tuple, rows_read)) if word == "list" else tuple(rows_read))
 
 
 @lru_cache(None)
@@ -132,47 +132,47 @@ def words(word, numbers):
 def whole(word, numbers):
     if not numbers:
         return ""
-    told = Told(numbers)
-    text = told_by(word)(told)
-    told.end()
+    reply = Reply(numbers)
+    text = reader_of(word)(reply)
+    reply.end()
     return text
 
 
-def told_by(word):
+def reader_of(word):
     """Which answer is read as what: one of a command's own, else that of an input or of what is done to the disk."""
     if word.startswith("kept "):
-        return lambda told: kept_words(word.split()[1], told)
+        return lambda reply: kept_words(word.split()[1], reply)
     if word in ANSWERED:
         return ANSWERED[word]
-    return done if word in NUMBERED or word in ALONE or word in ASKED else lambda told: ACCEPT[told.take()]
+    return done if word in NUMBERED or word in ALONE or word in ASKED else lambda reply: ACCEPT[reply.take()]
 
 
-def done(told):
+def done(reply):
     """What is done to the disk, and a life that is begun, have no answer but this."""
-    return {31: "not done"}[told.take()]
+    return {31: "not done"}[reply.take()]
 
 
-def flushed(told):
-    refusal = told.take()
-    return released(told) if refusal == 0 else FLUSH[refusal]
+def flushed(reply):
+    refusal = reply.take()
+    return released(reply) if refusal == 0 else FLUSH[refusal]
 
 
-def released(told):
-    count = told.take()
-    return ", ".join([f"released {count}", *(pair(*told.take(6)) for _ in range(count))])
+def released(reply):
+    count = reply.take()
+    return ", ".join([f"released {count}", *(pair(*reply.take(6)) for _ in range(count))])
 
 
 def pair(event, mode, level, brake, limit, indications):
     return f"{event} {MODES[mode]} {LEVELS[level]} {BRAKES[brake]} {limit} {indications}"
 
 
-def closed(told):
-    state, changes, faults = told.take(3)
+def closed(reply):
+    state, changes, faults = reply.take(3)
     return {0: f"{changes} writes and syncs, faults {faults}", 30: "no power"}[state]
 
 
-def lived(told):
-    kind, step, refusal = told.take(3)
+def lived(reply):
+    kind, step, refusal = reply.take(3)
     ends = {
         0: lambda: "done",
         1: lambda: OPEN[refusal],
@@ -181,47 +181,47 @@ def lived(told):
         4: lambda: f"step {step} NoMemory",
         30: lambda: "no disk",
     }
-    return f"{ends[kind]()}, {released(told)}"
+    return f"{ends[kind]()}, {released(reply)}"
 
 
-def lived_in(told):
-    return done(told) if len(told.numbers) == 1 else lived(told)
+def lived_in(reply):
+    return done(reply) if len(reply.numbers) == 1 else lived(reply)
 
 
-def shown(text):
-    """What is reported after a 0; what stands there else is a refusal."""
-    def read(told):
-        refusal = told.take()
-        return SHOW[refusal] if refusal else text(told)
+def after_refusal(text):
+    """Reads what follows a 0; another number is a refusal."""
+    def read(reply):
+        refusal = reply.take()
+        return SHOW[refusal] if refusal else text(reply)
     return read
 
 
-def run_of_blocks(told):
-    return "{} to {}, events {}".format(*told.take(3))
+def run_of_blocks(reply):
+    return "{} to {}, events {}".format(*reply.take(3))
 
 
 ANSWERED = {
-    "open": lambda told: OPEN[told.take()],
-    "openings": lambda told: OPEN[told.take()],
+    "open": lambda reply: OPEN[reply.take()],
+    "openings": lambda reply: OPEN[reply.take()],
     "flush": flushed,
     "close": closed,
-    "calls": lambda told: CALLS[told.take()],
+    "calls": lambda reply: CALLS[reply.take()],
     "default": flushed,
     "run": lived,
     "run-in": lived_in,
-    "blocks": shown(run_of_blocks),
-    "bytes": shown(lambda told: f"{told.take():016x}"),
+    "blocks": after_refusal(run_of_blocks),
+    "bytes": after_refusal(lambda reply: f"{reply.take():016x}"),
 }
 
 
 # ---- what is kept
 
-def kept_words(item, told):
-    """An item of those that are reported, one after the other."""
-    refusal = told.take()
+def kept_words(item, reply):
+    """One of the items that follow each other in a reply."""
+    refusal = reply.take()
     if refusal:
         return SHOW[refusal]
-    return {name: text(told) for name, text in ITEMS.items()}[item]
+    return {name: text(reply) for name, text in ITEMS.items()}[item]
 
 
 # ---- the listing
@@ -237,27 +237,27 @@ def listing(rows):
 
 
 def block(numbers):
-    told = Told(numbers)
-    refusal = told.take()
+    reply = Reply(numbers)
+    refusal = reply.take()
     if refusal:
         return "" if refusal == 32 else SHOW[refusal]
-    number, count = told.take(2)
-    text = " ".join(f"| block {number} {record(told)}" for _ in range(count))
-    told.end()
+    number, count = reply.take(2)
+    text = " ".join(f"| block {number} {record(reply)}" for _ in range(count))
+    reply.end()
     return text
 
 
-def record(told):
-    event, kind, mode, status, brake, indications = told.take(6)
+def record(reply):
+    event, kind, mode, status, brake, indications = reply.take(6)
     text = f"event {event} {KINDS[kind]} {MODES[mode]} {LEVELS[status]} {BRAKES[brake]} {indications} "
-    text += payload(told) or "-"
-    known, estimate, uncertainty, limit = told.take(4)
+    text += payload(reply) or "-"
+    known, estimate, uncertainty, limit = reply.take(4)
     return text + (f" at {signed(estimate)} unc {uncertainty} limit {limit}" if known else "")
 
 
-def payload(told):
-    size = told.take()
-    data = b"".join(told.take().to_bytes(8, "big") for _ in range((size + 7) // 8))
+def payload(reply):
+    size = reply.take()
+    data = b"".join(reply.take().to_bytes(8, "big") for _ in range((size + 7) // 8))
     if any(data[size:]):
         raise ValueError("bytes beyond the size")
     return data[:size].hex()

@@ -1,7 +1,7 @@
 #!/usr/bin/env python3
 """Runs test_blocks.row over the program of rows (asking.py has the words).
 
-What is asked and reported, in numbers, stands in program/src/test_blocks.rt.txt. The rows and what they want are made by
+Questions and replies, in numbers, are described in program/src/test_blocks.rt.txt. The rows and what they want are made by
 tests/plain/blocks.py in each run (make_rows.py)."""
 import sys
 
@@ -38,11 +38,11 @@ def question(row):
     return [OPERATIONS[word], *numbers, *packed(bytes_of(SIZES[word], others[count:]))]
 
 
-def answer(row, told):
+def answer(row, reply):
     word = row.split()[0]
     if word == "block":
-        return block(told)
-    found, number, *again = told.take(3 if word == "sector" else 2)
+        return block(reply)
+    found, number, *again = reply.take(3 if word == "sector" else 2)
     if found == 0:
         return ["not valid" if word == "slot" else "refused"]
     if word == "sector":
@@ -50,56 +50,56 @@ def answer(row, told):
     return [f"number {number}" if word == "slot" else f"{number} refused"]
 
 
-def block(told):
-    if told.take() == 0:
+def block(reply):
+    if reply.take() == 0:
         return ["refused"]
-    form, number, events, lives, trip = told.take(5)
+    form, number, events, lives, trip = reply.take(5)
     lines = [f"  format {form} number {number} events {events} lives {lives} trip {TRIP[trip]}"]
-    lines += [*items(told), values(told)]
-    count = told.take()
-    lines += [record(told) for _ in range(count)]
-    again = told.take()
+    lines += [*items(reply), values(reply)]
+    count = reply.take()
+    lines += [record(reply) for _ in range(count)]
+    again = reply.take()
     return lines + (["  " + AGAIN[again]] if count == 1 else [])
 
 
-def items(told):
-    size = told.take()
-    name = told.data(size, 2)
+def items(reply):
+    size = reply.take()
+    name = reply.data(size, 2)
     yield f"  identity {name.hex()}" if size else "  no identity"
-    known, number = told.take(2)
+    known, number = reply.take(2)
     yield f"  running number {number}" if known else "  no running number"
-    known, *train = told.take(6)
+    known, *train = reply.take(6)
     yield "  train {} {} {} {} {}".format(*train) if known else "  no train data"
-    status, level = told.take(2)
+    status, level = reply.take(2)
     yield f"  level {level} {STATUS[status]}" if status else "  no level"
-    status, country, group, distance = told.take(4)
+    status, country, group, distance = reply.take(4)
     yield f"  position {country} {group} {signed(distance)} {STATUS[status]}" if status else "  no position"
 
 
-def values(told):
-    words = told.take(9)
+def values(reply):
+    words = reply.take(9)
     for _ in ("override_time", "staff_responsible_distance"):
-        known, limit = told.take(2)
+        known, limit = reply.take(2)
         words.append(limit if known else "-")
-    countries = [told.take() for _ in range(told.take())]
+    countries = [reply.take() for _ in range(reply.take())]
     return " ".join(["  values", *map(str, words), "for", *map(str, countries)])
 
 
-def record(told):
-    number, moment, mode, level, brake, shown = told.take(6)
+def record(reply):
+    number, moment, mode, level, brake, shown = reply.take(6)
     text = f"  event {number} at {moment} mode {mode} level {LEVELS[level]} brake {BRAKES[brake]} ind {shown}"
-    known, estimate, uncertainty, limit = told.take(4)
+    known, estimate, uncertainty, limit = reply.take(4)
     if known:
         text += f" place {signed(estimate)} {uncertainty} limit {limit}"
-    return text + ": " + event(told)
+    return text + ": " + event(reply)
 
 
-def event(told):
-    kind, *numbers = told.take(7)
+def event(reply):
+    kind, *numbers = reply.take(7)
     if kind == 1:
         return "power up, " + COLD[numbers[0]]
     if kind == 2:
-        return "telegram " + told.data(numbers[0], 13).hex()
+        return "telegram " + reply.data(numbers[0], 13).hex()
     if kind == 3:
         return f"odometer {signed(numbers[0])} {numbers[1]}"
     return f"clock {numbers[0]}" if kind == 4 else action(*numbers)

@@ -1,9 +1,9 @@
 #!/usr/bin/env python3
 """Runs test_decode.row over the program of rows (asking.py has the words).
 
-What is asked and reported, in numbers, stands in program/src/test_decode.rt.txt. Each word of a row is a function that yields
-its questions, is sent what they were reported, and returns the lines. The rows `decode` and `short` ask the program `etcs`;
-so does what is said of the agreement of all ways of reading. $ETCS names another one than the gate's."""
+Questions and replies, in numbers, are described in program/src/test_decode.rt.txt. Each word of a row is a function that yields
+its questions, is sent the replies, and returns the lines. The rows `decode` and `short` ask the program `etcs`;
+so does what is said of the agreement of all ways of reading. $ETCS names another one than that of the full check."""
 import os
 import resource
 import subprocess
@@ -31,9 +31,9 @@ def of_bytes(operation, data):
     return [operation, len(data), *(int.from_bytes(padded[at:at + 8], "big") for at in range(0, len(padded), 8))]
 
 
-def bytes_told(told):
-    size = told.take()
-    numbers = told.take((size + 7) // 8) if size else []
+def take_bytes(reply):
+    size = reply.take()
+    numbers = reply.take((size + 7) // 8) if size else []
     numbers = [numbers] if isinstance(numbers, int) else numbers
     return b"".join(number.to_bytes(8, "big") for number in numbers)[:size]
 
@@ -83,8 +83,8 @@ def put_over(data, at, width, number):
 
 def numbers(words):
     at, width, data = int(words[0]), int(words[1]), data_of(words[2])
-    told = yield [of_bytes(1, put_over(data, at, width, number)) for number in range(1 << width)]
-    faults = [FAULTS[one.take()] for one in told]
+    replies = yield [of_bytes(1, put_over(data, at, width, number)) for number in range(1 << width)]
+    faults = [FAULTS[one.take()] for one in replies]
     lines, first = [], 0
     for number in range(1, len(faults) + 1):
         if number == len(faults) or faults[number] != faults[first]:
@@ -93,13 +93,13 @@ def numbers(words):
     return lines
 
 
-def written(told):
+def written(reply):
     """As what a telegram is written, None where it is none."""
-    if told.take() == 0:
-        told.end()
+    if reply.take() == 0:
+        reply.end()
         return None
-    data = bytes_told(told)
-    told.end()
+    data = take_bytes(reply)
+    reply.end()
     return data
 
 
@@ -111,28 +111,28 @@ def without_end(data):
 
 
 def again(words):
-    [told] = yield [of_bytes(2, data_of(words[0]))]
-    data = written(told)
+    [reply] = yield [of_bytes(2, data_of(words[0]))]
+    data = written(reply)
     if data is None:
         return ["no telegram"]
     return [without_end(data)] if len(data) == 104 else [f"{len(data)} bytes"]
 
 
-def walk_of(told):
+def walk_of(reply):
     """The fault's number, and the packets with their places."""
-    fault = told.take()
+    fault = reply.take()
     packets = []
     if fault == 0:
-        for _ in range(told.take()):
-            number, offset = told.take(2)
-            packets.append((number, offset, bytes_told(told)))
-    told.end()
+        for _ in range(reply.take()):
+            number, offset = reply.take(2)
+            packets.append((number, offset, take_bytes(reply)))
+    reply.end()
     return fault, packets
 
 
 def places(words):
-    [told] = yield [of_bytes(3, data_of(words[0]))]
-    fault, packets = walk_of(told)
+    [reply] = yield [of_bytes(3, data_of(words[0]))]
+    fault, packets = walk_of(reply)
     if fault:
         return [FAULTS[fault]]
     return [f"packets: {len(packets)}",
@@ -140,41 +140,41 @@ def places(words):
 
 
 def packet(words):
-    [told] = yield [of_bytes(4, data_of(words[0]))]
-    fault = told.take()
+    [reply] = yield [of_bytes(4, data_of(words[0]))]
+    fault = reply.take()
     if fault:
-        told.end()
+        reply.end()
         return [FAULTS[fault]]
-    elements, differences, has_room = told.take(3)
-    data = bytes_told(told)
-    told.end()
+    elements, differences, has_room = reply.take(3)
+    data = take_bytes(reply)
+    reply.end()
     return [f"{elements} elements, {differences} differences", spell(data) if has_room else "no room"]
 
 
 def long(words):
-    [told] = yield [of_bytes(5, data_of(words[0]))]
-    less, more, found, fits, stays = told.take(5)
-    told.end()
+    [reply] = yield [of_bytes(5, data_of(words[0]))]
+    less, more, found, fits, stays = reply.take(5)
+    reply.end()
     return [f"in 160 bytes: {TRUTH[less]}", f"in 161 bytes: {TRUTH[more]}",
             f"in a telegram: {TRUTH[fits]}, array as it was: {TRUTH[stays]}" if found else "no packet"]
 
 
 def bits(words):
     pairs = [(int(width), int(number)) for width, number in zip(words[::2], words[1::2])]
-    [told] = yield [[6, len(pairs), *(word for pair in pairs for word in pair)]]
+    [reply] = yield [[6, len(pairs), *(word for pair in pairs for word in pair)]]
     lines = []
     for width, number in pairs:
-        has_room, size, *data = told.take(4)
+        has_room, size, *data = reply.take(4)
         lines.append(f"no number of {width} bits: {number}" if has_room == 2
                      else f"{number} in {width} bits: {TRUTH[has_room]}, {spell(bytes(data[:size]))}")
-    told.end()
+    reply.end()
     return lines
 
 
 def sizes(words):
-    [told] = yield [[7]]
-    packet_is, telegram_is = told.take(2)
-    told.end()
+    [reply] = yield [[7]]
+    packet_is, telegram_is = reply.take(2)
+    reply.end()
     return [f"a packet within 480 bytes: {TRUTH[packet_is]}", f"a telegram within 16384 bytes: {TRUTH[telegram_is]}"]
 
 
@@ -183,12 +183,12 @@ def spelling(words):
     others = [int(word) for word in others]
     if kind == "speeds":
         others = [others[0], len(others) - 1, *others[1:]]
-    [told] = yield [[8, KINDS[kind], *others]]
-    found, is_spelled, alone, beside = told.take(4)
-    told.end()
+    [reply] = yield [[8, KINDS[kind], *others]]
+    found, is_spelled, alone, in_pair = reply.take(4)
+    reply.end()
     if not found:
         return []
-    return [f"packet: {TRUTH[is_spelled]}", f"telegram, 0 of 0: {TRUTH[alone]}", f"telegram, 1 of 0: {TRUTH[beside]}"]
+    return [f"packet: {TRUTH[is_spelled]}", f"telegram, 0 of 0: {TRUTH[alone]}", f"telegram, 1 of 0: {TRUTH[in_pair]}"]
 
 
 class Chance:
@@ -238,10 +238,10 @@ def agreeing(all_data, faults, copies, walks):
 def mutated(words):
     chance, data = Chance(), data_of(words[1])
     all_data = [mutated_of(chance, data) for _ in range(int(words[0]))]
-    told = yield [of_bytes(way, data) for way in (1, 2, 3) for data in all_data]
+    replies = yield [of_bytes(way, data) for way in (1, 2, 3) for data in all_data]
     count = len(all_data)
-    faults = [one.take() for one in told[:count]]
-    copies, walks = [written(one) for one in told[count:2 * count]], [walk_of(one) for one in told[2 * count:]]
+    faults = [one.take() for one in replies[:count]]
+    copies, walks = [written(one) for one in replies[count:2 * count]], [walk_of(one) for one in replies[2 * count:]]
     return [f"decoded: {faults.count(0)}", *(f"refused {FAULTS[fault]}: {faults.count(fault)}" for fault in COUNTED),
             f"in agreement: {agreeing(all_data, faults, copies, walks)}"]
 

@@ -93,9 +93,9 @@ def question(row):
     return [DISKS[disk], operation, *map(int, others)]
 
 
-def answer(_row, told):
-    kind = told.take()
-    return [str(told.take()) if kind == 0 else ANSWERS[kind]]
+def answer(_row, reply):
+    kind = reply.take()
+    return [str(reply.take()) if kind == 0 else ANSWERS[kind]]
 
 
 if __name__ == "__main__":

@@ -53,7 +53,7 @@ def demands(answer):
     return lines or ["nothing"]
 
 
-def asked(data, mode, direction, overridden):
+def question_of(data, mode, direction, overridden):
     return [*of_bytes(1, data), mode, direction, overridden]
 
 
@@ -63,7 +63,7 @@ def by_bits(before, words, after):
     bits = "".join(bits[overridden:])
     if set(bits) - set("01"):
         raise ValueError("no bits")
-    return asked(data_of(before + bits + after), MODES[mode], DIRECTIONS[direction], int(overridden))
+    return question_of(data_of(before + bits + after), MODES[mode], DIRECTIONS[direction], int(overridden))
 
 
 def packets(words):
@@ -77,7 +77,7 @@ def telegram(words):
 
 
 def numbers(words):
-    [answer] = yield [asked(data_of(HEADER + STOP + "1" * 8), *map(int, words))]
+    [answer] = yield [question_of(data_of(HEADER + STOP + "1" * 8), *map(int, words))]
     return demands(answer)
 
 

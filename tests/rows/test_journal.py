@@ -82,27 +82,27 @@ def question(row):
     return asked_of(0, *BEFALLS[word], words) if word in BEFALLS else asked_of(1, *CALLS[word], words)
 
 
-def answer(row, told):
+def answer(row, reply):
     word = row.split()[0]
     if word == "slots":
-        return [slots(told)]
+        return [slots(reply)]
     if word == "list":
-        return list_lines(told)
-    if word in TELLING:
-        text = TELLING[word](told)
-        return [f"{text}, {cost(told)}" if text else cost(told)]
-    return [["not made" if word in ("make", "patch") else "no memory", "done"][told.take()]]
+        return list_lines(reply)
+    if word in READERS:
+        text = READERS[word](reply)
+        return [f"{text}, {cost(reply)}" if text else cost(reply)]
+    return [["not made" if word in ("make", "patch") else "no memory", "done"][reply.take()]]
 
 
-def slots(told):
-    known = [told.take(2) for _ in range(told.take())]
+def slots(reply):
+    known = [reply.take(2) for _ in range(reply.take())]
     if not known or any(is_read == 0 for is_read, _ in known):
         return "not read"
     return " ".join(str(number) for _, number in known)
 
 
-def cost(told):
-    calls, before, now = told.take(3)
+def cost(reply):
+    calls, before, now = reply.take(3)
     return f"calls {calls}" if before == now else f"calls {calls}, faults {before} to {now}"
 
 
@@ -111,60 +111,60 @@ def named(names, number):
     return f"{number} {names[number]}" if number not in (0, 100) else names[number]
 
 
-def journal(told):
-    is_open, count, first, newest, events, failed = told.take(6)
+def journal(reply):
+    is_open, count, first, newest, events, failed = reply.take(6)
     if not is_open:
         return "not open"
     return f"{count} slots, blocks {first} to {newest}, events {events}" + ", failed" * failed
 
 
-def opening(told):
-    refusal = told.take()
+def opening(reply):
+    refusal = reply.take()
     if refusal:
         return named(OPENING, refusal)
-    text = journal(told)
-    is_found, form, events, lives = told.take(4)
+    text = journal(reply)
+    is_found, form, events, lives = reply.take(4)
     if not is_found:
         return f"{text}, no head"
     return f"{text}, head of format {form} with events {events} and lives {lives}"
 
 
-def committing(told):
-    return f"{named(COMMITTING, told.take())}: {journal(told)}"
+def committing(reply):
+    return f"{named(COMMITTING, reply.take())}: {journal(reply)}"
 
 
-def block(told):
-    refusal = told.take()
+def block(reply):
+    refusal = reply.take()
     if refusal:
         return named(READING, refusal)
-    number, form, count = told.take(3)
-    return " ".join([f"{number} of format {form} with", *(str(told.take()) for _ in range(count))])
+    number, form, count = reply.take(3)
+    return " ".join([f"{number} of format {form} with", *(str(reply.take()) for _ in range(count))])
 
 
-def retained(told):
-    if told.take():
+def retained(reply):
+    if reply.take():
         return "not open"
-    return ": ".join([block(told) for _ in range(told.take())])
+    return ": ".join([block(reply) for _ in range(reply.take())])
 
 
-def page(told):
+def page(reply):
     """The lines of a page of so many bytes, eight to a number."""
-    size = told.take()
-    data = b"".join(told.take().to_bytes(8, "big") for _ in range((size + 7) // 8))
+    size = reply.take()
+    data = b"".join(reply.take().to_bytes(8, "big") for _ in range((size + 7) // 8))
     if any(data[size:]):
         raise ValueError("bytes beyond the size")
     return data[:size].decode("ascii").splitlines()
 
 
-def list_lines(told):
-    done = told.take()
-    lines = [] if done else page(told)
-    first = f"{named(LISTING, done)}, {cost(told)}"
+def list_lines(reply):
+    done = reply.take()
+    lines = [] if done else page(reply)
+    first = f"{named(LISTING, done)}, {cost(reply)}"
     return ["  " + line for line in (first, *lines)] if lines else [first]
 
 
-TELLING = {
-    "format": lambda told: named(FORMATTING, told.take()), "open": opening, "steps": opening, "commit": committing,
+READERS = {
+    "format": lambda reply: named(FORMATTING, reply.take()), "open": opening, "steps": opening, "commit": committing,
     "commits": committing, "block": block, "retained": retained,
 }
 

@@ -5,7 +5,7 @@
                     the kit's `serde_json` reads none in it
     lists 127       the same of so many lists, each but the last with the next one as its only item
 
-What is asked and reported, in numbers, stands in program/src/test_json.rt.txt."""
+Questions and replies, in numbers, are described in program/src/test_json.rt.txt."""
 import re
 import sys
 
@@ -31,8 +31,8 @@ def question(row):
     return of_bytes(1, data)
 
 
-def answer(_row, told):
-    return [ANSWERS[told.take()]]
+def answer(_row, reply):
+    return [ANSWERS[reply.take()]]
 
 
 if __name__ == "__main__":

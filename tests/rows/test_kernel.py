@@ -8,7 +8,7 @@
     clock 4000 -> 40000              with the limit alone
     place -> 9047 953                what is asked for
 
-Each line that gets another answer is printed: by `step` over stores that keep all that was reported, by `apply` in place
+Each line that gets another answer is printed: by `step` over stores that keep all that was announced, by `apply` in place
 over stores that stay short, or by `apply` where each life begins by `power_up` with what was kept. So is each that is
 refused memory, and each whose answer says nothing. What is asked and reported, in numbers, stands in
 program/src/test_kernel.rt.txt; tests/plain/check_rows.py works out the wanted answers by the plain program."""
@@ -47,7 +47,7 @@ def is_met(wanted, found):
     return found != "no memory" if wanted is None else rows.is_met(wanted, found)
 
 
-def told(lists, answers):
+def answered(lists, answers):
     """Each line of the lists with its row and the numbers that it is answered."""
     numbers = iter(answers)
     for row in lists:
@@ -60,7 +60,7 @@ def told(lists, answers):
 def compare(lists, answers):
     """Compares all rows, prints what differs, and how many lines were tried. Whether all agree."""
     differ = 0
-    for row, line, numbers in told(lists, answers):
+    for row, line, numbers in answered(lists, answers):
         for found in differences(line, numbers):
             differ += 1
             print(f"{NAME}.row:{line.number}: {row.name}: {line.word} {line.value}", f"  wanted {line.wanted}",

@@ -48,7 +48,7 @@ shows nothing of it:
                                      maximum safe front
     targets 0 10000 40000            those ahead of a front, with a last target or none: the place and speed of each
     permitted 0 160000 10000 40000   from a front, up to a limit, with a last target or none
-    fitting 0 160000 10000 40000     .. that fits the targets that are reported one by one
+    fitting 0 160000 10000 40000     .. that fits the targets that are given one by one
     either 0 160000 10000 40000 20000 0
 
 A first word that isn't here has no number. The program is asked 0 then, which is no row of its own either. What is
@@ -156,52 +156,52 @@ def area_without_acknowledgement(words):
 
 # ---- answers
 
-def nothing(_told):
+def nothing(_reply):
     return []
 
 
-def done(_told):
+def done(_reply):
     return ["done"]
 
 
 def one_of(*names):
-    def lines(told):
-        return [names[told.take()]]
+    def lines(reply):
+        return [names[reply.take()]]
     return lines
 
 
-def told_mode(told):
+def read_mode(reply):
     names = {number: name for name, number in MODES.items()}
-    return [names[told.take()]]
+    return [names[reply.take()]]
 
 
-def told_number(told):
-    return [str(told.take())]
+def read_number(reply):
+    return [str(reply.take())]
 
 
 def in_line(numbers):
     return [" ".join(map(str, numbers))] if numbers else []
 
 
-def told_steps(told):
+def read_steps(reply):
     """Where a profile begins, and each step; -1 stands for no value."""
-    numbers = [signed(told.take())]
-    while told.numbers:
-        at, is_known, value = told.take(3)
+    numbers = [signed(reply.take())]
+    while reply.numbers:
+        at, is_known, value = reply.take(3)
         numbers += [signed(at), signed(value) if is_known else -1]
     return in_line(numbers)
 
 
-def told_targets(told):
+def read_targets(reply):
     numbers = []
-    while told.numbers:
-        at, speed = told.take(2)
+    while reply.numbers:
+        at, speed = reply.take(2)
         numbers += [signed(at), speed]
     return in_line(numbers)
 
 
-def told_two(told):
-    return in_line(told.take(2))
+def read_two(reply):
+    return in_line(reply.take(2))
 
 
 yes_or_no = one_of("no", "yes")
@@ -212,7 +212,7 @@ state = one_of("nothing", "asked", "acknowledged", "owed")
 # Of each row's first words the numbers, what takes the words after them, and what makes words of the answer.
 ROWS = {
     "new": ([1], each(), nothing),
-    "mode": ([2, 0], mode_and_conditions, told_mode),
+    "mode": ([2, 0], mode_and_conditions, read_mode),
     "entry": ([2, 1], each(mode, item), fate),
     "power_up": ([2, 2], each(cold, item), fate),
     "packet": ([2, 3], each(mode, number), yes_or_no),
@@ -238,7 +238,7 @@ ROWS = {
     "areas is_met": ([4, 5], each(area_mode, place, place), yes_or_no),
     "areas asks": ([4, 6], each(area_mode, place, place), yes_or_no),
     "areas is_left": ([4, 7], each(area_mode, place), yes_or_no),
-    "areas least": ([4, 8], each(place, place, number), told_number),
+    "areas least": ([4, 8], each(place, place, number), read_number),
     "areas reach": ([4, 9], each(place), one_of("0", "1", "none")),
     "areas level_0_is_left": ([4, 10], each(), yes_or_no),
     "areas level_0_asks": ([4, 11], each(place), yes_or_no),
@@ -254,17 +254,17 @@ ROWS = {
     "national": ([6, 2], each(number, number), nothing),
     "static": ([6, 3], each(number, number, number, number), nothing),
     "difference": ([6, 4], each(number, number), nothing),
-    "statics": ([6, 5], each(place), told_steps),
+    "statics": ([6, 5], each(place), read_steps),
     "slope": ([6, 6], each(number, number, number), nothing),
-    "slopes": ([6, 7], each(place), told_steps),
+    "slopes": ([6, 7], each(place), read_steps),
     "mode_area": ([6, 8], area_without_acknowledgement, nothing),
     "mode_areas": ([6, 9], each(place), nothing),
     "restriction": ([6, 10], each(place, number, number, number), nothing),
-    "limit": ([7, 0], each(place, place, place), told_number),
-    "targets": ([7, 1], front_and_last, told_targets),
-    "permitted": ([7, 2], with_last(place, number), told_number),
-    "fitting": ([7, 3], with_last(place, number), told_number),
-    "either": ([7, 4], each(place, number, lambda word: [1, *place(word)], number, place, number), told_two),
+    "limit": ([7, 0], each(place, place, place), read_number),
+    "targets": ([7, 1], front_and_last, read_targets),
+    "permitted": ([7, 2], with_last(place, number), read_number),
+    "fitting": ([7, 3], with_last(place, number), read_number),
+    "either": ([7, 4], each(place, number, lambda word: [1, *place(word)], number, place, number), read_two),
 }
 GROUPS = ("driver", "areas", "kind")
 NO_ROW = ([0], lambda _words: [], nothing)
@@ -282,11 +282,11 @@ def question(row):
     return numbers + take(words)
 
 
-def answer(row, told):
+def answer(row, reply):
     (_, _, lines), _ = row_of(row)
-    if not told.numbers:
+    if not reply.numbers:
         return ["no row"]
-    return ["no memory"] if told.take() == 2 else lines(told)
+    return ["no memory"] if reply.take() == 2 else lines(reply)
 
 
 if __name__ == "__main__":

@@ -3,7 +3,7 @@
 
 A row is one or several commands with `;` between them, which are done in turn. What each is to answer comes after
 `->`. Some lines stand for many, and of the lines in a group the digest of the answers alone is wanted
-(tests/plain/row_lines.py). What the commands mean stands in onboard_words.py, and what is asked and reported, in numbers,
+(tests/plain/row_lines.py). What the commands mean stands in onboard_words.py, and questions and replies, in numbers,
 in program/src/test_onboard.rt.txt."""
 import sys
 
@@ -93,8 +93,8 @@ def differences(lines, wanted, answers):
     if wanted is not None:
         found = digest(lines, answers)
         return [("the group up to here", wanted, found)] if found != wanted else []
-    told = [(said, want, answers.take(said)) for line in lines for said, want in commands_of(line)]
-    return [(said, want, found) for said, want, found in told if want != found]
+    answered = [(said, want, answers.take(said)) for line in lines for said, want in commands_of(line)]
+    return [(said, want, found) for said, want, found in answered if want != found]
 
 
 def compare(rows, answers):
@@ -103,8 +103,8 @@ def compare(rows, answers):
     for place, lines, wanted in rows:
         found = differences(lines, wanted, answers)
         differ += bool(found)
-        for said, want, told in found:
-            print(f"{NAME}.row:{place}: {said[:160]}", f"  wanted {want}", f"  found  {told}", sep="\n")
+        for said, want, got in found:
+            print(f"{NAME}.row:{place}: {said[:160]}", f"  wanted {want}", f"  found  {got}", sep="\n")
     print(f"{NAME}: {sum(len(lines) for _, lines, _ in rows)} rows, {differ} differ")
     return differ == 0
 

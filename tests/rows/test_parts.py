@@ -3,7 +3,7 @@
 
 A row's first word names the part that it is for; `test_parts_track.py`, `test_parts_packets.py` and
 `test_parts_groups.py` list what each part is asked. A row goes on where the one before of its part ended; `new` begins
-anew. What is asked and reported, in numbers, stands in program/src/test_parts.rt.txt. The rows of
+anew. Questions and replies, in numbers, are described in program/src/test_parts.rt.txt. The rows of
 tests/rows were worked out by hand from SUBSET-026 and this project's profile; tests/plain/make_rows.py adds those of
 part_rows.py."""
 import sys
@@ -15,15 +15,15 @@ from asking import main
 
 # Of each part its number, what makes numbers of a question's words, and what makes words of the answer.
 PARTS = {
-    "place": (1, test_parts_track.place, test_parts_track.place_told),
-    "restriction": (2, test_parts_track.restriction, test_parts_track.restriction_told),
-    "profile": (3, test_parts_track.profile, test_parts_track.profile_told),
-    "links": (4, test_parts_groups.links, test_parts_groups.links_told),
-    "national": (5, test_parts_packets.national, test_parts_packets.national_told),
-    "authority": (6, test_parts_packets.authority, test_parts_packets.authority_told),
-    "balises": (7, test_parts_groups.balises, test_parts_groups.balises_told),
-    "speed": (8, test_parts_track.speed, test_parts_track.speed_told),
-    "telegram": (9, test_parts_groups.telegram, test_parts_groups.telegram_told),
+    "place": (1, test_parts_track.place, test_parts_track.place_answer),
+    "restriction": (2, test_parts_track.restriction, test_parts_track.restriction_answer),
+    "profile": (3, test_parts_track.profile, test_parts_track.profile_answer),
+    "links": (4, test_parts_groups.links, test_parts_groups.links_answer),
+    "national": (5, test_parts_packets.national, test_parts_packets.national_answer),
+    "authority": (6, test_parts_packets.authority, test_parts_packets.authority_answer),
+    "balises": (7, test_parts_groups.balises, test_parts_groups.balises_answer),
+    "speed": (8, test_parts_track.speed, test_parts_track.speed_answer),
+    "telegram": (9, test_parts_groups.telegram, test_parts_groups.telegram_answer),
 }
 
 
@@ -33,9 +33,9 @@ def question(row):
     return [number, *numbers_of(words)]
 
 
-def answer(row, told):
+def answer(row, reply):
     part, *words = row.split()
-    return [PARTS[part][2](words, told)]
+    return [PARTS[part][2](words, reply)]
 
 
 if __name__ == "__main__":

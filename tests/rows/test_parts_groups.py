@@ -21,8 +21,8 @@ centimetres.
 
     telegram 90007F80               what is left of one
 
-Of a group that is read or broken is reported what becomes of it, and what is asked for: a trip, the service brake, both or
-nothing. Of balises are reported the group that this ends (`left`), and the telegram's own where it is whole now (`own`),
+The answer on a group that is read or broken is what becomes of it, and what is asked for: a trip, the service brake, both or
+nothing. The answer on balises is the group that this ends (`left`), and the telegram's own where it is whole now (`own`),
 each by its message: NID_BG, the direction of passing, its place by the sums of the movements and of the path, whether
 balise 1 was missed, and the numbers of its packets; or that it is broken, with the cause.
 """
@@ -66,8 +66,8 @@ def links(words):
     return called(LINKS, words)
 
 
-def links_told(words, told):
-    asked, verdict, number, trip, service = told.take(5)
+def links_answer(words, reply):
+    asked, verdict, number, trip, service = reply.take(5)
     if not asked:
         return REFUSED
     if words[0] == "in":
@@ -75,19 +75,19 @@ def links_told(words, told):
     if words[0] not in ("read", "break", "miss"):
         return "done"
     effect = EFFECTS[trip, service]
-    return f"{verdict_told(verdict, number)}, {effect}" if words[0] == "read" else effect
+    return f"{verdict_text(verdict, number)}, {effect}" if words[0] == "read" else effect
 
 
-def verdict_told(verdict, number):
+def verdict_text(verdict, number):
     return {1: "accepted", 2: f"accepted as {number}", 3: "ignored", 4: f"refused as {number}"}[verdict]
 
 
 def telegram_of(words):
     """The bytes of a telegram (SUBSET-026, 8.4.2)."""
-    told = dict(word.split("=") for word in words)
-    numbers = [bits(8, word) for word in told.pop("packets", "").replace(",", " ").split()]
-    fields = [(width, told.pop(name, number)) for name, (width, number) in FIRST.items()]
-    if told:
+    given = dict(word.split("=") for word in words)
+    numbers = [bits(8, word) for word in given.pop("packets", "").replace(",", " ").split()]
+    fields = [(width, given.pop(name, number)) for name, (width, number) in FIRST.items()]
+    if given:
         raise ValueError(f"{' '.join(words)}: no telegram")
     for number in numbers:
         fields += [(8, number), *HEAD]
@@ -103,28 +103,28 @@ def balises(words):
     return called({"new": (1, 0), "move": (3, 1)}, words)
 
 
-def balises_told(words, told):
-    if told.take() == 0:
+def balises_answer(words, reply):
+    if reply.take() == 0:
         return REFUSED
     if words[0] == "new":
         return "done"
-    closed = [f"{name} {text}" for name in ("left", "own") if (text := closed_told(told))]
+    closed = [f"{name} {text}" for name in ("left", "own") if (text := take_closed(reply))]
     return ", ".join(closed) or "nothing"
 
 
-def closed_told(told):
-    kind = told.take()
+def take_closed(reply):
+    kind = reply.take()
     if kind == 2:
-        number, cause = told.take(2)
+        number, cause = reply.take(2)
         return f"{number} broken: {CAUSES[cause]}"
-    return message_told(told) if kind == 1 else ""
+    return take_message(reply) if kind == 1 else ""
 
 
-def message_told(told):
-    number, direction, moved, path, missed = told.take(5)
+def take_message(reply):
+    number, direction, moved, path, missed = reply.take(5)
     text = f"{number} {DIRECTIONS[direction]} {signed(moved)} {path}" + (" missed" if missed else "")
     packets = []
-    while (packet := told.take()) != END_OF_PACKETS:
+    while (packet := reply.take()) != END_OF_PACKETS:
         packets.append(str(packet))
     return " packets ".join([text, *([" ".join(packets)] if packets else [])])
 
@@ -134,8 +134,8 @@ def telegram(words):
     return [len(data), *packed(data)]
 
 
-def telegram_told(_words, told):
-    asked, has_fault, is_empty = told.take(3)
+def telegram_answer(_words, reply):
+    asked, has_fault, is_empty = reply.take(3)
     if not asked:
         return REFUSED
     return f"{['whole', 'a fault'][has_fault]}, {['with packets', 'without packets'][is_empty]}"

@@ -15,7 +15,7 @@ milliseconds, speeds km/h where nothing else is said.
     national roll                   how far the train may roll
     national countries              those that the values are for
     national values                 all in m/h, cm and ms, in the order of packet 3 from V_NVSHUNT on; `-` has no end
-    national reported V_NVSTFF=2        those that this packet says
+    national told V_NVSTFF=2            those that this packet says
 
     authority new                   none is stored
     authority accept 0 0 V_LOA=8 T_LOA=20 end=30/200 point=30/4 overlap=100/10/50/4 300 200/60/100 500
@@ -62,16 +62,16 @@ def named(words):
     return dict(word.split("=") for word in words if "=" in word)
 
 
-def variables(of_packet, told):
-    """The numbers of a packet's variables, some of which a row reports."""
-    return [bits(width, told.pop(name, number)) for name, (width, number) in of_packet.items()]
+def variables(of_packet, given):
+    """The numbers of a packet's variables, some of which a row names."""
+    return [bits(width, given.pop(name, number)) for name, (width, number) in of_packet.items()]
 
 
 def packet_3(words):
-    told = named(words)
-    listed = told.pop("listed", "").replace(",", " ").split()
-    numbers = variables(SENT, told)
-    if told or len(listed) > 31:
+    given = named(words)
+    listed = given.pop("listed", "").replace(",", " ").split()
+    numbers = variables(SENT, given)
+    if given or len(listed) > 31:
         raise ValueError(f"{' '.join(words)}: no packet 3")
     return [*numbers, len(listed), *(bits(10, word) for word in listed)]
 
@@ -86,24 +86,24 @@ def national(words):
     return [4, bits(10, others[0])] if name == "enter" else called(NATIONAL, words)
 
 
-def values(told):
-    numbers = told.take(9)
+def values(reply):
+    numbers = reply.take(9)
     for _ in ("T_NVOVTRP", "D_NVSTFF"):
-        has_end, limit = told.take(2)
+        has_end, limit = reply.take(2)
         numbers.append(limit if has_end else "-")
     return numbers
 
 
-def national_told(words, told):
-    if told.take() == 0:
-        told.numbers.clear()
+def national_answer(words, reply):
+    if reply.take() == 0:
+        reply.numbers.clear()
         return REFUSED
     if words[0] == "told":
-        return " ".join(map(str, values(told)))
+        return " ".join(map(str, values(reply)))
     if words[0] not in ("staff", "roll", "countries", "values"):
         return "done"
-    in_force, roll = values(told), told.take()
-    countries = [str(told.take()) for _ in range(told.take())]
+    in_force, roll = values(reply), reply.take()
+    countries = [str(reply.take()) for _ in range(reply.take())]
     if words[0] == "staff":
         return in_kmh(in_force[1])
     if words[0] == "roll":
@@ -133,13 +133,13 @@ def sections(words):
 
 
 def packet_12(words):
-    told = named(words)
-    behind = [number for name, widths in PARTS.items() for number in part(widths, told.pop(name, None))]
-    numbers = variables(GRANTED, told)
+    given = named(words)
+    beyond_end = [number for name, widths in PARTS.items() for number in part(widths, given.pop(name, None))]
+    numbers = variables(GRANTED, given)
     *before, end = sections(word for word in words if "=" not in word)
-    if told or len(before) > 31:
+    if given or len(before) > 31:
         raise ValueError(f"{' '.join(words)}: no packet 12")
-    return [*numbers, *behind, len(before), *(number for one in [end, *before] for number in one)]
+    return [*numbers, *beyond_end, len(before), *(number for one in [end, *before] for number in one)]
 
 
 def authority(words):
@@ -148,18 +148,18 @@ def authority(words):
     return called(AUTHORITY, words)
 
 
-def authority_told(words, told):
-    asked, stored, is_speed, speed, *end = told.take(10)
+def authority_answer(words, reply):
+    asked, stored, is_speed, speed, *end = reply.take(10)
     if not asked:
         return REFUSED
     if words[0] in ("run", "end"):
-        return end_told(*end)
+        return end_text(*end)
     if words[0] == "main":
         return in_kmh(speed) if is_speed else "none"
     return YES[stored] if words[0] == "stored" else "done"
 
 
-def end_told(is_end, end, speed, location, kind, release):
+def end_text(is_end, end, speed, location, kind, release):
     if not is_end:
         return "none"
     text = str(signed(end))

@@ -24,7 +24,7 @@ centimetres, speeds km/h, but m/h where they are permitted.
                                     the least of a speed and of those for a train with its minimum safe rear, minimum
                                     and maximum safe front at these places
 
-    profile new                     nothing is reported
+    profile new                     nothing is known
     profile replace 0 0=80 1000=end these steps, from a place on; `end` is an end mark
     profile forget 1000             drops what lies beyond a place
     profile clear
@@ -48,7 +48,7 @@ centimetres, speeds km/h, but m/h where they are permitted.
     speed deceleration 0            whether there is such a one
     speed reaction 0                whether there is such a one
 
-Both stores of a profile, facts and segments, are asked each row: an answer that they don't share is reported twice.
+Both stores of a profile, facts and segments, are asked each row: an answer that they don't share is printed twice.
 """
 from asking import signed
 
@@ -99,8 +99,8 @@ def place(words):
     return called(PLACE, words)
 
 
-def place_told(words, told):
-    asked, first, second = told.take(3)
+def place_answer(words, reply):
+    asked, first, second = reply.take(3)
     if not asked:
         return REFUSED
     if words[0] in ("move", "fix"):
@@ -122,8 +122,8 @@ def restriction(words):
     return called(RESTRICTION, words)
 
 
-def restriction_told(words, told):
-    asked, speed = told.take(2)
+def restriction_answer(words, reply):
+    asked, speed = reply.take(2)
     if not asked:
         return REFUSED
     return in_kmh(speed) if words[0] == "limit" else "done"
@@ -151,8 +151,8 @@ def of_both(facts, segments):
     return facts if facts == segments else f"{facts} by the facts, {segments} by the segments"
 
 
-def profile_told(words, told):
-    facts, segments = told.take(2), told.take(2)
+def profile_answer(words, reply):
+    facts, segments = reply.take(2), reply.take(2)
     if words[0] == "count":
         return str(segments[1])
     return of_both(of_profile(words[0], *facts), of_profile(words[0], *segments))
@@ -184,8 +184,8 @@ def speed(words):
     return [operation, *numbers, len(targets) // 2, *targets]
 
 
-def speed_told(words, told):
-    asked, first, second = told.take(3)
+def speed_answer(words, reply):
+    asked, first, second = reply.take(3)
     if not asked:
         return REFUSED
     if words[0] == "permitted":

@@ -15,13 +15,13 @@
     random COUNT SEED    so many telegrams with packets of each layout, altered at times: how many have the packets, and the fields
                          of each with their units, that the plain program (../plain/track_packets.py) reports
 
-What is asked and reported, in numbers, stands in program/src/test_track.rt.txt."""
+Questions and replies, in numbers, are described in program/src/test_track.rt.txt."""
 import random
 import re
 import sys
 
 from asking import HERE, main_by_words
-from test_decode import bytes_told, of_bytes
+from test_decode import take_bytes, of_bytes
 
 sys.path.insert(0, str(HERE.parent / "plain"))
 import decoded  # noqa: E402
@@ -34,39 +34,39 @@ SENDERS, ISSUES = ["balise", "radio"], ["this issue", "a later issue"]
 BODIES = ["rows", "rows and bits", "bits", "kernel", "kernel or rows", "number alone"]
 SURENESS = ["sure", "fairly sure", "name alone"]
 UNITS = ["", "scale", "5 km/h", "s", "m", "per mille", "0.5 t", "character"]
-MOST_TOLD = 40
+MOST_FIELDS = 40
 HEADER = "90007F80200140"  # of group 2 in country 1
 
 
-def text_told(told):
-    return bytes_told(told).decode("ascii")
+def take_text(reply):
+    return take_bytes(reply).decode("ascii")
 
 
-def listing_told(told):
-    packets = [tuple(told.take(4)) for _ in range(told.take())]
-    end, at = told.take(2)
-    told.end()
+def take_listing(reply):
+    packets = [tuple(reply.take(4)) for _ in range(reply.take())]
+    end, at = reply.take(2)
+    reply.end()
     return packets, (ENDS[end], at)
 
 
-def fields_told(told):
-    """As the plain program says them, but for the number of fields, of which a part is reported."""
-    outcome = told.take()
+def take_fields(reply):
+    """As the plain program says them, but for the number of fields, which may be more than the reply has."""
+    outcome = reply.take()
     if outcome == 0:
-        count, rest = told.take(2)
+        count, rest = reply.take(2)
         fields = []
-        while told.numbers:
-            name = text_told(told)
-            fields.append((name, *told.take(3)))
+        while reply.numbers:
+            name = take_text(reply)
+            fields.append((name, *reply.take(3)))
         return fields, ("rest", rest), count
     if outcome in (1, 2):
-        told.end()
+        reply.end()
         return None, ({1: "no memory", 2: "not there"}[outcome],), 0
     if outcome == 3:
-        return None, ("refused", FAULTS[told.take()]), 0
-    name = text_told(told) if outcome in (4, 5) else None
-    why = ({4: "cut", 5: "many", 6: "long"}[outcome], name, told.take())
-    told.end()
+        return None, ("refused", FAULTS[reply.take()]), 0
+    name = take_text(reply) if outcome in (4, 5) else None
+    why = ({4: "cut", 5: "many", 6: "long"}[outcome], name, reply.take())
+    reply.end()
     return None, why, 0
 
 
@@ -84,15 +84,15 @@ def telegram_of(words):
 
 
 def listing(words):
-    [told] = yield [of_bytes(1, telegram_of(words))]
-    packets, end = listing_told(told)
+    [reply] = yield [of_bytes(1, telegram_of(words))]
+    packets, end = take_listing(reply)
     return [*(f"{number} {DIRECTIONS[direction]} at {at} length {length}" for number, direction, at, length in packets),
             " ".join(map(str, end))]
 
 
 def repeated(words):
-    [told] = yield [of_bytes(1, telegram_of([f"{135:08b}10{23:013b}" * int(words[0]), "1" * 8]))]
-    packets, end = listing_told(told)
+    [reply] = yield [of_bytes(1, telegram_of([f"{135:08b}10{23:013b}" * int(words[0]), "1" * 8]))]
+    packets, end = take_listing(reply)
     return [f"{len(packets)} packets", " ".join(map(str, end))]
 
 
@@ -101,45 +101,45 @@ def packet(words):
     if words[-1].endswith("-"):
         data = data[:-1]
     number, length = (int(bits, 2) for bits in ("".join(words)[:8], "".join(words)[10:23]))
-    [told] = yield [[*of_bytes(2, data), number, plain.HEADER_BITS, length, 0]]
-    fields, why, _ = fields_told(told)
+    [reply] = yield [[*of_bytes(2, data), number, plain.HEADER_BITS, length, 0]]
+    fields, why, _ = take_fields(reply)
     return lines_of(fields, why)
 
 
-def units_told(told):
-    return [UNITS[told.take()] for _ in range(len(told.numbers))]
+def take_units(reply):
+    return [UNITS[reply.take()] for _ in range(len(reply.numbers))]
 
 
 def units(words):
     data = telegram_of(words)
     place = [int("".join(words)[:8], 2), plain.HEADER_BITS, int("".join(words)[10:23], 2), 0]
     fields, found = yield [[*of_bytes(2, data), *place], [*of_bytes(5, data), *place]]
-    return [f"{name} {number} {unit}".rstrip() for (name, _, _, number), unit in zip(fields_told(fields)[0], units_told(found))]
+    return [f"{name} {number} {unit}".rstrip() for (name, _, _, number), unit in zip(take_fields(fields)[0], take_units(found))]
 
 
 def missing(words):
-    [told] = yield [[*of_bytes(2, bytes(8)), 132, int(words[0]), int(words[1]), 0]]
-    fields, why, _ = fields_told(told)
+    [reply] = yield [[*of_bytes(2, bytes(8)), 132, int(words[0]), int(words[1]), 0]]
+    fields, why, _ = take_fields(reply)
     return lines_of(fields, why)
 
 
-def adapt_told(told):
-    outcome = told.take()
+def take_adapted(reply):
+    outcome = reply.take()
     if outcome == 0:
-        told.end()
+        reply.end()
         return "as it is", None
-    place = tuple(told.take(2))
+    place = tuple(reply.take(2))
     answer = {1: "written", 2: "several", 3: "neither", 4: "both"}[outcome], place
     if outcome == 1:
-        answer = *answer, bytes_told(told)
-    told.end()
+        answer = *answer, take_bytes(reply)
+    reply.end()
     return answer
 
 
 def adapt(words):
     data = plain.data_of(plain.bits_of(bytes.fromhex(HEADER))[:plain.HEADER_BITS] + "".join(words))
-    [told] = yield [of_bytes(4, data)]
-    outcome, place, *written = adapt_told(told)
+    [reply] = yield [of_bytes(4, data)]
+    outcome, place, *written = take_adapted(reply)
     if not written:
         return [outcome if place is None else f"{outcome} at {place[0]} length {place[1]}"]
     lines = decoded.answer(written[0]).splitlines()
@@ -151,20 +151,20 @@ def adapted(words):
     telegrams = [telegram(chance, [3]) for _ in range(int(words[0]))]
     wanted = [plain.adapted(data) for data in telegrams]
     written = [one[2] for one in wanted if one[0] == "written"]
-    told = yield [of_bytes(4, data) for data in telegrams + written]
-    alike = sum(adapt_told(one) == answer for one, answer in zip(told, wanted))
-    again = sum(adapt_told(one) == ("as it is", None) for one in told[len(telegrams):])
+    replies = yield [of_bytes(4, data) for data in telegrams + written]
+    alike = sum(take_adapted(one) == answer for one, answer in zip(replies, wanted))
+    again = sum(take_adapted(one) == ("as it is", None) for one in replies[len(telegrams):])
     return [f"alike: {alike} of {len(telegrams)}", f"written: {len(written)}, as they are then: {again}",
             *(f"{why}: {sum(one[0] == why for one in wanted)}" for why in ("as it is", "several", "neither", "both"))]
 
 
 def kind(words):
-    [told] = yield [[3, int(words[0])]]
-    if told.take() == 0:
+    [reply] = yield [[3, int(words[0])]]
+    if reply.take() == 0:
         return ["no name"]
-    name = text_told(told)
-    sender, issue, body, sureness = told.take(4)
-    told.end()
+    name = take_text(reply)
+    sender, issue, body, sureness = reply.take(4)
+    reply.end()
     return [f"{name}; {SENDERS[sender]}; {ISSUES[issue]}; {BODIES[body]}; {SURENESS[sureness]}"]
 
 
@@ -185,13 +185,13 @@ def packet_bits(chance, number):
                     all_of(part[2:])
             else:
                 name, wanted = part[1].split("=")
-                if [told for other, told in fields if other == name][-1] == int(wanted):
+                if [value for other, value in fields if other == name][-1] == int(wanted):
                     all_of(part[2:])
 
     fields = []
     all_of(plain.parts_of(plain.LAYOUTS.get(number, "")))
-    body = "".join(f"{told:0{plain.WIDTHS[name]}b}" for name, told in fields)
-    if number in plain.WITH_BITS_BEHIND or number not in plain.LAYOUTS:
+    body = "".join(f"{value:0{plain.WIDTHS[name]}b}" for name, value in fields)
+    if number in plain.WITH_TRAILING_BITS or number not in plain.LAYOUTS:
         body += "".join(chance.choice("01") for _ in range(chance.randint(0, 30)))
     length = 23 + len(body) + (chance.randint(-20, 20) if chance.random() < 0.1 else 0)
     return f"{number:08b}{chance.randint(0, 3):02b}{max(length, 0):013b}" + body
@@ -214,8 +214,8 @@ def national_bits(chance):
     if chance.random() < 0.1:
         name = chance.choice(sorted(plain.GREATEST))
         numbers[name] = chance.randint(plain.GREATEST[name] + 1, (1 << plain.WIDTHS[name]) - 1)
-    told = [f"{numbers[name]:0{plain.WIDTHS[name]}b}" for name in names]
-    body = "".join([*told[:2], counter, *told[2:]])
+    encoded = [f"{numbers[name]:0{plain.WIDTHS[name]}b}" for name in names]
+    body = "".join([*encoded[:2], counter, *encoded[2:]])
     length = 23 + len(body) + (chance.randint(-20, 20) if chance.random() < 0.05 else 0)
     return f"{3:08b}{chance.randint(0, 2):02b}{length:013b}" + body
 
@@ -241,17 +241,17 @@ def compared(words):
     telegrams = [telegram(chance) for _ in range(int(words[0]))]
     wanted = [plain.packets_in_order(data) for data in telegrams]
     places = [(data, place) for data, (packets, _) in zip(telegrams, wanted) for place in packets]
-    told = yield [*(of_bytes(1, data) for data in telegrams),
+    replies = yield [*(of_bytes(1, data) for data in telegrams),
                   *([*of_bytes(2, data), number, at, length, 0] for data, (number, _, at, length) in places),
                   *([*of_bytes(5, data), number, at, length, 0] for data, (number, _, at, length) in places)]
-    alike = sum(listing_told(one) == (packets, end) for one, (packets, end) in zip(told, wanted))
+    alike = sum(take_listing(one) == (packets, end) for one, (packets, end) in zip(replies, wanted))
     of_packets, kinds, faults, alike_units = 0, set(), 0, 0
-    units_of_all = told[len(telegrams) + len(places):]
-    for one, counted, (data, (number, _, at, length)) in zip(told[len(telegrams):], units_of_all, places):
+    units_of_all = replies[len(telegrams) + len(places):]
+    for one, counted, (data, (number, _, at, length)) in zip(replies[len(telegrams):], units_of_all, places):
         fields, why = plain.fields_of(data, number, at, length)
-        alike_units += units_told(counted) == [plain.unit_of(name) for name, *_ in (fields or [])[:MOST_TOLD]]
-        found, found_why, count = fields_told(one)
-        of_packets += (found_why, count) == (why, len(fields or [])) and found == (fields and fields[:MOST_TOLD])
+        alike_units += take_units(counted) == [plain.unit_of(name) for name, *_ in (fields or [])[:MOST_FIELDS]]
+        found, found_why, count = take_fields(one)
+        of_packets += (found_why, count) == (why, len(fields or [])) and found == (fields and fields[:MOST_FIELDS])
         kinds.add(number)
         faults += fields is None
     return [f"telegrams alike: {alike} of {len(telegrams)}", f"packets alike: {of_packets} of {len(places)}",

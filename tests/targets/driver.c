@@ -1,4 +1,4 @@
-/* Carries out a script of calls of the library, and prints what each answers: the same program on every machine (platform.h has what differs), so
+/* Executes a script of calls of the library, and prints what each answers: the same program on every machine (platform.h has what differs), so
  * that what two machines print can be compared byte by byte. It needs no C library.
  *
  * A line of the script is a word and numbers. `unit N` chooses one of two handles for the lines after it, `medium N` one of two media.
@@ -17,7 +17,7 @@
  *     image                        a digest of the medium
  *     whole, size BYTES            reads all of the medium, or so many bytes of it, from now on
  *     flip OFFSET BITS             alters a byte of the medium
- *     facts, slot NEWEST SLOT, block NUMBER, record NUMBER INDEX, why NUMBER EVENT
+ *     facts, slot NEWEST SLOT, start SLOTS SLOT, block NUMBER, record NUMBER INDEX, why NUMBER EVENT
  *     journal, next, replay, cursor BLOCK LAST INDEX
  *     cause                        why of the event that `next` read last
  *     explain                      why the newest released output is what it is
@@ -70,7 +70,7 @@ static void answer(uint32_t status) {
     put("\n");
 }
 
-static void tell(const etcs_unit_output *outputs, uint32_t count) {
+static void put_outputs(const etcs_unit_output *outputs, uint32_t count) {
     for (uint32_t i = 0; i < count; i++) {
         put("event ");
         put_number(outputs[i].event, 10);
@@ -183,7 +183,7 @@ static uint32_t release(uint64_t room) {
     uint32_t count = 0;
     const uint32_t status = etcs_unit_release(unit(), outputs, room < ETCS_UNIT_OUTPUTS ? (size_t)room : ETCS_UNIT_OUTPUTS, &count);
     if (status == ETCS_UNIT_OK)
-        tell(outputs, count);
+        put_outputs(outputs, count);
     return status;
 }
 
@@ -396,6 +396,7 @@ static int about_images(uint32_t *status) {
     static uint64_t last_block, last_event;
     etcs_image facts;
     etcs_slot slot;
+    etcs_slot_start start;
     etcs_record record;
     etcs_why why;
     if (word("facts")) {
@@ -407,6 +408,13 @@ static int about_images(uint32_t *status) {
         *status = etcs_image_slot(media[on], size(), newest, number(), &slot);
         if (*status == ETCS_UNIT_OK)
             add_etcs_slot(&slot);
+    } else if (word("start")) {
+        /* of the bytes of the slot, as far as they are read */
+        const uint64_t slots = number(), place = number(), from = place < 1048576 ? ETCS_UNIT_SECTOR * (1 + 6 * place) : UINT64_MAX;
+        const uint64_t rest = from < size() ? size() - from : 0;
+        *status = etcs_image_slot_start(media[on] + (rest > 0 ? from : 0), (size_t)rest, slots, place, &start);
+        if (*status == ETCS_UNIT_OK)
+            add_etcs_slot_start(&start);
     } else if (word("block")) {
         *status = etcs_image_block(media[on], size(), number(), &block);
         if (*status == ETCS_UNIT_OK)
@@ -464,6 +472,7 @@ static uint32_t nulls(void) {
     etcs_unit_output outputs[ETCS_UNIT_OUTPUTS];
     etcs_image facts;
     etcs_slot slot;
+    etcs_slot_start start;
     etcs_record record;
     etcs_why why;
     uint32_t length = 0;
@@ -486,6 +495,7 @@ static uint32_t nulls(void) {
         etcs_unit_format_request(2, 0, NULL, bytes, 512), etcs_unit_format_request(2, 0, &request, NULL, 512),
         etcs_image_facts(NULL, 512, &facts), etcs_image_facts(media[on], 512, NULL),
         etcs_image_slot(NULL, 512, 0, 0, &slot), etcs_image_slot(media[on], 512, 0, 0, NULL),
+        etcs_image_slot_start(NULL, 1024, 1, 0, &start), etcs_image_slot_start(media[on], 1024, 1, 0, NULL),
         etcs_image_block(NULL, 512, 1, &block), etcs_image_block(media[on], 512, 1, NULL),
         etcs_image_record(NULL, 512, 1, 0, &record), etcs_image_record(media[on], 512, 1, 0, NULL),
         etcs_journal_open(NULL, 512, &journal), etcs_journal_open(media[on], 512, NULL),

@@ -6,7 +6,7 @@ import fs from 'node:fs';
 const { instance } = await WebAssembly.instantiate(fs.readFileSync(process.argv[2]), {});
 const x = instance.exports;
 const SECTOR = 512, SECTORS = 1 + 6 * 64, MOST = SECTOR * SECTORS, OUTPUTS = 8, REQUEST = 8192, OK = 0, FAILED = 21, SECTOR_WANTED = 24, NO_SUCH_REQUEST = 249;
-const SIZE = { request: 24, output: 16, state: 80, facts: 32, slot: 32, block: 208, record: 160, journal: 24, replay: 720, why: 160, train: 20, explained: 144, adapted: 16, dropped: 16, unused: 24 };
+const SIZE = { request: 24, output: 16, state: 80, facts: 32, slot: 32, start: 16, block: 208, record: 160, journal: 24, replay: 720, why: 160, train: 20, explained: 144, adapted: 16, dropped: 16, unused: 24 };
 
 const bytesAt = (at, length) => new Uint8Array(x.memory.buffer, Number(at), Number(length));
 const take = size => {
@@ -18,7 +18,7 @@ const take = size => {
 
 const media = [take(MOST), take(MOST)], lengths = [0, 0], units = [take(16), take(16)];
 const journal = take(SIZE.journal), bytes = take(REQUEST), request = take(SIZE.request), outputs = take(OUTPUTS * SIZE.output), count = take(8);
-const state = take(SIZE.state), train = take(SIZE.train), told = take(SIZE.replay), none = take(16);
+const state = take(SIZE.state), train = take(SIZE.train), result = take(SIZE.replay), none = take(16);
 const openings = [take(16), take(16)], begun = take(16), sector = take(8), some = take(2 * SECTOR);
 let on = 0, which = 0, bySectors = false, readsAtMost = MOST, digest = 0n, words = [], answers = [], last = [0n, 0n];
 
@@ -36,7 +36,7 @@ const hex = most => {
 };
 
 const unit = () => units[which];
-const told64 = (at, place) => new DataView(x.memory.buffer).getBigUint64(Number(at) + 8 * place, true);
+const read64 = (at, place) => new DataView(x.memory.buffer).getBigUint64(Number(at) + 8 * place, true);
 const opening = () => openings[which];
 const bytesFrom = (from, size) => {
     const medium = bytesAt(media[on], MOST), room = bytesAt(some, 2 * SECTOR), place = Number(from % BigInt(MOST));
@@ -45,7 +45,7 @@ const bytesFrom = (from, size) => {
 };
 const provides = (call, to, number, size, from) => x[call](to, number, bytesFrom(from, size), size);
 const handsIn = (kind, to) => {
-    const status = x[`etcs_${kind}_wanted`](to, sector), wanted = told64(sector, 0);
+    const status = x[`etcs_${kind}_wanted`](to, sector), wanted = read64(sector, 0);
     return status === OK ? provides(`etcs_${kind}_provide`, to, wanted, BigInt(SECTOR), wanted * BigInt(SECTOR)) : status;
 };
 const goesOn = (by, most) => {
@@ -67,21 +67,21 @@ const prepares = () => {
         if ((status = handsIn('unit', unit())) !== OK) return status;
     return status;
 };
-const tellsSector = (call, of) => {
+const digestedSector = (call, of) => {
     bytesAt(sector, 8).fill(0);
     const status = x[call](of, sector);
     add(sector, 8);
     return status;
 };
 const carriesOut = (at, length) => {
-    if (told64(request, 2) !== 1n) return;
-    const from = Number(told64(request, 0)) * SECTOR, room = Math.min(length, MOST - from);
+    if (read64(request, 2) !== 1n) return;
+    const from = Number(read64(request, 0)) * SECTOR, room = Math.min(length, MOST - from);
     if (room > 0) bytesAt(media[on], MOST).set(bytesAt(at, room), from);
 };
 const carryOut = (most, rest) => {
     let done = 0, status;
     while ((status = x.etcs_unit_request(unit(), done, request, bytes, BigInt(REQUEST))) === OK) {
-        const length = Number(told64(request, 1)) * SECTOR;
+        const length = Number(read64(request, 1)) * SECTOR;
         add(request, SIZE.request);
         add(bytes, length);
         if (BigInt(done) === most) {
@@ -108,12 +108,12 @@ const then = (status, ...steps) => {
     for (const step of steps) if (status === OK) status = step();
     return status;
 };
-const tells = (status, at, length) => {
+const digested = (status, at, length) => {
     if (status === OK) add(at, length);
     return status;
 };
-const tellsRequest = status => {
-    if (status === OK) add(request, SIZE.request), add(bytes, Number(told64(request, 1)) * SECTOR);
+const digestedRequest = status => {
+    if (status === OK) add(request, SIZE.request), add(bytes, Number(read64(request, 1)) * SECTOR);
     return status;
 };
 const whole = () => carryOut(U64, 0n), all = () => release(BigInt(OUTPUTS));
@@ -123,7 +123,7 @@ const format = slots => {
     lengths[on] = Math.min((1 + 6 * slots) * SECTOR, MOST);
     bytesAt(media[on], MOST).fill(0);
     while ((status = x.etcs_unit_format_request(slots, index, request, bytes, BigInt(SECTOR))) === OK && index < SECTORS) {
-        carriesOut(bytes, Number(told64(request, 1)) * SECTOR);
+        carriesOut(bytes, Number(read64(request, 1)) * SECTOR);
         index++;
     }
     return status;
@@ -142,15 +142,16 @@ const nulls = () => {
         x.etcs_opening_wanted(z, sector), x.etcs_opening_wanted(n, z), x.etcs_opening_provide(z, 0n, b, 512n), x.etcs_opening_provide(n, 0n, z, 512n),
         x.etcs_opening_close(z), x.etcs_unit_state(z, state), x.etcs_unit_state(n, z), x.etcs_unit_close(z),
         x.etcs_unit_format_request(2, 0, z, b, 512n), x.etcs_unit_format_request(2, 0, request, z, 512n),
-        x.etcs_image_facts(z, 512n, told), x.etcs_image_facts(m, 512n, z), x.etcs_image_slot(z, 512n, 0n, 0n, told), x.etcs_image_slot(m, 512n, 0n, 0n, z),
-        x.etcs_image_block(z, 512n, 1n, told), x.etcs_image_block(m, 512n, 1n, z), x.etcs_image_record(z, 512n, 1n, 0, told),
+        x.etcs_image_facts(z, 512n, result), x.etcs_image_facts(m, 512n, z), x.etcs_image_slot(z, 512n, 0n, 0n, result), x.etcs_image_slot(m, 512n, 0n, 0n, z),
+        x.etcs_image_slot_start(z, 1024n, 1n, 0n, some), x.etcs_image_slot_start(m, 1024n, 1n, 0n, z),
+        x.etcs_image_block(z, 512n, 1n, result), x.etcs_image_block(m, 512n, 1n, z), x.etcs_image_record(z, 512n, 1n, 0, result),
         x.etcs_image_record(m, 512n, 1n, 0, z), x.etcs_journal_open(z, 512n, journal), x.etcs_journal_open(m, 512n, z),
-        x.etcs_journal_next(z, 512n, journal, told), x.etcs_journal_next(m, 512n, z, told), x.etcs_journal_next(m, 512n, journal, z),
-        x.etcs_image_replay(z, 512n, journal, told), x.etcs_image_replay(m, 512n, z, told), x.etcs_image_replay(m, 512n, journal, z),
-        x.etcs_image_why(z, 512n, 1n, 0n, told), x.etcs_image_why(m, 512n, 1n, 0n, z),
+        x.etcs_journal_next(z, 512n, journal, result), x.etcs_journal_next(m, 512n, z, result), x.etcs_journal_next(m, 512n, journal, z),
+        x.etcs_image_replay(z, 512n, journal, result), x.etcs_image_replay(m, 512n, z, result), x.etcs_image_replay(m, 512n, journal, z),
+        x.etcs_image_why(z, 512n, 1n, 0n, result), x.etcs_image_why(m, 512n, 1n, 0n, z),
     ].filter(status => status === 253).length;
 };
-const image = (call, length, ...numbers) => tells(x[call](media[on], size(), ...numbers, told), told, length);
+const image = (call, length, ...numbers) => digested(x[call](media[on], size(), ...numbers, result), result, length);
 
 const CALLS = {
     kind: () => { bySectors = number() % 2n === 1n; return 0; },
@@ -167,21 +168,21 @@ const CALLS = {
         return status;
     },
     stops: () => { const cold = small(); return openBySectors(cold, number()); },
-    wants: () => tellsSector('etcs_unit_wanted', unit()),
+    wants: () => digestedSector('etcs_unit_wanted', unit()),
     hands: () => { const at = number(), size = limited(number(), 2 * SECTOR); return provides('etcs_unit_provide', unit(), at, size, number()); },
     begin: () => { const sectors = number(); return x.etcs_opening_begin(opening(), sectors, small()); },
     begins: () => x.etcs_opening_begin(opening(), BigInt(lengths[on] / SECTOR), small()),
     goes: () => goesOn(opening(), number()),
-    wanted: () => tellsSector('etcs_opening_wanted', opening()),
+    wanted: () => digestedSector('etcs_opening_wanted', opening()),
     provide: () => { const at = number(), size = limited(number(), 2 * SECTOR); return provides('etcs_opening_provide', opening(), at, size, number()); },
     give_up: () => x.etcs_opening_close(opening()),
     close: () => x.etcs_unit_close(unit()),
     prepare: () => x.etcs_unit_prepare(unit()),
-    request: () => { const index = small(), room = BigInt(small()); return tellsRequest(x.etcs_unit_request(unit(), index, request, bytes, limited(room, REQUEST))); },
+    request: () => { const index = small(), room = BigInt(small()); return digestedRequest(x.etcs_unit_request(unit(), index, request, bytes, limited(room, REQUEST))); },
     done: () => x.etcs_unit_done(unit(), small()),
     fail: () => x.etcs_unit_fail(unit()),
     release: () => release(number()),
-    state: () => tells(x.etcs_unit_state(unit(), state), state, SIZE.state),
+    state: () => digested(x.etcs_unit_state(unit(), state), state, SIZE.state),
     telegram: () => { const length = hex(256); return x.etcs_unit_telegram(unit(), bytes, length); },
     odometer: () => { const movement = number(); return x.etcs_unit_odometer(unit(), BigInt.asIntN(64, movement), small()); },
     clock: () => x.etcs_unit_clock(unit(), number()),
@@ -199,10 +200,10 @@ const CALLS = {
     flip: () => { const offset = Number(number() % BigInt(MOST)); bytesAt(media[on], MOST)[offset] ^= Number(number() & 255n); return 0; },
     unit: () => { which = Number(number() % 2n); return 0; },
     medium: () => { on = Number(number() % 2n); return 0; },
-    format: () => { const slots = small(), index = small(); return tellsRequest(x.etcs_unit_format_request(slots, index, request, bytes, limited(number(), SECTOR))); },
+    format: () => { const slots = small(), index = small(); return digestedRequest(x.etcs_unit_format_request(slots, index, request, bytes, limited(number(), SECTOR))); },
     version: () => {
         const status = x.etcs_version(bytes, limited(number(), SECTOR), count);
-        return status === OK ? tells(status, bytes, new DataView(x.memory.buffer).getUint32(Number(count), true)) : status;
+        return status === OK ? digested(status, bytes, new DataView(x.memory.buffer).getUint32(Number(count), true)) : status;
     },
     decode: () => {
         const length = hex(256), status = x.etcs_decode(bytes, length);
@@ -210,25 +211,31 @@ const CALLS = {
         add(count, 4);
         return status;
     },
-    explain: () => tells(x.etcs_unit_why(unit(), told), told, SIZE.explained),
+    explain: () => digested(x.etcs_unit_why(unit(), result), result, SIZE.explained),
     adapt: () => {
-        const status = x.etcs_telegram_adapt(bytes, hex(256), some, 104n, told);
-        return status === OK ? (add(told, SIZE.adapted), tells(status, some, new DataView(x.memory.buffer).getUint32(Number(told) + 4, true))) : status;
+        const status = x.etcs_telegram_adapt(bytes, hex(256), some, 104n, result);
+        return status === OK ? (add(result, SIZE.adapted), digested(status, some, new DataView(x.memory.buffer).getUint32(Number(result) + 4, true))) : status;
     },
-    dropped: () => { const index = small(); return tells(x.etcs_telegram_dropped(bytes, hex(256), index, told), told, SIZE.dropped); },
+    dropped: () => { const index = small(); return digested(x.etcs_telegram_dropped(bytes, hex(256), index, result), result, SIZE.dropped); },
     unused: () => {
         const mode = small(), direction = small(), index = small();
-        return tells(x.etcs_telegram_unused(bytes, hex(256), mode, direction, index, told), told, SIZE.unused);
+        return digested(x.etcs_telegram_unused(bytes, hex(256), mode, direction, index, result), result, SIZE.unused);
     },
     facts: () => image('etcs_image_facts', SIZE.facts),
     slot: () => image('etcs_image_slot', SIZE.slot, number(), number()),
+    start: () => {
+        const slots = number(), at = number(), from = at < 1048576n ? BigInt(SECTOR) * (1n + 6n * at) : U64, rest = from < size() ? size() - from : 0n;
+        const status = x.etcs_image_slot_start(media[on] + (rest > 0n ? from : 0n), rest, slots, at, some);
+        if (status === OK) add(some, SIZE.start);
+        return status;
+    },
     block: () => image('etcs_image_block', SIZE.block, number()),
     record: () => image('etcs_image_record', SIZE.record, number(), small()),
     why: () => image('etcs_image_why', SIZE.why, number(), number()),
-    journal: () => tells(x.etcs_journal_open(media[on], size(), journal), journal, SIZE.journal),
+    journal: () => digested(x.etcs_journal_open(media[on], size(), journal), journal, SIZE.journal),
     next: () => {
         const status = image('etcs_journal_next', SIZE.record, journal);
-        if (status === OK) last = [told64(told, 1), told64(told, 0)];
+        if (status === OK) last = [read64(result, 1), read64(result, 0)];
         return status;
     },
     cause: () => image('etcs_image_why', SIZE.why, ...last),

@@ -1,5 +1,5 @@
 #!/usr/bin/env python3
-"""What the examples for a bare board and for a cyclic task print, compared with their stories.
+"""Compares what the examples for a bare board and for a cyclic task print with their stories.
 
     tests/targets/examples.py board|hangs|overflows|crashes|cyclic FILE    FILE is what the example printed; of the board also with a fault
                                                                            (board_faults.h)

@@ -1,9 +1,9 @@
 #!/usr/bin/env python3
-"""A script of calls for the driver (driver.c), the same in every run, and the comparison of what two machines answer.
+"""A script of calls for the driver (driver.c), the same in every run, and the comparison of the answers of two machines.
 
-    tests/targets/scripts.py script LIVES CALLS TELEGRAMS [SEED]    prints lives with cuts, calls in any order with wild numbers, and telegrams
-    tests/targets/scripts.py members                                prints C that adds each member of each struct to a digest, whatever the order of its bytes
-    tests/targets/scripts.py compare SCRIPT WANTED FOUND..          whether the answers in FOUND are those in WANTED; says how much was compared
+    tests/targets/scripts.py script LIVES CALLS TELEGRAMS [SEED]    print lives with cuts, calls in any order with random numbers, and telegrams
+    tests/targets/scripts.py members                                print C that adds each member of each struct to a digest, in any byte order
+    tests/targets/scripts.py compare SCRIPT WANTED FOUND..          compare the answers in FOUND with those in WANTED, and print how much was compared
 
 A comparison fails too where the answers show too few lives, cuts, outputs, statuses or telegrams for the lines of the script.
 """
@@ -64,7 +64,7 @@ def reading(r):
     """What is asked of the image after a life."""
     asked = ["facts", "journal", *["next", "cause"] * r.randrange(12), "journal", *["replay"] * r.randrange(1, 5)]
     return [*asked, *(f"why {r.randrange(1, 40)} {r.randrange(120)}" for _ in range(2)), *(f"slot {r.randrange(40)} {r.randrange(10)}" for _ in range(2)),
-            f"block {r.randrange(1, 40)}", f"record {r.randrange(1, 40)} {r.randrange(9)}"]
+            *(f"start {r.randrange(1, 9)} {r.randrange(9)}" for _ in range(3)), f"block {r.randrange(1, 40)}", f"record {r.randrange(1, 40)} {r.randrange(9)}"]
 
 
 def call(r):
@@ -91,7 +91,7 @@ def call(r):
                          f"hands {wild(r)} {r.choice((0, 511, 512, 513, wild(r)))} {wild(r)}", "give_up", f"stops {r.randrange(4)} {r.randrange(40)}",
                          f"dies {r.randrange(3)} {r.randrange(9)} {r.randrange(4_097)}"))
     if kind < 42:
-        return r.choice(("facts", "journal", "next", "next", "replay", f"cursor {wild(r)} {wild(r)} {wild(r)}", f"slot {wild(r)} {wild(r)}", f"block {wild(r)}",
+        return r.choice(("facts", "journal", "next", "next", "replay", f"cursor {wild(r)} {wild(r)} {wild(r)}", f"slot {wild(r)} {wild(r)}", f"start {wild(r)} {wild(r)}", f"block {wild(r)}",
                          f"record {wild(r)} {wild(r)}", f"why {wild(r)} {wild(r)}", f"why {r.randrange(1, 30)} {r.randrange(60)}", f"size {wild(r)}", "whole",
                          "whole"))
     return r.choice(("fail", f"flip {wild(r)} {1 << r.randrange(8)}", f"flip {r.randrange(4_096)} {1 << r.randrange(8)}", "null",
@@ -152,30 +152,30 @@ def compare(asked, wanted, *found):
     """The first answers are the wanted ones."""
     compared = Compared()
     lines = Path(asked).read_text().splitlines()
-    told = Path(wanted).read_text().splitlines()
-    answers = [line.split() for line in told if line[:1].isdigit()]
-    compared.unless(len(answers) == len(lines) and told[-1:] == ["end"], f"{wanted}: {len(answers)} answers to {len(lines)} lines")
+    expected = Path(wanted).read_text().splitlines()
+    answers = [line.split() for line in expected if line[:1].isdigit()]
+    compared.unless(len(answers) == len(lines) and expected[-1:] == ["end"], f"{wanted}: {len(answers)} answers to {len(lines)} lines")
     statuses = Counter(int(status) for _, status, _ in answers)
     words = [line.split()[0] for line in lines]
     causes = sum(word == "cause" and int(status) == 0 for word, (_, status, _) in zip(words, answers))
     cuts = sum(word in ("cut", "dies") and int(status) == CUT_KINDS for word, (_, status, _) in zip(words, answers))
     stopped = sum(word == "stops" and int(status) == WANTED for word, (_, status, _) in zip(words, answers))
-    outputs, lives = sum(line.startswith("event ") for line in told), words.count("open")
+    outputs, lives = sum(line.startswith("event ") for line in expected), words.count("open")
     by_sectors = Counter(kind for kind, word in with_kinds(lines) if word == "open")
     decoded = [int(status) for word, (_, status, _) in zip(words, answers) if word == "decode"]
     compared.unless(all(int(status) == NULL_CALLS for word, (_, status, _) in zip(words, answers) if word == "null") and "null" in words, "null pointers aren't answered")
-    compared.unless("no such word" not in told, "a word that the driver doesn't have")
+    compared.unless("no such word" not in expected, "a word that the driver doesn't have")
     compared.unless(outputs >= 4 * lives // 3 and cuts >= words.count("cut") // 4 > 0, f"{outputs} outputs of {lives} lives, {cuts} of them cut off")
     compared.unless(min(by_sectors["0"], by_sectors["1"]) >= lives // 4 and stopped >= words.count("stops") // 4 > 0,
                     f"openings by kind {dict(by_sectors)}, {stopped} cut off while a sector was wanted")
-    compared.unless(causes * 10 >= words.count("cause") > 0, f"{causes} of {words.count('cause')} causes are told")
+    compared.unless(causes * 10 >= words.count("cause") > 0, f"{causes} of {words.count('cause')} causes are explained")
     compared.unless(len(statuses) >= LEAST_STATUSES, f"{len(statuses)} kinds of answers")
     compared.unless(decoded.count(0) * 10 >= len(decoded) > 0, f"{decoded.count(0)} of {len(decoded)} telegrams can be read")
     for path in found:
         other = Path(path).read_text().splitlines()
-        compared.unless(len(other) == len(told), f"{path}: {len(other)} lines, wanted {len(told)}")
-        compared.same(path, [pair for pair in zip(other, told) if pair[0] != pair[1]][:5], [])
-    return compared.end(f"{len(found)} machines beside the first: {len(lines)} calls with {outputs} outputs, {lives} openings, {by_sectors['1']} of them by sectors, "
+        compared.unless(len(other) == len(expected), f"{path}: {len(other)} lines, wanted {len(expected)}")
+        compared.same(path, [pair for pair in zip(other, expected) if pair[0] != pair[1]][:5], [])
+    return compared.end(f"{len(found)} machines compared with the first: {len(lines)} calls with {outputs} outputs, {lives} openings, {by_sectors['1']} of them by sectors, "
                         f"{cuts} losses of power and {stopped} more while a sector was wanted, "
                         f"{causes} causes, {len(statuses)} kinds of answers, {len(decoded)} telegrams")
 

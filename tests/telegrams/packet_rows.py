@@ -4,7 +4,7 @@
     tests/telegrams/packet_rows.py PROGRAM [WORD..]    by this program, with these words before its own
 
 The telegrams are those of packet_lists.py, those that come with the product, and random ones of a track. Where packets stand and which fields they
-have is what tests/plain/track_packets.py finds, names are those of docs/reference/packets.md, and why no mode uses one is what tests/events/told.py says.
+have is what tests/plain/track_packets.py finds, names are those of docs/reference/packets.md, and why no mode uses one is what tests/events/event_lines.py says.
 Some answers are by hand.
 """
 import random

@@ -1,5 +1,5 @@
 #!/usr/bin/env python3
-"""Whether what tools/trace prints for other tools has their form: ReqIF, a table, and a page to walk.
+"""Checks what tools/trace prints for other tools: ReqIF, a table, and a page to browse.
 
     tests/trace/exports.py
 
@@ -22,7 +22,7 @@ from pathlib import Path
 TOP = Path(__file__).resolve().parents[2]
 sys.path[:0] = [str(TOP / "python"), str(TOP / "tools")]
 
-from tracing import reqif, shown, sources  # noqa: E402
+from tracing import reqif, output, sources  # noqa: E402
 from tracing.requirements import Reader  # noqa: E402
 
 NAMESPACE = "{http://www.omg.org/spec/ReqIF/20110401/reqif.xsd}"
@@ -117,7 +117,7 @@ def printed():
     os.chdir(TOP)
     reader = Reader(sources.read()).read()
     table = subprocess.run(["tools/trace", "--csv"], capture_output=True, text=True, check=True).stdout
-    return reqif.document(reader), "\n".join(shown.as_html(reader)), table
+    return reqif.document(reader), "\n".join(output.as_html(reader)), table
 
 
 def faults_of(one, kinds, longest):

@@ -1,4 +1,4 @@
-"""Whether each picture of the pages is well-formed XML, which a browser shows nothing of else."""
+"""Checks that each picture of the pages is well-formed XML, without which a browser shows nothing."""
 import sys
 import xml.etree.ElementTree as tree
 from pathlib import Path

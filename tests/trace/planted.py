@@ -164,8 +164,8 @@ PLANTS = (
     (
         "a sentence of the standard in a section that has none",
         "docs/explain/conformance.md",
-        "| 7.4.2, packet 255 | end mark | standard: eight bits alone",
-        "| 7.4.2, packet 255 | end mark | profile: eight bits alone",
+        "| 7.4.2, packet 255 | end mark | standard: only eight bits",
+        "| 7.4.2, packet 255 | end mark | profile: only eight bits",
         "R-7.4.2.p255-1 is of the standard",
     ),
     (
@@ -183,7 +183,7 @@ PLANTS = (
         "definitions of crates/ring are of no requirement",
     ),
     (
-        "a test that the gate doesn't run",
+        "a test that CI doesn't run",
         ".ci/run",
         '(tests/why.sh)" tests/why.sh',
         '(tests/why.sh)" true',
@@ -269,7 +269,7 @@ PAGES = (  # for tools/docs --check
         "Of makers",
         'docs/howto/oracle.md: the first line below the title has to begin with "How-to for "',
     ),
-    ("a page with a date", "docs/howto/oracle.md", "in CI (", "on 2026-11-27 (", "docs/howto/oracle.md: has the date 2026-11-27"),
+    ("a page with a date", "docs/howto/oracle.md", "A unit that agrees here", "On 2026-11-27 a unit", "docs/howto/oracle.md: has the date 2026-11-27"),
     ("a misspelt page", "docs/explain/safety.md", "different", "diffrent", "diffrent ==> different"),
     ("a misspelt help text", "python/gaknifur/cli/commands.py", "default", "defualt", "defualt ==> default"),
 )
@@ -344,13 +344,13 @@ def main():
         name, *planted, says = OUTDATED
         plant(top, *planted)
         checked(top, "trace")
-        wrong += [] if says in reviews_in(top) else [f"{name} isn't told: {says}"]
+        wrong += [] if says in reviews_in(top) else [f"{name} isn't reported: {says}"]
         for tool, plants in (("docs", PAGES), ("trace", PLANTS)):
             for _, path, old, new, _ in plants:
                 plant(top, path, old, new)
             run = checked(top, tool, "--check")
             wrong += [
-                f"{name} isn't told: {says}"
+                f"{name} isn't reported: {says}"
                 for name, *_, says in plants
                 if run.returncode != 1 or says not in run.stdout
             ]
@@ -358,13 +358,13 @@ def main():
             plant(top, *planted)
             source = checked(top, tool)
             if source.returncode == 0 or says not in source.stdout + source.stderr:
-                wrong.append(f"{name} isn't told: {says}")
-        told = 1 + len(PAGES) + len(PLANTS) + len(SOURCES)
+                wrong.append(f"{name} isn't reported: {says}")
+        reported = 1 + len(PAGES) + len(PLANTS) + len(SOURCES)
     print(
         "\n".join(wrong + ([run.stdout, run.stderr] if wrong else []))
-        or f"trace: each of {told} planted faults is told"
+        or f"trace: each of {reported} planted faults is reported"
     )
-    return 1 if wrong or told < LEAST else 0
+    return 1 if wrong or reported < LEAST else 0
 
 
 if __name__ == "__main__":

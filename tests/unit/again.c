@@ -13,7 +13,7 @@
 
 static unsigned long long wide(uint64_t number) { return (unsigned long long)number; }
 
-static void tell_record(const etcs_record *record) {
+static void print_record(const etcs_record *record) {
     const char *between = "";
     printf("{\"event\":%llu,\"time_ms\":%llu,\"mode\":\"%s\",\"level\":", wide(record->event), wide(record->moment_ms), etcs_mode_name(record->mode));
     if (record->level == ETCS_LEVEL_INVALID)
@@ -47,7 +47,7 @@ static void text(const uint8_t *bytes, unsigned len) {
     printf("\"");
 }
 
-static void tell_kept(const etcs_kept *kept) {
+static void print_kept(const etcs_kept *kept) {
     const etcs_national *const values = &kept->national;
     printf("{\"trip_outstanding\":%s,\"identity\":", kept->trip_outstanding ? "true" : "false");
     if (kept->identity_len > 0)
@@ -99,7 +99,7 @@ static int is_zero(const void *bytes, size_t size) {
 }
 
 /* A line of a replay, as `etcs_lab replay` writes it, but for the counts of a head. */
-static void tell_line(const etcs_replay *replay) {
+static void print_line(const etcs_replay *replay) {
     const int record = replay->verdict == ETCS_VERDICT_RECORD_DIFFERS, head = replay->verdict == ETCS_VERDICT_HEAD_DIFFERS;
     printf("{\"life\":%u", (unsigned)replay->life);
     if (record)
@@ -111,13 +111,13 @@ static void tell_line(const etcs_replay *replay) {
         printf(",\"first_event\":%llu,\"last_event\":%llu,\"replay\":\"%s\"", wide(replay->first_event), wide(replay->last_event),
                replay->verdict == ETCS_VERDICT_AGREES ? "agrees" : "not_replayed");
     if (record) {
-        tell_record(&replay->journal);
+        print_record(&replay->journal);
         printf(",\"kernel\":");
-        tell_record(&replay->kernel);
+        print_record(&replay->kernel);
     } else if (head) {
-        tell_kept(&replay->journal_kept);
+        print_kept(&replay->journal_kept);
         printf(",\"kernel\":");
-        tell_kept(&replay->kernel_kept);
+        print_kept(&replay->kernel_kept);
     } else if (replay->verdict != ETCS_VERDICT_AGREES) {
         printf(",\"reason\":\"%s\"", etcs_verdict_name(replay->verdict));
     }
@@ -137,7 +137,7 @@ static uint32_t replayed(const uint8_t *image, size_t size) {
         return answer;
     while ((answer = etcs_image_replay(image, size, &journal, &replay)) != ETCS_UNIT_END) {
         if (answer == ETCS_UNIT_OK)
-            tell_line(&replay);
+            print_line(&replay);
         else if (answer == ETCS_UNIT_IMAGE_DAMAGED)
             printf("{\"block\":%llu,\"replay\":\"unreadable\"}\n", wide(journal.block - 1));
         else
@@ -146,7 +146,7 @@ static uint32_t replayed(const uint8_t *image, size_t size) {
     return ETCS_UNIT_OK;
 }
 
-static void tell_why(const etcs_why *why) {
+static void print_why(const etcs_why *why) {
     printf("{\"event\":%llu,\"brake\":\"%s\",\"limit_m_per_h\":%u,\"speed_m_per_h\":%u,\"backward_cm\":%llu,\"allowed_backward_cm\":%llu", wide(why->event), etcs_brake_name(why->brake),
            (unsigned)why->limit_m_per_h, (unsigned)why->speed_m_per_h, wide(why->backward_cm), wide(why->allowed_backward_cm));
     for (unsigned i = 0; i < ETCS_BRAKE_CAUSES; i++) {
@@ -189,7 +189,7 @@ static uint32_t whys(const uint8_t *image, size_t size, unsigned step) {
             continue;
         answer = etcs_image_why(image, size, record.block, record.event, &why);
         if (answer == ETCS_UNIT_OK)
-            tell_why(&why);
+            print_why(&why);
         else
             printf("{\"event\":%llu,\"refused\":\"%s\"}\n", wide(record.event), etcs_status_name(answer));
     }

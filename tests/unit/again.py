@@ -1,5 +1,5 @@
 #!/usr/bin/env python3
-"""Lives of images that C programs run again by the calls of etcs_image.h, along with what the plain programs say of the same images, and along with what
+"""Compares lives that C programs replay by the calls of etcs_image.h with what the plain programs say of the same images, and with what
 `etcs_lab replay --json`, `etcs_lab why --json` and `etcs_lab events` print: of the examples, of random lives, of all formats, of damaged journals, and of ones with
 an altered byte.
 
@@ -52,12 +52,12 @@ MIRRORS = (BrakeCause, 0, "words", "BrakeCause"), (TripCause, 1, "trips", "TripC
 def mirrors_differ():
     """Enums that haven't the words of the kernel's causes, in their order."""
     for causes, first, file, variants in MIRRORS:
-        told = {int(cause): cause.name.lower() for cause in causes if cause is not TripCause.UNKNOWN}
+        names = {int(cause): cause.name.lower() for cause in causes if cause is not TripCause.UNKNOWN}
         source = (HERE.parents[1] / "crates" / "reasons" / "src" / f"{file}.rt").read_text()
         word_of = re.search(r"fn \w*word\(.*?\n}\n", source, re.DOTALL)[0]
         wanted = dict(enumerate(re.findall(rf'{variants}::\w+ => "(\w+)"', word_of), first))
-        if told != wanted or not wanted:
-            yield f"{causes.__name__}: {told}, wanted {wanted}"
+        if names != wanted or not wanted:
+            yield f"{causes.__name__}: {names}, wanted {wanted}"
 
 
 def without_counts(line):
@@ -67,9 +67,9 @@ def without_counts(line):
     return line | {key: {name: value for name, value in line[key].items() if name not in ("events", "lives")} for key in ("journal", "kernel")}
 
 
-def lines_differ(told, lines):
+def lines_differ(from_c, lines):
     """The first line that C reports otherwise than a replay, or None."""
-    for one, other in zip_longest(told, map(without_counts, lines)):
+    for one, other in zip_longest(from_c, map(without_counts, lines)):
         if one != other:
             return f"{one}\n--- wanted\n{other}"
     return None
@@ -79,7 +79,7 @@ def without_sections(members):
     return {key: value for key, value in members.items() if key not in LEFT_OUT}
 
 
-class Tried(Compared):
+class Replays(Compared):
     def __init__(self, lab, refuse, programs, folder):
         super().__init__()
         self.lab, self.refuse, self.programs, self.image = lab, refuse, programs, Path(folder) / "image"
@@ -90,21 +90,21 @@ class Tried(Compared):
         status, text = replayed(data, True)
         wanted = [json.loads(line) for line in text.splitlines()][:-1]
         for program in self.asked():
-            _, told = printed(program, self.image, "replay")
+            _, from_c = printed(program, self.image, "replay")
             if status == 1:
-                if [line.get("refused") for line in told] not in (["IMAGE_NOT_FORMATTED"], ["IMAGE_DAMAGED"]):
-                    self.tell(f"{name}: {told}, wanted a refusal")
+                if [line.get("refused") for line in from_c] not in (["IMAGE_NOT_FORMATTED"], ["IMAGE_DAMAGED"]):
+                    self.report(f"{name}: {from_c}, wanted a refusal")
                 continue
-            self.met.update(line.get("reason", line.get("replay")) for line in told)
-            found = lines_differ(told, wanted)
+            self.met.update(line.get("reason", line.get("replay")) for line in from_c)
+            found = lines_differ(from_c, wanted)
             if found:
-                self.tell(f"{name}: {found}")
+                self.report(f"{name}: {found}")
         if status != 1 and self.images % OF_LAB == 0:
             self.of_lab += 1
             _, lines = printed(self.lab, "replay", "--json", self.image)
-            found = lines_differ(told, lines[:-1])
+            found = lines_differ(from_c, lines[:-1])
             if found:
-                self.tell(f"{name}, beside etcs_lab: {found}")
+                self.report(f"{name}, compared with etcs_lab: {found}")
 
     def asked(self):
         """The programs: all of them of each hundredth image."""
@@ -117,32 +117,32 @@ class Tried(Compared):
         step = 1 if self.images % OF_LAB == 0 or len(events) < 60 else 5
         wanted = [without_sections(json.loads(members)) for *_, members in events]
         for program in self.asked():
-            _, told = printed(program, self.image, "why", step)
-            known = [line for line in told if "refused" not in line]
-            self.met.update(f"refused {line['refused']}" for line in told if "refused" in line)
+            _, from_c = printed(program, self.image, "why", step)
+            known = [line for line in from_c if "refused" not in line]
+            self.met.update(f"refused {line['refused']}" for line in from_c if "refused" in line)
             self.whys += len(known)
             for line in known:
                 if line not in wanted:
-                    self.tell(f"{name}: {line}\n--- none of\n{[one for one in wanted if one['event'] == line['event']]}")
+                    self.report(f"{name}: {line}\n--- none of\n{[one for one in wanted if one['event'] == line['event']]}")
             if step == 1 and known != wanted:
-                self.tell(f"{name}: {len(known)} events, wanted {len(wanted)}")
+                self.report(f"{name}: {len(known)} events, wanted {len(wanted)}")
         if step == 1 and wanted:
             event = wanted[self.images % len(wanted)]["event"]
             _, lines = printed(self.lab, "why", "--json", self.image, event)
             if [without_sections(line) for line in lines] != [line for line in known if line["event"] == event]:
-                self.tell(f"{name}, event {event}, beside etcs_lab: {lines}")
+                self.report(f"{name}, event {event}, compared with etcs_lab: {lines}")
             self.of_lab += 1
 
     def records(self, name):
         """The life of each record, along with `etcs_lab events`."""
-        _, told = printed(self.programs[0], self.image, "records")
-        if any("refused" in line for line in told):
+        _, from_c = printed(self.programs[0], self.image, "records")
+        if any("refused" in line for line in from_c):
             return
         _, lines = printed(self.lab, "events", self.image)
         wanted = [{key: line[key] for key in ("block", "event", "life")} for line in lines if "event" in line]
         self.within += any(one["life"] != other["life"] for one, other in zip(wanted, wanted[1:]) if one["block"] == other["block"])
-        if told != wanted:
-            self.tell(f"{name}, lives of records beside etcs_lab: {told}\n--- wanted\n{wanted}")
+        if from_c != wanted:
+            self.report(f"{name}, lives of records compared with etcs_lab: {from_c}\n--- wanted\n{wanted}")
 
     def memory(self, name, data, words):
         """Each request for memory is refused in turn: then one event, or the rest, is reported as refused, and all else as ever."""
@@ -150,16 +150,16 @@ class Tried(Compared):
         counts = self.image.with_name("counts")
         _, whole = printed(self.programs[0], self.image, *words, LD_PRELOAD=self.refuse, REFUSE_COUNTS=str(counts))
         for at in range(1, int(counts.read_text()) + 1):
-            status, told = printed(self.programs[0], self.image, *words, LD_PRELOAD=self.refuse, REFUSE_AT=str(at))
-            refused = [place for place, line in enumerate(told) if line.get("refused") == "NO_MEMORY"]
+            status, from_c = printed(self.programs[0], self.image, *words, LD_PRELOAD=self.refuse, REFUSE_AT=str(at))
+            refused = [place for place, line in enumerate(from_c) if line.get("refused") == "NO_MEMORY"]
             self.refused += len(refused)
             if status == 0 and refused and words[0] == "why":
                 place, = refused
-                told[place] = whole[place] if told[place]["event"] == whole[place]["event"] else None
+                from_c[place] = whole[place] if from_c[place]["event"] == whole[place]["event"] else None
             if status == 0 and refused and words[0] == "replay":
-                told[refused[0]:] = whole[refused[0]:]
-            if status not in (0, 3) or status == 0 and told != whole:
-                self.tell(f"{name}, request {at} refused: {told}")
+                from_c[refused[0]:] = whole[refused[0]:]
+            if status not in (0, 3) or status == 0 and from_c != whole:
+                self.report(f"{name}, request {at} refused: {from_c}")
 
     def judged(self):
         for name, data in images():
@@ -173,24 +173,24 @@ class Tried(Compared):
             for words in (("replay",), ("why", "3")):
                 self.memory(name, data, words)
         if self.refused < LEAST_REFUSED:
-            self.tell(f"too few: {LEAST_REFUSED} answers for want of memory are wanted")
+            self.report(f"too few: {LEAST_REFUSED} answers for want of memory are wanted")
         print(f"lives run again from C: {self.images} images, {self.whys} events with their causes, {self.of_lab} comparisons with etcs_lab, "
               f"{self.refused} answers for want of memory; {self.differ} differ; {dict(self.met)}")
         for text in mirrors_differ():
-            self.tell(text)
+            self.report(text)
         for verdict in (*VERDICTS, "refused NOT_REPLAYED"):
             if not self.met[verdict]:
-                self.tell(f"no image has the verdict {verdict}")
+                self.report(f"no image has the verdict {verdict}")
         if not self.within:
-            self.tell("no block has records of several lives")
+            self.report("no block has records of several lives")
         if self.images < LEAST or self.whys < LEAST_WHYS:
-            self.tell(f"too few: {LEAST} images and {LEAST_WHYS} events are wanted")
+            self.report(f"too few: {LEAST} images and {LEAST_WHYS} events are wanted")
         return 1 if self.differ else 0
 
 
 def main(words):
     with tempfile.TemporaryDirectory() as folder:
-        return Tried(*words[:2], words[2:], folder).judged()
+        return Replays(*words[:2], words[2:], folder).judged()
 
 
 if __name__ == "__main__":

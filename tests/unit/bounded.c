@@ -23,9 +23,9 @@ int main(int count, char **words) {
     static char line[1024];
     etcs_unit unit = {0};
     etcs_unit_output outputs[ETCS_UNIT_OUTPUTS];
-    etcs_memory_info told_of;
+    etcs_memory_info memory;
     uint32_t released;
-    unsigned lives = 0, number = 0, outputs_told = 0, brakeless = 0;
+    unsigned lives = 0, number = 0, outputs_released = 0, brakeless = 0;
     if (buffer == NULL)
         return 2;
     is("use", etcs_memory_use(buffer, size), ETCS_UNIT_OK);
@@ -38,12 +38,12 @@ int main(int count, char **words) {
             lives++;
         } else if (strcmp(line, "close\n") == 0) {
             status = etcs_unit_close(&unit);
-            is("state", etcs_memory_state(&told_of), ETCS_UNIT_OK);
-            is("used behind a close", told_of.used + told_of.pieces, 0);
+            is("state", etcs_memory_state(&memory), ETCS_UNIT_OK);
+            is("used after a close", memory.used + memory.pieces, 0);
         } else if (strcmp(line, "flush\n") == 0) {
             released = 0;
             status = flushed(&on, &unit, outputs, &released);
-            outputs_told += released;
+            outputs_released += released;
             for (uint32_t i = 0; i < released; i++)
                 brakeless += outputs[i].brake == ETCS_BRAKE_NONE;
         } else {
@@ -55,11 +55,11 @@ int main(int count, char **words) {
             printf("line %u: %s: %.60s", number, etcs_status_name(status), line);
         }
     }
-    is("state", etcs_memory_state(&told_of), ETCS_UNIT_OK);
-    is("requests that were refused", told_of.refused, 0);
-    printf("%llu bytes, %llu used at most, %u lives, %u outputs, %u without a brake\n", (unsigned long long)size, (unsigned long long)told_of.most_used,
-           lives, outputs_told, brakeless);
+    is("state", etcs_memory_state(&memory), ETCS_UNIT_OK);
+    is("requests that were refused", memory.refused, 0);
+    printf("%llu bytes, %llu used at most, %u lives, %u outputs, %u without a brake\n", (unsigned long long)size, (unsigned long long)memory.most_used,
+           lives, outputs_released, brakeless);
     free(on.bytes);
     free(buffer);
-    return told("bounded", 1);
+    return report("bounded", 1);
 }

@@ -117,13 +117,13 @@ def hours(count):
 def drive(program, count, *kind):
     """Whether a train so long on its way is answered, and mostly without a brake, within the memory of its track."""
     count, compared = int(count), Compared()
-    with tempfile.TemporaryFile("w+") as told:
-        ran = subprocess.Popen([program, "64", "5", "10", "60", "60", *kind], stdin=subprocess.PIPE, stdout=told, stderr=subprocess.STDOUT, text=True)
+    with tempfile.TemporaryFile("w+") as output:
+        ran = subprocess.Popen([program, "64", "5", "10", "60", "60", *kind], stdin=subprocess.PIPE, stdout=output, stderr=subprocess.STDOUT, text=True)
         with contextlib.suppress(BrokenPipeError), ran.stdin as lines:
             lines.writelines(f"{line}\n" for line in hours(count))
         status = ran.wait(timeout=60)
-        told.seek(0)
-        text = told.read()
+        output.seek(0)
+        text = output.read()
     found = re.search(r"^(\d+) bytes, (\d+) used at most, 1 lives, (\d+) outputs, (\d+) without a brake$", text, re.M)
     if compared.unless(status == 0 and found, f"status {status}\n{text[-2000:]}"):
         size, used, outputs, brakeless = map(int, found.groups())

@@ -1,12 +1,12 @@
-"""Instructions of calls of the unit from C, counted by callgrind as bench/worst.sh counts them: some along with kept ones, and the worst that was
-found along with its bound.
+"""Instructions of calls of the unit from C, counted by callgrind as bench/worst.sh counts them: some compared with kept ones, and the worst that was
+found with its bound.
 
     counts.py PROGRAM           PROGRAM is bench/worst.c with the library
-    counts.py PROGRAM --keep    writes the counts of the rows into tests/unit/counts.txt; `bench/worst.sh --build` makes such a program,
+    counts.py PROGRAM --keep    write the counts of the rows to tests/unit/counts.txt; `bench/worst.sh --build` makes such a program,
                                 bench/out/worst
 
-A row fails where it takes more than 3 in 100 more or less than tests/unit/counts.txt keeps: what makes it cheaper is kept, and what makes it
-dearer is looked at. A bound fails where more is taken. Counts go by the place of the stack, and by what else is in the library, so nearer
+A row fails where it takes more than 3 in 100 more or less than tests/unit/counts.txt keeps: keep a cheaper count, and look into
+a dearer one. A bound fails where more is taken. Counts go by the place of the stack, and by what else is in the library, so nearer
 ones can't be asked for. The stack of each call, by the frames in the object code, has a bound too.
 """
 import re
@@ -22,7 +22,7 @@ import mixed  # noqa: E402
 import stack_bound  # noqa: E402
 import worst_search  # noqa: E402
 
-# The worst driver's start that was found, and a little more. A reading before 32 restrictions after 690 gradients, reported from the farthest to the
+# The worst driver's start that was found, and a little more. A reading before 32 restrictions after 690 gradients, announced from the farthest to the
 # nearest, or before 40 of which each slower one is nearer, or before stairs of restrictions, mode areas and static speeds whose authority ends before
 # them: one sum over the gradients. A reading each of whose two sums begins anew. A reading that goes along all gradients in two sums and two ways back.
 MOST_START = 145_000
@@ -35,7 +35,7 @@ MOST_DOUBLED = 2.05
 POWER_UPS = ("etcs_unit_open_", "etcs_opening_go_on_")
 MOST_STACK_OF = dict.fromkeys(POWER_UPS, 16_384) | {"etcs_image_why_": 176_128, "etcs_image_replay_": 67_584, "etcs_telegram_unused_": 36_864,
                                                  **dict.fromkeys(("etcs_image_block_", "etcs_image_record_", "etcs_image_slot_", "etcs_journal_next_"), 24_576)}
-MOST_STACK, LEAST_CALLS = 11_776, 35
+MOST_STACK, LEAST_CALLS = 11_776, 36
 
 
 def rows():
@@ -50,14 +50,14 @@ def rows():
 
 
 def reading(grades, restricted, order="far to near"):
-    return told_by(worst_search.backwards(restricted, grades, turns=order == "by turns", near=order == "near to far"))
+    return texts_of(worst_search.backwards(restricted, grades, turns=order == "by turns", near=order == "near to far"))
 
 
 def stairs(**kinds):
-    return told_by(worst_search.stairs(690, **kinds))
+    return texts_of(worst_search.stairs(690, **kinds))
 
 
-def told_by(lines):
+def texts_of(lines):
     return [worst_search.text_of(line) for line in lines]
 
 
@@ -75,22 +75,22 @@ def stacks(program):
 
 def main(program, *words):
     worst_search.OUT = Path(program).resolve().parent
-    told = rows()
+    cases = rows()
     starts = [[line for line in lines if line != "count"] for _, kind, lines in worst_search.kept() if kind == "driver: start"]
     grown = {(690, 32): "far to near", (690, 64): "far to near", (1380, 32): "far to near"}
-    took = counted([*(lines for _, lines in told), *starts, *(reading(*size, order) for size, order in grown.items()), reading(690, 32, "by turns"),
-                    stairs(restricted=40), stairs(restricted=10, areas=10, speeds=10, near_end=True), told_by(worst_search.anew(690)),
-                    told_by(worst_search.crowded(**worst_search.TWICE))])
-    numbers = dict(zip((what for what, _ in told), took))
+    took = counted([*(lines for _, lines in cases), *starts, *(reading(*size, order) for size, order in grown.items()), reading(690, 32, "by turns"),
+                    stairs(restricted=40), stairs(restricted=10, areas=10, speeds=10, near_end=True), texts_of(worst_search.anew(690)),
+                    texts_of(worst_search.crowded(**worst_search.TWICE))])
+    numbers = dict(zip((what for what, _ in cases), took))
     if words == ("--keep",):
         KEPT.write_text("".join(f"{number} {what}\n" for what, number in numbers.items()))
         return 0
     kept = {what: int(number) for number, what in (line.split(" ", 1) for line in KEPT.read_text().splitlines())}
     faults = [f"{what}: {numbers.get(what)} instructions, and {kept.get(what)} are kept" for what in {**numbers, **kept}
               if what not in numbers or what not in kept or abs(numbers[what] - kept[what]) > 0.03 * kept[what]]
-    start, few, restricted, graded, turns, stepped, summed, anew, twice = took[len(told):]
+    start, few, restricted, graded, turns, stepped, summed, anew, twice = took[len(cases):]
     bounds = [("the worst start of a mission that was found", start, MOST_START), ("a reading before 690 gradients and 32 restrictions", few, MOST_READING),
-              ("the same, told by turns", turns, MOST_READING), ("the same, twice the restrictions", restricted, MOST_DOUBLED * few),
+              ("the same, sent by turns", turns, MOST_READING), ("the same, twice the restrictions", restricted, MOST_DOUBLED * few),
               ("the same, twice the gradients", graded, MOST_DOUBLED * few),
               ("a reading before 40 restrictions, each slower one nearer", stepped, MOST_READING),
               ("a reading before stairs of each kind, the authority's end before them", summed, MOST_READING),
@@ -103,7 +103,7 @@ def main(program, *words):
         faults.append(f"the stack of {len(taken)} calls is known: {sorted(taken)}")
     for fault in faults:
         print(fault)
-    print(f"instructions of calls: {len(numbers)} rows beside kept ones, {len(bounds)} bounds; the stack of {len(taken)} calls, "
+    print(f"instructions of calls: {len(numbers)} rows compared with kept ones, {len(bounds)} bounds; the stack of {len(taken)} calls, "
           f"{' and '.join(str(taken.get(name)) for name in POWER_UPS)} bytes of an opening")
     return 1 if faults else 0
 

@@ -1,5 +1,5 @@
-/* Lives one life, and asks after each release why the output is what it is; prints what is reported as JSON objects on lines. Of each event that
- * is released etcs_image_why is asked of the medium's bytes too: what both report is the same. While an event is pending, or its requests aren't
+/* Runs one life, asks after each release why the output is what it is, and prints the explanation as JSON, an object per line. For each released
+ * event it also calls etcs_image_why on the medium's bytes, which has to explain the same. While an event is pending, or its requests aren't
  * released, etcs_unit_why answers NOT_RELEASED and writes nothing.
  *
  *     explained COLD [TRIES]    reads inputs from standard input, one a line (inputs.h), or `flush`; TRIES is written to by the number of answers
@@ -10,8 +10,8 @@
 
 static unsigned long long wide(uint64_t number) { return (unsigned long long)number; }
 
-/* That nothing is reported now. */
-static void untold(const char *what, etcs_unit *unit) {
+/* That no explanation is available now. */
+static void reports_nothing(const char *what, etcs_unit *unit) {
     etcs_unit_why_info why, other;
     memset(&why, 0xAA, sizeof why);
     memset(&other, 0xAA, sizeof other);
@@ -23,7 +23,7 @@ static void waiting(const char *kind, uint8_t state, uint64_t left) {
     printf(",\"%s\":[\"%s\",%llu]", kind, etcs_acknowledgement_name(state), wide(left));
 }
 
-static void tell(const etcs_unit_why_info *why) {
+static void print_why(const etcs_unit_why_info *why) {
     printf("{\"event\":%llu,\"mode\":%u,\"level\":%u,\"brake\":%u,\"indications\":%u,\"limit\":%lu,\"speed\":%lu,\"backward\":%llu,\"allowed\":%llu,\"holds\":[",
            wide(why->output.event), (unsigned)why->output.mode, (unsigned)why->output.level, (unsigned)why->output.brake, (unsigned)why->output.indications,
            (unsigned long)why->output.limit_m_per_h, (unsigned long)why->speed_m_per_h, wide(why->backward_cm), wide(why->allowed_backward_cm));
@@ -62,7 +62,7 @@ static void same(const medium *on, const etcs_unit_why_info *why) {
     is("zeros", (uint64_t)memcmp(why->reserved, zeros, sizeof zeros), 0);
 }
 
-/* What is reported after a release. */
+/* The explanation after a release. */
 static void ask(const medium *on, etcs_unit *unit, const etcs_unit_output *last) {
     etcs_unit_why_info why, again;
     memset(&why, 0xAA, sizeof why);
@@ -72,7 +72,7 @@ static void ask(const medium *on, etcs_unit *unit, const etcs_unit_output *last)
     if (last != NULL)
         is("it is the last output", (uint64_t)memcmp(&why.output, last, sizeof *last), 0);
     same(on, &why);
-    tell(&why);
+    print_why(&why);
 }
 
 /* Carries out the requests one by one, and releases; before that nothing is reported. */
@@ -84,13 +84,13 @@ static void flush(medium *on, etcs_unit *unit, int prepares) {
     if (prepares)
         is("prepare", etcs_unit_prepare(unit), ETCS_UNIT_OK);
     while (etcs_unit_request(unit, index, &request, bytes, sizeof bytes) == ETCS_UNIT_OK) {
-        untold("why, before its requests are done", unit);
+        reports_nothing("why, before its requests are done", unit);
         do_on(on, &request, bytes);
         index++;
         is("done", etcs_unit_done(unit, index), ETCS_UNIT_OK);
     }
     if (index > 0)
-        untold("why, before the release", unit);
+        reports_nothing("why, before the release", unit);
     is("release", etcs_unit_release(unit, outputs, ETCS_UNIT_OUTPUTS, &count), ETCS_UNIT_OK);
     ask(on, unit, count > 0 ? &outputs[count - 1] : NULL);
 }
@@ -105,7 +105,7 @@ int main(int count, char **words) {
     while (fgets(line, sizeof line, stdin)) {
         if (strcmp(line, "flush\n") != 0) {
             is(line, take(&unit, line), ETCS_UNIT_OK);
-            untold("why, while it is pending", &unit);
+            reports_nothing("why, while it is pending", &unit);
             pending++;
         }
         if (pending == 8 || (pending > 0 && strcmp(line, "flush\n") == 0)) {

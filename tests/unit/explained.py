@@ -1,6 +1,6 @@
 #!/usr/bin/env python3
-"""Why the newest released output is what it is, as etcs_unit_why says it: pseudo-random lives compared with the plain program, event by event, and
-along with what etcs_image_why says about the medium's bytes (explained.c compares that). While an event isn't released nothing is reported.
+"""Compares what etcs_unit_why explains of the newest released output with the plain program, over pseudo-random lives, event by event, and with
+what etcs_image_why says about the medium's bytes (explained.c compares that). Before an event is released there is no explanation.
 
     tests/unit/explained.py PROGRAM..     explained.c built in several ways
 """
@@ -22,7 +22,7 @@ from random_lists import SUPERVISION, TRACK, Numbers, event  # noqa: E402
 from replay_rows import parts  # noqa: E402
 from why import WORDS, Reasons  # noqa: E402
 
-LIVES, LEAST_TOLD, LEAST_ANSWERS = 160, 2_500, 150_000  # so many lives, outputs that are reported of, and answers in C
+LIVES, LEAST_OUTPUTS, LEAST_ANSWERS = 160, 2_500, 150_000  # so many lives, outputs that are explained, and answers in C
 MODES = {"FS": 0, "OS": 1, "SR": 2, "SH": 3, "UN": 4, "SB": 6, "TR": 7, "PT": 8, "SF": 9}
 BRAKES = ("none", "service", "emergency")
 KINDS = {"on_sight": "on-sight", "shunting": "shunting", "level_0": "level-0"}
@@ -50,10 +50,10 @@ def line_of(word, value):
 
 def waiting(life, kind):
     """What the driver is waited for, and how many milliseconds an acknowledgement that is owed may be owed yet."""
-    told = life.acknowledgement(kind)
-    if told.state == "owed":
-        return ["owed", max(0, told.since + OWED_MS - life.moment())]
-    return ["asked" if told.state == "asked" else "none", 0]
+    state = life.acknowledgement(kind)
+    if state.state == "owed":
+        return ["owed", max(0, state.since + OWED_MS - life.moment())]
+    return ["asked" if state.state == "asked" else "none", 0]
 
 
 def overriding(life):
@@ -66,32 +66,32 @@ def overriding(life):
 
 
 def wanted_of(life, reasons, number):
-    """What is to be reported after the newest event of a life, which has this number."""
-    answer, told = life.now.output, reasons.members(number)
-    kind, place, nid = told["limit_cause"], told["limit_cause_place_cm"], told["limit_cause_number"]
+    """The wanted members after the newest event of a life, which has this number."""
+    answer, members = life.now.output, reasons.members(number)
+    kind, place, nid = members["limit_cause"], members["limit_cause_place_cm"], members["limit_cause_number"]
     is_ahead, releases = kind.endswith("_ahead") or kind in ("end_of_authority", "supervised_location"), kind in RELEASES
-    target = [1, told["limit_cause_speed_m_per_h"], max(0, place - life.stretch().max_front)] if is_ahead else [0, 0, 0]
+    target = [1, members["limit_cause_speed_m_per_h"], max(0, place - life.stretch().max_front)] if is_ahead else [0, 0, 0]
     return {
         "event": number, "mode": MODES[answer.mode], "level": 255 if answer.level == "-" else int(answer.level),
-        "brake": BRAKES.index(answer.brake), "limit": answer.limit, "speed": told["speed_m_per_h"],
-        "backward": told["backward_cm"], "allowed": told["allowed_backward_cm"],
-        "holds": [int(told[word] is not None) for word, *_ in WORDS.values()],
-        "limit_cause": LimitCause[kind.upper()], "limit_cause_speed": told["limit_cause_speed_m_per_h"],
+        "brake": BRAKES.index(answer.brake), "limit": answer.limit, "speed": members["speed_m_per_h"],
+        "backward": members["backward_cm"], "allowed": members["allowed_backward_cm"],
+        "holds": [int(members[word] is not None) for word, *_ in WORDS.values()],
+        "limit_cause": LimitCause[kind.upper()], "limit_cause_speed": members["limit_cause_speed_m_per_h"],
         "place": [0, 0] if place is None else [1, place], "number": [0, 0] if nid is None else [1, nid], "target": target,
         "release": [1, answer.limit] if releases else [0, 0], "service": answer.limit + MARGIN, "emergency": answer.limit + FARTHER,
         **{name: waiting(life, kind) for name, kind in KINDS.items()}, "override": overriding(life),
     }
 
 
-def met_in(told):
-    """What of all that may be reported is there."""
+def met_in(one):
+    """Which of the possible members this one has."""
     for name in KINDS:
-        state, left = told[name]
+        state, left = one[name]
         yield "over" if state == "owed" and left == 0 else state
-    yield from (name for name in ("target", "release", "place", "number") if told[name][0])
-    if told["override"][0]:
-        yield "overridden" if told["override"][1] else "overridden-without-end"
-    if told["event"] == 0:
+    yield from (name for name in ("target", "release", "place", "number") if one[name][0])
+    if one["override"][0]:
+        yield "overridden" if one["override"][1] else "overridden-without-end"
+    if one["event"] == 0:
         yield "power-up"
 
 
@@ -130,7 +130,7 @@ def lives():
 
 def main(programs):
     compared, met = Compared(), Counter()
-    tried = told = 0
+    tried = outputs = 0
     for number, (cold, lines, wanted) in enumerate(lives()):
         for program in programs if number % 10 == 0 else programs[:1]:
             text = "".join(f"{line}\n" for line in lines)
@@ -143,12 +143,12 @@ def main(programs):
                 one.pop("indications")
                 compared.same(f"life {number}, event {so['event']}", one, so)
                 met.update(met_in(one))
-            compared.same(f"life {number}: how many are told of", len(found), len(wanted))
-            told += len(found)
+            compared.same(f"life {number}: how many are explained", len(found), len(wanted))
+            outputs += len(found)
     for name in MET:
-        compared.unless(met[name], f"nothing is told of this: {name}")
-    compared.unless(told >= LEAST_TOLD and tried >= LEAST_ANSWERS, f"too few: {told} outputs and {tried} answers, {LEAST_TOLD} and {LEAST_ANSWERS} are wanted")
-    return compared.end(f"why, of a unit that runs: {told} released outputs beside the plain program, {tried} answers in C; {dict(met)}")
+        compared.unless(met[name], f"no output has this: {name}")
+    compared.unless(outputs >= LEAST_OUTPUTS and tried >= LEAST_ANSWERS, f"too few: {outputs} outputs and {tried} answers, {LEAST_OUTPUTS} and {LEAST_ANSWERS} are wanted")
+    return compared.end(f"why, of a unit that runs: {outputs} released outputs compared with the plain program, {tried} answers in C; {dict(met)}")
 
 
 if __name__ == "__main__":

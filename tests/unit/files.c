@@ -99,8 +99,8 @@ static uint32_t count;
 static uint32_t (*opens_by)(etcs_file *file, const char *path, etcs_unit *unit, uint32_t cold) = etcs_file_open;
 
 static long size_of(const char *path) {
-    struct stat told_size;
-    return stat(path, &told_size) == 0 ? (long)told_size.st_size : -1;
+    struct stat facts;
+    return stat(path, &facts) == 0 ? (long)facts.st_size : -1;
 }
 
 static void formats(void) {
@@ -305,7 +305,7 @@ static void lives(void) {
     is("flush", etcs_file_flush(&file, &unit, outputs, &count), ETCS_FILE_OK);
     is("an input", etcs_unit_clock(&unit, 1), ETCS_UNIT_OK);
     is("flush", etcs_file_flush(&file, &unit, outputs, &count), ETCS_FILE_OK);
-    is("events are numbered on, behind the power-up", outputs[0].event, event + 3);
+    is("events are numbered on, after the power-up", outputs[0].event, event + 3);
     is("close", etcs_file_close(&file, &unit), ETCS_FILE_OK);
 }
 
@@ -424,5 +424,5 @@ int main(int words, char **word) {
     opens_by = etcs_file_open_by_sectors;
     with_units();
     by_sectors();
-    return told("files", 1040);
+    return report("files", 1040);
 }

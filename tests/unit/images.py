@@ -1,6 +1,6 @@
 #!/usr/bin/env python3
-"""Images read from C (listing.c) along with `etcs journal`, line for line: those that are handed in, and those of all examples. And altered ones
-of all three formats, along with what the plain reader of docs/reference/format.md reports (tests/lab/examined.py): which records can be read, what each slot
+"""Compares images read from C (listing.c) with `etcs journal`, line by line: the given ones, and those of all examples. And altered ones
+of all three formats, compared with the plain reader of docs/reference/format.md (tests/lab/examined.py): which records can be read, what each slot
 holds, and what each head keeps.
 
     tests/unit/images.py LISTING.. IMAGE..    LISTING are programs whose names begin with "listing"; $ETCS names the program
@@ -169,11 +169,11 @@ def main(words):
             refused += wanted[-1:] != [] and wanted[-1].startswith("refused")
             seen |= {line.split()[0] for line in slots[1:]}
             for program in programs[:1] if seed % 10 else programs:
-                for told, words in ((wanted, ()), (slots, ("-s",)), (heads_of(data), ("-k",))):
-                    if lines_of(program, altered, *words) != told:
+                for expected, words in ((wanted, ()), (slots, ("-s",)), (heads_of(data), ("-k",))):
+                    if lines_of(program, altered, *words) != expected:
                         found += 1
                         print(f"image {seed % len(sources)}, altered by {seed}: other lines from {program} {' '.join(words)}")
-    print(f"images read from C: {tried}, and {DAMAGED} altered ones with slots of {len(seen)} states, of which {refused} are refused; {found} differences")
+    print(f"images read from C: {tried}, and {DAMAGED} altered ones with slots of {len(seen)} states, {refused} are refused; {found} differences")
     return found > 0 or tried < LEAST or not programs or refused < DAMAGED // 20 or len(seen) < len(STATES)
 
 

@@ -1,5 +1,5 @@
 #!/usr/bin/env python3
-"""What docs/explain/integration.md says was tried, on the library that $GAKNIFUR_ETCS_UNIT names: telegrams that come late, and centimetres that are cut off.
+"""Tests the cases of docs/explain/integration.md on the library that $GAKNIFUR_ETCS_UNIT names: telegrams that come late, and centimetres that are cut off.
 
 The numbers were worked out by hand. The group is announced 300 m after the first one, with Q_LOCACC 5 m: its fix is exact to 5 m and 5 m. A 20th of
 the path since is added, rounded up. 5 km/h in 100 ms are 13.8 cm.
@@ -30,7 +30,7 @@ def drive(unit, way):
         way -= STEP
 
 
-def passed(before, behind):
+def passed(before, after):
     """Front and uncertainty where the second group is handed in after so many centimetres, and then so many more are driven."""
     with Unit(MemoryMedium.formatted(16)) as unit:
         unit.telegram(telegram(FIRST))
@@ -42,7 +42,7 @@ def passed(before, behind):
         drive(unit, before)
         unit.telegram(telegram("NID_BG 3, Q_LINK 1"))
         unit.flush()
-        drive(unit, behind)
+        drive(unit, after)
         state = unit.state()
     return state.front_cm, state.uncertainty_cm
 

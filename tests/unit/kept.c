@@ -116,8 +116,8 @@ static void put(const char *path, const char *text) {
 }
 
 static long size_of(const char *path) {
-    struct stat told;
-    return stat(path, &told) == 0 ? (long)told.st_size : -1;
+    struct stat facts;
+    return stat(path, &facts) == 0 ? (long)facts.st_size : -1;
 }
 
 /* Whether a file ends with a text. */
@@ -185,11 +185,11 @@ static void answers(const char *folder) {
           etcs_times_mark(&times, 0, 0, 0, "aaaaaaaaaaaaaaaaaaaaaaaaaaaaaaaaaaaaaaaaaaaaaaaaaaaaaaaaaaaaaaaaa") == ETCS_FILE_BAD_MARK);
     wants("something is written", size_of(path_in(folder, "times")) == first);
     wants("a mark isn't taken", etcs_times_mark(&times, UINT64_C(1099511627775), INT64_C(253402300799999), 4294967295u, "a GNSS") == ETCS_FILE_OK);
-    const long behind = size_of(path_in(folder, "times"));
+    const long longer = size_of(path_in(folder, "times"));
     /* (the checksum is that which gzip writes of the text before its comma) */
     wants("it is another line", is_end(path_in(folder, "times"), "\n1,1099511627775,,9999-12-31T23:59:59.999Z,4294967295,a GNSS,3862b89a\n"));
     etcs_times_close(&times);
-    wants("it can't be cut off", truncate(path_in(folder, "times"), behind - 5) == 0);
+    wants("it can't be cut off", truncate(path_in(folder, "times"), longer - 5) == 0);
     wants("what is cut off stays", etcs_times_open(&times, path_in(folder, "times"), &file) == ETCS_FILE_OK && size_of(path_in(folder, "times")) == first);
     etcs_times_close(&times);
     /* zeros, longer than any line, that a loss of power left */
@@ -339,7 +339,7 @@ static void owed_by_archive(const char *folder, etcs_file *file) {
     most_written = 3072 + 100;
     wants("a disk that is full: all is well", etcs_archive_keep(&archive, file, &count) == ETCS_FILE_CANT_WRITE && count == 1);
     most_written = -1;
-    wants("blocks are lost behind a full disk", etcs_archive_keep(&archive, file, &count) == ETCS_FILE_OK && count == 1 && archive.entries == 2);
+    wants("blocks are lost after a full disk", etcs_archive_keep(&archive, file, &count) == ETCS_FILE_OK && count == 1 && archive.entries == 2);
     etcs_archive_close(&archive);
     syncs = 0;
     etcs_archive_open(&archive, path_in(folder, "owed"));
@@ -361,7 +361,7 @@ static void owed_by_marks(const char *folder, etcs_file *file) {
     most_written = 20;
     wants("a disk that is full: all is well", etcs_times_mark(&times, 3, 0, 0, "a longer name of a clock") == ETCS_FILE_CANT_WRITE);
     most_written = -1;
-    wants("no mark behind a full disk", etcs_times_mark(&times, 4, 0, 0, "a") == ETCS_FILE_OK);
+    wants("no mark after a full disk", etcs_times_mark(&times, 4, 0, 0, "a") == ETCS_FILE_OK);
     wants("a part of a line stays", size_of(path_in(folder, "owed.times")) == (long)sizeof ETCS_TIMES_FIRST - 1 + 3 * line);
     etcs_times_close(&times);
 }
@@ -409,7 +409,7 @@ static void keeps(const char *image, const char *path) {
 }
 
 /* (by a call of the system, which tests/hostile/record.c sees) */
-static int tells(const char *what, uint32_t answer, uint64_t count) {
+static int report_call(const char *what, uint32_t answer, uint64_t count) {
     char line[64];
     const int len = snprintf(line, sizeof line, "%s %u %llu\n", what, (unsigned)answer, (unsigned long long)count);
     wants("a line can't be written", write(1, line, (size_t)len) == len);
@@ -417,29 +417,29 @@ static int tells(const char *what, uint32_t answer, uint64_t count) {
 }
 
 /* (the image is only locked: it needs no unit) */
-static int tells_archive(const char *image, const char *path, char **later, int more) {
+static int report_archive(const char *image, const char *path, char **later, int more) {
     etcs_file file = {0};
     etcs_archive archive = {0};
     uint64_t count = 0;
-    if (etcs_file_lock_(&file, image, 0) != ETCS_FILE_OK || !tells("open", etcs_archive_open(&archive, path), 0))
+    if (etcs_file_lock_(&file, image, 0) != ETCS_FILE_OK || !report_call("open", etcs_archive_open(&archive, path), 0))
         return 1;
     for (int at = 0; at <= more; at++) {
         if (at > 0)
             becomes(image, later[at - 1]);
-        (void)tells("keep", etcs_archive_keep(&archive, &file, &count), count);
+        (void)report_call("keep", etcs_archive_keep(&archive, &file, &count), count);
     }
     etcs_archive_close(&archive);
     etcs_file_shut_(&file);
     return 0;
 }
 
-static int tells_marks(const char *image, const char *path, int from, int most) {
+static int report_marks(const char *image, const char *path, int from, int most) {
     etcs_file file = {0};
     etcs_times times = {0};
-    if (etcs_file_lock_(&file, image, 0) != ETCS_FILE_OK || !tells("open", etcs_times_open(&times, path, &file), 0))
+    if (etcs_file_lock_(&file, image, 0) != ETCS_FILE_OK || !report_call("open", etcs_times_open(&times, path, &file), 0))
         return 1;
     for (int at = from; at < from + most; at++)
-        (void)tells("mark", etcs_times_mark(&times, (uint64_t)at, at, 0, "GNSS"), (uint64_t)at);
+        (void)report_call("mark", etcs_times_mark(&times, (uint64_t)at, at, 0, "GNSS"), (uint64_t)at);
     etcs_times_close(&times);
     etcs_file_shut_(&file);
     return 0;
@@ -448,9 +448,9 @@ static int tells_marks(const char *image, const char *path, int from, int most) 
 int main(int count, char **words) {
     alarm(540); /* (a call that doesn't return fails) */
     if (count >= 4 && strcmp(words[1], "archive") == 0)
-        return tells_archive(words[2], words[3], words + 4, count - 4);
+        return report_archive(words[2], words[3], words + 4, count - 4);
     if (count == 6 && strcmp(words[1], "marks") == 0)
-        return tells_marks(words[2], words[3], atoi(words[4]), atoi(words[5]));
+        return report_marks(words[2], words[3], atoi(words[4]), atoi(words[5]));
     if (count == 3)
         keeps(words[1], words[2]);
     if (count == 3)

@@ -46,8 +46,8 @@ def drive(rows, lab, program, cycles, room):
     last = int(done.stdout)
     rows.same(f"{name}: the last event", last, 4 + 2 * cycles)
     image, kept, whole = room / "image", room / "archive", room / "whole"
-    told, _ = lines(lab, "replay", "--json", image)
-    rows.same(f"{name}: the image alone", (told[0]["replay"], told[0]["reason"]), ("not_replayed", "before_oldest_block"))
+    replayed, _ = lines(lab, "replay", "--json", image)
+    rows.same(f"{name}: the image alone", (replayed[0]["replay"], replayed[0]["reason"]), ("not_replayed", "before_oldest_block"))
     rows.same(f"{name}: the archive", [number for number, _ in archive.source(kept).blocks], list(range(1, cycles + 3)))
     found = archive.join(whole, [image, kept])
     rows.same(f"{name}: joined", (found.is_whole, found.slots), (True, cycles + 2))
@@ -62,7 +62,7 @@ def drive(rows, lab, program, cycles, room):
     rows.unless(utc == BEGUN_MS + CYCLE_MS * cycles and off <= 50 + 60 + 1, f"{name}: the last moment was at {utc}, give or take {off} ms")
 
 
-def laid(numbers, path, slots, lives, newest):
+def write_ring(numbers, path, slots, lives, newest):
     """Lays an image: perhaps with a gate that is closed, or with a copy of a block in a wrong slot."""
     write(path, slots, lives, newest, shut=newest + 1 if numbers.random() < 0.3 and newest >= slots else None)
     if numbers.random() < 0.2 and slots > 2:
@@ -70,26 +70,26 @@ def laid(numbers, path, slots, lives, newest):
         path.write_bytes(data[:at] + data_of(lives[min(newest + 1, max(lives))]) + data[at + SLOT:])
 
 
-def beside(rows, programs, room, count):
+def against_python(rows, programs, room, count):
     """Archives that are kept in C and in Python, of the same images."""
-    told, numbers = journal(), random.Random(4)
+    blocks, numbers = journal(), random.Random(4)
     for number in range(count):
         slots, program = numbers.choice((2, 3, 4, 8, 64)), programs[number % len(programs)]
-        paths, image, newest, lives = [room / f"python-{number}", room / f"c-{number}"], room / "image", 0, dict(told)
+        paths, image, newest, lives = [room / f"python-{number}", room / f"c-{number}"], room / "image", 0, dict(blocks)
         later = room / "later"
         for step in range(numbers.randrange(1, 9)):
             if numbers.random() < 0.1 and newest > 3:
                 newest -= numbers.randrange(1, 3)
                 lives = {n: {**block, "lives": block["lives"] + (n > newest)} for n, block in lives.items()}
-            newest = max(1, min(max(told), newest + numbers.randrange(slots + 2)))
-            laid(numbers, image, slots, lives, newest)
+            newest = max(1, min(max(blocks), newest + numbers.randrange(slots + 2)))
+            write_ring(numbers, image, slots, lives, newest)
             if numbers.random() < 0.3 and paths[0].exists() and paths[0].stat().st_size > 2 * SLOT:
                 cut, is_zeros = numbers.randrange(2 * SLOT), numbers.random() < 0.5
                 for path in paths:
                     data = path.read_bytes()
                     path.write_bytes(data[:len(data) - cut].ljust(len(data) * is_zeros, b"\0"))
-            before, newest = image.read_bytes(), min(max(told), newest + numbers.randrange(slots + 2))
-            laid(numbers, later, slots, lives, newest)
+            before, newest = image.read_bytes(), min(max(blocks), newest + numbers.randrange(slots + 2))
+            write_ring(numbers, later, slots, lives, newest)
             with archive.Archive(paths[0]) as kept:
                 wanted = [kept.keep(image)]
                 image.write_bytes(later.read_bytes())
@@ -109,7 +109,7 @@ def main(words):
         with tempfile.TemporaryDirectory(dir=memory if memory.is_dir() and os.access(memory, os.W_OK) else None) as room:
             drive(rows, lab, program, FEW if at else CYCLES, Path(room))
     with tempfile.TemporaryDirectory() as room:
-        beside(rows, programs, Path(room), 45)
+        against_python(rows, programs, Path(room), 45)
     return rows.end(f"lives longer than the ring: {rows.count} comparisons") or int(rows.count < 9 * len(programs) + 150)
 
 

@@ -5,7 +5,7 @@
 
 The calls of a process are recorded (tests/hostile/record.c), with each of its syncs failing in turn, or none. Of the file a loss of power at
 each call leaves, of each sector that no good sync covers, the old bytes or the new ones, a part of both, zeros, or noise where a block is being
-appended, and the old size or the new one. A failed sync is reported in two ways (tests/hostile/failed_syncs.py): the next one settles it; or, as
+appended, and the old size or the new one. A failed sync is modelled in two ways (tests/hostile/failed_syncs.py): the next one settles it; or, as
 on Linux, no later one does, and reads find what was written until the system drops its copies.
 
 What is left has each block and each mark that a call said OK of, and no mark that nobody wrote. A process that goes on with it answers OK, and
@@ -152,7 +152,7 @@ class Marks:
         return {"a mark that nobody wrote"} if wrong else {one.moment_ms for one in found}
 
 
-class Tried:
+class CutRuns:
     """A kind of file over a kind of medium."""
 
     def __init__(self, rows, record, kind, way, room):
@@ -170,7 +170,7 @@ class Tried:
         return calls_of(to)
 
     def goes_on(self, data, lines, name, kept=None):
-        """A process that goes on with a file; where `kept` is reported, the medium has that, and not what is read."""
+        """A process that goes on with a file; where `kept` is given, the medium has that, and not what is read."""
         at, medium = self.kind.now(lines), self.way(data)
         path, how = self.file.with_name("left"), {}
         if kept is not None:
@@ -217,7 +217,7 @@ def main(words):
         archive = Archive(words[0], room)
         for kind in (archive, Marks(words[0], room)):
             for way in (Medium, Linux):
-                tried, number = Tried(rows, record, kind, way, room), 0
+                tried, number = CutRuns(rows, record, kind, way, room), 0
                 while tried.fails_at(number) or number == 0:
                     number += 1
                 cuts[f"{kind.name} on {way.__name__}"] = tried.cuts

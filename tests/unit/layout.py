@@ -1,8 +1,8 @@
 #!/usr/bin/env python3
-"""Sizes and places of the structs as C lays them out along with those of python/gaknifur/units/_header.py.
+"""Compares sizes and offsets of the structs in C with those of python/gaknifur/units/_header.py.
 
-    tests/unit/layout.py --program    prints a C program that prints them, as the headers have them
-    tests/unit/layout.py PROGRAM..    compares what this program prints, built in several ways
+    tests/unit/layout.py --program    print a C program that prints them from the headers
+    tests/unit/layout.py PROGRAM..    compare what this program prints, built in several ways
 """
 import ctypes
 import subprocess
@@ -12,7 +12,7 @@ from pathlib import Path
 sys.path.insert(0, str(Path(__file__).resolve().parents[2] / "python"))
 from gaknifur.units import _header  # noqa: E402
 
-LEAST = 180
+LEAST = 184
 PROGRAM = """#include <stddef.h>
 #include <stdio.h>
 #include "etcs_guard.h"
@@ -34,7 +34,7 @@ def places():
 def main(words):
     wanted = dict(places())
     if words == ["--program"]:
-        print(PROGRAM % "".join(f'    printf("{told}: %u\\n", (unsigned){told});\n' for told in wanted), end="")
+        print(PROGRAM % "".join(f'    printf("{place}: %u\\n", (unsigned){place});\n' for place in wanted), end="")
         return 0
     tried = found = 0
     for program in words:

@@ -1,10 +1,10 @@
-/* Lives one life on an image, and prints what `etcs run` prints of it: a line for each output that is released.
+/* Runs one life on an image, and prints what `etcs run` prints of it: a line for each output that is released.
  *
  *     life copy|sectors IMAGE COLD [CUT]    reads inputs from standard input, one a line; with CUT it stops after so many requests; by sectors with
  *                                           -1 - CUT while it opens, after so many sectors
  *     life format IMAGE SLOTS
  *
- * The inputs stand in inputs.h; a line may also be `flush`. */
+ * The inputs are those of inputs.h; a line may also be `flush`. */
 #include "etcs_file.h"
 #include "inputs.h"
 

@@ -1,9 +1,9 @@
-/* Prints the journal of an image as `etcs journal` does, by the calls of include/etcs_image.h alone.
+/* Prints the journal of an image as `etcs journal` does, only by the calls of include/etcs_image.h.
  *
- *     listing IMAGE      the lines of all records, the oldest first
- *     listing IMAGE -b   the same, with each record asked for by its block and its place there
- *     listing IMAGE -s   what the image has, and what each slot holds
- *     listing IMAGE -k   what the head of each block says, and what it keeps
+ *     listing IMAGE      print all records, the oldest first
+ *     listing IMAGE -b   the same, reading each record by its block and its index there
+ *     listing IMAGE -s   print the facts of the image, and the content of each slot
+ *     listing IMAGE -k   print the head of each block, and the items that it keeps
  */
 #include <stdio.h>
 #include <stdlib.h>
@@ -11,7 +11,7 @@
 
 #include "etcs_image.h"
 
-static void tell(const etcs_record *record) {
+static void print_record(const etcs_record *record) {
     printf("block %llu event %llu %s %s ", (unsigned long long)record->block, (unsigned long long)record->event, etcs_kind_name(record->kind), etcs_mode_name(record->mode));
     printf("%s %s %u ", etcs_level_name(record->level), etcs_brake_name(record->brake), (unsigned)record->indications);
     for (unsigned i = 0; i < record->payload_len; i++)
@@ -28,7 +28,7 @@ static uint32_t by_journal(const uint8_t *image, size_t size) {
     etcs_record record;
     uint32_t answer = etcs_journal_open(image, size, &journal);
     while (answer == ETCS_UNIT_OK && (answer = etcs_journal_next(image, size, &journal, &record)) == ETCS_UNIT_OK)
-        tell(&record);
+        print_record(&record);
     return answer == ETCS_UNIT_END ? (uint32_t)ETCS_UNIT_OK : answer;
 }
 
@@ -49,7 +49,7 @@ static uint32_t by_blocks(const uint8_t *image, size_t size) {
         for (uint32_t i = 0; i < block.records; i++) {
             if (etcs_image_record(image, size, number, i, &record) != ETCS_UNIT_OK || record.event != block.first_event + i)
                 return ETCS_UNIT_IMAGE_DAMAGED;
-            tell(&record);
+            print_record(&record);
         }
         if (etcs_image_record(image, size, number, block.records, &record) != ETCS_UNIT_NO_SUCH_RECORD)
             return ETCS_UNIT_IMAGE_DAMAGED;
@@ -83,7 +83,7 @@ static void number(uint32_t value) {
         printf(" %u", (unsigned)value);
 }
 
-static void tell_kept(const etcs_kept *kept) {
+static void print_kept(const etcs_kept *kept) {
     const etcs_national *const values = &kept->national;
     const uint32_t numbers[] = {values->shunting_m_per_h, values->staff_responsible_m_per_h, values->on_sight_m_per_h, values->unfitted_m_per_h,
                                 values->release_m_per_h, values->roll_cm, values->override_allowed_m_per_h, values->override_m_per_h,
@@ -116,7 +116,7 @@ static uint32_t heads(const uint8_t *image, size_t size) {
             continue;
         printf("block %llu format %u first %llu events %llu lives %u records %u", (unsigned long long)block.number, (unsigned)block.format,
                (unsigned long long)block.first_event, (unsigned long long)block.events, (unsigned)block.lives, (unsigned)block.records);
-        tell_kept(&block.kept);
+        print_kept(&block.kept);
     }
     return ETCS_UNIT_OK;
 }

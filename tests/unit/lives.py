@@ -1,7 +1,7 @@
 #!/usr/bin/env python3
-"""Random lives from C along with `etcs run`, the same in every run: what is printed, what the file is handed, call by call, and what it holds.
+"""Compares random lives from C with `etcs run`, the same in every run: the output, each call on the file, and its content.
 
-    tests/unit/lives.py LIFE [LIVES [SEED]]    LIFE is life.c with the library; 400 lives, seed 2026; $ETCS names another program than the gate's
+    tests/unit/lives.py LIFE [LIVES [SEED]]    LIFE is life.c with the library; 400 lives, seed 2026; $ETCS names another program than that of the full check
 
 Each life is lived over a copy of the file, and by sectors. All print the same and end with the same status. Their writes and syncs of the file are the
 same, in the same order and with the same bytes, so that power may be lost between any two of them and the file is the same. In every second life it is,
@@ -52,15 +52,15 @@ def word_of(asked):
 
 
 def scenario_of(numbers):
-    """A life of a train that mostly heeds what it is reported; in some lives it hears telegrams that can't be read, or the clock goes back."""
-    told = json.loads(random_lives.scenario(numbers))
+    """A life of a train that mostly heeds the unit's answers; in some lives it hears telegrams that can't be read, or the clock goes back."""
+    scenario = json.loads(random_lives.scenario(numbers))
     for _ in range(numbers.randrange(4)):
         data = (headed if numbers.randrange(2) else mutated)(numbers)
         if 1 <= len(data) <= 104:
-            told["steps"].insert(numbers.randrange(len(told["steps"]) + 1), {"telegram": data.hex()})
+            scenario["steps"].insert(numbers.randrange(len(scenario["steps"]) + 1), {"telegram": data.hex()})
     if numbers.randrange(10) == 0:
-        told["steps"].append({"clock": numbers.randrange(2_000)})
-    return told
+        scenario["steps"].append({"clock": numbers.randrange(2_000)})
+    return scenario
 
 
 def slots_of(numbers):
@@ -83,7 +83,7 @@ def requests_of(calls):
     return [call for call in calls if call[0] != "o"]
 
 
-def behind_settling(calls):
+def after_settling(calls):
     """The calls of a life from C after the two that settle its file, which are no requests of the unit."""
     if [kind for kind, _, _ in calls[:2]] != ["s", "d"]:
         raise SystemExit(f"the file isn't synced, and its pages dropped, at first: {calls[:2]}")
@@ -138,7 +138,7 @@ class Pair:
             self.other.write_bytes(before)
             found = recorded(self.record, self.other, words, text)
             self.failures.unless(found[:2] == (status, printed), f"{name}, {kind}: from C {found[0]} {found[1][:400]}, wanted {status} {printed[:400]}")
-            self.failures.unless(requests_of(behind_settling(found[2])) == requests_of(calls), f"{name}, {kind}: from C the file is handed other calls")
+            self.failures.unless(requests_of(after_settling(found[2])) == requests_of(calls), f"{name}, {kind}: from C the file is handed other calls")
             self.same(f"{name}, {kind}")
         self.calls += len(requests_of(calls))
         self.lines += printed.count("\n")
@@ -149,8 +149,8 @@ class Pair:
         self.other.write_bytes(before)
         status, printed, _ = recorded(self.record, self.other, [*words, count], text)
         held, wanted = cut_off(before, calls, count)
-        self.failures.unless(self.other.read_bytes() == held, f"{name}, cut behind {count}: the file holds other bytes")
-        self.failures.unless((status, printed) == (1, wanted + "stopped 21 ?\n"), f"{name}, cut behind {count}: {status} {printed}, wanted {wanted}")
+        self.failures.unless(self.other.read_bytes() == held, f"{name}, cut after {count}: the file holds other bytes")
+        self.failures.unless((status, printed) == (1, wanted + "stopped 21 ?\n"), f"{name}, cut after {count}: {status} {printed}, wanted {wanted}")
         self.cuts += 1
         self.within += held != before
 
@@ -159,8 +159,8 @@ class Pair:
         count = numbers.randrange(1 + self.slots)
         self.other.write_bytes(before)
         status, printed, calls = recorded(self.record, self.other, [*words, -1 - count], text)
-        self.failures.unless((status, printed, behind_settling(calls)) == (1, "stopped 24 ?\n", []), f"{name}, stopped behind {count} sectors: {status} {printed} {calls}")
-        self.failures.unless(self.other.read_bytes() == before, f"{name}, stopped behind {count} sectors: the file holds other bytes")
+        self.failures.unless((status, printed, after_settling(calls)) == (1, "stopped 24 ?\n", []), f"{name}, stopped after {count} sectors: {status} {printed} {calls}")
+        self.failures.unless(self.other.read_bytes() == before, f"{name}, stopped after {count} sectors: the file holds other bytes")
         self.stops += 1
 
     def go_on(self, name, numbers, scenario):
@@ -189,7 +189,7 @@ def main(words):
     failures.unless(pair.calls >= LEAST_CALLS * count and pair.lines >= LEAST_LINES * count, "the lives are too short")
     failures.unless(pair.cuts >= count and pair.within >= count // 2 and pair.stops >= count // 8, "too few lives are cut off")
     return failures.end(f"lives from C: {count} over a copy and by sectors, with {pair.calls} requests and {pair.lines} lines each, and {pair.cuts} cut off, "
-                        f"{pair.within} of them behind a write, and {pair.stops} while a sector was wanted")
+                        f"{pair.within} of them after a write, and {pair.stops} while a sector was wanted")
 
 
 if __name__ == "__main__":

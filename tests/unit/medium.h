@@ -1,4 +1,4 @@
-/* A medium in memory, and counting what was tried: for the tests of the unit from C. */
+/* A medium in memory, and the count of answers: for the tests of the unit from C. */
 #ifndef MEDIUM_H
 #define MEDIUM_H
 
@@ -20,7 +20,7 @@ static inline void is(const char *what, uint64_t found, uint64_t wanted) {
 }
 
 /* How many were tried, and the exit status: 1 also where fewer were tried than there are. */
-static inline int told(const char *what, unsigned least) {
+static inline int report(const char *what, unsigned least) {
     printf("%s: %u answers, %u of them wrong\n", what, tried, wrong);
     if (tried < least)
         printf("%s: there are %u to be tried\n", what, least);

@@ -1,4 +1,4 @@
-/* Each wrong call that C lets the library see is answered as include/etcs_unit.h says, and changes nothing. */
+/* Each wrong call that the library can detect is answered as include/etcs_unit.h says, and changes nothing. */
 #include "medium.h"
 
 static etcs_unit_output outputs[ETCS_UNIT_OUTPUTS];
@@ -21,12 +21,12 @@ static void null_pointers(medium *on) {
     is("go on, no opening", etcs_opening_go_on(NULL, &unit), wanted);
     is("go on, no unit", etcs_opening_go_on(&opening, NULL), wanted);
     is("wanted, no opening", etcs_opening_wanted(NULL, &sector), wanted);
-    is("wanted, nowhere to tell", etcs_opening_wanted(&opening, NULL), wanted);
+    is("wanted, no output", etcs_opening_wanted(&opening, NULL), wanted);
     is("provide, no opening", etcs_opening_provide(NULL, 0, bytes, ETCS_UNIT_SECTOR), wanted);
     is("provide, no bytes", etcs_opening_provide(&opening, 0, NULL, ETCS_UNIT_SECTOR), wanted);
     is("give up, no opening", etcs_opening_close(NULL), wanted);
     is("wanted, no unit", etcs_unit_wanted(NULL, &sector), wanted);
-    is("wanted of a unit, nowhere to tell", etcs_unit_wanted(&unit, NULL), wanted);
+    is("wanted of a unit, no output", etcs_unit_wanted(&unit, NULL), wanted);
     is("provide, no unit", etcs_unit_provide(NULL, 0, bytes, ETCS_UNIT_SECTOR), wanted);
     is("provide to a unit, no bytes", etcs_unit_provide(&unit, 0, NULL, ETCS_UNIT_SECTOR), wanted);
     is("open, no unit", etcs_unit_open(NULL, on->bytes, on->len, 0), wanted);
@@ -43,7 +43,7 @@ static void null_pointers(medium *on) {
     is("train data, none", etcs_unit_train_data(&unit, NULL), wanted);
     is("prepare, no unit", etcs_unit_prepare(NULL), wanted);
     is("request, no unit", etcs_unit_request(NULL, 0, &request, bytes, sizeof bytes), wanted);
-    is("request, nowhere to tell", etcs_unit_request(&unit, 0, NULL, bytes, sizeof bytes), wanted);
+    is("request, no output", etcs_unit_request(&unit, 0, NULL, bytes, sizeof bytes), wanted);
     is("request, no bytes", etcs_unit_request(&unit, 0, &request, NULL, 0), wanted);
     is("done, no unit", etcs_unit_done(NULL, 0), wanted);
     is("fail, no unit", etcs_unit_fail(NULL), wanted);
@@ -51,13 +51,13 @@ static void null_pointers(medium *on) {
     is("release, no outputs", etcs_unit_release(&unit, NULL, 8, &count), wanted);
     is("release, no count", etcs_unit_release(&unit, outputs, 8, NULL), wanted);
     is("command, no outputs", etcs_unit_command(NULL, 1, outputs), wanted);
-    is("command, nowhere to tell", etcs_unit_command(outputs, 1, NULL), wanted);
+    is("command, no output", etcs_unit_command(outputs, 1, NULL), wanted);
     is("state, no unit", etcs_unit_state(NULL, &state), wanted);
-    is("state, nowhere to tell", etcs_unit_state(&unit, NULL), wanted);
+    is("state, no output", etcs_unit_state(&unit, NULL), wanted);
     is("why, no unit", etcs_unit_why(NULL, &why), wanted);
-    is("why, nowhere to tell", etcs_unit_why(&unit, NULL), wanted);
+    is("why, no output", etcs_unit_why(&unit, NULL), wanted);
     is("close, no unit", etcs_unit_close(NULL), wanted);
-    is("format, nowhere to tell", etcs_unit_format_request(4, 0, NULL, bytes, 512), wanted);
+    is("format, no output", etcs_unit_format_request(4, 0, NULL, bytes, 512), wanted);
     is("format, no bytes", etcs_unit_format_request(4, 0, &request, NULL, 512), wanted);
 }
 
@@ -123,7 +123,7 @@ static void version(void) {
     is("version, just its room", etcs_version(out, 5, &len), ETCS_UNIT_OK);
     is("its length", len, 5);
     is("its first byte", out[0], '0');
-    is("nothing behind it", out[5], 0xAA);
+    is("nothing after it", out[5], 0xAA);
     is("version", etcs_version(out, sizeof out, &len), ETCS_UNIT_OK);
     is("its length", len, 5);
 }
@@ -148,7 +148,7 @@ static void opening(medium *on) {
     memcpy(other, on->bytes, on->len);
     refused("a sector too few", etcs_unit_open(&unit, other, on->len - 512, 0), ETCS_UNIT_OPEN_DAMAGED, &unit);
     refused("a sector too many", etcs_unit_open(&unit, other, on->len + 512, 0), ETCS_UNIT_OPEN_DAMAGED, &unit);
-    is("bytes behind the last sector", etcs_unit_open(&unit, other, on->len + 511, ETCS_COLD_NOT_MOVED), ETCS_UNIT_OK);
+    is("bytes after the last sector", etcs_unit_open(&unit, other, on->len + 511, ETCS_COLD_NOT_MOVED), ETCS_UNIT_OK);
     is("opened twice", etcs_unit_open(&unit, on->bytes, on->len, 0), ETCS_UNIT_IS_OPEN);
     is("closed before its power-up is done", etcs_unit_close(&unit), ETCS_UNIT_OK);
     is("closed twice", etcs_unit_close(&unit), ETCS_UNIT_NOT_OPEN);
@@ -218,7 +218,7 @@ static void openings_that_are_refused(const medium *on) {
         is("511 bytes", etcs_##kind##_provide(to, sector, bytes, 511), ETCS_UNIT_OUT_OF_RANGE);                                            \
         is("513 bytes", etcs_##kind##_provide(to, sector, bytes, 513), ETCS_UNIT_OUT_OF_RANGE);                                            \
         is("two sectors", etcs_##kind##_provide(to, sector, bytes, 1024), ETCS_UNIT_OUT_OF_RANGE);                                         \
-        is("the sector behind the last one", etcs_##kind##_provide(to, sectors, bytes, ETCS_UNIT_SECTOR), ETCS_UNIT_OUT_OF_RANGE);         \
+        is("the sector after the last one", etcs_##kind##_provide(to, sectors, bytes, ETCS_UNIT_SECTOR), ETCS_UNIT_OUT_OF_RANGE);         \
         is("the greatest number", etcs_##kind##_provide(to, UINT64_MAX, bytes, ETCS_UNIT_SECTOR), ETCS_UNIT_OUT_OF_RANGE);                 \
     } while (0)
 
@@ -277,10 +277,10 @@ static void wanting(void) {
         is("wanted after it", etcs_unit_wanted(&unit, &sector), ETCS_UNIT_OK);
         is("the same gate", sector, 1 + 6 * slot);
         is("provide another sector", etcs_unit_provide(&unit, sector + 1, sector_of(&on, sector + 1), ETCS_UNIT_SECTOR), ETCS_UNIT_OK);
-        is("nothing is wanted behind any sector", etcs_unit_wanted(&unit, &sector), ETCS_UNIT_NONE_WANTED);
-        is("prepare behind it", etcs_unit_prepare(&unit), ETCS_UNIT_SECTOR_WANTED);
-        is("wanted behind it", etcs_unit_wanted(&unit, &sector), ETCS_UNIT_OK);
-        is("the same gate behind it", sector, 1 + 6 * slot);
+        is("nothing is wanted after any sector", etcs_unit_wanted(&unit, &sector), ETCS_UNIT_NONE_WANTED);
+        is("prepare after it", etcs_unit_prepare(&unit), ETCS_UNIT_SECTOR_WANTED);
+        is("wanted after it", etcs_unit_wanted(&unit, &sector), ETCS_UNIT_OK);
+        is("the same gate after it", sector, 1 + 6 * slot);
         PROVIDES_WRONGLY(unit, &unit, on.len / ETCS_UNIT_SECTOR, sector);
         is("provide", etcs_unit_provide(&unit, sector, sector_of(&on, sector), ETCS_UNIT_SECTOR), ETCS_UNIT_OK);
         is("nothing is wanted then", etcs_unit_wanted(&unit, &sector), ETCS_UNIT_NONE_WANTED);
@@ -291,7 +291,7 @@ static void wanting(void) {
     is("an input", etcs_unit_clock(&unit, 9), ETCS_UNIT_OK);
     is("prepare", etcs_unit_prepare(&unit), ETCS_UNIT_SECTOR_WANTED);
     is("the medium failed", etcs_unit_fail(&unit), ETCS_UNIT_OK);
-    is("prepare behind a failure", etcs_unit_prepare(&unit), ETCS_UNIT_FAILED);
+    is("prepare after a failure", etcs_unit_prepare(&unit), ETCS_UNIT_FAILED);
     is("close", etcs_unit_close(&unit), ETCS_UNIT_OK);
     is("power-up over a copy", powered_up(&on, &unit, 0), ETCS_UNIT_OK);
     is("an input", etcs_unit_clock(&unit, 1), ETCS_UNIT_OK);
@@ -389,8 +389,8 @@ static void relaying(medium *on) {
     is("room for 7", etcs_unit_release(&unit, outputs, 7, &count), ETCS_UNIT_NO_ROOM);
     is("room for none", etcs_unit_release(&unit, outputs, 0, &count), ETCS_UNIT_NO_ROOM);
     is("why, before the power-up is done", etcs_unit_why(&unit, &why), ETCS_UNIT_NOT_RELEASED);
-    is("behind the list", etcs_unit_request(&unit, requests, &request, bytes, sizeof bytes), ETCS_UNIT_NO_SUCH_REQUEST);
-    is("far behind the list", etcs_unit_request(&unit, UINT32_MAX, &request, bytes, sizeof bytes), ETCS_UNIT_NO_SUCH_REQUEST);
+    is("after the list", etcs_unit_request(&unit, requests, &request, bytes, sizeof bytes), ETCS_UNIT_NO_SUCH_REQUEST);
+    is("far after the list", etcs_unit_request(&unit, UINT32_MAX, &request, bytes, sizeof bytes), ETCS_UNIT_NO_SUCH_REQUEST);
     untouched("a refusal writes nothing");
     is("state", etcs_unit_state(&unit, &state), ETCS_UNIT_OK);
     is("a refusal does no request", state.done, 0);
@@ -431,7 +431,7 @@ static void relaying(medium *on) {
     count = 0xAAAAAAAA;
     untouched("why writes nothing with one pending");
     count = 0;
-    is("done behind a release", etcs_unit_done(&unit, 1), ETCS_UNIT_WRONG_COUNT);
+    is("done after a release", etcs_unit_done(&unit, 1), ETCS_UNIT_WRONG_COUNT);
     for (int i = 0; i < 7; i++)
         is("eight may be pending", etcs_unit_clock(&unit, 2), ETCS_UNIT_OK);
     is("the ninth", etcs_unit_clock(&unit, 2), ETCS_UNIT_PENDING_FULL);
@@ -491,12 +491,12 @@ static void failing(medium *on) {
     is("carry out", carry_out(on, &unit), ETCS_UNIT_OK);
     is("the medium failed", etcs_unit_fail(&unit), ETCS_UNIT_OK);
     touch();
-    is("why behind a failure", etcs_unit_why(&unit, &why), ETCS_UNIT_NOT_RELEASED);
-    is("release behind a failure", etcs_unit_release(&unit, outputs, 8, &count), ETCS_UNIT_FAILED);
-    is("room for 7 behind a failure", etcs_unit_release(&unit, outputs, 7, &count), ETCS_UNIT_NO_ROOM);
-    untouched("nothing is released behind a failure");
-    is("prepare behind a failure", etcs_unit_prepare(&unit), ETCS_UNIT_FAILED);
-    is("an input behind a failure", etcs_unit_clock(&unit, 2), ETCS_UNIT_INPUT_FAILED);
+    is("why after a failure", etcs_unit_why(&unit, &why), ETCS_UNIT_NOT_RELEASED);
+    is("release after a failure", etcs_unit_release(&unit, outputs, 8, &count), ETCS_UNIT_FAILED);
+    is("room for 7 after a failure", etcs_unit_release(&unit, outputs, 7, &count), ETCS_UNIT_NO_ROOM);
+    untouched("nothing is released after a failure");
+    is("prepare after a failure", etcs_unit_prepare(&unit), ETCS_UNIT_FAILED);
+    is("an input after a failure", etcs_unit_clock(&unit, 2), ETCS_UNIT_INPUT_FAILED);
     is("one out of range", etcs_unit_action(&unit, 16), ETCS_UNIT_OUT_OF_RANGE);
     is("state", etcs_unit_state(&unit, &state), ETCS_UNIT_OK);
     is("it has failed", state.has_failed, 1);
@@ -515,7 +515,7 @@ static void formatting(void) {
     is("1 slot", etcs_unit_format_request(1, 0, &request, bytes, 512), ETCS_UNIT_BAD_SLOTS);
     is("1,048,577 slots", etcs_unit_format_request(1048577, 0, &request, bytes, 512), ETCS_UNIT_BAD_SLOTS);
     is("4,294,967,295 slots", etcs_unit_format_request(UINT32_MAX, 0, &request, bytes, 512), ETCS_UNIT_BAD_SLOTS);
-    is("far behind the last one", etcs_unit_format_request(2, UINT32_MAX, &request, bytes, 512), ETCS_UNIT_NO_SUCH_REQUEST);
+    is("far after the last one", etcs_unit_format_request(2, UINT32_MAX, &request, bytes, 512), ETCS_UNIT_NO_SUCH_REQUEST);
     is("room for 511 bytes", etcs_unit_format_request(2, 0, &request, bytes, 511), ETCS_UNIT_NO_ROOM);
     untouched("a refusal of a format writes nothing");
     is("1,048,576 slots", etcs_unit_format_request(1048576, 0, &request, bytes, 512), ETCS_UNIT_OK);
@@ -572,7 +572,7 @@ static void commands(void) {
     some[1].brake = 3;
     is("no such brake", etcs_unit_command(some, 2, &command), ETCS_UNIT_OUT_OF_RANGE);
     is("too many", etcs_unit_command(some, ETCS_UNIT_OUTPUTS + 1, &command), ETCS_UNIT_OUT_OF_RANGE);
-    is("the command stays behind both", command.event == 11 && command.brake == ETCS_BRAKE_SERVICE, 1);
+    is("the command stays after both", command.event == 11 && command.brake == ETCS_BRAKE_SERVICE, 1);
 }
 
 int main(void) {
@@ -592,5 +592,5 @@ int main(void) {
     failing(&on);
     formatting();
     free(on.bytes);
-    return told("misuse", 1500);
+    return report("misuse", 1500);
 }

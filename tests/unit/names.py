@@ -1,7 +1,7 @@
 #!/usr/bin/env python3
-"""The names of the headers' numbers, as the shared library gives them.
+"""Checks the names of the headers' numbers in the shared library.
 
-    tests/unit/names.py LIBRARY SYMBOL..    SYMBOL.. are the names that the library shows
+    tests/unit/names.py LIBRARY SYMBOL..    SYMBOL.. are the names that the library exports
 
 Each number of each enum has a name. It is the enumerator in small letters, or another word that is listed here by hand; and the names of an enum
 are the words of the program that docs/reference/json.md and docs/reference/refusals.md list, which tests/json_page.py compares with what the program prints. Other

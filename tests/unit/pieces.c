@@ -5,7 +5,7 @@
  *
  * The model says of each answer: the piece lies in the buffer, 16 divides its address, it overlaps no other one, a piece that was resized has
  * its first bytes as they were, and no byte outside the pieces' buffer was written. A request may be refused only where no gap between two pieces
- * is greater than it by a 16th. What is reported of the buffer is what the model sums. After the last give all bytes are one piece again. */
+ * is greater than it by a 16th. The figures of the buffer are those of the model. After the last give all bytes are one piece again. */
 #include "medium.h"
 #include "pieces.h"
 
@@ -196,5 +196,5 @@ int main(int count, char **words) {
     is("all in one piece", all != NULL && state.used == 0 && state.pieces == 0, 1);
     printf("refusals: %u, resizes: %u, grown in place: %u\n", refusals, resizes, grown_in_place);
     is("refusals, resizes, and some in place", refusals > 1000 && resizes > 1000 && grown_in_place > 50, 1);
-    return told("pieces", 100000);
+    return report("pieces", 100000);
 }

@@ -1,5 +1,5 @@
 /* Reading an image from C: each wrong call is answered as include/etcs_image.h says, and writes nothing; a slot of each
- * state is reported; and what one life left is reported record by record, with what was worked out by hand. */
+ * state is recognised; and the records of one life are compared with hand-written ones. */
 #include "etcs_image.h"
 #include "medium.h"
 
@@ -44,23 +44,23 @@ static void null_pointers(const medium *on) {
     const uint32_t wanted = ETCS_UNIT_NULL_POINTER;
     const uint8_t *image = on->bytes;
     is("facts, no image", etcs_image_facts(NULL, on->len, &facts), wanted);
-    is("facts, nowhere to tell", etcs_image_facts(image, on->len, NULL), wanted);
+    is("facts, no output", etcs_image_facts(image, on->len, NULL), wanted);
     is("slot, no image", etcs_image_slot(NULL, on->len, 0, 0, &slot), wanted);
-    is("slot, nowhere to tell", etcs_image_slot(image, on->len, 0, 0, NULL), wanted);
+    is("slot, no output", etcs_image_slot(image, on->len, 0, 0, NULL), wanted);
     is("block, no image", etcs_image_block(NULL, on->len, 1, &block), wanted);
-    is("block, nowhere to tell", etcs_image_block(image, on->len, 1, NULL), wanted);
+    is("block, no output", etcs_image_block(image, on->len, 1, NULL), wanted);
     is("record, no image", etcs_image_record(NULL, on->len, 1, 0, &record), wanted);
-    is("record, nowhere to tell", etcs_image_record(image, on->len, 1, 0, NULL), wanted);
+    is("record, no output", etcs_image_record(image, on->len, 1, 0, NULL), wanted);
     is("journal, no image", etcs_journal_open(NULL, on->len, &journal), wanted);
-    is("journal, nowhere to tell", etcs_journal_open(image, on->len, NULL), wanted);
+    is("journal, no output", etcs_journal_open(image, on->len, NULL), wanted);
     is("next, no image", etcs_journal_next(NULL, on->len, &journal, &record), wanted);
     is("next, no journal", etcs_journal_next(image, on->len, NULL, &record), wanted);
-    is("next, nowhere to tell", etcs_journal_next(image, on->len, &journal, NULL), wanted);
+    is("next, no output", etcs_journal_next(image, on->len, &journal, NULL), wanted);
     is("replay, no image", etcs_image_replay(NULL, on->len, &journal, &replay), wanted);
     is("replay, no journal", etcs_image_replay(image, on->len, NULL, &replay), wanted);
-    is("replay, nowhere to tell", etcs_image_replay(image, on->len, &journal, NULL), wanted);
+    is("replay, no output", etcs_image_replay(image, on->len, &journal, NULL), wanted);
     is("why, no image", etcs_image_why(NULL, on->len, 1, 0, &why), wanted);
-    is("why, nowhere to tell", etcs_image_why(image, on->len, 1, 0, NULL), wanted);
+    is("why, no output", etcs_image_why(image, on->len, 1, 0, NULL), wanted);
 }
 
 /* Each call on bytes that are no journal. */
@@ -118,7 +118,7 @@ static void limits(const medium *on) {
     is("why, block 3", etcs_image_why(image, on->len, 3, 6, &why), ETCS_UNIT_NO_SUCH_BLOCK);
     is("why, the greatest block", etcs_image_why(image, on->len, UINT64_MAX, 0, &why), ETCS_UNIT_NO_SUCH_BLOCK);
     is("why, an event before block 2", etcs_image_why(image, on->len, 2, 0, &why), ETCS_UNIT_NO_SUCH_RECORD);
-    is("why, an event behind block 2", etcs_image_why(image, on->len, 2, 6, &why), ETCS_UNIT_NO_SUCH_RECORD);
+    is("why, an event after block 2", etcs_image_why(image, on->len, 2, 6, &why), ETCS_UNIT_NO_SUCH_RECORD);
     is("why, the greatest event", etcs_image_why(image, on->len, 2, UINT64_MAX, &why), ETCS_UNIT_NO_SUCH_RECORD);
     is("a sector too few", etcs_journal_open(image, on->len - 512, &journal), ETCS_UNIT_IMAGE_DAMAGED);
     untouched("a refusal writes nothing");
@@ -128,7 +128,7 @@ static void limits(const medium *on) {
     is("its slots", facts.slots, 4);
     is("those that are whole", facts.whole, 3);
     is("its sectors", facts.sectors, 24);
-    is("bytes behind the last sector", etcs_journal_open(image, on->len, &journal), ETCS_UNIT_OK);
+    is("bytes after the last sector", etcs_journal_open(image, on->len, &journal), ETCS_UNIT_OK);
     is("the first sector alone", etcs_image_facts(image, 512, &facts), ETCS_UNIT_OK);
     is("no slot is whole", facts.whole, 0);
     is("no block is newest", facts.newest, 0);
@@ -154,7 +154,7 @@ static void cursors(const medium *on) {
             is("it stays", (uint64_t)memcmp(&journal, &odd[i], sizeof journal), 0);
         }
         memset(&journal, 0xAA, sizeof journal);
-        untouched("and nothing is told");
+        untouched("and nothing is written");
     }
     const etcs_journal most = {2, SLOTS + 1, 0};
     journal = most;
@@ -213,7 +213,7 @@ static void records(const medium *on) {
         is("its limit", record.limit_m_per_h, 0);
         for (unsigned j = record.payload_len; j < ETCS_PAYLOAD_BYTES; j++)
             if (record.payload[j] != 0)
-                is("zeros behind the payload", record.payload[j], 0);
+                is("zeros after the payload", record.payload[j], 0);
         if (kinds[i] == ETCS_POWER_UP)
             is("the word: moved", record.payload[0], 1);
         if (kinds[i] == ETCS_CLOCK)
@@ -286,7 +286,7 @@ static void again(const medium *on) {
     is("the first", replay.life, 1);
     is("agrees", replay.verdict, ETCS_VERDICT_AGREES);
     is("no field differs", replay.field | replay.reserved | replay.block | replay.event, 0);
-    is("behind block 2", journal.block, 3);
+    is("after block 2", journal.block, 3);
     is("at its first record", journal.index, 0);
     is("no life more", etcs_image_replay(image, on->len, &journal, &replay), ETCS_UNIT_END);
     journal.block = 2;
@@ -301,7 +301,7 @@ static void again(const medium *on) {
     is("to event 5", replay.last_event, 5);
     journal.block = 1;
     journal.index = 7;
-    is("behind all records", etcs_image_replay(image, on->len, &journal, &replay), ETCS_UNIT_OK);
+    is("after all records", etcs_image_replay(image, on->len, &journal, &replay), ETCS_UNIT_OK);
     is("from block 2", replay.first_event, 1);
     journal.block = 2;
     journal.index = 5;
@@ -341,11 +341,11 @@ static void again(const medium *on) {
     is("in its mode", replay.field, ETCS_RECORD_MODE);
     is("of block 2", replay.block, 2);
     is("of event 1", replay.event, 1);
-    is("it tells", replay.journal.mode, ETCS_FULL_SUPERVISION);
+    is("the journal's mode", replay.journal.mode, ETCS_FULL_SUPERVISION);
     is("the kernel answers", replay.kernel.mode, ETCS_STAND_BY);
     is("it alone", replay.last_event, 1);
     is("a line", etcs_image_replay(image, on->len, &journal, &replay), ETCS_UNIT_OK);
-    is("behind it", replay.verdict, ETCS_VERDICT_AFTER_DIFFERENCE);
+    is("after it", replay.verdict, ETCS_VERDICT_AFTER_DIFFERENCE);
     is("to the last event", replay.last_event, 5);
     is("no line more", etcs_image_replay(image, on->len, &journal, &replay), ETCS_UNIT_END);
     image[512 + 2 * SLOT + 1024 + 1] = ETCS_STAND_BY;
@@ -361,15 +361,15 @@ static void again(const medium *on) {
     is("of no event", replay.first_event | replay.last_event | replay.event, 0);
     is("in the train data", replay.field, ETCS_KEPT_TRAIN);
     is("of block 2", replay.block, 2);
-    is("it tells", replay.journal_kept.train.length_cm, 20001);
+    is("the journal's train data", replay.journal_kept.train.length_cm, 20001);
     is("the kernel keeps", replay.kernel_kept.train.length_cm, 20000);
     /* block 1 can't be read: what is after isn't run */
     image[512 + SLOT + 1024 + 1] = 5;
     is("journal", etcs_journal_open(image, on->len, &journal), ETCS_UNIT_OK);
     is("a block that can't be read", etcs_image_replay(image, on->len, &journal, &replay), ETCS_UNIT_IMAGE_DAMAGED);
-    is("behind it", journal.block, 2);
+    is("after it", journal.block, 2);
     is("a life", etcs_image_replay(image, on->len, &journal, &replay), ETCS_UNIT_OK);
-    is("behind a gap", replay.verdict, ETCS_VERDICT_AFTER_GAP);
+    is("after a gap", replay.verdict, ETCS_VERDICT_AFTER_GAP);
     is("from event 1", replay.first_event, 1);
     is("why", etcs_image_why(image, on->len, 2, 5, &why), ETCS_UNIT_NOT_REPLAYED);
     /* block 1 was overwritten */
@@ -400,7 +400,7 @@ static void positions(void) {
     is("a level", block.kept.level_status, ETCS_DATUM_VALID);
     is("level 1", block.kept.level, ETCS_LEVEL_1);
     is("a position", block.kept.position_status, ETCS_DATUM_VALID);
-    is("behind the group", (uint64_t)block.kept.distance_cm, 400);
+    is("beyond the group", (uint64_t)block.kept.distance_cm, 400);
     is("country 5", block.kept.country, 5);
     is("group 9", block.kept.group, 9);
     is("shunting", block.kept.national.shunting_m_per_h, 20000);
@@ -449,8 +449,8 @@ static void states(const medium *on) {
     is("its second byte", slot.fault_at, 512 + 1);
     is("its block isn't there", etcs_image_block(image, on->len, 1, &block), ETCS_UNIT_NO_SUCH_BLOCK);
     is("the journal begins there", etcs_journal_open(image, on->len, &journal), ETCS_UNIT_OK);
-    is("and tells that it is damaged", etcs_journal_next(image, on->len, &journal, &record), ETCS_UNIT_IMAGE_DAMAGED);
-    is("it is behind it", journal.block, 2);
+    is("and reports that it is damaged", etcs_journal_next(image, on->len, &journal, &record), ETCS_UNIT_IMAGE_DAMAGED);
+    is("it is after it", journal.block, 2);
     is("and goes on", etcs_journal_next(image, on->len, &journal, &record), ETCS_UNIT_OK);
     is("at event 1", record.event, 1);
     first[1024 + 1] = on->bytes[512 + SLOT + 1024 + 1];
@@ -461,13 +461,13 @@ static void states(const medium *on) {
     memset(last, 0, 512);
     holds("remains", image, on->len, 3, ETCS_SLOT_REMAINS, 0, 0);
     memset(second, 0, 512);
-    holds("unwritten: 2 is behind 1", image, on->len, 2, ETCS_SLOT_UNWRITTEN, 2, 0);
+    holds("unwritten: 2 is after 1", image, on->len, 2, ETCS_SLOT_UNWRITTEN, 2, 0);
     is("it isn't in the journal", etcs_image_block(image, on->len, 2, &block), ETCS_UNIT_NO_SUCH_BLOCK);
     memcpy(second, on->bytes + 512 + 2 * SLOT, 512);
     memset(first, 0, 512);
     holds("replaced: 1 is before 2", image, on->len, 1, ETCS_SLOT_REPLACED, 1, 0);
     is("the journal", etcs_journal_open(image, on->len, &journal), ETCS_UNIT_OK);
-    is("begins behind it", journal.block, 2);
+    is("begins after it", journal.block, 2);
     free(image);
 }
 
@@ -503,5 +503,5 @@ int main(void) {
     positions();
     states(&on);
     free(on.bytes);
-    return told("reading", 466);
+    return report("reading", 466);
 }

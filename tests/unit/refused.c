@@ -41,13 +41,13 @@ rattle_tried __wrap_rattle_realloc(void *old, uint64_t kept, uint64_t size, uint
 void __wrap_rattle_dealloc(void *old);
 
 rattle_tried __wrap_rattle_alloc(uint64_t size, uint64_t align) {
-    const rattle_tried made = refuses() ? rattle_tells(NULL) : __real_rattle_alloc(size, align);
+    const rattle_tried made = refuses() ? rattle_result(NULL) : __real_rattle_alloc(size, align);
     held += made.is_there != 0;
     return made;
 }
 
 rattle_tried __wrap_rattle_realloc(void *old, uint64_t kept, uint64_t size, uint64_t align) {
-    return refuses() ? rattle_tells(NULL) : __real_rattle_realloc(old, kept, size, align);
+    return refuses() ? rattle_result(NULL) : __real_rattle_realloc(old, kept, size, align);
 }
 
 void __wrap_rattle_dealloc(void *old) {
@@ -143,7 +143,7 @@ static uint32_t asks(const char *line, int opens, uint32_t cold) {
         return status;
     is(line, status, opens ? ETCS_UNIT_OPEN_NO_MEMORY : ETCS_UNIT_NO_MEMORY);
     is("its state", etcs_unit_state(&unit, &after), was);
-    is("what that tells", (uint64_t)memcmp(&before, &after, sizeof before), 0);
+    is("what that has", (uint64_t)memcmp(&before, &after, sizeof before), 0);
     if (opens) {
         is("what a refused power-up holds", (uint64_t)held, (uint64_t)had);
         refused_open++;
@@ -197,7 +197,7 @@ static void live(unsigned long at, answer *found) {
     for (unsigned i = 0; i < many; i++)
         found[i] = answer_to(lines[i]);
     etcs_unit_close(&unit);
-    is("what is held behind the life", (uint64_t)held + used(), 0);
+    is("what is held after the life", (uint64_t)held + used(), 0);
 }
 
 /* That a run was answered as the undisturbed one, and left the same bytes. */
@@ -241,5 +241,5 @@ int main(int count, char **words) {
         is("refusals of a run", refused_open + refused_inputs - before, at <= all);
     }
     printf("refused: %u power-ups, %u inputs\n", refused_open, refused_inputs);
-    return told("refused", 2 * many) || refused_open == 0 || refused_inputs == 0;
+    return report("refused", 2 * many) || refused_open == 0 || refused_inputs == 0;
 }

@@ -17,7 +17,7 @@ sys.path[:0] = [str(TOP / "tests/hostile"), str(TOP / "tests/plain"), str(TOP / 
 
 from built import AUTHORITY, RESTRICTION  # noqa: E402
 from compared import Compared  # noqa: E402
-from onboard_lives import RINGS, Made  # noqa: E402
+from onboard_lives import RINGS, RowWriter  # noqa: E402
 from kernel_words import ACKNOWLEDGED, COLD, CONFIRMED  # noqa: E402
 from kernel_words import ALONE as ACTIONS  # noqa: E402
 
@@ -29,7 +29,7 @@ NEW = {
     "full supervision": ["open unknown", f"hear {AUTHORITY}", *ENTRIES, "flush", "move 100 20000", "clock 5", "flush", "close", "open moved", "flush"],
     "a life and an opening": ["open unknown", f"hear {RESTRICTION}", ENTRIES[0], "flush", *ENTRIES[1:], "flush", *READINGS, "flush", "close", "open unknown",
                               "flush"],
-    "an authority behind a second power-up": ["open unknown", f"hear {RESTRICTION}", *ENTRIES, *READINGS, "open not-moved", "confirm identity",
+    "an authority after a second power-up": ["open unknown", f"hear {RESTRICTION}", *ENTRIES, *READINGS, "open not-moved", "confirm identity",
                                               f"hear {AUTHORITY}"],
 }
 # After what stands on a ring.
@@ -111,7 +111,7 @@ def lives():
 
 
 def image(prepare):
-    made = Made()
+    made = RowWriter()
     prepare(made)
     return b"".join(made.session.disk.settled().held)
 

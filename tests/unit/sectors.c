@@ -176,5 +176,5 @@ int main(void) {
     refusals(&copy.on);
     free(copy.on.bytes);
     free(few.on.bytes);
-    return told("over sectors", 74700);
+    return report("over sectors", 74700);
 }

@@ -76,10 +76,10 @@ static void flush_a_moment(etcs_unit *unit, uint64_t moment) {
     released(unit);
 }
 
-/* ---- what is reported */
+/* ---- output */
 
 /* A figure of /proc/self/status, in kB. */
-static unsigned long told_of_process(const char *name) {
+static unsigned long process_figure(const char *name) {
     char line[256];
     unsigned long found = 0;
     FILE *const status = fopen("/proc/self/status", "r");
@@ -122,8 +122,8 @@ static void open_and_flush(int by_sectors, size_t size) {
     const unsigned long by_opening = sectors_read;
     released(&unit);
     flush_a_moment(&unit, 1);
-    printf("opening %lu flush %lu resident %lu peak %lu used %lu\n", by_opening, sectors_read - by_opening, told_of_process("VmRSS:"),
-           told_of_process("VmHWM:"), most_used());
+    printf("opening %lu flush %lu resident %lu peak %lu used %lu\n", by_opening, sectors_read - by_opening, process_figure("VmRSS:"),
+           process_figure("VmHWM:"), most_used());
     is("close", etcs_unit_close(&unit), ETCS_UNIT_OK);
 }
 

@@ -1,10 +1,10 @@
 #!/usr/bin/env python3
-"""A unit by sectors over rings of any size (sized.c): which sectors it reads, and that it takes as much memory over 36,000 slots as over 4; along with one
-over a copy.
+"""Tests a unit by sectors over rings of any size (sized.c): which sectors it reads, and that it uses as much memory over 36,000 slots as over 4; next to
+a unit over a copy.
 
     tests/unit/sized.py MALLOC BUFFER    sized.c with the library, and with the one without malloc
 
-What is to be read stands in docs/reference/format.md and crates/relayed_unit/README.md: the first sector; of each slot the gate, and the head, since a ring that
+The sectors to be read are in docs/reference/format.md and crates/relayed_unit/README.md: the first sector; of each slot the gate, and the head, since a ring that
 was written over has no closed gate; the six sectors of the newest block's slot; and the gate of the next one. 16 sectors are held: so of the small
 ring three of these are known by then, and of the great one none.
 """

@@ -79,5 +79,5 @@ int main(void) {
                 is("memcmp of more", own_memcmp(wanted + to, found + to, length) > 0, wanted[to + length - 1] > found[to + length - 1]);
             }
         }
-    return told("calls of compiled code", 900000);
+    return report("calls of compiled code", 900000);
 }

@@ -1,8 +1,8 @@
 #!/usr/bin/env python3
-"""The calls of the headers as symbols of the shared library, for who reads no header: each answers NULL_POINTER where all that it is handed is zero, and
-a life through them alone is answered as the header says.
+"""Calls the functions of the headers as symbols of the shared library, without a header: each returns NULL_POINTER where all its arguments are zero, and
+a life through them is answered as the header says.
 
-    tests/unit/symbols.py LIBRARY NAME..    NAME.. are the names that the library shows
+    tests/unit/symbols.py LIBRARY NAME..    NAME.. are the names that the library exports
 """
 import ctypes
 import sys
@@ -14,7 +14,7 @@ sys.path[:0] = [str(TOP / "tests")]
 from compared import Compared  # noqa: E402
 
 NULL_POINTER, WITHOUT_POINTER = 253, ("etcs_abi", "etcs_status_classify", "etcs_decode", "etcs_packet_count")  # (and each .._name: names.py)
-SECTOR, SLOTS, LEAST = 512, 4, 36
+SECTOR, SLOTS, LEAST = 512, 4, 37
 
 
 def life(library, same):

@@ -14,7 +14,7 @@
 /* Packet 3 for one country, as a track sends it and as a unit reads it; of the former also one of two bits more. */
 #define SPEEDS "01 111111111111111 00001 0000000111 0000110 0001000 0000110 0010100 0001000 000000000000010 "
 #define OVERRIDE "0000000 0000110 000000011001000 00111100 "
-#define BEHIND SPEEDS TAIL
+#define BODY SPEEDS TAIL
 #define TAIL "1 0 " OVERRIDE "000000011001000 01 11111111 1 111111111111111 0 "
 #define LIMITS "0000110 0001000 0000110 0010100 0001000 000000000000010 "
 /* The same with another list. With the counter first it is `n c1 ..`; with a country first `c1 n-1 ..`: of its first 15 bits five are a, five t and five
@@ -25,8 +25,8 @@
 /* What a unit reads: 157 bits for one country, 167 for two. */
 #define OWN_OF(country) "00000011 10 0000010011101 01 111111111111111 00001 " country LIMITS OVERRIDE "111111111111111 "
 #define OWN_OF_TWO(countries) "00000011 10 0000010100111 01 111111111111111 00010 " countries LIMITS OVERRIDE "111111111111111 "
-#define INSTALLED "00000011 10 0000010111010 " BEHIND
-#define LONGER "00000011 10 0000010111100 " BEHIND "00 "
+#define INSTALLED "00000011 10 0000010111010 " BODY
+#define LONGER "00000011 10 0000010111100 " BODY "00 "
 #define OF_NO_COUNTRY "00000011 01 0000010110000 10 000000000001010 00000 0000110 0001000 0000110 0010100 0001000 000000000000010 0 1 " OVERRIDE "111111111111110 10 00000101 0 000000001100100 1 "
 #define OWN "00000011 10 0000010011101 " SPEEDS OVERRIDE "111111111111111 "
 
@@ -55,25 +55,25 @@ static size_t packed(const char *bits, uint8_t *bytes) {
 
 static void adapts(const char *what, const char *bits, uint32_t outcome, uint32_t start, uint32_t length, const char *written) {
     uint8_t bytes[2 * ETCS_TELEGRAM_BYTES], wanted[2 * ETCS_TELEGRAM_BYTES], out[2 * ETCS_TELEGRAM_BYTES];
-    etcs_adapted told = {99, 99, 99, 99};
+    etcs_adapted adapted = {99, 99, 99, 99};
     size_t len = packed(bits, bytes), wanted_len = packed(written, wanted);
     memset(out, 0x55, sizeof out);
     memset(wanted + wanted_len, 0x55, sizeof wanted - wanted_len);
-    is(what, etcs_telegram_adapt(bytes, len, out, ETCS_TELEGRAM_BYTES, &told), ETCS_UNIT_OK);
-    is(what, told.outcome, outcome);
-    is(what, told.start, start);
-    is(what, told.bits, length);
-    is(what, told.len, wanted_len);
+    is(what, etcs_telegram_adapt(bytes, len, out, ETCS_TELEGRAM_BYTES, &adapted), ETCS_UNIT_OK);
+    is(what, adapted.outcome, outcome);
+    is(what, adapted.start, start);
+    is(what, adapted.bits, length);
+    is(what, adapted.len, wanted_len);
     is(what, (uint64_t)(memcmp(out, wanted, sizeof out) != 0), 0);
     memset(out, 0x55, sizeof out);
-    is(what, etcs_telegram_adapt(bytes, len, out, ETCS_TELEGRAM_BYTES - 1, &told), ETCS_UNIT_NO_ROOM);
+    is(what, etcs_telegram_adapt(bytes, len, out, ETCS_TELEGRAM_BYTES - 1, &adapted), ETCS_UNIT_NO_ROOM);
     is(what, (uint64_t)out[0], 0x55);
-    is(what, told.start, start);
+    is(what, adapted.start, start);
 }
 
 static void adaptations(void) {
     uint8_t bytes[2 * ETCS_TELEGRAM_BYTES], out[ETCS_TELEGRAM_BYTES];
-    etcs_adapted told;
+    etcs_adapted adapted;
     size_t len = packed(HEADER STOP_IN_SR INSTALLED REVOCATION_REVERSE END, bytes);
     /* (the bits that fill the last byte that was sent stay: 5 of 304, and below 7 of 408) */
     adapts("a track's packet 3", HEADER STOP_IN_SR INSTALLED REVOCATION_REVERSE END, ETCS_ADAPTATION_WRITTEN, 74, 186,
@@ -86,11 +86,11 @@ static void adaptations(void) {
     adapts("two of a track", HEADER INSTALLED INSTALLED END, ETCS_ADAPTATION_SEVERAL, 236, 186, "");
     adapts("another length", HEADER LONGER END, ETCS_ADAPTATION_NO_LAYOUT, 50, 188, "");
     is("as the track sends it", (uint64_t)(etcs_decode(bytes, len) != ETCS_OK), 1);
-    is("adapted", etcs_telegram_adapt(bytes, len, out, sizeof out, &told), ETCS_UNIT_OK);
-    is("as a unit reads it", etcs_decode(out, told.len), ETCS_OK);
-    is("its packets", etcs_packet_count(out, told.len), 3);
-    is("too long a telegram", etcs_telegram_adapt(bytes, ETCS_TELEGRAM_BYTES + 1, out, sizeof out, &told), ETCS_UNIT_OK);
-    is("too long a telegram", told.outcome, ETCS_ADAPTATION_NONE);
+    is("adapted", etcs_telegram_adapt(bytes, len, out, sizeof out, &adapted), ETCS_UNIT_OK);
+    is("as a unit reads it", etcs_decode(out, adapted.len), ETCS_OK);
+    is("its packets", etcs_packet_count(out, adapted.len), 3);
+    is("too long a telegram", etcs_telegram_adapt(bytes, ETCS_TELEGRAM_BYTES + 1, out, sizeof out, &adapted), ETCS_UNIT_OK);
+    is("too long a telegram", adapted.outcome, ETCS_ADAPTATION_NONE);
 }
 
 /* The two layouts that a track's packet 3 may have: countries 31, 32, 35, 63 and 64, lists of one and of two. (The bits that fill the last byte that was sent
@@ -124,11 +124,11 @@ static void drops(const char *what, const char *bits, const uint64_t *wanted) {
     size_t len = packed(bits, bytes);
     uint32_t count = wanted != NULL ? 7 : 0;
     for (uint32_t index = 0; index <= count + 1; index++) {
-        etcs_value_dropped told = {9999, 9999, 9999};
-        is(what, etcs_telegram_dropped(bytes, len, index, &told), index < count ? ETCS_UNIT_OK : ETCS_UNIT_END);
-        is(what, told.number, index < count ? wanted[index] : 9999);
-        is(what, told.variable, index < count ? index : 9999);
-        is(what, told.bits, index < count ? widths[index] : 9999);
+        etcs_value_dropped dropped = {9999, 9999, 9999};
+        is(what, etcs_telegram_dropped(bytes, len, index, &dropped), index < count ? ETCS_UNIT_OK : ETCS_UNIT_END);
+        is(what, dropped.number, index < count ? wanted[index] : 9999);
+        is(what, dropped.variable, index < count ? index : 9999);
+        is(what, dropped.bits, index < count ? widths[index] : 9999);
     }
 }
 
@@ -136,10 +136,10 @@ static void dropped(void) {
     static const char *const names[] = {"Q_NVSRBKTRG", "Q_NVEMRRLS", "D_NVPOTRP", "M_NVCONTACT", "T_NVCONTACT", "M_NVDERUN", "Q_NVDRIVER_ADHES", "unknown"};
     static const uint64_t of_one_country[] = {1, 0, 200, 1, 255, 1, 0}, of_no_country[] = {0, 1, 32766, 2, 5, 0, 1};
     uint8_t bytes[2 * ETCS_TELEGRAM_BYTES];
-    etcs_value_dropped told = {9999, 9999, 9999};
+    etcs_value_dropped dropped = {9999, 9999, 9999};
     size_t len = packed(HEADER INSTALLED END, bytes);
     drops("a track's packet 3", HEADER STOP_IN_SR INSTALLED REVOCATION_REVERSE END, of_one_country);
-    drops("behind a unit's", HEADER OWN INSTALLED END, of_one_country);
+    drops("after a unit's", HEADER OWN INSTALLED END, of_one_country);
     drops("for no further country", HEADER OF_NO_COUNTRY END, of_no_country);
     drops("a unit's packet 3", HEADER STOP_IN_SR OWN REVOCATION_REVERSE END, NULL);
     drops("no packet 3", HEADER STOP_IN_SR END, NULL);
@@ -149,9 +149,9 @@ static void dropped(void) {
     drops("another length", HEADER LONGER END, NULL);
     drops("first a country", HEADER LISTED(ONE "0001000000 00000 ") END, of_one_country);
     drops("both layouts", HEADER LISTED(ONE "0000100011 00000 ") END, NULL);
-    is("the last index of all", etcs_telegram_dropped(bytes, len, UINT32_MAX, &told), ETCS_UNIT_END);
-    is("too long a telegram", etcs_telegram_dropped(bytes, ETCS_TELEGRAM_BYTES + 1, 0, &told), ETCS_UNIT_END);
-    is("nothing told", told.number, 9999);
+    is("the last index of all", etcs_telegram_dropped(bytes, len, UINT32_MAX, &dropped), ETCS_UNIT_END);
+    is("too long a telegram", etcs_telegram_dropped(bytes, ETCS_TELEGRAM_BYTES + 1, 0, &dropped), ETCS_UNIT_END);
+    is("nothing dropped", dropped.number, 9999);
     for (uint32_t variable = 0; variable < 8; variable++)
         is(names[variable], (uint64_t)strcmp(etcs_dropped_name(variable), names[variable]), 0);
 }
@@ -161,13 +161,13 @@ static void unused(const char *bits, uint32_t mode, uint32_t direction, const et
     char what[80];
     size_t len = packed(bits, bytes);
     for (uint32_t index = 0; index <= count; index++) {
-        etcs_packet_unused told = {9999, 9999, 9999, 9999};
+        etcs_packet_unused packet = {9999, 9999, 9999, 9999};
         (void)snprintf(what, sizeof what, "mode %u direction %u packet %u", (unsigned)mode, (unsigned)direction, (unsigned)index);
-        is(what, etcs_telegram_unused(bytes, len, mode, direction, index, &told), index < count ? ETCS_UNIT_OK : ETCS_UNIT_END);
-        is(what, told.start, index < count ? wanted[index].start : 9999);
-        is(what, told.bits, index < count ? wanted[index].bits : 9999);
-        is(what, told.number, index < count ? wanted[index].number : 9999);
-        is(what, told.why, index < count ? wanted[index].why : 9999);
+        is(what, etcs_telegram_unused(bytes, len, mode, direction, index, &packet), index < count ? ETCS_UNIT_OK : ETCS_UNIT_END);
+        is(what, packet.start, index < count ? wanted[index].start : 9999);
+        is(what, packet.bits, index < count ? wanted[index].bits : 9999);
+        is(what, packet.number, index < count ? wanted[index].number : 9999);
+        is(what, packet.why, index < count ? wanted[index].why : 9999);
     }
 }
 
@@ -175,14 +175,14 @@ static void uses(void) {
     static const char bits[] = HEADER RESTRICTION_NOMINAL REVOCATION_REVERSE STOP_IN_SR INFILL RESTRICTION_NOMINAL END;
     const etcs_packet_unused restriction = {50, 71, 65, ETCS_UNUSED_OTHER_DIRECTION}, revocation = {121, 31, 66, ETCS_UNUSED_OTHER_DIRECTION};
     const etcs_packet_unused stop = {152, 24, 137, ETCS_UNUSED_NOT_KNOWN}, infill = {176, 38, 136, ETCS_UNUSED_INFILL};
-    const etcs_packet_unused behind = {214, 71, 65, ETCS_UNUSED_INFILL};
-    const etcs_packet_unused failed[] = {{50, 71, 65, ETCS_UNUSED_IN_MODE}, {121, 31, 66, ETCS_UNUSED_IN_MODE}, stop, infill, behind};
-    const etcs_packet_unused nominal[] = {revocation, stop, infill, behind}, reverse[] = {restriction, stop, infill, behind};
-    const etcs_packet_unused not_known[] = {restriction, revocation, stop, infill, behind};
+    const etcs_packet_unused after_infill = {214, 71, 65, ETCS_UNUSED_INFILL};
+    const etcs_packet_unused failed[] = {{50, 71, 65, ETCS_UNUSED_IN_MODE}, {121, 31, 66, ETCS_UNUSED_IN_MODE}, stop, infill, after_infill};
+    const etcs_packet_unused nominal[] = {revocation, stop, infill, after_infill}, reverse[] = {restriction, stop, infill, after_infill};
+    const etcs_packet_unused not_known[] = {restriction, revocation, stop, infill, after_infill};
     const etcs_packet_unused refused[] = {{50, 24, 137, ETCS_UNUSED_REFUSED}, {74, 186, 3, ETCS_UNUSED_REFUSED}, {260, 31, 66, ETCS_UNUSED_REFUSED}};
     const etcs_packet_unused in_post_trip[] = {{50, 38, 136, ETCS_UNUSED_INFILL}};
     uint8_t byte = 0x90;
-    etcs_packet_unused told;
+    etcs_packet_unused packet;
     unused(bits, ETCS_FULL_SUPERVISION, ETCS_DIRECTION_NOMINAL, nominal, 4);
     unused(bits, ETCS_SHUNTING, ETCS_DIRECTION_REVERSE, reverse, 4);
     unused(bits, ETCS_UNFITTED, ETCS_DIRECTION_NOT_KNOWN, not_known, 5);
@@ -190,9 +190,9 @@ static void uses(void) {
     unused(HEADER STOP_IN_SR INSTALLED REVOCATION_REVERSE END, ETCS_FULL_SUPERVISION, ETCS_DIRECTION_NOMINAL, refused, 3);
     unused(HEADER INFILL END, ETCS_POST_TRIP, ETCS_DIRECTION_NOMINAL, in_post_trip, 1);
     unused(HEADER END, ETCS_FULL_SUPERVISION, ETCS_DIRECTION_NOMINAL, refused, 0);
-    is("a mode that isn't there", etcs_telegram_unused(&byte, 1, 5, ETCS_DIRECTION_NOMINAL, 0, &told), ETCS_UNIT_OUT_OF_RANGE);
-    is("a mode of more than a byte", etcs_telegram_unused(&byte, 1, 256, ETCS_DIRECTION_NOMINAL, 0, &told), ETCS_UNIT_OUT_OF_RANGE);
-    is("a direction that isn't there", etcs_telegram_unused(&byte, 1, ETCS_SHUNTING, 3, 0, &told), ETCS_UNIT_OUT_OF_RANGE);
+    is("a mode that isn't there", etcs_telegram_unused(&byte, 1, 5, ETCS_DIRECTION_NOMINAL, 0, &packet), ETCS_UNIT_OUT_OF_RANGE);
+    is("a mode of more than a byte", etcs_telegram_unused(&byte, 1, 256, ETCS_DIRECTION_NOMINAL, 0, &packet), ETCS_UNIT_OUT_OF_RANGE);
+    is("a direction that isn't there", etcs_telegram_unused(&byte, 1, ETCS_SHUNTING, 3, 0, &packet), ETCS_UNIT_OUT_OF_RANGE);
 }
 
 static void nulls(void) {
@@ -202,11 +202,11 @@ static void nulls(void) {
     etcs_packet_unused packet;
     is("no telegram", etcs_telegram_adapt(NULL, 0, out, sizeof out, &adapted), ETCS_UNIT_NULL_POINTER);
     is("no buffer", etcs_telegram_adapt(&byte, 1, NULL, sizeof out, &adapted), ETCS_UNIT_NULL_POINTER);
-    is("nowhere to tell", etcs_telegram_adapt(&byte, 1, out, sizeof out, NULL), ETCS_UNIT_NULL_POINTER);
+    is("no output", etcs_telegram_adapt(&byte, 1, out, sizeof out, NULL), ETCS_UNIT_NULL_POINTER);
     is("no telegram with values", etcs_telegram_dropped(NULL, 0, 0, &value), ETCS_UNIT_NULL_POINTER);
-    is("nowhere to tell a value", etcs_telegram_dropped(&byte, 1, 0, NULL), ETCS_UNIT_NULL_POINTER);
+    is("no output for a value", etcs_telegram_dropped(&byte, 1, 0, NULL), ETCS_UNIT_NULL_POINTER);
     is("no telegram with packets", etcs_telegram_unused(NULL, 0, 0, 0, 0, &packet), ETCS_UNIT_NULL_POINTER);
-    is("nowhere to tell a packet", etcs_telegram_unused(&byte, 1, 0, 0, 0, NULL), ETCS_UNIT_NULL_POINTER);
+    is("no output for a packet", etcs_telegram_unused(&byte, 1, 0, 0, 0, NULL), ETCS_UNIT_NULL_POINTER);
 }
 
 int main(void) {

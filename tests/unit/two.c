@@ -77,5 +77,5 @@ int main(void) {
         same("in threads", &threads[i], &alone[i]);
         free(alone[i].on.bytes);
     }
-    return told("two units", 24);
+    return report("two units", 24);
 }

@@ -5,7 +5,7 @@ from pathlib import Path
 
 from gaknifur.program import DEVICE, Failed
 from gaknifur.yaml_files import document
-from tracing.shown import PARTS, table, wrapped
+from tracing.output import PARTS, table, wrapped
 
 SOURCE, PAGE, PICTURE = Path("docs/assurance.yaml"), Path("out/docs/assurance.md"), Path("out/docs/assurance.svg")
 CLAIM = ("says", "short", "argument")
@@ -29,14 +29,14 @@ evidence, and an ellipse premises. A claim with a diamond is open: nobody has sh
 
 
 class Case:
-    """What the file has, with names that are there."""
+    """The claims and the tools of the file, with names that exist."""
 
     def __init__(self, reader):
-        told = document(SOURCE).members(("claims", "tools"))
+        members = document(SOURCE).members(("claims", "tools"))
         self.reader, self.faults, self.claims = reader, [], {}
-        self.tools = [{key: text(one) for key, one in tool.members(TOOL).items()} for tool in told["tools"].elements()]
+        self.tools = [{key: text(one) for key, one in tool.members(TOOL).items()} for tool in members["tools"].elements()]
         known = {it.identity: it for it in (*reader.requirements, *reader.laws)}
-        names = told["claims"].entries()
+        names = members["claims"].entries()
         for name, at in names.items():
             claim = at.members(CLAIM, MORE)
             mine = {key: text(claim[key]) for key in (*CLAIM, "open", "strategy") if key in claim}
@@ -72,12 +72,12 @@ def text(at):
 
 
 def each(its, key):
-    """What requirements name, each once, in their order."""
+    """The names in requirements, each once, in their order."""
     return list(dict.fromkeys(one for it in its for one in getattr(it, key)))
 
 
 def evidence(case, claim):
-    """The leaves of a claim: what each is, its name, and where it stands."""
+    """The leaves of a claim: kind, name and place of each."""
     reader, its = case.reader, claim["its"]
     for one in dict.fromkeys((str(one), one.place.path) for it in its for one in it.cited):
         yield "clause", f"`{one[0]}`", linked(one[1])
@@ -106,7 +106,7 @@ def linked(path):
 
 
 def page(case):
-    """The page."""
+    """The text of the page."""
     yield HEAD
     for name, claim in case.claims.items():
         yield f"## {name}. {claim['short']}\n"
@@ -142,18 +142,18 @@ def page(case):
 
 
 def label(words, width=30):
-    """A text as lines of a label."""
+    """A text as the lines of a label."""
     return NEW_LINE.join(textwrap.wrap(words, width)).replace('"', '\\"')
 
 
 def held_by(case, claim):
-    """What the circle of a claim says: the kinds of its evidence. Numbers stand on the page."""
+    """The text in the circle of a claim: the kinds of its evidence. The numbers are on the page."""
     kinds = dict.fromkeys(kind for kind, *_ in evidence(case, claim) if kind not in ("premises", "requirements"))
     return ", ".join([*(kind if kind == "rows" else f"{kind}s" for kind in kinds), *claim["parts"]])
 
 
 def nodes(case, name, claim):
-    """The nodes of a claim, and what leads to them."""
+    """The nodes of a claim, and the edges to them."""
     look = 'style=filled, fillcolor="{}", label="{}"'.format
     sign = "  ◇ open" if "open" in claim else ""
     yield f"{name} [shape=box, {look('#eff6fb', name + sign + NEW_LINE + label(claim['short']))}];"
@@ -174,7 +174,7 @@ def nodes(case, name, claim):
 
 
 def dot(case):
-    """The text that graphviz draws."""
+    """The graph as text for graphviz."""
     yield 'digraph case { rankdir=LR; nodesep=0.14; ranksep=0.45; bgcolor="white";'
     yield 'node [fontname="DejaVu Sans", fontsize=10, color="#56636f", fontcolor="#1c2733"]; edge [color="#56636f"];'
     for name, claim in case.claims.items():

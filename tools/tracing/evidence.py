@@ -33,7 +33,7 @@ class TestCase:
 
 
 def titles():
-    """Of each file of rows its lines, without what marks a title, and where each stands."""
+    """The lines of each file of rows, without the marks of titles, and their places."""
     found = {}
     for prefix, paths in ROWS.items():
         files = [
@@ -51,7 +51,7 @@ def titles():
 
 
 def row(known, name):
-    """Where a row stands that a requirement names; None where it doesn't. One of the kernel is named whole."""
+    """The place of a row that a requirement names, or None. A row of the kernel is named in full."""
     prefix, _, title = name.partition(": ")
     if prefix in known and title:
         return next((place for text, place in known[prefix] if text.startswith(title)), None)
@@ -65,14 +65,14 @@ def tried_laws():
 
 
 def test_case(at):
-    """The head of a case. Its steps aren't read here: that takes the program."""
-    told = at.members(cases.CASE, cases.MORE)
-    sections = set(cases.sections_of(told["sections"]))
-    for one in told["expected"].elements() if "expected" in told else []:
+    """The head of a case. Its steps aren't read here: that needs the program."""
+    head = at.members(cases.CASE, cases.MORE)
+    sections = set(cases.sections_of(head["sections"]))
+    for one in head["expected"].elements() if "expected" in head else []:
         more = one.entries()
         sections |= set(cases.sections_of(more["sections"])) if "sections" in more else set()
-    shows = {one.text() for one in told["shows"].elements()} if "shows" in told else set()
-    return TestCase(told["test_case"].text(), told["rule"].text(), sections, shows, Place(str(at.path), at.line))
+    shows = {one.text() for one in head["shows"].elements()} if "shows" in head else set()
+    return TestCase(head["test_case"].text(), head["rule"].text(), sections, shows, Place(str(at.path), at.line))
 
 
 def test_cases():

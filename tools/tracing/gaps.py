@@ -9,7 +9,7 @@ from tracing.requirements import PAGE
 
 @dataclass
 class Gaps:
-    """The gaps: of each a line, or of a crate a number, with the reason why."""
+    """The gaps, each with its reason: a line, or a number for a crate."""
 
     without: dict = field(default_factory=lambda: defaultdict(list))
     """Requirements that have no rows, or no definitions."""
@@ -24,7 +24,7 @@ class Gaps:
 
 
 def held_definitions(reader):
-    """The definitions that requirements, their clauses and their laws speak of, and all that these rest on."""
+    """The definitions that requirements, their clauses and their laws name, and all that these use."""
     laws = {name for it in reader.requirements for name in it.laws}
     roots = {name for it in reader.requirements for name in it.definitions}
     roots |= {name for it in reader.requirements for one in it.cited for name in one.names}
@@ -33,7 +33,7 @@ def held_definitions(reader):
 
 
 def answered(reader):
-    """The definitions that the answers of the kernel rest on: those that `kernel::step` names, and all below."""
+    """The definitions that the kernel's answers depend on: those that `kernel::step` names, and all that they use."""
     return reader.sources.below(
         {name for one in reader.sources.clauses if one.item == "kernel::step" for name in one.names}
     )
@@ -47,7 +47,7 @@ def held_clauses(reader):
 
 
 def each(reader):
-    """Each definition and each clause that is of no requirement, and how many these are."""
+    """Each definition and each clause that is of no requirement, and their number."""
     held, cited = held_definitions(reader), held_clauses(reader)
     definitions = [one for one in sorted(reader.sources.names) if one not in held]
     clauses = [one for one in reader.sources.clauses if id(one) not in cited]
@@ -60,22 +60,22 @@ def each(reader):
 
 
 def check_alone(gaps, reader, kind, counts):
-    """Each crate with a gap has a reason, and no other has one."""
+    """Checks that each crate with a gap has a reason, and no other crate has one."""
     gaps.alone[kind] = counts
-    told = reader.alone[kind]
+    reasons = reader.alone[kind]
     for crate, count in counts.items():
-        if crate not in told:
+        if crate not in reasons:
             gaps.faults.append(
                 f"{PAGE}: {count} {kind} of crates/{crate} are of no requirement: name them in one (defined, clauses "
                 f"or laws), or say why not (alone: {kind})"
             )
-    for crate, (_, at) in told.items():
+    for crate, (_, at) in reasons.items():
         if crate not in counts:
             gaps.faults.append(f"{PAGE}:{at.line}: all {kind} of {crate} are of a requirement: take it out of alone")
 
 
 def check_named(gaps, reader):
-    """Each law, each edit and each premise is of a requirement."""
+    """Checks that each law, each edit and each premise is of a requirement."""
     for kind, known, named in (
         ("law", reader.sources.laws, {name for it in reader.requirements for name in it.laws}),
         ("must-fail edit", reader.sources.edits, {name for it in reader.requirements for name in it.edits}),
@@ -89,7 +89,7 @@ def check_named(gaps, reader):
 
 
 def add_sections(gaps, reader):
-    """Sections and transitions without a case. Transitions are counted by tests/suites.sh, which has the program."""
+    """Adds sections and transitions without a case. tests/suites.sh, which has the program, counts transitions."""
     reasons = coverage.reasons_of(Path("suites"))
     for section in reader.sections:
         if section.is_left_out:
@@ -113,7 +113,7 @@ def add_sections(gaps, reader):
 
 
 def find(reader):
-    """The gaps."""
+    """Finds all gaps."""
     gaps = Gaps()
     for it in reader.requirements:
         for name, why in it.why_none.items():

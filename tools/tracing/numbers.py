@@ -12,11 +12,11 @@ COUNTED = re.compile(
     r"(?:rows|events|answers|lists|telegrams|runs|images|lives|lines|cuts|tracks|limits|comparisons|scenarios|results|"
     r"refusals|edits|rings|sentences|requests|situations|items|by hand)\b)"
 )
-FREE = ("## Wrong bodies that a tool makes", "## Why so")  # what was counted by hand, once, and reasons
+FREE = ("## Why so",)  # reasons
 
 
 def value(text):
-    """The number that digits spell."""
+    """The number in digits."""
     return int(re.sub(r"[,_]", "", text))
 
 
@@ -35,7 +35,7 @@ def held(entry):
 
 
 def faults_of(path, entries, is_complete):
-    """What is wrong with the numbers of a page; a complete one has none that nothing holds."""
+    """Yields the faults of a page's numbers; a page that is complete has no number without a source."""
     whole = " ".join(path.read_text(encoding="utf-8").split())
     covered = set()
     for at in entries.elements():
@@ -58,8 +58,8 @@ def faults_of(path, entries, is_complete):
 
 
 def faults():
-    """What is wrong with the numbers of all pages that are named."""
-    told = document(SOURCE).entries()
-    complete = {one.text() for one in told.pop("complete").elements()}
-    for path, entries in told.items():
+    """Yields the faults of the numbers on all pages that are listed."""
+    pages = document(SOURCE).entries()
+    complete = {one.text() for one in pages.pop("complete").elements()}
+    for path, entries in pages.items():
         yield from faults_of(Path(path), entries, path in complete)

@@ -18,8 +18,8 @@ STATUS = re.compile(r"^ {4}ETCS_(?:UNIT|FILE)_(\w+) = (\d+),?", re.M)
 
 
 @dataclass
-class Said:
-    """A sentence of a page, where it stands, and what it names in backticks."""
+class Sentence:
+    """A sentence of a page, its place, and the names in backticks."""
 
     key: str
     text: str
@@ -28,17 +28,17 @@ class Said:
 
 
 def read(path):
-    """A page."""
+    """Reads a page."""
     return Path(path).read_text(encoding="utf-8")
 
 
 def line_of(text, at):
-    """The number of the line of a place in a text."""
+    """The line number of an offset in a text."""
     return text.count("\n", 0, at) + 1
 
 
 def plain(text):
-    """A text on one line, links and marks of style left out."""
+    """A text on one line, without links and marks of style."""
     return re.sub(r"\[([^\]]*)\]\([^)]*\)", r"\1", " ".join(text.split())).replace("**", "")
 
 
@@ -57,7 +57,7 @@ def blocks(path, heading):
             found[-1][1].append(line[item.end() :] if item else line)
             is_new = False
     said = [(number, " ".join(" ".join(lines).split())) for number, lines in found]
-    return [Said(plain(one), plain(one), Place(path, number), NAME.findall(one)) for number, one in said]
+    return [Sentence(plain(one), plain(one), Place(path, number), NAME.findall(one)) for number, one in said]
 
 
 def items():
@@ -71,7 +71,7 @@ def items():
             for names, crate, file in DEFINED.findall(body)
             for name in NAME.findall(names)
         ]
-        found[int(one[1])] = (Said(one[1], plain(one[2]).rstrip("."), Place(path, line_of(text, one.start()))), defined)
+        found[int(one[1])] = (Sentence(one[1], plain(one[2]).rstrip("."), Place(path, line_of(text, one.start()))), defined)
     return found
 
 
@@ -95,14 +95,14 @@ def refusals():
             types = ["etcs_unit_status" if len(head) == 5 else "etcs_file_answer"]
         said = cells[2] if len(head) == 3 else cells[3]
         found += [
-            (kind, int(cells[0]), cells[1], Said(f"{kind} {cells[0]}", plain(said), Place(path, number)))
+            (kind, int(cells[0]), cells[1], Sentence(f"{kind} {cells[0]}", plain(said), Place(path, number)))
             for kind in types
         ]
     return found
 
 
 def texts(heading):
-    """The rows of a table of REFUSALS that begin with a text: a name made of it, the text, and what it means."""
+    """The rows of a table of REFUSALS that begin with a text: a name derived from it, the text, and its meaning."""
     path, title, is_head, found = "docs/reference/refusals.md", "", True, []
     for number, line in enumerate(read(path).splitlines(), 1):
         if line.startswith("#"):
@@ -111,7 +111,7 @@ def texts(heading):
             cells = [cell.strip() for cell in line.strip("|").split(" | ")]
             name = "-".join(re.findall(r"\w+", cells[0]))
             if not is_head:
-                found.append((name, cells[0], Said(name, plain(cells[1]), Place(path, number))))
+                found.append((name, cells[0], Sentence(name, plain(cells[1]), Place(path, number))))
             is_head = False
     return found
 
@@ -125,7 +125,7 @@ def variants(kind, path):
 
 
 def sections():
-    """The sections of CONFORMANCE that the product has something of, and those that it leaves out."""
+    """The sections of CONFORMANCE that the product covers, and those that it leaves out."""
     return coverage.sections()
 
 

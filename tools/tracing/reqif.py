@@ -11,7 +11,7 @@ import re
 import subprocess
 import xml.etree.ElementTree as xml
 
-from tracing.shown import COLUMNS, PARTS, cells
+from tracing.output import COLUMNS, PARTS, cells
 
 NAMESPACE = "http://www.omg.org/spec/ReqIF/20110401/reqif.xsd"
 XHTML = "http://www.w3.org/1999/xhtml"
@@ -21,13 +21,13 @@ FIELDS = ("ReqIF.ForeignID", "part", "kind", "section", "ReqIF.Text", *COLUMNS[5
 
 
 def moment():
-    """The moment of the commit that is reported of, so that one commit gives one text; SOURCE_DATE_EPOCH is before it."""
+    """The moment of the commit, so that one commit gives one text; SOURCE_DATE_EPOCH is before it."""
     seconds = os.environ.get("SOURCE_DATE_EPOCH", "")
     if not seconds.isdigit():
-        told = subprocess.run(
+        committed = subprocess.run(
             ["git", "log", "-1", "--format=%ct"], capture_output=True, text=True, check=False
         ).stdout.strip()
-        seconds = told if told.isdigit() else "0"
+        seconds = committed if committed.isdigit() else "0"
     return datetime.datetime.fromtimestamp(int(seconds), datetime.timezone.utc).isoformat()
 
 

@@ -51,7 +51,7 @@ class Requirement:
 
 
 class Reader:
-    """What is read so far, and what is wrong."""
+    """The requirements that were read, and the faults."""
 
     def __init__(self, sources):
         self.sources, self.faults = sources, []
@@ -63,11 +63,11 @@ class Reader:
             self.by_item.setdefault(one.item, []).append(one)
 
     def fault(self, at, said):
-        """Notes a fault."""
+        """Adds a fault."""
         self.faults.append(f"{PAGE}:{at.line}:{at.column}: {said}")
 
     def members(self, at, *names):
-        """Names with values, of which no others may be there."""
+        """Named values, where no other names are allowed."""
         return at.members((), names) if at.is_mapping() else self.fault(at, "names with values are wanted here") or {}
 
     # ---- what holds a requirement
@@ -108,7 +108,7 @@ class Reader:
                     yield known[name]
 
     def known(self, at, kind, names):
-        """Names of a list, each of which has to be there."""
+        """The names of a list, each of which has to exist."""
         for one in at.elements():
             if one.text() not in names:
                 self.fault(one, f"there is no {kind} {one.text()}: name the one that there is now, or take it out")
@@ -116,7 +116,7 @@ class Reader:
                 yield one.text()
 
     def rows(self, at):
-        """Where the rows of a list stand."""
+        """The places of the rows of a list."""
         found = {}
         for one in at.elements():
             place = evidence.row(self.titles, one.text())
@@ -132,38 +132,38 @@ class Reader:
         return found
 
     def tests(self, at):
-        """The commands of a list, which the gate runs."""
+        """The commands of a list, which CI runs."""
         gate = Path(".ci/run").read_text(encoding="utf-8")
         for one in at.elements():
             if not re.search(rf"(?<!\S){re.escape(one.text())}(?!\S)", gate) or not os.access(one.text(), os.X_OK):
                 self.fault(one, f".ci/run doesn't run {one.text()}, or it isn't there")
             yield one.text()
 
-    def hold(self, it, told):
-        """Enters what holds a requirement."""
+    def hold(self, it, members):
+        """Adds a requirement with what holds it."""
         sources = self.sources
-        it.definitions += self.defined(told["defined"]) if "defined" in told else []
-        it.cited = list(self.clauses(told["clauses"])) if "clauses" in told else []
-        it.laws = list(self.known(told["laws"], "law", sources.laws)) if "laws" in told else []
-        it.edits = list(self.known(told["edits"], "must-fail edit", sources.edits)) if "edits" in told else []
-        it.rows = self.rows(told["rows"]) if "rows" in told else {}
-        it.tests = list(self.tests(told["tests"])) if "tests" in told else []
-        it.premises = list(self.known(told["premises"], "premise", self.premises)) if "premises" in told else []
-        it.rests_on = [one.text() for one in told["rests_on"].elements()] if "rests_on" in told else []
-        it.unnamed = list(self.known(told["unnamed"], "law", sources.laws)) if "unnamed" in told else []
-        it.words = [one.text() for one in told["words"].elements()] if "words" in told else []
+        it.definitions += self.defined(members["defined"]) if "defined" in members else []
+        it.cited = list(self.clauses(members["clauses"])) if "clauses" in members else []
+        it.laws = list(self.known(members["laws"], "law", sources.laws)) if "laws" in members else []
+        it.edits = list(self.known(members["edits"], "must-fail edit", sources.edits)) if "edits" in members else []
+        it.rows = self.rows(members["rows"]) if "rows" in members else {}
+        it.tests = list(self.tests(members["tests"])) if "tests" in members else []
+        it.premises = list(self.known(members["premises"], "premise", self.premises)) if "premises" in members else []
+        it.rests_on = [one.text() for one in members["rests_on"].elements()] if "rests_on" in members else []
+        it.unnamed = list(self.known(members["unnamed"], "law", sources.laws)) if "unnamed" in members else []
+        it.words = [one.text() for one in members["words"].elements()] if "words" in members else []
         it.why_none = (
-            {name: one.text() for name, one in self.members(told["why_none"], "rows", "definitions").items()}
-            if "why_none" in told
+            {name: one.text() for name, one in self.members(members["why_none"], "rows", "definitions").items()}
+            if "why_none" in members
             else {}
         )
         it.found = [one for name in it.definitions for one in sources.nearest(name)]
         self.requirements.append(it)
-        self.check_held(it, told)
+        self.check_held(it, members)
 
-    def check_held(self, it, told):
-        """Something is proved or defined, and something is tried, or a reason says why not."""
-        at = next(iter(told.values()))
+    def check_held(self, it, members):
+        """Checks that something is proved or defined, and something is tested, or that a reason is given."""
+        at = next(iter(members.values()))
         is_proved, is_tried = it.definitions or it.cited or it.laws or it.rests_on, it.rows or it.cases
         for name, has, wanted in (("definitions", is_proved, "defined, clauses or laws"), ("rows", is_tried, "rows")):
             if not has and name not in it.why_none:
@@ -178,7 +178,7 @@ class Reader:
     # ---- the parts
 
     def read_sections(self, at):
-        """The sentences of sections, and the sections of the page both ways."""
+        """Reads the sentences of sections, and compares the sections with the page in both directions."""
         named = at.entries()
         here = {one.name: one for one in self.sections if not one.is_left_out}
         for name in here:
@@ -195,18 +195,18 @@ class Reader:
                     "the page",
                 )
             for identity, one in sentences.entries().items():
-                told = one.members(("says", "kind"), HELD)
+                members = one.members(("says", "kind"), HELD)
                 it = Requirement(
                     identity,
                     "sections",
-                    " ".join(told["says"].text().split()),
-                    told["kind"].one_of(KINDS),
+                    " ".join(members["says"].text().split()),
+                    members["kind"].one_of(KINDS),
                     Place(str(PAGE), one.line),
                     section=name,
                 )
                 if it.kind == "standard" and name in here and "standard" not in here[name].here:
                     self.fault(
-                        told["kind"],
+                        members["kind"],
                         f"{identity} is of the standard, and docs/explain/conformance.md has nothing of {name} as the standard "
                         "has it: make it profile, or mend the page",
                     )
@@ -214,7 +214,7 @@ class Reader:
                 if not identity.startswith(f"R-{short}-"):
                     self.fault(one, f"{identity} stands at the section {name}: its name begins R-{short}-")
                 it.cases = [case for case in self.cases if any(self.is_of(section, name) for section in case.sections)]
-                self.hold(it, told)
+                self.hold(it, members)
 
     def is_of(self, section, name):
         """Whether a case of a section is one of the page's section."""
@@ -224,27 +224,27 @@ class Reader:
         return found is not None and found.name == name
 
     def read_begun(self, at, part, said, make):
-        """Requirements that stand on a page, by their first words, and the sentences of the page both ways."""
+        """Reads requirements that are sentences of a page, by their first words, and compares them with the page in both directions."""
         left = {one.key: one for one in said}
         for identity, one in at.entries().items():
-            told = one.members(("begins",), ("by", "conditions", *HELD))
-            begins = told["begins"].text()
+            members = one.members(("begins",), ("by", "conditions", *HELD))
+            begins = members["begins"].text()
             found = [key for key in left if key.startswith(begins)]
             if len(found) != 1:
                 self.fault(
-                    told["begins"],
+                    members["begins"],
                     f'{PROMISES} has {len(found)} sentences that begin "{begins}" ({part}): write how it begins now',
                 )
                 continue
-            make(identity, one, told, left.pop(found[0]))
+            make(identity, one, members, left.pop(found[0]))
         return left
 
     def read_promises(self, at, introductions):
-        """The promises of their page."""
+        """Reads the promises of their page."""
 
-        def make(identity, one, told, said):
+        def make(identity, one, members, said):
             it = Requirement(identity, "promises", said.text, "own", said.place)
-            self.hold(it, told)
+            self.hold(it, members)
             self.compare_names(it, one, said)
 
         said = [
@@ -256,7 +256,7 @@ class Reader:
             )
 
     def compare_names(self, it, at, said):
-        """What the page names in backticks is what the requirement names, both ways."""
+        """Compares the names in backticks on the page with those of the requirement, in both directions."""
         there = {name.rsplit("::", 1)[-1] for name in said.names}
         mine = {one.name for one in it.cited} | {one.call for one in it.cited} | {name for _, name in it.definitions}
         mine |= {name.split(".")[1] for name in it.laws if name not in it.unnamed} | set(it.words)
@@ -272,7 +272,7 @@ class Reader:
             )
 
     def conditions(self, at):
-        """Conditions for integrators, each of which has to stand on their page in these words."""
+        """Conditions for integrators, each of which has to be on their page in these words."""
         text = CONDITIONS.read_text(encoding="utf-8") if CONDITIONS.is_file() else ""
         for one in at.elements():
             if not re.search(rf"(?<!\w){re.escape(one.text())}(?!\w)", text):
@@ -280,15 +280,15 @@ class Reader:
             yield one.text()
 
     def read_premises(self, at, introductions):
-        """The premises of that page."""
+        """Reads the premises of that page."""
 
-        def make(identity, _, told, said):
-            by = told["by"].text() if "by" in told else ""
-            conditions = list(self.conditions(told["conditions"])) if "conditions" in told else []
+        def make(identity, _, members, said):
+            by = members["by"].text() if "by" in members else ""
+            conditions = list(self.conditions(members["conditions"])) if "conditions" in members else []
             by += f" (conditions {', '.join(conditions)})" if conditions else ""
             self.premises[identity] = (said.text, by, said.place)
-            if "by" not in told:
-                self.fault(told["begins"], f"{identity} doesn't say who has to meet it: add by")
+            if "by" not in members:
+                self.fault(members["begins"], f"{identity} doesn't say who has to meet it: add by")
 
         said = [
             one for one in pages.blocks(PROMISES, "The premises") if not one.key.startswith(tuple(introductions))
@@ -297,7 +297,7 @@ class Reader:
             self.faults.append(f'{one.place}: the premise "{one.text[:60]}.." has no identity: give it one in {PAGE}')
 
     def read_not_promised(self, at):
-        """What that page doesn't promise."""
+        """Reads what that page doesn't promise."""
         said = pages.blocks(PROMISES, "What is not promised")
         begins = [one.text() for one in at.elements()]
         for one in at.elements():
@@ -311,27 +311,27 @@ class Reader:
         self.not_promised = said
 
     def read_own(self, at):
-        """What is beyond the standard and the promises."""
+        """Reads what goes beyond the standard and the promises."""
         for identity, one in at.entries().items():
-            told = one.members(("says",), HELD)
+            members = one.members(("says",), HELD)
             self.hold(
-                Requirement(identity, "own", " ".join(told["says"].text().split()), "own", Place(str(PAGE), one.line)),
-                told,
+                Requirement(identity, "own", " ".join(members["says"].text().split()), "own", Place(str(PAGE), one.line)),
+                members,
             )
 
     def read_safety(self, at):
-        """The items of SAFETY, both ways."""
+        """Reads the items of SAFETY, and compares them with the page in both directions."""
         items, named = pages.items(), at.entries()
         for number, (said, _) in items.items():
             if f"S-{number}" not in named:
                 self.faults.append(f"{said.place}: item {number} has no requirement: add S-{number} to {PAGE}")
         for identity, one in named.items():
-            told = one.members(("by",), HELD)
+            members = one.members(("by",), HELD)
             if identity[2:] not in map(str, items) or not identity.startswith("S-"):
                 self.fault(one, f"docs/explain/safety.md has no item {identity[2:]}: take {identity} out")
                 continue
             said, defined = items[int(identity[2:])]
-            it = Requirement(identity, "safety", said.text, "own", said.place, by=told["by"].text())
+            it = Requirement(identity, "safety", said.text, "own", said.place, by=members["by"].text())
             for page, name in defined:
                 if page not in self.sources.pages or name not in self.sources.pages[page].definitions:
                     self.faults.append(
@@ -340,41 +340,41 @@ class Reader:
                 else:
                     it.definitions.append((page, name))
             it.cases = [case for case in self.cases if identity[2:] in case.shows]
-            self.hold(it, told)
+            self.hold(it, members)
 
     def read_refusals(self, at):
-        """The refusals: page and source have the same names and numbers, and each has what holds its type."""
+        """Reads the refusals: page and source have the same names and numbers, and each type has what holds it."""
         rows, named = pages.refusals(), at.entries()
         for kind, number, name, said in rows:
             if kind not in named:
                 self.faults.append(f"{said.place}: the refusals of {kind} have no requirement: add them to {PAGE}")
         for kind, one in named.items():
-            told = one.members((), ("source", "heading", *HELD))
-            if "heading" in told:
-                self.read_texts(kind, told)
+            members = one.members((), ("source", "heading", *HELD))
+            if "heading" in members:
+                self.read_texts(kind, members)
                 continue
-            if not Path(told["source"].text()).is_file():
-                self.fault(told["source"], f"{told['source'].text()} isn't there: name the source that declares {kind}")
+            if not Path(members["source"].text()).is_file():
+                self.fault(members["source"], f"{members['source'].text()} isn't there: name the source that declares {kind}")
                 continue
             mine = [row for row in rows if row[0] == kind]
-            self.compare_variants(kind, told["source"], mine)
+            self.compare_variants(kind, members["source"], mine)
             for _, number, name, said in mine:
                 self.hold(
-                    Requirement(f"E-{kind}-{number}", "refusals", f"{name}: {said.text}", "own", said.place), told
+                    Requirement(f"E-{kind}-{number}", "refusals", f"{name}: {said.text}", "own", said.place), members
                 )
 
-    def read_texts(self, kind, told):
+    def read_texts(self, kind, members):
         """The refusals of a table whose rows begin with a text."""
-        rows = pages.texts(told["heading"].text())
+        rows = pages.texts(members["heading"].text())
         if not rows:
             self.fault(
-                told["heading"], f"docs/reference/refusals.md has no table under {told['heading'].text()}: name its heading"
+                members["heading"], f"docs/reference/refusals.md has no table under {members['heading'].text()}: name its heading"
             )
         for name, text, said in rows:
-            self.hold(Requirement(f"E-{kind}-{name}", "refusals", f"{text}: {said.text}", "own", said.place), told)
+            self.hold(Requirement(f"E-{kind}-{name}", "refusals", f"{text}: {said.text}", "own", said.place), members)
 
     def compare_variants(self, kind, at, rows):
-        """The page has each name of the enum with its number, and no other."""
+        """Checks that the page has each name of the enum with its number, and no other."""
         there, here = pages.variants(kind, at.text()), {name: number for _, number, name, _ in rows}
         for name, number in there.items():
             if here.get(name) is None and not (kind == "etcs_file_answer" and name == "OK"):
@@ -386,7 +386,7 @@ class Reader:
                 self.fault(at, f"docs/reference/refusals.md has {kind} {name}, and the source doesn't")
 
     def read_laws(self):
-        """The laws, each as a requirement of its own: its sentence stands where it is declared."""
+        """Reads the laws, each as a requirement of its own: its sentence is where it is declared."""
         tried = evidence.tried_laws()
         for name, (said, place) in self.sources.laws.items():
             it = Requirement(f"L-{name}", "laws", said, "own", place, laws=[name])
@@ -401,28 +401,28 @@ class Reader:
         return self.sources.laws[name][0]
 
     def read_alone(self, at):
-        """Why definitions or clauses of a crate are of no requirement."""
+        """Reads why definitions or clauses of a crate are of no requirement."""
         for kind in ("definitions", "clauses"):
             self.alone[kind] = {}
             for one in at.members(("definitions", "clauses"))[kind].elements():
-                told = one.members(("crates", "why"))
-                for crate in told["crates"].text().split():
+                members = one.members(("crates", "why"))
+                for crate in members["crates"].text().split():
                     if crate not in self.sources.crates:
-                        self.fault(told["crates"], f"crates.txt has no crate {crate}: take it out")
-                    self.alone[kind][crate] = (told["why"].text(), one)
+                        self.fault(members["crates"], f"crates.txt has no crate {crate}: take it out")
+                    self.alone[kind][crate] = (members["why"].text(), one)
 
     def read(self):
         """Reads all parts."""
-        told = document(PAGE).members(PARTS)
-        introductions = [one.text() for one in told["introductions"].elements()]
-        self.read_premises(told["premises"], introductions)
-        self.read_promises(told["promises"], introductions)
-        self.read_not_promised(told["not_promised"])
-        self.read_sections(told["sections"])
-        self.read_own(told["own"])
-        self.read_safety(told["safety"])
-        self.read_refusals(told["refusals"])
-        self.read_alone(told["alone"])
+        members = document(PAGE).members(PARTS)
+        introductions = [one.text() for one in members["introductions"].elements()]
+        self.read_premises(members["premises"], introductions)
+        self.read_promises(members["promises"], introductions)
+        self.read_not_promised(members["not_promised"])
+        self.read_sections(members["sections"])
+        self.read_own(members["own"])
+        self.read_safety(members["safety"])
+        self.read_refusals(members["refusals"])
+        self.read_alone(members["alone"])
         self.read_laws()
         twice = [one for one, count in Counter(it.identity for it in self.requirements).items() if count > 1]
         self.faults += [f"{PAGE}: {one} stands twice: give the later one a number of its own" for one in twice]

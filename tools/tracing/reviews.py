@@ -15,7 +15,7 @@ from gaknifur.program import REFUSED, Failed
 from gaknifur.testing.mode_table import table_rows, tables
 from gaknifur.yaml_files import document
 from tracing.pages import plain
-from tracing.shown import table
+from tracing.output import table
 
 FOLDER, PAGE = Path("docs/reviews"), Path("out/docs/reviews.md")
 RECORD = ("sheet", "digest", "reviewer", "copy", "date", "outcome")
@@ -57,16 +57,16 @@ class Sheet:
     definitions: list
 
     def digest(self, sources):
-        """The digest of its definitions, and of all that they rest on."""
-        told = hashlib.sha256()
+        """The digest of its definitions, and of all that they use."""
+        digest = hashlib.sha256()
         for page, name in sorted(sources.below(self.definitions)):
             lines = [line.split("--")[0].split() for line in sources.pages[page].definitions[name]]
-            told.update(f"{page}.{name}\n{' '.join(' '.join(line) for line in lines if line)}\n".encode())
-        return told.hexdigest()
+            digest.update(f"{page}.{name}\n{' '.join(' '.join(line) for line in lines if line)}\n".encode())
+        return digest.hexdigest()
 
     @property
     def is_step(self):
-        """Whether it is of a step."""
+        """Whether it is the sheet of a step."""
         return self.name.isdigit()
 
     def anchor(self):
@@ -138,13 +138,13 @@ def all_sheets(reader):
 
 
 def records(sheets, sources):
-    """The reviews that were made, by sheet: of each its file, what it says, and whether it is outdated."""
+    """The reviews by sheet: the file of each, its content, and whether it is outdated."""
     found, by_name = {}, {one.name: one for one in sheets}
     for path in sorted(FOLDER.glob("*.yaml")):
-        told = document(path).members(RECORD, ("notes",))
-        name = told["sheet"].one_of(by_name)
-        told["outcome"].one_of(OUTCOMES)
-        said = {key: " ".join(one.text().split()) for key, one in told.items()}
+        record = document(path).members(RECORD, ("notes",))
+        name = record["sheet"].one_of(by_name)
+        record["outcome"].one_of(OUTCOMES)
+        said = {key: " ".join(one.text().split()) for key, one in record.items()}
         found.setdefault(name, []).append((path, said, said["digest"] != by_name[name].digest(sources)))
     return found
 
@@ -174,7 +174,7 @@ def page(reader):
 
 
 def blocks_of(text):
-    """The blocks of a text: those of code whole, and between them what empty lines divide."""
+    """The blocks of a text: code as a whole, and between it what empty lines separate."""
     block, is_code = [], False
     for line in [*text.splitlines(), ""]:
         if line.startswith("```"):

@@ -56,7 +56,7 @@ class Clause:
 
 @dataclass
 class Sources:
-    """All of it. A definition is (CRATE.FILE, NAME)."""
+    """All sources. A definition is (CRATE.FILE, NAME)."""
 
     crates: list
     pages: dict
@@ -72,7 +72,7 @@ class Sources:
         return Place(page.path, page.at[definition[1]])
 
     def below(self, definitions):
-        """Definitions, and all that they rest on."""
+        """Definitions, and all that they use."""
         seen, left = set(), list(definitions)
         while left:
             one = left.pop()
@@ -82,7 +82,7 @@ class Sources:
         return seen
 
     def nearest(self, definition):
-        """The clauses of public calls that name a definition; where none does, those that name what rests on it."""
+        """The clauses of public calls that name a definition; where none does, those that name what uses it."""
         seen, level = {definition}, {definition}
         while level:
             found = [one for one in self.clauses if level & one.names]
@@ -94,7 +94,7 @@ class Sources:
 
 
 def split(lines):
-    """The clauses of an item: the name of each, its lines, and how many lines stand before it."""
+    """The clauses of an item: the name of each, its lines, and the number of lines before it."""
     found = []
     for at, line in enumerate(lines):
         head = CLAUSE.match(line)
@@ -106,7 +106,7 @@ def split(lines):
 
 
 def add_clauses(sources, reader):
-    """Enters the clauses of all public calls."""
+    """Adds the clauses of all public calls."""
     for crate, source, owner, name, lines, number in reader.public_items():
         whole = source.text.split("\n")
         for clause, part, _ in split(lines):
@@ -116,7 +116,7 @@ def add_clauses(sources, reader):
 
 
 def add_laws(sources):
-    """Enters the laws: public functions whose first line of documentation says so."""
+    """Adds the laws: public functions whose first line of documentation says so."""
     for crate in sources.crates:
         for path in sorted(Path(f"crates/{crate}/src").rglob("*.rt")):
             text = path.read_text(encoding="utf-8")
@@ -127,23 +127,23 @@ def add_laws(sources):
 
 
 def add_edits(sources):
-    """Enters the must-fail edits, with the function that each alters."""
+    """Adds the must-fail edits, with the function that each alters."""
     for path in sorted(Path("crates").glob("*/must-fail/*.edit")):
-        told = dict(re.findall(r"^(\w+): *(.*)$", path.read_text(encoding="utf-8"), re.M))
-        source = path.parents[1] / told["file"]
+        edit = dict(re.findall(r"^(\w+): *(.*)$", path.read_text(encoding="utf-8"), re.M))
+        source = path.parents[1] / edit["file"]
         function, at = "", 0
         for number, line in enumerate(source.read_text(encoding="utf-8").splitlines(), 1):
             head = FUNCTION.match(line)
             if head:
                 function = head[1]
-            if told["old"].strip() in line:
+            if edit["old"].strip() in line:
                 at = number
                 break
         sources.edits[path.stem] = (path.parents[1].name, function, Place(str(path), 1), Place(str(source), at))
 
 
 def read():
-    """Reads them. The current folder is the top one."""
+    """Reads all sources, from the current folder."""
     reader = tool("definitions")
     sources = Sources(reader.crates(), reader.read_pages())
     for page, it in sources.pages.items():

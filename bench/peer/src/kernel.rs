@@ -989,9 +989,9 @@ impl State {
     #[inline]
     fn drop_forgotten(&mut self) {
         if self.dropped < self.mark || self.has_new_data {
-            self.gradient.drop_behind(self.mark);
-            self.statics.drop_behind(self.mark);
-            self.restrictions.drop_behind(self.mark);
+            self.gradient.drop_before(self.mark);
+            self.statics.drop_before(self.mark);
+            self.restrictions.drop_before(self.mark);
             self.dropped = self.mark;
             self.has_new_data = false;
         }

@@ -1,7 +1,8 @@
 //! The calls of `include/etcs_image.h`.
 use image_calls::{
-    EtcsBlock, EtcsImage, EtcsJournal, EtcsRecord, EtcsReplay, EtcsSlot, EtcsWhy, block_call,
-    facts_call, journal_call, next_call, record_call, replay_call, slot_call, why_call,
+    EtcsBlock, EtcsImage, EtcsJournal, EtcsRecord, EtcsReplay, EtcsSlot, EtcsSlotStart, EtcsWhy,
+    block_call, facts_call, journal_call, next_call, record_call, replay_call, slot_call,
+    slot_start_call, why_call,
 };
 use std::alloc::Global;
 
@@ -21,6 +22,18 @@ pub extern "C" fn etcs_image_slot_(
     reported: &mut EtcsSlot,
 ) -> u32 {
     slot_call(image, abi, newest, slot, reported).number()
+}
+
+/// What gate and head of a slot hold.
+#[unsafe(no_mangle)]
+pub extern "C" fn etcs_image_slot_start_(
+    start: &[u8],
+    abi: u32,
+    slots: u64,
+    slot: u64,
+    found: &mut EtcsSlotStart,
+) -> u32 {
+    slot_start_call(start, abi, slots, slot, found).number()
 }
 
 /// What the head of the block of this number says.

@@ -14,6 +14,7 @@ pub mod Numbers
 pub mod Records
 pub mod Replays
 pub mod Slots
+pub mod SlotStarts
 pub mod Verdicts
 pub mod WhyNumbers
 pub mod Whys

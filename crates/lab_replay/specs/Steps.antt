@@ -1,8 +1,10 @@
 -- The lines of a step of a walk, and how a replay goes on after it (this project's profile).
-use Rattle.std.specs.Prelude.{◌≡◌, ℕ, ◌++◌, false, List, [], ◌∷◌, Option, Some, None, option_to_list}
+use Rattle.std.specs.Prelude.{◌≡◌, ◌⊎◌, ℕ, ◌++◌, false, List, [], ◌∷◌, Option, Some, None, option_to_list}
 use Rattle.blocks.specs.declared.block.Block.{Block}
 use Rattle.blocks.specs.declared.records.BlockRecord.{BlockRecord}
 use Rattle.lives.specs.Steps.{Step}
+use Rattle.lives.specs.declared.errors.LateError.{LateError}
+use Rattle.lives.specs.declared.errors.LateError.TheVariants as a_late
 use Rattle.replaying.specs.Judgements.{GoesOn, Begins, IsHeadFound}
 use Rattle.replaying.specs.declared.following.Found.{Found}
 use Rattle.replaying.specs.declared.heads.HeadFound.{HeadFound}
@@ -60,3 +62,25 @@ abbrev pub AllLines : List Step → Course → Course → List ReplayLine → Ty
 AllLines [] c last lines = (last ≡ c) × (lines ≡ [])
 AllLines (step ∷ steps) c last lines = (next : Course) × (these : List ReplayLine) × (later : List ReplayLine)
     × StepLines step c next these × AllLines steps next last later × (lines ≡ these ++ later)
+
+-- ---- a replay that an error ends
+
+-- memory was refused, which isn't the sink's error
+abbrev pub IsMemory : LateError → Type 0
+IsMemory a_late.Write = ⊥
+IsMemory a_late.NoMemory = Unit {0}
+
+-- the line that a step begins with whatever its record is: a power-up ends the life before
+abbrev pub ended_life : Step → Course → List ReplayLine
+ended_life (Step.Begins block life before r) c = option_to_list (open_line c)
+ended_life _ c = []
+
+-- lines that a step begins with: none, that of the life before, or all
+abbrev pub StepBegins : Step → Course → List ReplayLine → Type 0
+StepBegins step c lines = (lines ≡ []) ⊎ ((lines ≡ ended_life step c) ⊎ ((next : Course) × StepLines step c next lines))
+
+-- lines that these steps begin with: all those of the first steps, and some of the next one
+abbrev pub AllBegin : List Step → Course → List ReplayLine → Type 0
+AllBegin [] c lines = ⊥
+AllBegin (step ∷ steps) c lines = StepBegins step c lines ⊎ ((next : Course) × (these : List ReplayLine) × (later : List ReplayLine)
+    × StepLines step c next these × AllBegin steps next later × (lines ≡ these ++ later))

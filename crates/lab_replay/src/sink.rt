@@ -1,5 +1,5 @@
 //! Takers of lines: one prints them as JSON, the other for people.
-ghost use Rattle.std.specs.Prelude.{OnOk, ⊤};
+ghost use Rattle.std.specs.Prelude.{OnOk, OnErr, ⊤};
 ghost use Rattle.lab_replay.specs.Sinks.{AddsJson};
 
 use lives::LateError;
@@ -13,9 +13,13 @@ pub trait LineSink<L> {
     /// What taking a line makes of the sink.
     ghost Takes: { Self → L → Self → Type 0 };
 
+    /// What an error at a line makes of the sink.
+    ghost Fails: { Self → L → Self → Type 0 } = { λ _ _ _. ⊤ };
+
     /// Takes a line. After an error no further line is handed to it.
     fn take(&mut self, line: &L) -> Result<(), LateError>
-        ensures { OnOk result (Takes self.old line.now self.new) };
+        ensures taken { OnOk result (Takes self.old line.now self.new) }
+        ensures failed { OnErr result (Fails self.old line.now self.new) };
 }
 
 /// Prints each line as one JSON object and a line feed.

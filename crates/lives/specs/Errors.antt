@@ -39,6 +39,17 @@ IsLate _ = Unit {0}
 abbrev pub IsCause : ℕ → List ℕ → WalkError → Type 0
 IsCause sectors first e = IsRefusal sectors first e ⊎ (IsLate e × IsImageOf sectors first)
 
+-- an error that comes before the first step: of the image, or of the device
+abbrev pub IsBeforeSteps : WalkError → Type 0
+IsBeforeSteps an_error.Write = ⊥
+IsBeforeSteps an_error.NoMemory = ⊥
+IsBeforeSteps _ = Unit {0}
+
+-- what an error of a visitor is to the caller of a walk
+abbrev pub walk_error : LateError → WalkError
+walk_error a_late.Write = an_error.Write
+walk_error a_late.NoMemory = an_error.NoMemory
+
 -- what an error of the writer is to a visitor
 abbrev pub writing_stopped : ErrorKind → LateError
 writing_stopped OutOfMemory = a_late.NoMemory

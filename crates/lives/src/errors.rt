@@ -1,7 +1,7 @@
 //! Errors.
 ghost use Rattle.std.specs.Prelude.{◌≡◌, false};
 ghost use Rattle.std.specs.IoError.{error_kind};
-ghost use Rattle.lives.specs.Errors.{is_device, writing_stopped, IsLate};
+ghost use Rattle.lives.specs.Errors.{is_device, writing_stopped, walk_error, IsLate};
 
 use std::io;
 use std::io::ErrorKind;
@@ -43,6 +43,7 @@ impl From<io::Error> for LateError {
 
 /// What a visitor answered, for the caller of a walk.
 pub fn late(error: LateError) -> WalkError
+    ensures value { result ≡ walk_error error }
     ensures device { is_device result ≡ false }
     ensures late { IsLate result }
 {

@@ -127,7 +127,7 @@ impl fmt::Display for Refused {
     }
 }
 
-fn told(status: u32) -> Result<(), Refused> {
+fn check(status: u32) -> Result<(), Refused> {
     if status == 0 {
         Ok(())
     } else {
@@ -177,45 +177,45 @@ impl Unit {
         let mut unit = Unit { handle: Box::new(library::Handle { at: ptr::null_mut(), is_open: 0 }), medium };
         let image = &unit.medium.bytes;
         // SAFETY: the handle is all zeros, and the image is good for its length.
-        told(unsafe { library::etcs_unit_open_(&mut *unit.handle, image.as_ptr(), image.len(), cold, ABI) })?;
+        check(unsafe { library::etcs_unit_open_(&mut *unit.handle, image.as_ptr(), image.len(), cold, ABI) })?;
         unit.release()?;
         Ok(unit)
     }
 
     fn telegram(&mut self, bytes: &[u8]) -> Result<(), Refused> {
         // SAFETY: the handle holds what the library left there, and the bytes are good for their length.
-        told(unsafe { library::etcs_unit_telegram_(&mut *self.handle, bytes.as_ptr(), bytes.len()) })
+        check(unsafe { library::etcs_unit_telegram_(&mut *self.handle, bytes.as_ptr(), bytes.len()) })
     }
 
     fn identity(&mut self, text: &str) -> Result<(), Refused> {
         // SAFETY: as above.
-        told(unsafe { library::etcs_unit_identity_(&mut *self.handle, text.as_ptr(), text.len()) })
+        check(unsafe { library::etcs_unit_identity_(&mut *self.handle, text.as_ptr(), text.len()) })
     }
 
     fn train_data(&mut self, data: &TrainData) -> Result<(), Refused> {
         // SAFETY: as above.
-        told(unsafe { library::etcs_unit_train_data_(&mut *self.handle, data) })
+        check(unsafe { library::etcs_unit_train_data_(&mut *self.handle, data) })
     }
 
     fn action(&mut self, action: u32) -> Result<(), Refused> {
         // SAFETY: as above.
-        told(unsafe { library::etcs_unit_action_(&mut *self.handle, action) })
+        check(unsafe { library::etcs_unit_action_(&mut *self.handle, action) })
     }
 
     fn odometer(&mut self, movement_cm: i64, speed_m_per_h: u32) -> Result<(), Refused> {
         // SAFETY: as above.
-        told(unsafe { library::etcs_unit_odometer_(&mut *self.handle, movement_cm, speed_m_per_h) })
+        check(unsafe { library::etcs_unit_odometer_(&mut *self.handle, movement_cm, speed_m_per_h) })
     }
 
     fn clock(&mut self, moment_ms: u64) -> Result<(), Refused> {
         // SAFETY: as above.
-        told(unsafe { library::etcs_unit_clock_(&mut *self.handle, moment_ms) })
+        check(unsafe { library::etcs_unit_clock_(&mut *self.handle, moment_ms) })
     }
 
     /// Puts what is pending onto the medium, and answers what may reach the train.
     fn flush(&mut self) -> Result<Vec<Output>, Refused> {
         // SAFETY: as above.
-        told(unsafe { library::etcs_unit_prepare_(&mut *self.handle) })?;
+        check(unsafe { library::etcs_unit_prepare_(&mut *self.handle) })?;
         self.release()
     }
 
@@ -233,9 +233,9 @@ impl Unit {
         }
         let (mut outputs, mut count) = ([Output::default(); OUTPUTS], 0);
         // SAFETY: as above; all requests are carried out.
-        told(unsafe { library::etcs_unit_done_(&mut *self.handle, done) })?;
+        check(unsafe { library::etcs_unit_done_(&mut *self.handle, done) })?;
         // SAFETY: as above; there is room for all outputs.
-        told(unsafe { library::etcs_unit_release_(&mut *self.handle, outputs.as_mut_ptr(), OUTPUTS, &mut count) })?;
+        check(unsafe { library::etcs_unit_release_(&mut *self.handle, outputs.as_mut_ptr(), OUTPUTS, &mut count) })?;
         Ok(outputs[..count as usize].to_vec())
     }
 }
@@ -257,7 +257,7 @@ impl Journal<'_> {
     fn open(image: &[u8]) -> Result<Journal<'_>, Refused> {
         let mut at = JournalAt::default();
         // SAFETY: the image is good for its length, and the journal is written to alone.
-        told(unsafe { library::etcs_journal_open_(image.as_ptr(), image.len(), ABI, &mut at) })?;
+        check(unsafe { library::etcs_journal_open_(image.as_ptr(), image.len(), ABI, &mut at) })?;
         Ok(Journal { image, at })
     }
 }

@@ -314,7 +314,7 @@ Exit status:
      differs, a test failed, lint has findings, evidence was altered
   5  an internal error of lab
 
-`lab COMMAND --help` describes a command; docs/howto/laboratory.md names the page that explains it. Everything readable of a damaged image is
+`lab COMMAND --help` describes a command; docs/reference/lab.md lists the page for each. Everything readable of a damaged image is
 printed, and standard error says what is wrong. Take a digest of an image before anything reads it, and work on a copy.
 
 \b

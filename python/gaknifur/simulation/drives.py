@@ -1,4 +1,4 @@
-"""Read a drive in a closed loop from YAML: a train, its driver and a time step. docs/howto/closed-loop.md describes the keys.
+"""Read a drive in a closed loop from YAML: a train, its driver and a time step. docs/reference/drives.md describes the keys.
 
 A drive follows the steps of a life, which are played before the train moves. `driving` plays it.
 """

@@ -1,5 +1,5 @@
 """Read and judge properties of journals, in YAML: which records they select, and what has to hold for each.
-docs/howto/searching.md describes the keys.
+docs/reference/searches.md describes the keys.
 
 The conditions are those of test cases (`cases`), and those that select records have a few more names. A property that selects
 no record shows nothing, so the number of judged records is always reported.

@@ -1,4 +1,4 @@
-"""Run a sweep: a case with parameters, at each of their values. docs/howto/testing-a-train.md describes the keys.
+"""Run a sweep: a case with parameters, at each of their values. docs/howto/sweep.md describes the keys.
 
 `$name` in a text is the value of a parameter. The columns of a point are computed from its records, like the expected results of
 a case. Points run in parallel, each on an image of its own.

@@ -1,7 +1,7 @@
 """Check a track and the steps of a train on it for the items of docs/explain/safety.md.
 
 Each check has the number of its item. It examines the course of a life (`track_messages`) and finds what the item warns of,
-with the numbers that decide it. docs/howto/testing-a-train.md lists the items, and those that no track can show.
+with the numbers that decide it. docs/reference/track-checks.md lists the items, and those that no track can show.
 """
 from collections.abc import Callable, Iterator
 from dataclasses import dataclass

@@ -439,6 +439,10 @@ class etcs_slot(Structure):
                 ("has_fault", c_uint32), ("fault_record", c_uint32)]
 
 
+class etcs_slot_start(Structure):
+    _fields_ = [("number", c_uint64), ("is_closed", c_uint32), ("reserved", c_uint32)]
+
+
 class etcs_national(Structure):
     _fields_ = [("shunting_m_per_h", c_uint32), ("staff_responsible_m_per_h", c_uint32), ("on_sight_m_per_h", c_uint32),
                 ("unfitted_m_per_h", c_uint32), ("release_m_per_h", c_uint32), ("roll_cm", c_uint32),
@@ -534,6 +538,7 @@ CALLS: dict[str, tuple[object, ...]] = {
     "etcs_abi": (),
     "etcs_image_facts_": (c_char_p, c_uint64, c_uint32, POINTER(etcs_image)),
     "etcs_image_slot_": (c_char_p, c_uint64, c_uint32, c_uint64, c_uint64, POINTER(etcs_slot)),
+    "etcs_image_slot_start_": (c_char_p, c_uint64, c_uint32, c_uint64, c_uint64, POINTER(etcs_slot_start)),
     "etcs_image_block_": (c_char_p, c_uint64, c_uint32, c_uint64, POINTER(etcs_block)),
     "etcs_image_record_": (c_char_p, c_uint64, c_uint32, c_uint64, c_uint32, POINTER(etcs_record)),
     "etcs_journal_open_": (c_char_p, c_uint64, c_uint32, POINTER(etcs_journal)),

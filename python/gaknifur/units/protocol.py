@@ -1,4 +1,4 @@
-"""Encode and check the messages of the protocol of docs/howto/oracle.md between `lab` and a unit.
+"""Encode and check the messages of the protocol of docs/reference/unit-protocol.md between `lab` and a unit.
 
 An event has the members of a record of `etcs_lab events` that describe the input (docs/reference/json.md); an answer has the members that
 describe the unit's answer.

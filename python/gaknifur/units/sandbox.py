@@ -2,7 +2,7 @@
 
 The limits hold for each of its processes, and are set after the process starts and before the unit's program does. The sandbox
 (`bwrap`) has its own processes and no network; it sees all files, and can write only to a small folder in memory, which TMPDIR
-names. docs/howto/oracle.md lists the limits.
+names. docs/reference/unit-protocol.md lists the limits.
 """
 import contextlib
 import errno

@@ -1,6 +1,6 @@
 #!/bin/bash
-# Trains in a closed loop with the onboard unit (drives/), over the library that tests/unit.sh left, or one that is built: each result comes, each
-# planted fault is reported, and the program answers to the same events as the library. And the commands of docs/howto/closed-loop.md.
+# Tests trains in a closed loop with the onboard unit (drives/), with the library that tests/unit.sh left, or else a new one: each expected result
+# comes, each planted fault is found, and the program gives the same answers as the library. Also runs the commands of docs/howto/closed-loop.md.
 #
 #     tests/drive.sh [ETCS_LAB ETCS [PREFIX]]    on other programs, and on the library below PREFIX
 top=$(cd "$(dirname "$(readlink -f -- "$0")")/.." && pwd) || exit 1
@@ -11,7 +11,7 @@ export PYTHONDONTWRITEBYTECODE=1
 made=$(mktemp -d) || exit 1
 trap 'rm -rf "$made"' EXIT
 for program in "$lab" "$etcs"; do
-    [ -x "$program" ] || { echo "there is no program $program: rt ci makes it"; exit 1; }
+    [ -x "$program" ] || { echo "$program is missing; rt ci makes it"; exit 1; }
 done
 "$top/tools/python" --checks || exit 1
 prefix=$3
@@ -28,5 +28,5 @@ export GAKNIFUR_ETCS_UNIT=$(realpath "$prefix")/lib/libetcs_unit.so
 status=0
 /usr/bin/python3 "$top/tests/suites/drive_rows.py" "$etcs" "$lab" || status=1
 ETCS=$etcs ETCS_LAB=$lab /usr/bin/python3 "$top/tests/pages.py" howto/closed-loop || status=1
-GAKNIFUR_ETCS=$etcs GAKNIFUR_ETCS_LAB=$lab "$top/lab" lint "$top/drives" || { status=1; echo "lab lint finds more in drives/ than the cases say to show"; }
+GAKNIFUR_ETCS=$etcs GAKNIFUR_ETCS_LAB=$lab "$top/lab" lint "$top/drives" || { status=1; echo "lab lint finds more in drives/ than the cases list under shows"; }
 exit $status

@@ -240,7 +240,7 @@ LINES = {  # of each command the tables that one of its lines may have, by a mem
     "decode": [("refused", "a-refusal"), ("", "a-telegram")],
     "packets": [("", "the-packets-of-a-telegram")],
     "lint": [("", "advice-on-a-scenario")],
-    "against": [("tells", "another-unit"), ("against", "a-comparison"), ("", "the-end-of-comparisons")],
+    "against": [("members", "another-unit"), ("against", "a-comparison"), ("", "the-end-of-comparisons")],
 }
 PLAYED = ("step", "mode", "level", "indications", "place_cm", "uncertainty_cm")
 
@@ -326,7 +326,7 @@ def other_units(page, program, room):
     records.write_text(run(program, ["events", image])[0])
     asked.write_text(f'#!/bin/sh\nexec {shlex.join(map(str, program))} "$@"\n')
     asked.chmod(0o755)
-    program_of_unit, how = TOP / "tests/oracle/told.py", {"env": {**os.environ, "GAKNIFUR_ETCS_LAB": str(asked)}}
+    program_of_unit, how = TOP / "tests/oracle/recorded.py", {"env": {**os.environ, "GAKNIFUR_ETCS_LAB": str(asked)}}
     before = page.count
     for unit in (*(shlex.join([str(program_of_unit), str(records), word]) for word in ("right", "wrong", "breaks")),
                  str(TOP / "examples/oracle/unit.py"), "false"):

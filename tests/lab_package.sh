@@ -1,7 +1,7 @@
 #!/bin/bash
-# The package python/gaknifur and its script ./lab, on the programs that the gate leaves after: types, the package's own tests,
+# Tests the package python/gaknifur and its script ./lab on the programs that the full check built: types, the package's own tests,
 # exit statuses, the page of all commands, tables and database compared with plain readers, reports, sealed copies, releases,
-# differences of images, archives of blocks, and journals that are followed.
+# differences of images, archives of blocks, and lab follow.
 #
 #     tests/lab_package.sh [ETCS_LAB ETCS [IMAGES [SEED]]]    on other programs, with more or other images
 lab=${1:-$(dirname "$(readlink -f -- "$0")")/../crates/etcs_lab/out/etcs_lab}
@@ -11,13 +11,13 @@ cd "$(dirname "$(readlink -f -- "$0")")/.." || exit 1
 export PYTHONDONTWRITEBYTECODE=1 GAKNIFUR_ETCS_LAB=$lab
 python=/usr/bin/python3 # Debian's packages belong to this one
 for program in "$lab" "$etcs"; do
-    [ -x "$program" ] || { echo "there is no program $program: rt ci makes it"; exit 1; }
+    [ -x "$program" ] || { echo "$program is missing; rt ci makes it"; exit 1; }
 done
 tools/python --checks || exit 1
 status=0
 (cd python && "$python" -m mypy) || status=1
 (cd python && "$python" -m unittest -q) || status=1
-"$python" tests/lab_package/told_rows.py "$lab" "${@:3}" || status=1
+"$python" tests/lab_package/table_rows.py "$lab" "${@:3}" || status=1
 "$python" tests/lab_package/report_rows.py "$etcs" "$lab" || status=1
 "$python" tests/lab_package/seal_rows.py "$lab" || status=1
 "$python" tests/lab_package/verdict_rows.py "$lab" || status=1

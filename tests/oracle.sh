@@ -1,7 +1,7 @@
 #!/bin/bash
-# Another unit along with the proved one, and searches (docs/howto/oracle.md, docs/howto/searching.md): a unit in C, one in Python and `./lab serve` about the
-# journals of the examples; the whole of suites/ against the unit in C; each unit that is wrong on purpose is found out; wrong properties are
-# found and made small, the safety laws hold; what tshark shows of telegrams; and the commands of these pages and WIRESHARK.
+# Tests other units and searches (docs/howto/oracle.md, docs/howto/searching.md): a unit in C, one in Python and `./lab serve` replay the journals of
+# the examples; all of suites/ runs against the unit in C; each unit that is wrong on purpose is found; wrong properties are found and shrunk, and the
+# safety laws hold; tshark shows telegrams; and the commands of these pages and of docs/howto/wireshark.md print what the pages say.
 #
 #     tests/oracle.sh [ETCS_LAB ETCS [PREFIX [all]]]    on other programs, and on the library below PREFIX; `all`: all wrong properties
 top=$(cd "$(dirname "$(readlink -f -- "$0")")/.." && pwd) || exit 1
@@ -14,7 +14,7 @@ least=1010 # results of suites/, each with one more for each case
 made=$(mktemp -d) || exit 1
 trap 'rm -rf "$made"' EXIT
 for program in "$lab" "$etcs"; do
-    [ -x "$program" ] || { echo "there is no program $program: rt ci makes it"; exit 1; }
+    [ -x "$program" ] || { echo "$program is missing; rt ci makes it"; exit 1; }
 done
 "$top/tools/python" --checks || exit 1
 prefix=$3
@@ -40,9 +40,9 @@ gcc -std=c99 -O2 "${strict[@]}" "$top/examples/oracle/least.c" -o "$made/least" 
 cd "$top" || exit 1
 "$etcs" format "$made/image" 64 >/dev/null && "$etcs" run examples/trip/scenario.json "$made/image" >/dev/null || status=1
 GAKNIFUR_UNIT_MEMORY=0 ./lab against "$made/image" "$made/unit.checked" >"$made/said" 2>&1 || { cat "$made/said"; echo "unit.c, with sanitizers, differs"; status=1; }
-told=$(./lab test suites --against "$made/unit" 2>&1) || { echo "$told"; status=1; }
-count=$(sed -n 's/^\([0-9]*\) passed in .*/\1/p' <<< "$told")
-echo "suites against unit.c: ${count:-no} results came"
+output=$(./lab test suites --against "$made/unit" 2>&1) || { echo "$output"; status=1; }
+count=$(sed -n 's/^\([0-9]*\) passed in .*/\1/p' <<< "$output")
+echo "suites against unit.c: ${count:-no} results passed"
 [ "${count:-0}" -ge $least ] || status=1
 "$python" tests/oracle/dissector_rows.py || status=1
 "$python" tests/oracle/search_rows.py "$etcs" "$lab" "$made/unit" "${@:4}" || status=1

@@ -1,7 +1,7 @@
 #!/bin/bash
-# The corpus of test cases in suites/, on the programs that the gate leaves after: each result comes, each section and transition has
-# a case or a reason, what the records reach is measured and all that can be is reached, what is untrue fails, what is weak on a track is
-# found, and the pages for test laboratories print what they say, in one folder; and a search over random lives.
+# Tests the corpus of test cases in suites/ on the programs that the full check built: each expected result comes, each section and transition
+# has a case or a reason, the records reach all that can be reached, untrue cases fail, lint finds weak tracks, the commands of the
+# pages for test laboratories print what the pages say, and a search over random lives finds no fault.
 #
 #     tests/suites.sh [ETCS_LAB ETCS]    on other programs
 lab=${1:-$(dirname "$(readlink -f -- "$0")")/../crates/etcs_lab/out/etcs_lab}
@@ -13,17 +13,17 @@ least=800 # results
 made=$(mktemp -d) || exit 1
 trap 'rm -rf "$made"' EXIT
 for program in "$lab" "$etcs"; do
-    [ -x "$program" ] || { echo "there is no program $program: rt ci makes it"; exit 1; }
+    [ -x "$program" ] || { echo "$program is missing; rt ci makes it"; exit 1; }
 done
 tools/python --checks || exit 1
 status=0
-told=$(./lab test suites --reached "$made/reached.json" 2>&1) || status=1
-count=$(sed -n 's/^\([0-9]*\) passed in .*/\1/p' <<< "$told")
+output=$(./lab test suites --reached "$made/reached.json" 2>&1) || status=1
+count=$(sed -n 's/^\([0-9]*\) passed in .*/\1/p' <<< "$output")
 if [ $status -ne 0 ] || [ "${count:-0}" -lt $least ]; then
     status=1
-    echo "$told"
+    echo "$output"
 fi
-echo "suites: ${count:-no} results came"
+echo "suites: ${count:-no} results passed"
 covered=$(./lab coverage suites 2>&1) || { status=1; echo "$covered"; }
 tail -n 1 <<< "$covered"
 /usr/bin/python3 tests/suites/measured_rows.py "$made/reached.json" || status=1

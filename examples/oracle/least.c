@@ -36,7 +36,7 @@ int main(void) {
         fputs("another protocol\n", stderr);
         return 1;
     }
-    puts("{\"protocol\":1,\"unit\":\"one that stands\",\"tells\":[\"mode\",\"level\",\"brake\"]}");
+    puts("{\"protocol\":1,\"unit\":\"one that stands\",\"members\":[\"mode\",\"level\",\"brake\"]}");
     fflush(stdout);
     while (fgets(line, sizeof line, stdin)) {
         const char *number = member(line, "\"event\":");

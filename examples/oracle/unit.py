@@ -51,7 +51,7 @@ def main():
     greeting = json.loads(sys.stdin.readline())
     if greeting["protocol"] != 1:
         sys.exit(f"the protocol {greeting['protocol']} isn't known")
-    say({"protocol": 1, "unit": "one that stands", "tells": MEMBERS})
+    say({"protocol": 1, "unit": "one that stands", "members": MEMBERS})
     unit = Unit()
     for line in sys.stdin:
         say(unit.answer(json.loads(line)))

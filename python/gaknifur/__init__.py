@@ -1,14 +1,14 @@
-"""Tables, a database and reports of the journals that the program `etcs_lab` reads.
+"""Make tables, databases and reports of the journals that the program `etcs_lab` reads.
 
-Every record of the tables comes from `etcs_lab`; `replay` and `why` come from the library of `gaknifur.unit`. Of the bytes of an
-image nothing is read here but the gates and numbers of its blocks (`layout`), where these are copied or compared as they are.
-`journal` is the call for a notebook:
+Every record of the tables comes from `etcs_lab`; `replay` and `why` come from the library of `gaknifur.unit`. The package itself
+reads only the gates and numbers of the blocks of an image (`layout`), to copy or compare the blocks as they are.
+Call `journal` in a notebook:
 
     import gaknifur
     events = gaknifur.journal("image")
     events[events["brake"] == "emergency"]
 
-Public are this module, `gaknifur.unit` and `gaknifur.lives`. The folders hold what the package itself uses.
+This module, `gaknifur.unit` and `gaknifur.lives` are public. The folders hold what the package itself uses.
 """
 from pathlib import Path
 from typing import TYPE_CHECKING, Any
@@ -22,7 +22,7 @@ __all__ = ["brake_causes", "journal", "replay", "why"]
 
 
 def __getattr__(name: str) -> Any:
-    """`replay` and `why`, which load the library's calls where they are first asked for: the words of ./lab needn't wait for them."""
+    """Loads `replay` and `why` when they are first used, so that the commands of ./lab don't wait for the library."""
     if name in ("replay", "why"):
         from . import lives
         return getattr(lives, name)
@@ -30,17 +30,16 @@ def __getattr__(name: str) -> Any:
 
 
 def journal(path: str | Path, other_blocks: bool = False) -> "pd.DataFrame":
-    """The records of an image as a table, one row each, the oldest first; `tables` has its columns.
+    """The records of an image as a table, one row each, the oldest first; `tables` describes its columns.
 
-    With `other_blocks` also the records that aren't of the journal, which column `source` reports.
+    With `other_blocks` it also has the records outside the journal; column `source` marks them.
     """
-    from .journal import reading, tables  # (pandas takes a while to load, which the words of ./lab that have no table needn't)
+    from .journal import reading, tables  # (pandas takes a while to load, and not every command of ./lab needs it)
     return tables.frame(reading.read(path, other_blocks=other_blocks, replay=True, why=True))
 
 
 def brake_causes(path: str | Path) -> "pd.DataFrame":
-    """A row for each cause that holds after an event of which causes are reported, the oldest first: since which event, what it
-    says and how it ends."""
+    """A row for each cause of a brake command, the oldest first: the event since which it holds, its meaning and how it ends."""
     import pandas as pd
 
     from .journal import causes, reading

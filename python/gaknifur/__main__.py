@@ -29,11 +29,11 @@ def run(words: Sequence[str], progress: Terminal) -> int:
 
 def explain(error: click.UsageError) -> None:
     """Says on standard error what is wrong with the arguments, with the nearest option."""
-    said = error.format_message().rstrip(".")
+    message = error.format_message().rstrip(".")
     if isinstance(error, click.NoSuchOption):
-        said = f"unknown option {error.option_name}{f'; did you mean {error.possibilities[0]}?' if error.possibilities else ''}"
+        message = f"unknown option {error.option_name}{f'; did you mean {error.possibilities[0]}?' if error.possibilities else ''}"
     name = error.ctx.command_path if error.ctx else "lab"
-    print(f"{error.ctx.get_usage() if error.ctx else ''}\n{shown(f'{name}: error: {said[0].lower()}{said[1:]}')}", file=sys.stderr)
+    print(f"{error.ctx.get_usage() if error.ctx else ''}\n{shown(f'{name}: error: {message[0].lower()}{message[1:]}')}", file=sys.stderr)
 
 
 def main(given: Sequence[str] | None = None) -> int:

@@ -1,4 +1,4 @@
-"""What `lab` says where it fails in a way that nobody foresaw: one line, and never a traceback."""
+"""Report a failure that no command handles: in one line, without a traceback."""
 import errno
 import io
 import os
@@ -12,11 +12,11 @@ from .escaping import shown
 OWN_FAULT, UNWRITTEN, DEVICE = 5, 1, 3
 INTERRUPTED = 128 + signal.SIGINT
 TRACEBACK = "GAKNIFUR_TRACEBACK"
-"""The variable of the environment that asks for the traceback too."""
+"""The environment variable that also prints the traceback."""
 
 
 def say(text: str) -> None:
-    """A line on standard error, where there is one."""
+    """Prints a line on standard error, if there is one."""
     try:
         print(f"lab: {shown(text)}", file=sys.stderr, flush=True)
     except (OSError, ValueError, AttributeError):
@@ -24,15 +24,15 @@ def say(text: str) -> None:
 
 
 class Closed(io.TextIOBase):
-    """A standard output that was closed beforehand."""
+    """Stands in for a standard output that is closed."""
 
     def write(self, text: str) -> int:
-        """Nothing can be written."""
+        """Always fails."""
         raise OSError(errno.EBADF, "standard output is closed")
 
 
 def hold_streams() -> None:
-    """Where a standard stream is closed, no file that is opened takes its number, and writing to it is a fault."""
+    """Keeps the numbers of closed standard streams, so that no file that is opened gets one; writing to one then fails."""
     for number in range(3):
         try:
             os.fstat(number)
@@ -43,24 +43,24 @@ def hold_streams() -> None:
 
 
 def give_up_output() -> None:
-    """Nothing more is written to standard output, also where Python ends."""
+    """Discards what is still written to standard output, also when Python exits."""
     try:
         os.dup2(os.open(os.devnull, os.O_WRONLY), 1)
     except OSError:
         pass
 
 
-def told_of(error: BaseException) -> str:
-    """A fault of this package: what it is, and where."""
+def describe(error: BaseException) -> str:
+    """A fault of this package: its type, its message and where it was raised."""
     frames = traceback.extract_tb(error.__traceback__)
     own = [frame for frame in frames if "/gaknifur/" in frame.filename] or frames
     place = f" at {os.path.basename(own[-1].filename)}:{own[-1].lineno}" if own else ""
-    said = str(error).splitlines()
-    return f"{type(error).__name__}{': ' + said[0][:200] if said else ''}{place}"
+    lines = str(error).splitlines()
+    return f"{type(error).__name__}{': ' + lines[0][:200] if lines else ''}{place}"
 
 
 def caught(do: Callable[[], int]) -> int:
-    """Does something, and answers its status; whatever it raises is reported in a line."""
+    """Calls a function and returns its status. Reports in one line whatever it raises."""
     try:
         status = do()
         sys.stdout.flush()
@@ -82,7 +82,7 @@ def caught(do: Callable[[], int]) -> int:
         say(f"{error.filename}: {error.strerror}" if error.filename else f"{error.strerror or error}")
         return DEVICE
     except Exception as error:
-        say(f"internal error: {told_of(error)}; docs/reference/lab.md says how to report it")
+        say(f"internal error: {describe(error)}; docs/reference/lab.md says how to report it")
         if os.environ.get(TRACEBACK):
             traceback.print_exc()
         return OWN_FAULT

@@ -1,12 +1,12 @@
-"""Names as they are shown: what could move a cursor, turn a line around or hide in it is spelled."""
+"""Print untrusted text safely: characters that could move the cursor, reverse a line or hide in it are escaped."""
 import unicodedata
 
 HIDDEN = ("Cc", "Cf", "Cs", "Co", "Cn", "Zl", "Zp")
-"""Kinds of characters that nobody sees: controls, marks of direction, bytes that are no UTF-8, what has no meaning."""
+"""Categories of invisible characters: controls, direction marks, bytes that are not UTF-8, unassigned characters."""
 
 
-def spelled(character: str) -> str:
-    """A character by its number; a byte that is no UTF-8 by the byte."""
+def escape(character: str) -> str:
+    """The escape of a character, or of a byte that is not UTF-8."""
     number = ord(character)
     if 0xDC80 <= number <= 0xDCFF:
         return f"\\x{number - 0xDC00:02x}"
@@ -14,8 +14,8 @@ def spelled(character: str) -> str:
 
 
 def shown(text: object) -> str:
-    """A text on one line, with each character that can't be seen spelled."""
-    told = str(text)
-    if told.isascii() and told.isprintable():
-        return told
-    return "".join(spelled(one) if unicodedata.category(one) in HIDDEN else one for one in told)
+    """A text on one line, with each invisible character escaped."""
+    line = str(text)
+    if line.isascii() and line.isprintable():
+        return line
+    return "".join(escape(one) if unicodedata.category(one) in HIDDEN else one for one in line)

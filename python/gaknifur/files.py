@@ -1,8 +1,8 @@
-"""The files that `lab` makes, and how nothing that stands under a name is lost by it.
+"""Write files without losing existing ones.
 
-What is made is a new file. In place of one that is there it comes only with `--force`, and only where that is a regular
-file which this package made before, as its first bytes say (`Kind`). An image is never written over, whatever its name
-is. A file is written along with its name and synced, and takes the name once it is whole.
+A file is overwritten only with `--force`, and only if it is a regular file that this package made, as its first bytes show
+(`Kind`). An image is never overwritten, whatever its name is. A file is written under a temporary name and synced, and is
+renamed once it is whole.
 """
 import contextlib
 import ctypes
@@ -30,36 +30,36 @@ from .locks import lock
 from .program import DEVICE, REFUSED, Failed
 
 IMAGE_MARK = layout.MARK
-"""What an image begins with (docs/reference/format.md)."""
+"""The first bytes of an image (docs/reference/format.md)."""
 FIRST_BYTES = 4096
 SQLITE, SQLITE_ID = b"SQLite format 3\0", slice(68, 72)
 WAIT_SECONDS = 60.0
-"""How long a database is waited for that another program writes to."""
+"""How long to wait for a database that another program writes to."""
 
 
 AT_CURRENT, RENAME_NOREPLACE = -100, 1
-"""Linux' numbers for renameat2: the current folder, and that no name is taken the place of."""
+"""Linux' numbers for renameat2: the current folder, and the flag not to replace an existing name."""
 LEFT = re.compile(r"\.lab-[0-9]+-[0-9a-f]{16}")
-"""The names of what isn't finished."""
+"""The names of unfinished files and folders."""
 MAKER = "gaknifur lab"
-"""The maker that pages, pictures and workbooks report."""
+"""The name of the maker in pages, pictures and workbooks."""
 
 
 @dataclass(frozen=True)
 class Kind:
-    """A kind of file, and whether bytes, those of a whole file or its first ones, are of one that this package made."""
+    """A kind of file, and whether the bytes of a file, or its first bytes, show that this package made it."""
 
     name: str
     is_own: Callable[[bytes], bool]
     is_whole: bool = False
-    """Whether all bytes are asked, and not the first ones alone."""
+    """Whether `is_own` needs all bytes, and not only the first ones."""
 
 
 def is_workbook(data: bytes) -> bool:
     """Whether the bytes of an archive are those of a workbook that this package made."""
     try:
-        with zipfile.ZipFile(io.BytesIO(data)) as told:
-            return b">%s</dc:creator>" % MAKER.encode() in told.read("docProps/core.xml")
+        with zipfile.ZipFile(io.BytesIO(data)) as archive:
+            return b">%s</dc:creator>" % MAKER.encode() in archive.read("docProps/core.xml")
     except (zipfile.BadZipFile, KeyError, OSError, ValueError):
         return False
 
@@ -70,7 +70,7 @@ def beginning(name: str, *marks: bytes) -> Kind:
 
 
 def holding(name: str, beginning: bytes, mark: bytes) -> Kind:
-    """A kind whose first bytes begin as reported and hold a mark."""
+    """A kind whose files begin with `beginning` and contain a mark in their first bytes."""
     return Kind(name, lambda data: data.startswith(beginning) and mark in data)
 
 
@@ -88,20 +88,20 @@ JUNIT = holding("results in XML", b"<?xml", b'<property name="generator" value="
 
 @dataclass(frozen=True)
 class Out:
-    """A file that a command is to make."""
+    """An output file of a command."""
 
     path: Path
     kind: Kind
     is_forced: bool = False
 
 
-def refused(path: Path, said: str) -> Failed:
-    """What is said of a file that isn't written."""
-    return Failed(f"{path}: {said}", REFUSED)
+def refused(path: Path, reason: str) -> Failed:
+    """The error for a file that isn't written."""
+    return Failed(f"{path}: {reason}", REFUSED)
 
 
-def standing(path: Path) -> os.stat_result | None:
-    """What stands under a name, links followed; None where nothing does."""
+def status_of(path: Path) -> os.stat_result | None:
+    """The status of a file, following links; None if it doesn't exist."""
     try:
         return path.stat()
     except FileNotFoundError:
@@ -111,7 +111,7 @@ def standing(path: Path) -> os.stat_result | None:
 
 
 def open_to_read(path: Path) -> BinaryIO:
-    """A regular file or a device of blocks, opened to be read alone, under the shared lock that etcs_lab takes: no unit runs on
+    """A regular file or a block device, opened for reading under the shared lock that etcs_lab takes, so that no unit runs on
     it meanwhile."""
     try:
         descriptor = os.open(path, os.O_RDONLY | os.O_NONBLOCK | os.O_CLOEXEC)
@@ -131,12 +131,12 @@ def open_to_read(path: Path) -> BinaryIO:
 
 
 KINDS = ((stat.S_ISDIR, "a folder"), (stat.S_ISFIFO, "a named pipe (FIFO)"), (stat.S_ISCHR, "a device"), (stat.S_ISBLK, "a block device"))
-"""What isn't a regular file, as it is called."""
+"""The names of what isn't a regular file."""
 TO_READ = os.O_RDONLY | getattr(os, "O_NONBLOCK", 0) | getattr(os, "O_CLOEXEC", 0) | getattr(os, "O_BINARY", 0)
 
 
 def opened(path: Path) -> BinaryIO:
-    """A regular file, opened to be read. What else is there is refused by its kind; a pipe isn't waited for."""
+    """A regular file, opened for reading. Refuses anything else by its kind, and doesn't wait for a pipe."""
     try:
         descriptor = os.open(path, TO_READ)
     except OSError as error:
@@ -159,16 +159,16 @@ def bytes_of(path: Path, most: int | None = None) -> bytes:
 
 
 def is_same(one: os.stat_result, other: os.stat_result) -> bool:
-    """Whether both are of one file, under whatever names."""
+    """Whether both belong to the same file, whatever its names."""
     return (one.st_dev, one.st_ino) == (other.st_dev, other.st_ino)
 
 
 def check_plain(path: Path, found: os.stat_result, inputs: Iterable[Path]) -> None:
-    """What stands there is a regular file, none that is read here, and no image."""
+    """Refuses what isn't a regular file, an input of the command, and an image."""
     if not stat.S_ISREG(found.st_mode):
         raise refused(path, "exists and isn't a regular file")
     for one in inputs:
-        read = standing(one)
+        read = status_of(one)
         if read is not None and is_same(found, read):
             raise refused(path, f"is the input file {shown(one)}")
     if bytes_of(path, len(IMAGE_MARK)) == IMAGE_MARK:
@@ -176,8 +176,8 @@ def check_plain(path: Path, found: os.stat_result, inputs: Iterable[Path]) -> No
 
 
 def check(out: Out, inputs: Iterable[Path] = ()) -> os.stat_result | None:
-    """Refuses a file that may not be written; answers what is there that it takes the place of."""
-    path, found = out.path, standing(out.path)
+    """Refuses a file that may not be written. Returns the status of the file that it will replace."""
+    path, found = out.path, status_of(out.path)
     if found is None:
         if not Path(os.path.realpath(path)).parent.is_dir():
             raise Failed(f"{path}: its folder doesn't exist", DEVICE)
@@ -193,7 +193,7 @@ def check(out: Out, inputs: Iterable[Path] = ()) -> os.stat_result | None:
 
 
 def check_all(outs: Iterable[Out], inputs: Iterable[Path] = (), others: Iterable[Path] = ()) -> None:
-    """Refuses files that may not be written before anything is done, and two of one name; `others` are made too."""
+    """Refuses files that may not be written, before anything is done, and a name that is given twice; `others` are made too."""
     inputs, seen = list(inputs), {os.path.realpath(path) for path in others}
     for out in outs:
         check(out, inputs)
@@ -204,7 +204,7 @@ def check_all(outs: Iterable[Out], inputs: Iterable[Path] = (), others: Iterable
 
 
 def write(out: Out, data: str | bytes | Iterable[str], inputs: Iterable[Path] = ()) -> None:
-    """Makes a file, whole or not at all, of a text, of bytes, or of parts of a text, which needn't be in memory at once."""
+    """Writes a file, whole or not at all: a text, bytes, or the parts of a text, which needn't be in memory at once."""
     before = check(out, inputs)
     parts = (data,) if isinstance(data, str | bytes) else data
     try:
@@ -217,10 +217,10 @@ def write(out: Out, data: str | bytes | Iterable[str], inputs: Iterable[Path] = 
 
 @contextlib.contextmanager
 def filled(path: Path, before: os.stat_result | None = None) -> Iterator[BinaryIO]:
-    """A file that is filled along with its name, and gets the name once it is whole and synced: a new one where nothing stood there
-    (FileExistsError where something does now), else in place of what did."""
-    beside = path.with_name(f".lab-{os.getpid()}-{secrets.token_hex(8)}")
-    descriptor = os.open(beside, os.O_WRONLY | os.O_CREAT | os.O_EXCL | os.O_CLOEXEC, 0o666)
+    """A file that is written under a temporary name, and renamed once it is whole and synced. It replaces the file `before`; without
+    one it is new, and a file that exists by now is a FileExistsError."""
+    temporary = path.with_name(f".lab-{os.getpid()}-{secrets.token_hex(8)}")
+    descriptor = os.open(temporary, os.O_WRONLY | os.O_CREAT | os.O_EXCL | os.O_CLOEXEC, 0o666)
     try:
         with open(descriptor, "wb") as file:
             if before is not None:
@@ -229,24 +229,24 @@ def filled(path: Path, before: os.stat_result | None = None) -> Iterator[BinaryI
             file.flush()
             os.fsync(descriptor)
         if before is None:
-            name_new(beside, path)
+            name_new(temporary, path)
         else:
-            name_over(beside, path, before)
+            name_over(temporary, path, before)
         sync_folder(path.parent)
     finally:
-        beside.unlink(missing_ok=True)
+        temporary.unlink(missing_ok=True)
 
 
 def put(path: Path, data: Iterable[bytes], before: os.stat_result | None) -> None:
-    """Makes a file of these bytes."""
+    """Writes a file with these bytes."""
     with filled(path, before) as file:
         file.writelines(data)
 
 
 @contextlib.contextmanager
 def new_file(path: Path) -> Iterator[BinaryIO]:
-    """A file that nothing stands in the place of, whole or not at all, for what memory needn't hold at once."""
-    if standing(path) is not None or path.is_symlink():
+    """A new file that is written part by part, and appears whole or not at all."""
+    if status_of(path) is not None or path.is_symlink():
         raise refused(path, "already exists; name a new file")
     try:
         with filled(Path(os.path.realpath(path))) as file:
@@ -257,27 +257,27 @@ def new_file(path: Path) -> Iterator[BinaryIO]:
         raise Failed(f"{path}: {error.strerror}", DEVICE) from error
 
 
-def name_new(beside: Path, path: Path) -> None:
-    """Gives a file a name that nothing has."""
+def name_new(temporary: Path, path: Path) -> None:
+    """Renames a file to a name that doesn't exist yet."""
     try:
-        os.link(beside, path)
+        os.link(temporary, path)
     except FileExistsError:
         raise
     except OSError:  # a file system without links
         os.close(os.open(path, os.O_WRONLY | os.O_CREAT | os.O_EXCL | os.O_CLOEXEC, 0o666))
-        os.replace(beside, path)
+        os.replace(temporary, path)
 
 
-def name_over(beside: Path, path: Path, before: os.stat_result) -> None:
-    """Gives a file the name of another one, where that is still the one that was looked at."""
-    now = standing(path)
+def name_over(temporary: Path, path: Path, before: os.stat_result) -> None:
+    """Renames a file over another one, if that is still the one that was checked."""
+    now = status_of(path)
     if now is None or not is_same(now, before):
         raise FileExistsError
-    os.replace(beside, path)
+    os.replace(temporary, path)
 
 
 def sync_folder(folder: Path) -> None:
-    """The name outlives a loss of power too."""
+    """Syncs a folder, so that the names in it survive a loss of power."""
     descriptor = os.open(folder, os.O_RDONLY | os.O_DIRECTORY | os.O_CLOEXEC)
     try:
         os.fsync(descriptor)
@@ -286,12 +286,12 @@ def sync_folder(folder: Path) -> None:
 
 
 def write_new(path: Path, data: bytes) -> None:
-    """Makes a file that isn't there yet; FileExistsError where it is."""
+    """Writes a file that must not exist yet, or else raises FileExistsError."""
     put(Path(os.path.realpath(path)), (data,), None)
 
 
 def sync_file(path: Path) -> None:
-    """Returns when the system says that all of a file is kept."""
+    """Returns when the system reports that all of a file is on the medium."""
     descriptor = os.open(path, os.O_RDONLY | os.O_NOFOLLOW | os.O_CLOEXEC)
     try:
         os.fsync(descriptor)
@@ -301,22 +301,22 @@ def sync_file(path: Path) -> None:
 
 @contextlib.contextmanager
 def new_folder(path: Path, names: Collection[str]) -> Iterator[Path]:
-    """A folder that is filled next to its name, and takes the name once all in it is whole and synced. Nothing may have the name. Where it
-    can't be filled, nothing of it stays; what a run left that was killed is removed first. `names` are those of the files that it may have."""
-    if standing(path) is not None or path.is_symlink():
+    """A new folder that is filled under a temporary name, and renamed once its files are whole and synced. If it can't be filled, it is
+    removed. The leftovers of a killed run are removed first; `names` are the names of the files that such a folder may have."""
+    if status_of(path) is not None or path.is_symlink():
         raise refused(path, "already exists; name a new folder")
     real = Path(os.path.realpath(path))
     remove_left(real.parent, names)
     try:
-        with unfinished(real) as beside:
-            yield beside
-            for folder, _, some in os.walk(beside, topdown=False):
+        with unfinished(real) as temporary:
+            yield temporary
+            for folder, _, some in os.walk(temporary, topdown=False):
                 for name in some:
                     os.chmod(Path(folder, name), 0o444)
                     sync_file(Path(folder, name))
                 sync_folder(Path(folder))
             try:
-                rename_new(beside, real)
+                rename_new(temporary, real)
             except OSError as error:
                 if error.errno in (errno.EEXIST, errno.ENOTEMPTY, errno.ENOTDIR):
                     raise refused(path, "was created by somebody else meanwhile; it is not replaced") from error
@@ -328,23 +328,23 @@ def new_folder(path: Path, names: Collection[str]) -> Iterator[Path]:
 
 @contextlib.contextmanager
 def unfinished(real: Path) -> Iterator[Path]:
-    """A folder next to a name, locked as long as it is filled, so that nobody takes it for one that a killed run left. What is left of it
-    at the end is removed."""
-    beside = real.with_name(f".lab-{os.getpid()}-{secrets.token_hex(8)}")
-    beside.mkdir()
-    descriptor = os.open(beside, os.O_RDONLY | os.O_DIRECTORY | os.O_NOFOLLOW | os.O_CLOEXEC)
+    """A temporary folder next to a name, locked while it is filled, so that nobody takes it for a leftover of a killed run. It is
+    removed at the end, unless it was renamed."""
+    temporary = real.with_name(f".lab-{os.getpid()}-{secrets.token_hex(8)}")
+    temporary.mkdir()
+    descriptor = os.open(temporary, os.O_RDONLY | os.O_DIRECTORY | os.O_NOFOLLOW | os.O_CLOEXEC)
     try:
-        with contextlib.suppress(OSError, Failed):  # (a file system without locks: there nobody removes what is left)
+        with contextlib.suppress(OSError, Failed):  # (a file system without locks: there nobody removes leftovers)
             lock(descriptor)
-        yield beside
+        yield temporary
     finally:
-        shutil.rmtree(beside, ignore_errors=True)
+        shutil.rmtree(temporary, ignore_errors=True)
         os.close(descriptor)
 
 
 def rename_new(one: Path, other: Path) -> None:
-    """Gives a folder a name that nothing has, in one step. Where the file system can't refuse a name that is there, an empty folder of that
-    name may be taken the place of."""
+    """Renames a folder to a name that doesn't exist yet, in one step. If the file system can't refuse an existing name, an empty folder
+    of that name may be replaced."""
     call = getattr(ctypes.CDLL(None, use_errno=True), "renameat2", None)
     if call is not None:
         if call(AT_CURRENT, os.fsencode(one), AT_CURRENT, os.fsencode(other), RENAME_NOREPLACE) == 0:
@@ -356,8 +356,8 @@ def rename_new(one: Path, other: Path) -> None:
 
 
 def remove_left(folder: Path, names: Collection[str]) -> None:
-    """Removes the folders that runs left which were killed while they filled them, and says so: such that this user has, that nobody locks,
-    and that have only files of these names."""
+    """Removes the folders that killed runs left unfinished, and says so: those that this user owns, that nobody locks, and that contain
+    only files with these names."""
     with contextlib.suppress(OSError):
         for name in sorted(os.listdir(folder)):
             if LEFT.fullmatch(name):
@@ -370,7 +370,7 @@ def folders_of(names: Collection[str]) -> set[str]:
 
 
 def remove_one_left(path: Path, names: Collection[str]) -> None:
-    """Removes a folder that a killed run left, where it is one."""
+    """Removes a folder if a killed run left it."""
     if not path.is_dir() or path.is_symlink():
         return
     descriptor = os.open(path, os.O_RDONLY | os.O_DIRECTORY | os.O_NOFOLLOW | os.O_CLOEXEC)
@@ -387,25 +387,25 @@ def remove_one_left(path: Path, names: Collection[str]) -> None:
 
 
 def is_there(path: Path, inputs: Iterable[Path] = ()) -> bool:
-    """Whether an image is there, which a command goes on with. What is no regular file is none."""
-    found = standing(path)
+    """Whether an image exists that a command can continue. Refuses what isn't a regular file, and the inputs of the command."""
+    found = status_of(path)
     if found is None:
         return False
     if not stat.S_ISREG(found.st_mode):
         raise refused(path, "isn't a regular file")
-    if any(read is not None and is_same(found, read) for read in map(standing, inputs)):
+    if any(read is not None and is_same(found, read) for read in map(status_of, inputs)):
         raise refused(path, "is a file that is read here")
     return True
 
 
 class Appended:
-    """A file that is appended to alone, under a lock of its own, and that begins with some bytes. A new one is made; what is there
-    and begins with others stays as it is."""
+    """A file that is only appended to, under an exclusive lock, and that begins with some bytes. It is created if it doesn't exist; a
+    file that begins with other bytes is refused and stays as it is."""
 
     def __init__(self, path: Path, first: bytes, name: str) -> None:
         self.path = path
         with contextlib.suppress(FileExistsError):
-            if standing(path) is None:
+            if status_of(path) is None:
                 write_new(path, first)
         try:
             self.descriptor = os.open(path, os.O_RDWR | os.O_NONBLOCK | os.O_CLOEXEC)
@@ -416,7 +416,7 @@ class Appended:
             self.settle()
             self.size = self.kept = os.lseek(self.descriptor, 0, os.SEEK_END)
             self.is_in_doubt = False
-            """Whether a sync failed since the last good one. What was appended since is at `kept`."""
+            """Whether a sync failed since the last good one. What was appended since then begins at `kept`."""
             if self.read(0, len(first)) != first:
                 raise refused(path, f"exists and is not {name}")
         except BaseException as error:
@@ -432,11 +432,11 @@ class Appended:
         self.close()
 
     def close(self) -> None:
-        """Gives the lock back."""
+        """Releases the lock."""
         os.close(self.descriptor)
 
     def settle(self) -> None:
-        """Syncs what an earlier process left, and drops the system's copies, so that what is read is what the medium has."""
+        """Syncs what an earlier process left, and drops the system's copies, so that reads return what is on the medium."""
         try:
             os.fsync(self.descriptor)
             if hasattr(os, "posix_fadvise"):
@@ -445,18 +445,18 @@ class Appended:
             raise Failed(f"{self.path}: can't be settled: {error.strerror}", DEVICE) from error
 
     def read(self, at: int, size: int) -> bytes:
-        """Bytes that are there."""
+        """`size` bytes from `at` on."""
         return os.pread(self.descriptor, size, at)
 
     def drop(self, size: int) -> None:
-        """Drops what comes after so many bytes: a part of what was being appended where power was lost."""
+        """Shortens the file to `size` bytes, to drop a part that was being appended when power was lost."""
         if size < self.size:
             os.ftruncate(self.descriptor, size)
             self.size = size
             self.kept = min(self.kept, size)
 
     def append(self, data: bytes) -> None:
-        """Appends. `sync` has to follow."""
+        """Appends data. Call `sync` afterwards."""
         done = 0
         while done < len(data):
             done += os.pwrite(self.descriptor, data[done:], self.size + done)
@@ -464,12 +464,12 @@ class Appended:
 
     @property
     def owes_sync(self) -> bool:
-        """Whether something was appended that no good sync followed, in this call or in one before."""
+        """Whether something was appended, now or earlier, that no good sync has followed."""
         return self.is_in_doubt or self.kept < self.size
 
     def sync(self) -> None:
-        """Returns when the system says that all is kept. After a sync that failed the system takes for kept what perhaps isn't, so all that
-        was appended since the last good one is written again first."""
+        """Returns when the system reports that everything is on the medium. After a failed sync the system may take lost data for
+        written, so everything that was appended since the last good sync is written again first."""
         if self.is_in_doubt:
             self.write_again()
         self.is_in_doubt = True
@@ -477,7 +477,7 @@ class Appended:
         self.is_in_doubt, self.kept = False, self.size
 
     def write_again(self) -> None:
-        """Writes once more what no good sync followed."""
+        """Writes again what no good sync has followed."""
         at = self.kept
         while at < self.size:
             data = self.read(at, min(1 << 20, self.size - at))
@@ -490,7 +490,7 @@ class Appended:
 
 @dataclass(frozen=True)
 class Database:
-    """A kind of database in SQLite, by the number that its files have at byte 68 (`PRAGMA application_id`)."""
+    """A kind of SQLite database, with the number of its files at byte 68 (`PRAGMA application_id`)."""
 
     name: str
     application_id: int
@@ -505,7 +505,7 @@ CAMPAIGN = Database("a table of a campaign", 0x474B4350)
 
 
 def address(path: Path, mode: str) -> str:
-    """The URI of a database's file, whatever characters its name has. It is never made by being opened."""
+    """The URI of a database file, whatever characters its name has. To open it never creates the file."""
     return f"file:{quote(os.fsencode(os.path.abspath(path)))}?mode={mode}"
 
 
@@ -522,8 +522,8 @@ def made(kind: Database, fill: Callable[[sqlite3.Connection], None]) -> bytes:
 
 
 def check_database(path: Path, kind: Database, inputs: Iterable[Path] = ()) -> bool:
-    """Refuses what is there and is no such database; answers whether one is there."""
-    found = standing(path)
+    """Whether the database exists. Refuses a file that isn't such a database."""
+    found = status_of(path)
     if found is None:
         return False
     check_plain(path, found, inputs)
@@ -534,8 +534,8 @@ def check_database(path: Path, kind: Database, inputs: Iterable[Path] = ()) -> b
 
 def open_database(path: Path, kind: Database, fill: Callable[[sqlite3.Connection], None], inputs: Iterable[Path] = (),
                   is_by_hand: bool = False) -> sqlite3.Connection:
-    """The database in a file. A new file is made whole or not at all, also where two programs make it at once. Its
-    transactions may be begun by hand alone."""
+    """Opens a database. A new file is made whole or not at all, also if two programs make it at once. With `is_by_hand` the caller
+    begins its transactions."""
     try:
         if not check_database(path, kind, inputs):
             try:
@@ -553,7 +553,7 @@ def open_database(path: Path, kind: Database, fill: Callable[[sqlite3.Connection
 
 
 def read_database(path: Path, kind: Database) -> sqlite3.Connection:
-    """The database in a file, to be read alone."""
+    """Opens a database for reading only."""
     if not check_database(path, kind):
         raise Failed(f"{path}: no such file", DEVICE)
     return sqlite3.connect(address(path, "ro"), uri=True, timeout=WAIT_SECONDS)

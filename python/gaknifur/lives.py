@@ -1,14 +1,13 @@
-"""The lives of a journal, run through the kernel again by the library of `gaknifur.unit`.
+"""Replay the power cycles (lives) of a journal with the library of `gaknifur.unit`.
 
     for line in gaknifur.replay("image"):
         print(line.first_event, line.last_event, line.verdict.name)
     print(gaknifur.why("image", 8).causes)
 
-`replay(path)` reports line by line, as `etcs_lab replay` does, which events agree with the kernel, which record or head
-differs, and which events can't be run again;
-`why(path, event)` says which causes of a brake hold after an event and since when, why the train was tripped, and what
-decides the limit. `lines`, `why_at` and `why_in` read bytes. Each life is run from its power-up on, so `why` takes as long as the
-life is up to the event.
+`replay(path)` returns the lines that `etcs_lab replay` prints: which events agree with the kernel, which record or head
+differs, and which events can't be replayed. `why(path, event)` returns which causes of a brake hold after an event and since
+when, why the train was tripped, and what decides the limit. `lines`, `why_at` and `why_in` read bytes. Each life is replayed
+from its power-up, so the time of `why` grows with the length of the life up to the event.
 """
 import ctypes
 from collections.abc import Iterator
@@ -25,8 +24,8 @@ __all__ = ["BrakeCause", "Datum", "Difference", "Kept", "KeptField", "LimitCause
 
 @dataclass(frozen=True, slots=True)
 class Kept:
-    """What a head says about what is kept, or what the kernel keeps. The position is a country, a group, and how far beyond
-    it the front lies, in cm; the national values stand in the order of etcs_national, None without an end."""
+    """The kept data of a head, or of the kernel. The position is a country, a group, and the distance of the front beyond the
+    group in cm; the national values are in the order of etcs_national, None for one without an end."""
 
     trip_outstanding: bool
     identity: bytes | None
@@ -40,7 +39,7 @@ class Kept:
 
 @dataclass(frozen=True, slots=True)
 class Difference:
-    """What differs: the head of a block, or the record of an event."""
+    """A head of a block, or a record of an event, that differs."""
 
     block: int
     event: int | None
@@ -51,8 +50,7 @@ class Difference:
 
 @dataclass(frozen=True, slots=True)
 class Line:
-    """A line of a replay: a life, events of it that follow one another, and what they came to. Of a head that differs
-    there are no events."""
+    """A line of a replay: consecutive events of a life, and their verdict. A head that differs has no events."""
 
     life: int
     first_event: int | None
@@ -63,8 +61,8 @@ class Line:
 
 @dataclass(frozen=True, slots=True)
 class Why:
-    """Why an event was answered so, as this kernel answers it. Of each cause of the brake that holds the first event of the
-    run after each of which it has held; of what decides the limit its speed, its place and a restriction's number."""
+    """Why the kernel gives an event its answer. `causes` maps each cause of the brake that holds to the event since which it
+    has held. `limit_cause` names what decides the limit, with its speed, its place and the number of a restriction."""
 
     event: int
     brake: Brake
@@ -85,38 +83,38 @@ def _level(status: int, level: int) -> tuple[Datum, Level | None]:
     return Datum(status), Level(level) if status else None
 
 
-def _kept(told: _header.etcs_kept) -> Kept:
-    values = told.national
+def _kept(kept: _header.etcs_kept) -> Kept:
+    values = kept.national
     numbers = [int(getattr(values, name)) for name, *_ in values._fields_[:11]]
-    position = (told.country, told.group, told.distance_cm) if told.position_status else None
+    position = (kept.country, kept.group, kept.distance_cm) if kept.position_status else None
     return Kept(
-        told.trip_outstanding != 0, bytes(told.identity[:told.identity_len]) or None,
-        told.running_number if told.has_running_number else None,
-        TrainData(*(getattr(told.train, name) for name, *_ in told.train._fields_)) if told.has_train else None,
-        _level(told.level_status, told.level), (Datum(told.position_status), position),
+        kept.trip_outstanding != 0, bytes(kept.identity[:kept.identity_len]) or None,
+        kept.running_number if kept.has_running_number else None,
+        TrainData(*(getattr(kept.train, name) for name, *_ in kept.train._fields_)) if kept.has_train else None,
+        _level(kept.level_status, kept.level), (Datum(kept.position_status), position),
         tuple(None if at > 8 and number == _header.ENDLESS else number for at, number in enumerate(numbers)),
         tuple(values.countries[:values.count]))
 
 
-def _line(told: _header.etcs_replay) -> Line:
-    verdict, difference = Verdict(told.verdict), None
-    first, last = told.first_event, told.last_event
+def _line(info: _header.etcs_replay) -> Line:
+    verdict, difference = Verdict(info.verdict), None
+    first, last = info.first_event, info.last_event
     if verdict == Verdict.RECORD_DIFFERS:
-        difference = Difference(told.block, told.event, RecordField(told.field), unit._record(told.journal), unit._record(told.kernel))
+        difference = Difference(info.block, info.event, RecordField(info.field), unit._record(info.journal), unit._record(info.kernel))
     if verdict == Verdict.HEAD_DIFFERS:
-        difference = Difference(told.block, None, KeptField(told.field), _kept(told.journal_kept), _kept(told.kernel_kept))
+        difference = Difference(info.block, None, KeptField(info.field), _kept(info.journal_kept), _kept(info.kernel_kept))
         first, last = None, None
-    return Line(told.life, first, last, verdict, difference)
+    return Line(info.life, first, last, verdict, difference)
 
 
 def lines(image: bytes) -> Iterator[Line]:
-    """Each line of a replay of the journal that an image holds, the oldest first. A block that can't be read is passed
-    over: what is after it has the verdict AFTER_GAP, up to the next power-up."""
-    cursor, told = _header.etcs_journal(), _header.etcs_replay()
-    unit._told(unit._called("etcs_journal_open_", image, len(image), unit.ABI, ctypes.byref(cursor)))
-    while (status := unit._called("etcs_image_replay_", image, len(image), unit.ABI, ctypes.byref(cursor), ctypes.byref(told))) != Status.END:
+    """Each line of a replay of the journal in an image, the oldest first. A block that can't be read is skipped: the events
+    after it have the verdict AFTER_GAP, up to the next power-up."""
+    cursor, line = _header.etcs_journal(), _header.etcs_replay()
+    unit._check(unit._called("etcs_journal_open_", image, len(image), unit.ABI, ctypes.byref(cursor)))
+    while (status := unit._called("etcs_image_replay_", image, len(image), unit.ABI, ctypes.byref(cursor), ctypes.byref(line))) != Status.END:
         if status == Status.OK:
-            yield _line(told)
+            yield _line(line)
         elif status != Status.IMAGE_DAMAGED:
             raise Refused(status)
 
@@ -127,20 +125,20 @@ def replay(path: str | Path) -> list[Line]:
 
 
 def why_at(image: bytes, block: int, event: int) -> Why:
-    """Why an event of a block was answered so, as its `Record` reports both numbers. NOT_REPLAYED where its life can't be run
-    again, NO_SUCH_BLOCK and NO_SUCH_RECORD where the image hasn't it."""
-    told = _header.etcs_why()
-    unit._told(unit._called("etcs_image_why_", image, len(image), unit.ABI, unit._number(block, 64), unit._number(event, 64),
-                            ctypes.byref(told)))
+    """Why an event of a block has its answer; its `Record` has both numbers. NOT_REPLAYED if its life can't be replayed,
+    NO_SUCH_BLOCK and NO_SUCH_RECORD if the image doesn't contain it."""
+    info = _header.etcs_why()
+    unit._check(unit._called("etcs_image_why_", image, len(image), unit.ABI, unit._number(block, 64), unit._number(event, 64),
+                            ctypes.byref(info)))
     return Why(
-        told.event, Brake(told.brake), told.limit_m_per_h, told.speed_m_per_h, told.backward_cm, told.allowed_backward_cm,
-        {cause: told.since[cause] for cause in BrakeCause if told.holds[cause]}, TripCause(told.trip_cause),
-        told.trip_event if told.trip_cause else None, LimitCause(told.limit_cause), told.limit_cause_m_per_h,
-        told.limit_cause_cm if told.has_place else None, told.restriction if told.has_restriction else None)
+        info.event, Brake(info.brake), info.limit_m_per_h, info.speed_m_per_h, info.backward_cm, info.allowed_backward_cm,
+        {cause: info.since[cause] for cause in BrakeCause if info.holds[cause]}, TripCause(info.trip_cause),
+        info.trip_event if info.trip_cause else None, LimitCause(info.limit_cause), info.limit_cause_m_per_h,
+        info.limit_cause_cm if info.has_place else None, info.restriction if info.has_restriction else None)
 
 
 def why_in(image: bytes, event: int) -> Why:
-    """Why an event of the journal was answered so. NO_SUCH_RECORD where the journal hasn't it."""
+    """Why an event of the journal has its answer. NO_SUCH_RECORD if the journal doesn't contain it."""
     for record in unit.records(image):
         if record.event == event:
             return why_at(image, record.block, event)
@@ -148,5 +146,5 @@ def why_in(image: bytes, event: int) -> Why:
 
 
 def why(path: str | Path, event: int) -> Why:
-    """Why an event of a file's journal was answered so; the file is read as a whole, and no lock is taken."""
+    """Why an event of a file's journal has its answer; the file is read as a whole, and no lock is taken."""
     return why_in(Path(path).read_bytes(), event)

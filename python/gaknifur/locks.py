@@ -1,5 +1,5 @@
-"""Locks of files, by which programs keep out of each other's way (`flock`). A system without them, as Windows, has only
-what needs no lock: whoever asks for one there is refused."""
+"""Lock files against other programs (`flock`). A system without such locks, such as Windows, has only the functions that need
+none: taking a lock fails there."""
 from .program import DEVICE, Failed
 
 try:
@@ -9,7 +9,7 @@ except ImportError:
 
 
 def lock(descriptor: int, is_shared: bool = False) -> None:
-    """Takes the lock of an open file. Where another program has it, that is a `BlockingIOError`."""
+    """Takes the lock of an open file. Raises `BlockingIOError` if another program holds it."""
     if fcntl is None:
         raise Failed("this system has no file locks (flock), which lab needs to open images, archives and databases; "
                      "run it on Linux", DEVICE)

@@ -1,12 +1,13 @@
-"""Plays many scenarios on empty journals in memory, by one process of `etcs_lab play`.
+"""Run many scenarios on empty journals in memory, with one process of `etcs_lab play`.
 
     from gaknifur.play import play
 
     for result in play({"id": number, "scenario": scenario} for number, scenario in enumerate(scenarios)):
         print(result["id"], result["status"], result["emergency_brakes"])
 
-Each is a line of `etcs_lab play` (docs/reference/json.md, Many scenarios): an object with a member `scenario`, and perhaps `id`, `cold`, `slots` and
-`sha256`; or a scenario alone. A result is the object that the program prints for it, in their order. One that can't be played has a result too.
+Each is an input line of `etcs_lab play` (docs/reference/json.md, Many scenarios): an object with a member `scenario`, and perhaps `id`, `cold`, `slots`
+and `sha256`; or only a scenario. The results are the objects that the program prints, in the order of the scenarios. A scenario that can't be run has a
+result too.
 """
 import json
 import subprocess
@@ -24,7 +25,7 @@ Which = Literal["all", "last", "changes", "none"]
 
 
 class Feeder(threading.Thread):
-    """Writes a line for each scenario to the program, while its results are read."""
+    """Writes the scenarios to the program while its results are read."""
 
     def __init__(self, scenarios: Iterable[Mapping[str, Any]], to: IO[str]) -> None:
         super().__init__(daemon=True)
@@ -40,20 +41,20 @@ class Feeder(threading.Thread):
                 self.count += 1
         except BrokenPipeError:
             pass  # the program ended, and says why
-        except BaseException as error:  # of the caller's own iterator, which is raised where the results are read
+        except BaseException as error:  # from the caller's iterator; raised where the results are read
             self.error = error
         finally:
             try:
                 self.to.close()
             except OSError:
-                pass  # what was left to write has nobody who reads it
+                pass  # the program doesn't read the rest any more
 
 
 def play(scenarios: Iterable[Mapping[str, Any]], *, slots: int = 16, outputs: Which = "last",
          images: Path | None = None) -> Generator[Result, None, None]:
-    """The result of each scenario, in their order. `slots` is the number of slots of each journal, `outputs` says which outputs a result
-    has, and `images` is a folder that each journal image is written into. An error where the program can't do its work: it is missing,
-    there is no scenario, an image can't be written."""
+    """The result of each scenario, in order. `slots` is the number of slots of each journal, `outputs` selects the outputs of a result, and
+    each journal image is written into the folder `images`. Fails if the program can't do its work: it is missing, there is no scenario,
+    or an image can't be written."""
     words = [program.find(), "play", f"--slots={slots}", f"--outputs={outputs}", *([] if images is None else [f"--images={images}"])]
     count = 0
     with tempfile.TemporaryFile() as errors:
@@ -77,7 +78,7 @@ def play(scenarios: Iterable[Mapping[str, Any]], *, slots: int = 16, outputs: Wh
         if feeder.error is not None:
             raise feeder.error
         errors.seek(0)
-        said = errors.read().decode(errors="replace").splitlines()
-    if said or status not in (WHOLE, REFUSED) or count != feeder.count:
-        raise Failed(said[-1].removeprefix("etcs_lab: ") if said else f"etcs_lab ended with status {status}, after {count} results",
+        messages = errors.read().decode(errors="replace").splitlines()
+    if messages or status not in (WHOLE, REFUSED) or count != feeder.count:
+        raise Failed(messages[-1].removeprefix("etcs_lab: ") if messages else f"etcs_lab ended with status {status}, after {count} results",
                      status if status > 0 else REFUSED)

@@ -1,9 +1,9 @@
-"""The programs `etcs_lab` and `etcs`. No other module starts a process, but `other_unit` a maker's own.
+"""Run the programs `etcs_lab` and `etcs`. Only this module and `other_unit`, which runs a maker's own unit, start processes.
 
-`$GAKNIFUR_ETCS_LAB` and `$GAKNIFUR_ETCS` name the programs. Without them the scripts are asked, once a process, whether
-there is a proved program of these sources: then that is run. Else the one is that a script compiles of the sources,
-unproved, and keeps; it says so on standard error. The scripts are those of this repository; of a package that is
-installed, those next to it, or else on the PATH.
+`$GAKNIFUR_ETCS_LAB` and `$GAKNIFUR_ETCS` name the programs. If they are not set, the script of the program is asked once per
+process whether there is a proved program of these sources. If there is none, the script compiles the sources unproved, keeps
+the program, and says so on standard error. The scripts are those of this repository; an installed package uses those next to
+it, or else those on the PATH.
 """
 import contextlib
 import functools
@@ -20,34 +20,34 @@ from .journal import layout
 
 WHOLE, REFUSED, WRONG_WORDS, DEVICE, NOT_WHOLE = range(5)
 FOUND = NOT_WHOLE
-"""The exit statuses, which mean the same in each program (docs/reference/refusals.md, Exit statuses). 4 is a finding, of an image or of anything else."""
+"""The exit statuses, which mean the same in each program (docs/reference/refusals.md, Exit statuses). 4 is a finding, in an image or elsewhere."""
 MEMORY, MANY, MOST_COPIED = Path("/dev/shm"), 64, 256
-"""The folder that Linux keeps in memory; how many images it has room for, where it is taken for one; and the greatest number of
-slots of an image that is copied."""
+"""The folder that Linux keeps in memory; how many images have to fit into it before it is used for one; and the greatest number
+of slots of an image that is copied."""
 
 
 class Failed(Exception):
-    """Something that can't be done: what is said of it, in one line, and the exit status."""
+    """Something can't be done: the message, in one line, and the exit status."""
 
-    def __init__(self, said: str, status: int) -> None:
-        super().__init__(said)
+    def __init__(self, message: str, status: int) -> None:
+        super().__init__(message)
         self.status = status
 
 
 HERE = Path(__file__).resolve()
 VERSION_TOOL = HERE.parents[2] / "tools" / "version"
 TOP = HERE.parents[2] if VERSION_TOOL.exists() else HERE.parents[3] / "gaknifur"
-"""The repository that this package lies in; else the folder of an installed product, which is besides that of Python."""
+"""The repository that contains this package, or else the folder of the installed product, next to Python's."""
 
 
 @functools.cache
 def version() -> str:
-    """The version of the product, and its commit where that is known."""
-    told = HERE.with_name("RELEASE")
+    """The version of the product, and its commit if that is known."""
+    release = HERE.with_name("RELEASE")
     if VERSION_TOOL.exists():
         return subprocess.run([VERSION_TOOL], stdin=subprocess.DEVNULL, capture_output=True, text=True).stdout.strip()
-    if told.exists():
-        return told.read_text(encoding="utf-8").strip()
+    if release.exists():
+        return release.read_text(encoding="utf-8").strip()
     import importlib.metadata  # (it takes a while to load)
     return f"{importlib.metadata.version('gaknifur')}, commit unknown"
 
@@ -64,8 +64,8 @@ def script(name: str) -> Path:
 
 @functools.cache
 def proved(script: Path) -> Path | None:
-    """The proved program of a script, where there is one of its sources. That takes a digest of all of them, so it is asked
-    once a process."""
+    """The proved program of a script, if there is one of these sources. To find out takes a digest of all sources, so it is
+    done once per process."""
     if subprocess.run([script, "--is-proved"], stdin=subprocess.DEVNULL, capture_output=True).returncode:
         return None
     installed = script.parent / "programs" / script.name
@@ -74,8 +74,8 @@ def proved(script: Path) -> Path | None:
 
 @functools.cache
 def tried(script: Path) -> Path:
-    """The program that a script compiles of the sources, unproved, where it hasn't done so before. It says so on standard
-    error."""
+    """The program that a script compiles from the sources, unproved, unless it has done so before. The script says so on
+    standard error."""
     done = subprocess.run([script, "--tried"], stdin=subprocess.DEVNULL, stdout=subprocess.PIPE)
     if done.returncode:
         raise Failed(f"{script.name} can't be run, as the lines above say", DEVICE)
@@ -83,40 +83,40 @@ def tried(script: Path) -> Path:
 
 
 @dataclass(frozen=True)
-class Told:
-    """What a tool of the system reported: its status, its output, and what it said on standard error."""
+class Completed:
+    """A completed run of a system tool: its status, its output, and what it printed on standard error."""
 
     status: int
     output: str
-    said: str
+    errors: str
 
     def last(self) -> str:
-        """The last line that says something."""
-        lines = [line.strip() for line in (self.said or self.output).splitlines() if line.strip()]
+        """The last line that isn't empty."""
+        lines = [line.strip() for line in (self.errors or self.output).splitlines() if line.strip()]
         return lines[-1] if lines else f"status {self.status}"
 
 
-def tool(*words: str | Path, given: bytes = b"") -> Told:
-    """Runs a tool of the system: ssh-keygen, gpg, gpgv or openssl. One that is missing is an error."""
+def tool(*words: str | Path, given: bytes = b"") -> Completed:
+    """Runs a system tool: ssh-keygen, gpg, gpgv or openssl. Raises Failed if it is missing."""
     try:
         done = subprocess.run(words, input=given, capture_output=True)
     except FileNotFoundError as error:
         raise Failed(f"{words[0]} is missing; Debian has it (openssh-client, openssl, gpg, gpgv)", DEVICE) from error
     except OSError as error:
         raise Failed(f"{words[0]}: {error.strerror}", DEVICE) from error
-    return Told(done.returncode, done.stdout.decode(errors="replace"), done.stderr.decode(errors="replace"))
+    return Completed(done.returncode, done.stdout.decode(errors="replace"), done.stderr.decode(errors="replace"))
 
 
 def find(name: str = "etcs_lab") -> str:
     """The path of a program."""
-    if told := os.environ.get(f"GAKNIFUR_{name.upper()}"):
-        return told
+    if named := os.environ.get(f"GAKNIFUR_{name.upper()}"):
+        return named
     return str(proved(script(name)) or tried(script(name)))
 
 
 @functools.cache
 def proof(name: str) -> bool | None:
-    """Whether a program is the proved one of these sources; None where the environment names another one, of which nothing is known."""
+    """Whether a program is the proved one of these sources; None if the environment names another one, which isn't known."""
     if not (named := os.environ.get(f"GAKNIFUR_{name.upper()}")):
         return proved(script(name)) is not None
     try:
@@ -127,44 +127,44 @@ def proof(name: str) -> bool | None:
 
 
 def reader_is_proved() -> bool | None:
-    """The same of the `etcs_lab` that reads images."""
+    """Whether the `etcs_lab` that reads images is proved; None if that isn't known."""
     return proof("etcs_lab")
 
 
 PROOF = {True: "etcs_lab is proved", False: "etcs_lab is not proved: it was compiled without a proof",
          None: "the environment named etcs_lab, and nothing says whether it is proved"}
-"""What is said of the reader, by `reader_is_proved`."""
+"""The text about the reader for each value of `reader_is_proved`."""
 
 
 def reader() -> str:
-    """By what an image is read: the version and the commit, and whether `etcs_lab` is proved."""
+    """What reads an image: the version and the commit, and whether `etcs_lab` is proved."""
     return f"gaknifur {version()}; {PROOF[reader_is_proved()]}"
 
 
 @dataclass(frozen=True)
 class Ran:
-    """What a run of a program left: its status, its output, and what it said on standard error."""
+    """A completed run of a program: its status, its output, and what it printed on standard error."""
 
     status: int
     output: bytes
-    said: bytes
+    errors: bytes
 
 
 def ran(words: Sequence[str]) -> Ran:
-    """Runs a program to its end. Its output goes to a file in memory, so that nobody has to read next to it, and the process is
-    made without a copy of this one: that takes less than half of the time that `subprocess` takes, which a program of a
-    millisecond shows."""
-    if not hasattr(os, "memfd_create"):  # (Linux alone has it)
+    """Runs a program to its end. Its output goes to a file in memory, so that nothing has to read while it runs, and the process
+    is started without a copy of this one. That takes less than half the time of `subprocess`, which matters for a program
+    that runs for a millisecond."""
+    if not hasattr(os, "memfd_create"):  # (only Linux has it)
         done = subprocess.run(words, stdin=subprocess.DEVNULL, capture_output=True)
         return Ran(done.returncode, done.stdout, done.stderr)
-    output, said = memory_file("output"), memory_file("said")
+    output, errors = memory_file("output"), memory_file("errors")
     try:
         process = os.posix_spawnp(words[0], list(words), environment(), setsigdef=(signal.SIGPIPE, signal.SIGXFSZ), file_actions=(
-            (os.POSIX_SPAWN_OPEN, 0, os.devnull, os.O_RDONLY, 0), (os.POSIX_SPAWN_DUP2, output, 1), (os.POSIX_SPAWN_DUP2, said, 2)))
-        return Ran(ended(process), all_of(output), all_of(said))
+            (os.POSIX_SPAWN_OPEN, 0, os.devnull, os.O_RDONLY, 0), (os.POSIX_SPAWN_DUP2, output, 1), (os.POSIX_SPAWN_DUP2, errors, 2)))
+        return Ran(ended(process), all_of(output), all_of(errors))
     finally:
         os.close(output)
-        os.close(said)
+        os.close(errors)
 
 
 kept_environment: dict[bytes, bytes] | None = None
@@ -177,7 +177,7 @@ def environment() -> dict[bytes, bytes]:
 
 @contextlib.contextmanager
 def same_environment() -> Iterator[None]:
-    """While this lasts, the environment isn't looked up for each program, which takes as long as to begin one."""
+    """Reads the environment once instead of for each program, which would take as long as starting one."""
     global kept_environment
     before, kept_environment = kept_environment, environment()
     try:
@@ -187,22 +187,22 @@ def same_environment() -> Iterator[None]:
 
 
 def memory_file(name: str) -> int:
-    """A file in memory, whose number is none of a standard stream."""
+    """A file in memory, whose number isn't that of a standard stream."""
     file = os.memfd_create(name)
     if file > 2:
         return file
-    import fcntl  # (only where there is no such number, and Windows has no such module)
+    import fcntl  # (imported here, since Windows has no such module)
     other = fcntl.fcntl(file, fcntl.F_DUPFD_CLOEXEC, 3)
     os.close(file)
     return other
 
 
 def ended(process: int) -> int:
-    """Waits for the end of a process, and answers its status. Where the waiting is interrupted the process is ended."""
+    """Waits for the end of a process, and returns its status. Kills the process if the wait is interrupted."""
     try:
         return os.waitstatus_to_exitcode(os.waitpid(process, 0)[1])
     except ChildProcessError:
-        return 0  # who started this process lets the system throw the statuses of its children away; subprocess answers the same
+        return 0  # the parent of this process ignores SIGCHLD, so the status is lost; subprocess returns the same
     except BaseException:
         os.kill(process, signal.SIGKILL)
         os.waitpid(process, 0)
@@ -218,13 +218,13 @@ def all_of(file: int) -> bytes:
 
 
 class Run:
-    """A run of `etcs_lab` on an image: its lines as they come, and after them its status and what it said."""
+    """A run of `etcs_lab` on an image: its lines as they are printed, and then its status and its messages."""
 
     def __init__(self, words: Sequence[str], image: Path, *more: str) -> None:
         self.image = str(image.absolute())
         self.words = [find(), *words, "--", self.image, *more]
         self.status = -1
-        self.said: list[str] = []
+        self.messages: list[str] = []
 
     def lines(self) -> Generator[str, None, None]:
         """The lines of standard output."""
@@ -238,15 +238,15 @@ class Run:
             except OSError as error:
                 raise Failed(f"{self.words[0]}: {error.strerror}", DEVICE) from error
             errors.seek(0)
-            self.said = os.fsdecode(errors.read()).split("\n")[:-1]
+            self.messages = os.fsdecode(errors.read()).split("\n")[:-1]
 
     def all_text(self) -> str:
-        """All of standard output at once, of a run that says little."""
+        """All of standard output at once, for a run with little output."""
         try:
             done = ran(self.words)
         except OSError as error:
             raise Failed(f"{self.words[0]}: {error.strerror}", DEVICE) from error
-        self.status, self.said = done.status, os.fsdecode(done.said).split("\n")[:-1]
+        self.status, self.messages = done.status, os.fsdecode(done.errors).split("\n")[:-1]
         return done.output.decode(errors="replace")
 
     def all_lines(self) -> list[str]:
@@ -254,34 +254,34 @@ class Run:
         lines = self.all_text().split("\n")
         return lines if lines[-1] else lines[:-1]
 
-    def last_said(self) -> str:
+    def last_message(self) -> str:
         """The last line on standard error, without the program's name and the image."""
-        if not self.said:
+        if not self.messages:
             return f"etcs_lab ended with status {self.status}"
         escaped = self.image.translate({ord(sign): f"\\{sign}" for sign in "\\'\""})
-        return self.said[-1].removeprefix("etcs_lab: ").removeprefix(f"{escaped}: ")
+        return self.messages[-1].removeprefix("etcs_lab: ").removeprefix(f"{escaped}: ")
 
     def failed(self, image: Path) -> Failed:
-        """The error of a run that didn't do what was asked."""
-        return Failed(f"{image}: {self.last_said()}", self.status if self.status > 0 else REFUSED)
+        """The error for a run that failed."""
+        return Failed(f"{image}: {self.last_message()}", self.status if self.status > 0 else REFUSED)
 
 
 def etcs(*words: str) -> tuple[int, list[str]]:
-    """The status of a run of `etcs`, and the lines that it prints."""
+    """Runs `etcs`; returns its status and the lines that it prints."""
     path = find("etcs")
     try:
         done = ran([path, *words])
     except OSError as error:
         raise Failed(f"{path}: {error.strerror}", DEVICE) from error
-    said = done.said.decode(errors="replace").splitlines()
+    messages = done.errors.decode(errors="replace").splitlines()
     printed = done.output.decode(errors="replace").splitlines()
     if not printed and (done.status < 0 or done.status > DEVICE):
-        raise Failed(f"etcs {words[0]} ended with status {done.status}{': ' + said[-1] if said else ''}", REFUSED)
+        raise Failed(f"etcs {words[0]} ended with status {done.status}{': ' + messages[-1] if messages else ''}", REFUSED)
     return done.status, printed
 
 
 def format_image(image: Path, slots: int) -> None:
-    """Makes an empty image, as `etcs format` does. A small one is made by it once, and copied from then on."""
+    """Makes an empty image, as `etcs format` does. A small one is made once, and copied from then on."""
     if slots > MOST_COPIED:
         formatted(image, slots)
     else:
@@ -300,7 +300,7 @@ def formatted(image: Path, slots: int) -> None:
 
 @functools.lru_cache(maxsize=16)
 def empty_image(program: str, slots: int) -> tuple[bytes, int]:
-    """The bytes of an empty image, as this program `etcs` makes it, without the zeros at its end, and how many it has with them."""
+    """The bytes of an empty image, as this program `etcs` makes it, without the zeros at its end, and its size with them."""
     with tempfile.TemporaryDirectory(prefix="gaknifur-") as folder:
         image = Path(folder) / "image"
         formatted(image, slots)
@@ -308,30 +308,30 @@ def empty_image(program: str, slots: int) -> tuple[bytes, int]:
         return data.rstrip(b"\0"), len(data)
 
 
-def room(slots: int) -> tempfile.TemporaryDirectory[str]:
-    """A folder for an image of so many slots that nobody keeps: in memory, where TMPDIR names none and there is room for it
-    many times over, since each sync would wait for a disk else."""
+def temporary_folder(slots: int) -> tempfile.TemporaryDirectory[str]:
+    """A folder for a temporary image of this number of slots. It is in memory, since each sync would wait for a disk, unless
+    TMPDIR names a folder or memory is short."""
     if "TMPDIR" not in os.environ and os.access(MEMORY, os.W_OK | os.X_OK):
-        told = os.statvfs(MEMORY)
-        if told.f_bavail * told.f_frsize > MANY * slots * layout.SLOT:
+        space = os.statvfs(MEMORY)
+        if space.f_bavail * space.f_frsize > MANY * slots * layout.SLOT:
             return tempfile.TemporaryDirectory(prefix="gaknifur-", dir=MEMORY)
     return tempfile.TemporaryDirectory(prefix="gaknifur-")
 
 
 @functools.lru_cache(maxsize=4096)
 def adapted(digits: str) -> str:
-    """What `etcs_lab telegram --installed` writes: what a unit is to be handed in place of a telegram of an installed track. Where it
-    refuses, that is an error."""
+    """The telegram that a unit gets in place of one of an installed track: the output of `etcs_lab telegram --installed`. Raises
+    Failed if it refuses."""
     path = find()
     try:
         done = subprocess.run([path, "telegram", f"--installed={digits}"], stdin=subprocess.DEVNULL, capture_output=True, text=True,
                               encoding="utf-8", errors="replace")
     except OSError as error:
         raise Failed(f"{path}: {error.strerror}", DEVICE) from error
-    told = Told(done.returncode, done.stdout, done.stderr)
-    if told.status:
-        raise Failed(told.last().removeprefix("etcs_lab: ").removeprefix("HEX: "), REFUSED)
-    return told.output.strip()
+    if done.returncode:
+        last = Completed(done.returncode, done.stdout, done.stderr).last()
+        raise Failed(last.removeprefix("etcs_lab: ").removeprefix("HEX: "), REFUSED)
+    return done.stdout.strip()
 
 
 @functools.lru_cache(maxsize=4096)

@@ -1,7 +1,7 @@
-"""How `./lab` begins: its own folder is looked in before all others, and nothing of the current folder is.
+"""Start `./lab` with the package of its own repository, and with no module of the current folder.
 
-The script runs this file in Python's isolated mode (`-I`). So neither the current folder nor `PYTHONPATH` nor a folder of
-the user's is looked in for modules, and this file adds the folder `python` of its own repository.
+The script runs this file in Python's isolated mode (`-I`), so Python looks for modules neither in the current folder nor in
+`PYTHONPATH` nor in a folder of the user's. This file adds the folder `python` of its own repository.
 """
 import sys
 from importlib.util import find_spec
@@ -12,7 +12,7 @@ MISSING = 3
 
 
 def begin() -> int:
-    """Does what the words ask, and answers the status."""
+    """Runs the command; returns the exit status."""
     if not all(map(find_spec, NEEDED)):
         print(f"lab: {', '.join(NEEDED[:-1])} or {NEEDED[-1]} is missing; tools/python installs them from Debian's "
               "packages", file=sys.stderr)

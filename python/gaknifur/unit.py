@@ -1,21 +1,20 @@
-"""The onboard unit from Python, over the shared library that `tools/library PREFIX` installs.
+"""Run the onboard unit from Python, with the shared library that `tools/library PREFIX` installs.
 
     with FileMedium("image") as medium, Unit(medium) as unit:
         unit.odometer(500, 20_000)
         for output in unit.flush():
             obey(output)
 
-`$GAKNIFUR_ETCS_UNIT` names the library; without it the one that is installed along with this package is taken, or else the
-system's loader looks for `libetcs_unit.so.N`, N being the number of the interface (`ABI`). A unit opens no file: its
-journal lies on a `Medium`, here a file (`FileMedium`) or sectors in memory (`MemoryMedium`), or a class of the user's
-own. A `Unit` holds a copy of its medium. A `SectorUnit` holds 16 sectors, whatever the medium's size, and reads those that
-it has to know.
+`$GAKNIFUR_ETCS_UNIT` names the library. If it is not set, the library that is installed with this package is used, or else
+the system's loader looks for `libetcs_unit.so.N`, where N is the number of the interface (`ABI`). A unit opens no file: its
+journal is on a `Medium`, which is a file (`FileMedium`), sectors in memory (`MemoryMedium`) or a class of your own. A `Unit`
+holds a copy of its medium. A `SectorUnit` holds 16 sectors, whatever the medium's size, and reads the sectors that it needs.
 
-`journal(path)` iterates over the records that a file holds, and `records`, `facts` and `slots` read bytes. The module
-`lives` runs the lives of a journal again.
+`journal(path)` iterates over the records of a file; `records`, `facts` and `slots` read bytes. The module `lives` replays
+the power cycles (lives) of a journal.
 
-Any exception of a unit means the emergency brake: `Refused` has the number and the name of what a call answered, a medium raises
-what it raises. Outputs come from `Unit.flush` alone, and only when all of it is on the medium.
+Any exception of a unit means the emergency brake. `Refused` has the number and the name of the status that a call returned;
+exceptions of a medium are passed on. Only `Unit.flush` returns outputs, and only after all of them are on the medium.
 """
 import ctypes
 import errno
@@ -67,8 +66,8 @@ class TrainData:
 
 @dataclass(frozen=True, slots=True)
 class State:
-    """How far a unit is; `last` is the last output that was released, before one the default, which brakes. The place of
-    the train's front counts from where the life began."""
+    """The state of a unit. `last` is the last output that was released; before the first one it is the default, which brakes.
+    The place of the train's front counts from where the life began."""
 
     last: Output
     requests: int
@@ -83,8 +82,7 @@ class State:
 
 @dataclass(frozen=True, slots=True)
 class Target:
-    """What lies ahead and decides the limit: the speed that it asks for there, and how far it is from the maximum safe
-    front."""
+    """The target that decides the limit: its speed, and its distance from the maximum safe front."""
 
     speed_m_per_h: int
     distance_cm: int
@@ -92,8 +90,8 @@ class Target:
 
 @dataclass(frozen=True, slots=True)
 class Waiting:
-    """Whether the driver is waited for; of an acknowledgement that is owed, how long it may be owed yet until the service
-    brake comes, 0 where it has come."""
+    """Whether an acknowledgement of the driver is expected, and the time left until the service brake is commanded; 0 if
+    it is commanded already."""
 
     state: Acknowledgement
     left_ms: int
@@ -101,7 +99,7 @@ class Waiting:
 
 @dataclass(frozen=True, slots=True)
 class OverrideLeft:
-    """What is left of an override of the trip, which ends with the first of both. The time is None where it has no end."""
+    """The time and the distance left of an override of the trip; the first that is used up ends it. The time is None if it has no end."""
 
     time_ms: int | None
     distance_cm: int
@@ -109,10 +107,10 @@ class OverrideLeft:
 
 @dataclass(frozen=True, slots=True)
 class UnitWhy:
-    """Why the newest released output is what it is, and what a display shows of it. The limit of the output is the permitted
-    speed; above the two further speeds the service brake and the emergency brake come. Of what decides the limit there are
-    its speed, its place and a restriction's number; `target` where it lies ahead, `release_m_per_h` where it is a release
-    speed."""
+    """Why the newest released output is what it is, and what a display shows. The limit of the output is the permitted speed;
+    above the other two speeds the service brake and the emergency brake are commanded. `limit_cause` names what decides the
+    limit, with its speed, its place and the number of a restriction. `target` is set if it is ahead, `release_m_per_h` if it
+    is a release speed."""
 
     output: Output
     causes: tuple[BrakeCause, ...]
@@ -135,8 +133,8 @@ class UnitWhy:
 
 @dataclass(frozen=True, slots=True)
 class Record:
-    """A record of a journal with all that its block says about it. Place, uncertainty and limit are None in format 1. The
-    payload is what the event reports (docs/reference/format.md)."""
+    """A record of a journal, with what its block adds. Place, uncertainty and limit are None in format 1. The
+    payload holds the data of the event (docs/reference/format.md)."""
 
     event: int
     block: int
@@ -156,7 +154,7 @@ class Record:
 
 @dataclass(frozen=True, slots=True)
 class Facts:
-    """What an image has at first sight: whole sectors, the slots that are reported, those that are there, the newest block."""
+    """The size of an image: its whole sectors, the slots that its header gives, the slots that are whole, and the newest block."""
 
     sectors: int
     slots: int
@@ -166,7 +164,7 @@ class Facts:
 
 @dataclass(frozen=True, slots=True)
 class Slot:
-    """What a slot holds. A field that isn't one is reported by its record, from 1 on, and its offset after the gate."""
+    """What a slot holds. `fault` is the place of an invalid field: its record, from 1 on, and its offset after the gate."""
 
     state: SlotState
     number: int | None
@@ -175,7 +173,7 @@ class Slot:
 
 
 class Refused(Exception):
-    """A call that answered something else than OK: `number`, and `name` as in docs/reference/refusals.md."""
+    """A call returned another status than OK: its `number`, and its `name` as in docs/reference/refusals.md."""
 
     def __init__(self, number: int) -> None:
         self.number = number
@@ -184,34 +182,34 @@ class Refused(Exception):
 
 
 class Writable(Protocol):
-    """What a journal is written to. A call that fails raises, and then the unit is given that its medium failed."""
+    """What a journal is written to. A call that fails raises; the unit then treats its medium as failed."""
 
     def write(self, sector: int, data: bytes) -> None:
         """Writes whole sectors from this one on."""
 
     def sync(self) -> None:
-        """Returns when all that was written is kept also without power."""
+        """Returns when everything that was written survives a loss of power."""
 
 
 class Medium(Writable, Protocol):
-    """Where a journal lies of which a unit holds a copy."""
+    """The medium of a unit that holds a copy of it."""
 
     def read(self) -> bytes:
         """All of its bytes."""
 
 
 class SectorMedium(Writable, Protocol):
-    """Where a journal lies of which a unit holds no copy."""
+    """The medium of a unit that reads single sectors."""
 
     def sectors(self) -> int:
-        """How many whole sectors it has. It is asked before each power-up; from then on what is read is what the medium has."""
+        """The number of whole sectors. It is called before each power-up; from then on a read returns what the medium holds."""
 
     def read_sector(self, sector: int) -> bytes:
         """The bytes of one sector, from 0 on."""
 
 
 class MemoryMedium:
-    """Sectors in memory, which no loss of power outlives."""
+    """Sectors in memory, which a loss of power erases."""
 
     def __init__(self, data: bytes = b"") -> None:
         self.data = bytearray(data)
@@ -221,7 +219,7 @@ class MemoryMedium:
         return bytes(self.data)
 
     def sectors(self) -> int:
-        """How many whole sectors it has."""
+        """The number of whole sectors."""
         return len(self.data) // SECTOR
 
     def read_sector(self, sector: int) -> bytes:
@@ -233,19 +231,19 @@ class MemoryMedium:
         self.data[SECTOR * sector:SECTOR * sector + len(data)] = data
 
     def sync(self) -> None:
-        """Memory has nothing to wait for."""
+        """Does nothing: memory has nothing to wait for."""
 
     @classmethod
     def formatted(cls, slots: int) -> Self:
         """An empty journal of 2 to 1,048,576 slots."""
         first_request(slots)
-        made = cls(bytes(SECTOR * (1 + 6 * slots)))
-        format_medium(made, slots)
-        return made
+        medium = cls(bytes(SECTOR * (1 + 6 * slots)))
+        format_medium(medium, slots)
+        return medium
 
 
-def _sync_what_waits(descriptor: int) -> None:
-    """Syncs. What takes no writes has no such call, and nothing that waits."""
+def _sync_if_writable(descriptor: int) -> None:
+    """Syncs a descriptor. A device that takes no writes doesn't support it, and has nothing to sync."""
     try:
         os.fsync(descriptor)
     except OSError as error:
@@ -257,14 +255,14 @@ def _sync_folder(path: str | Path) -> None:
     """Syncs the folder that holds the file, so that its name survives a loss of power."""
     folder = os.open(Path(path).resolve().parent, os.O_RDONLY | os.O_CLOEXEC)
     try:
-        _sync_what_waits(folder)
+        _sync_if_writable(folder)
     finally:
         os.close(folder)
 
 
 class FileMedium:
-    """A file, or a block device, under the exclusive lock that `etcs run` takes (flock). BlockingIOError where another
-    program, or another handle of this one, holds it."""
+    """A file, or a block device, under the exclusive lock that `etcs run` takes (flock). Raises BlockingIOError if another
+    program, or another handle of this one, holds the lock."""
 
     def __init__(self, path: str | Path, *, create: bool = False) -> None:
         self.descriptor = os.open(path, os.O_RDWR | os.O_CLOEXEC | (os.O_CREAT if create else 0), 0o666)
@@ -282,18 +280,18 @@ class FileMedium:
         self.close()
 
     def close(self) -> None:
-        """Gives the lock back."""
+        """Releases the lock."""
         if self.descriptor >= 0:
             os.close(self.descriptor)
         self.descriptor = -1
 
     def read(self) -> bytes:
-        """All of its bytes, as the medium has them."""
+        """All of its bytes, as they are on the medium."""
         self._settle()
         return self._read(self._size(), 0)
 
     def sectors(self) -> int:
-        """How many whole sectors it has, as the medium has them."""
+        """The number of whole sectors on the medium."""
         self._settle()
         return self._size() // SECTOR
 
@@ -308,14 +306,14 @@ class FileMedium:
             done += os.pwrite(self.descriptor, data[done:], SECTOR * sector + done)
 
     def sync(self) -> None:
-        """Returns when the system says that all is kept."""
+        """Returns when the system reports that everything is on the medium."""
         os.fsync(self.descriptor)
 
     def _size(self) -> int:
         return os.lseek(self.descriptor, 0, os.SEEK_END)
 
     def _read(self, count: int, place: int) -> bytes:
-        """So many bytes from this place on."""
+        """`count` bytes from a place on."""
         data = bytearray()
         while len(data) < count:
             part = os.pread(self.descriptor, count - len(data), place + len(data))
@@ -325,33 +323,33 @@ class FileMedium:
         return bytes(data)
 
     def _settle(self) -> None:
-        """Syncs, and drops the system's copies of the pages: a failed sync may have left them other than the medium."""
-        _sync_what_waits(self.descriptor)
+        """Syncs, and drops the system's copies of the pages: after a failed sync they may differ from the medium."""
+        _sync_if_writable(self.descriptor)
         os.posix_fadvise(self.descriptor, 0, 0, os.POSIX_FADV_DONTNEED)
 
     @classmethod
     def formatted(cls, path: str | Path, slots: int) -> Self:
-        """Makes the file, or empties the one that is there, an empty journal of 2 to 1,048,576 slots."""
+        """Creates a file, or empties an existing one, and formats it as an empty journal of 2 to 1,048,576 slots."""
         first_request(slots)
-        made = cls(path, create=True)
+        medium = cls(path, create=True)
         try:
-            os.ftruncate(made.descriptor, 0)
-            os.ftruncate(made.descriptor, SECTOR * (1 + 6 * slots))
-            format_medium(made, slots)
+            os.ftruncate(medium.descriptor, 0)
+            os.ftruncate(medium.descriptor, SECTOR * (1 + 6 * slots))
+            format_medium(medium, slots)
             _sync_folder(path)
         except BaseException:
-            made.close()
+            medium.close()
             raise
-        return made
+        return medium
 
 
 # ---- the library
 
 @functools.cache
 def library() -> ctypes.CDLL:
-    """The library, whose calls have their types. OTHER_ABI where it is of another interface than this module."""
-    beside = TOP / f"libetcs_unit.so.{ABI}"
-    found = ctypes.CDLL(os.environ.get("GAKNIFUR_ETCS_UNIT") or str(beside if beside.exists() else beside.name))
+    """The library, with the types of its calls. OTHER_ABI if its interface is another one than that of this module."""
+    installed = TOP / f"libetcs_unit.so.{ABI}"
+    found = ctypes.CDLL(os.environ.get("GAKNIFUR_ETCS_UNIT") or str(installed if installed.exists() else installed.name))
     for name, types in _header.CALLS.items():
         call = getattr(found, name)
         call.restype, call.argtypes = ctypes.c_uint32, types
@@ -360,63 +358,63 @@ def library() -> ctypes.CDLL:
     return found
 
 
-def _called(name: str, *words: object) -> int:
+def _called(name: str, *arguments: object) -> int:
     call: Callable[..., int] = getattr(library(), name)
-    return call(*words)
+    return call(*arguments)
 
 
-def _told(number: int) -> None:
-    if number != Status.OK:
-        raise Refused(number)
+def _check(status: int) -> None:
+    if status != Status.OK:
+        raise Refused(status)
 
 
 def _number(number: int, bits: int, *, signed: bool = False) -> int:
-    """A number that C can hold, since ctypes would cut off the others. OUT_OF_RANGE is what the unit answers beyond."""
+    """A number that fits into the C type; ctypes would truncate others. Raises OUT_OF_RANGE for them, as the unit does."""
     low, high = (-(1 << bits - 1), (1 << bits - 1) - 1) if signed else (0, (1 << bits) - 1)
     if not low <= number <= high:
         raise Refused(Status.OUT_OF_RANGE)
     return number
 
 
-def _output(told: _header.etcs_unit_output) -> Output:
-    return Output(told.event, Mode(told.mode), Level(told.level), Brake(told.brake), told.limit_m_per_h,
-                  Indication(told.indications))
+def _output(info: _header.etcs_unit_output) -> Output:
+    return Output(info.event, Mode(info.mode), Level(info.level), Brake(info.brake), info.limit_m_per_h,
+                  Indication(info.indications))
 
 
-def _unit_why(told: _header.etcs_unit_why_info) -> UnitWhy:
+def _unit_why(info: _header.etcs_unit_why_info) -> UnitWhy:
     def waiting(name: str) -> Waiting:
-        return Waiting(Acknowledgement(getattr(told, name)), getattr(told, f"{name}_ms"))
+        return Waiting(Acknowledgement(getattr(info, name)), getattr(info, f"{name}_ms"))
     return UnitWhy(
-        _output(told.output), tuple(cause for cause in BrakeCause if told.holds[cause]), told.service_brake_m_per_h,
-        told.emergency_brake_m_per_h, told.speed_m_per_h, told.backward_cm, told.allowed_backward_cm,
-        LimitCause(told.limit_cause), told.limit_cause_m_per_h, told.limit_cause_cm if told.has_place else None,
-        told.restriction if told.has_restriction else None,
-        Target(told.target_m_per_h, told.target_distance_cm) if told.has_target else None,
-        told.release_m_per_h if told.has_release else None, waiting("on_sight"), waiting("shunting"), waiting("level_0"),
-        OverrideLeft(told.override_ms if told.override_ends else None, told.override_cm) if told.has_override else None)
+        _output(info.output), tuple(cause for cause in BrakeCause if info.holds[cause]), info.service_brake_m_per_h,
+        info.emergency_brake_m_per_h, info.speed_m_per_h, info.backward_cm, info.allowed_backward_cm,
+        LimitCause(info.limit_cause), info.limit_cause_m_per_h, info.limit_cause_cm if info.has_place else None,
+        info.restriction if info.has_restriction else None,
+        Target(info.target_m_per_h, info.target_distance_cm) if info.has_target else None,
+        info.release_m_per_h if info.has_release else None, waiting("on_sight"), waiting("shunting"), waiting("level_0"),
+        OverrideLeft(info.override_ms if info.override_ends else None, info.override_cm) if info.has_override else None)
 
 
-def _carry_out(medium: Writable, request: _header.etcs_unit_request_info, room: ctypes.Array[ctypes.c_char]) -> None:
+def _carry_out(medium: Writable, request: _header.etcs_unit_request_info, buffer: ctypes.Array[ctypes.c_char]) -> None:
     if request.kind == RequestKind.WRITE:
-        medium.write(request.sector, room.raw[:SECTOR * request.sectors])
+        medium.write(request.sector, buffer.raw[:SECTOR * request.sectors])
     else:
         medium.sync()
 
 
-def _format_request(slots: int, index: int, request: _header.etcs_unit_request_info, room: ctypes.Array[ctypes.c_char]) -> int:
-    return _called("etcs_unit_format_request_", _number(slots, 32), index, ctypes.byref(request), room, SECTOR)
+def _format_request(slots: int, index: int, request: _header.etcs_unit_request_info, buffer: ctypes.Array[ctypes.c_char]) -> int:
+    return _called("etcs_unit_format_request_", _number(slots, 32), index, ctypes.byref(request), buffer, SECTOR)
 
 
 def first_request(slots: int) -> None:
-    """BAD_SLOTS where a journal can't have so many slots."""
-    _told(_format_request(slots, 0, _header.etcs_unit_request_info(), ctypes.create_string_buffer(SECTOR)))
+    """Raises BAD_SLOTS if a journal can't have this number of slots."""
+    _check(_format_request(slots, 0, _header.etcs_unit_request_info(), ctypes.create_string_buffer(SECTOR)))
 
 
 def format_medium(medium: Writable, slots: int) -> None:
-    """Makes a medium of 1 + 6 * slots sectors an empty journal."""
-    request, room, index = _header.etcs_unit_request_info(), ctypes.create_string_buffer(SECTOR), 0
-    while (status := _format_request(slots, index, request, room)) == Status.OK:
-        _carry_out(medium, request, room)
+    """Formats a medium of 1 + 6 * slots sectors as an empty journal."""
+    request, buffer, index = _header.etcs_unit_request_info(), ctypes.create_string_buffer(SECTOR), 0
+    while (status := _format_request(slots, index, request, buffer)) == Status.OK:
+        _carry_out(medium, request, buffer)
         index += 1
     if status != Status.NO_SUCH_REQUEST:
         raise Refused(status)
@@ -424,13 +422,13 @@ def format_medium(medium: Writable, slots: int) -> None:
 
 def version() -> str:
     """The version of the library."""
-    room, count = ctypes.create_string_buffer(VERSION_BYTES), ctypes.c_uint32()
-    _told(_called("etcs_version_", room, VERSION_BYTES, ctypes.byref(count)))
-    return room.raw[:count.value].decode()
+    buffer, count = ctypes.create_string_buffer(VERSION_BYTES), ctypes.c_uint32()
+    _check(_called("etcs_version_", buffer, VERSION_BYTES, ctypes.byref(count)))
+    return buffer.raw[:count.value].decode()
 
 
 def decode(digits: str) -> tuple[int, int]:
-    """The fault of a telegram, 0 where it has none, and how many packets it has."""
+    """The fault of a telegram, 0 if it has none, and the number of its packets."""
     data = bytes.fromhex(digits)
     return _called("etcs_decode", data, len(data)), _called("etcs_packet_count", data, len(data))
 
@@ -439,40 +437,40 @@ def decode(digits: str) -> tuple[int, int]:
 
 @dataclass(frozen=True)
 class Adapted:
-    """What came of a telegram that may be of an installed track (docs/reference/packets.md)."""
+    """A telegram that may be of an installed track, and what it was converted to (docs/reference/packets.md)."""
 
     outcome: Adaptation
     telegram: bytes
-    """What a unit is to be handed: what was written, or the telegram as it is."""
+    """The telegram for the unit: what was written, or the telegram as it is."""
     start: int | None
-    """The place of the first bit of the packet 3 that is meant in the telegram that was sent, where there is one."""
+    """The place of the first bit of its packet 3 in the telegram that was sent, if there is one."""
     bits: int | None
     """Its L_PACKET."""
     dropped: dict[str, int]
-    """Its values that a unit has no place for, by the names of their variables; none where nothing was written."""
+    """The values that a unit has no place for, by the names of their variables; empty if nothing was written."""
 
 
 def _dropped(telegram: bytes) -> dict[str, int]:
     """The values of a track's packet 3 that are left out of a telegram."""
-    told, values = _header.etcs_value_dropped(), dict[str, int]()
-    while (status := _called("etcs_telegram_dropped_", telegram, len(telegram), len(values), ctypes.byref(told))) == Status.OK:
-        values[DroppedVariable(told.variable).name] = told.number
+    dropped, values = _header.etcs_value_dropped(), dict[str, int]()
+    while (status := _called("etcs_telegram_dropped_", telegram, len(telegram), len(values), ctypes.byref(dropped))) == Status.OK:
+        values[DroppedVariable(dropped.variable).name] = dropped.number
     if status != Status.END:
         raise Refused(status)
     return values
 
 
 def adapt(telegram: bytes) -> Adapted:
-    """What a unit is to be handed in place of a telegram that may be of an installed track: its packet 3 becomes one that a
-    unit reads, and all other bits stay. The journal then holds what was written, and not what the track sent."""
-    room, told = ctypes.create_string_buffer(TELEGRAM_BYTES), _header.etcs_adapted()
-    _told(_called("etcs_telegram_adapt_", telegram, len(telegram), room, TELEGRAM_BYTES, ctypes.byref(told)))
-    outcome = Adaptation(told.outcome)
+    """Converts a telegram that may be of an installed track for a unit: its packet 3 becomes one that a unit reads, and all
+    other bits stay. The journal then holds what was written, and not what the track sent."""
+    buffer, adapted = ctypes.create_string_buffer(TELEGRAM_BYTES), _header.etcs_adapted()
+    _check(_called("etcs_telegram_adapt_", telegram, len(telegram), buffer, TELEGRAM_BYTES, ctypes.byref(adapted)))
+    outcome = Adaptation(adapted.outcome)
     if outcome == Adaptation.NONE:
         return Adapted(outcome, telegram, None, None, {})
     if outcome != Adaptation.WRITTEN:
-        return Adapted(outcome, telegram, told.start, told.bits, {})
-    return Adapted(outcome, room.raw[:told.len], told.start, told.bits, _dropped(telegram))
+        return Adapted(outcome, telegram, adapted.start, adapted.bits, {})
+    return Adapted(outcome, buffer.raw[:adapted.len], adapted.start, adapted.bits, _dropped(telegram))
 
 
 @dataclass(frozen=True)
@@ -488,11 +486,11 @@ class UnusedPacket:
 
 
 def unused(telegram: bytes, mode: Mode, direction: Direction = Direction.NOT_KNOWN) -> Iterator[UnusedPacket]:
-    """The packets of a telegram that a unit doesn't use in a mode, where its group is accepted and passed in this
-    direction, in their order."""
-    told, index = _header.etcs_packet_unused(), 0
-    while (status := _called("etcs_telegram_unused_", telegram, len(telegram), mode, direction, index, ctypes.byref(told))) == Status.OK:
-        yield UnusedPacket(told.number, told.start, told.bits, UnusedReason(told.why))
+    """The packets of a telegram that a unit doesn't use in a mode, in their order, if its group is accepted and passed in
+    this direction."""
+    packet, index = _header.etcs_packet_unused(), 0
+    while (status := _called("etcs_telegram_unused_", telegram, len(telegram), mode, direction, index, ctypes.byref(packet))) == Status.OK:
+        yield UnusedPacket(packet.number, packet.start, packet.bits, UnusedReason(packet.why))
         index += 1
     if status != Status.END:
         raise Refused(status)
@@ -500,21 +498,21 @@ def unused(telegram: bytes, mode: Mode, direction: Direction = Direction.NOT_KNO
 
 # ---- reading
 
-def _record(told: _header.etcs_record) -> Record:
-    place = bool(told.has_place)
-    return Record(told.event, told.block, told.life, told.format, Kind(told.kind), told.moment_ms, Mode(told.mode), Level(told.level),
-                  Brake(told.brake), Indication(told.indications), told.front_cm if place else None,
-                  told.uncertainty_cm if place else None, told.limit_m_per_h if place else None,
-                  bytes(told.payload[:told.payload_len]))
+def _record(record: _header.etcs_record) -> Record:
+    place = bool(record.has_place)
+    return Record(record.event, record.block, record.life, record.format, Kind(record.kind), record.moment_ms, Mode(record.mode), Level(record.level),
+                  Brake(record.brake), Indication(record.indications), record.front_cm if place else None,
+                  record.uncertainty_cm if place else None, record.limit_m_per_h if place else None,
+                  bytes(record.payload[:record.payload_len]))
 
 
 def records(image: bytes) -> Iterator[Record]:
-    """The records of the journal that an image holds, the oldest first. IMAGE_DAMAGED where one can't be read, after those
-    before it."""
-    cursor, told = _header.etcs_journal(), _header.etcs_record()
-    _told(_called("etcs_journal_open_", image, len(image), ABI, ctypes.byref(cursor)))
-    while (status := _called("etcs_journal_next_", image, len(image), ctypes.byref(cursor), ctypes.byref(told))) == Status.OK:
-        yield _record(told)
+    """The records of the journal in an image, the oldest first. Raises IMAGE_DAMAGED at a record that can't be read, after
+    the records before it."""
+    cursor, record = _header.etcs_journal(), _header.etcs_record()
+    _check(_called("etcs_journal_open_", image, len(image), ABI, ctypes.byref(cursor)))
+    while (status := _called("etcs_journal_next_", image, len(image), ctypes.byref(cursor), ctypes.byref(record))) == Status.OK:
+        yield _record(record)
     if status != Status.END:
         raise Refused(status)
 
@@ -525,51 +523,51 @@ def journal(path: str | Path) -> Iterator[Record]:
 
 
 def facts(image: bytes) -> Facts:
-    """What an image has at first sight."""
-    told = _header.etcs_image()
-    _told(_called("etcs_image_facts_", image, len(image), ABI, ctypes.byref(told)))
-    return Facts(told.sectors, told.slots, told.whole, told.newest)
+    """The size of an image."""
+    image_facts = _header.etcs_image()
+    _check(_called("etcs_image_facts_", image, len(image), ABI, ctypes.byref(image_facts)))
+    return Facts(image_facts.sectors, image_facts.slots, image_facts.whole, image_facts.newest)
 
 
 def slots(image: bytes) -> Iterator[Slot]:
-    """What each slot holds that an image has with all its sectors, in their order."""
-    seen, told = facts(image), _header.etcs_slot()
-    for slot in range(seen.whole):
-        _told(_called("etcs_image_slot_", image, len(image), ABI, seen.newest, slot, ctypes.byref(told)))
-        yield Slot(SlotState(told.state), told.number or None, told.is_sound != 0,
-                   (told.fault_record, told.fault_at) if told.has_fault else None)
+    """What each whole slot of an image holds, in their order."""
+    image_facts, read = facts(image), _header.etcs_slot()
+    for slot in range(image_facts.whole):
+        _check(_called("etcs_image_slot_", image, len(image), ABI, image_facts.newest, slot, ctypes.byref(read)))
+        yield Slot(SlotState(read.state), read.number or None, read.is_sound != 0,
+                   (read.fault_record, read.fault_at) if read.has_fault else None)
 
 
 class _Handle:
-    """What the library keeps of a unit, or of a power-up, and the calls on it."""
+    """The library's data of a unit or of a power-up, and the calls on it."""
 
     def __init__(self, kind: str, handle: ctypes.Structure) -> None:
         self._kind, self._handle = kind, handle
 
-    def _status(self, name: str, *words: object) -> int:
-        return _called(f"etcs_{self._kind}_{name}_", ctypes.byref(self._handle), *words)
+    def _status(self, name: str, *arguments: object) -> int:
+        return _called(f"etcs_{self._kind}_{name}_", ctypes.byref(self._handle), *arguments)
 
-    def _call(self, name: str, *words: object) -> None:
-        _told(self._status(name, *words))
+    def _call(self, name: str, *arguments: object) -> None:
+        _check(self._status(name, *arguments))
 
 
 class _Wanting(_Handle):
-    """What holds only some sectors of its medium."""
+    """A unit or power-up that holds only some sectors of its medium."""
 
     def wanted(self) -> int:
-        """The sector that is wanted, until one is handed in. NONE_WANTED where none is."""
+        """The sector that is needed, until it is provided. NONE_WANTED if none is."""
         sector = ctypes.c_uint64()
         self._call("wanted", ctypes.byref(sector))
         return sector.value
 
     def provide(self, sector: int, data: bytes) -> None:
-        """Hands in the 512 bytes of a sector, just as the medium holds them."""
+        """Provides the 512 bytes of a sector, exactly as the medium holds them."""
         self._call("provide", _number(sector, 64), data, len(data))
 
 
 class AnyUnit(_Handle, ABC):
-    """What a unit takes and answers, whatever it holds of its medium: open from `with` on to its end. It is for one thread,
-    and for one call at a time."""
+    """The inputs and outputs of a unit, however much of its medium it holds. It is open inside a `with` block, and takes one
+    call at a time, from one thread."""
 
     def __init__(self, medium: Writable, cold: Cold) -> None:
         super().__init__("unit", _header.etcs_unit())
@@ -585,14 +583,14 @@ class AnyUnit(_Handle, ABC):
 
     @abstractmethod
     def _power_up(self) -> None:
-        """Opens it on what the medium holds."""
+        """Opens the unit on what the medium holds."""
 
     @abstractmethod
     def _prepare(self) -> None:
-        """Makes requests of what is pending."""
+        """Turns pending events into requests."""
 
     def open(self) -> None:
-        """Powers up on what the medium holds, and carries the power-up out."""
+        """Powers up on what the medium holds, and carries out the requests of the power-up."""
         self._power_up()
         try:
             self._release()
@@ -601,21 +599,21 @@ class AnyUnit(_Handle, ABC):
             raise
 
     def close(self) -> None:
-        """Closes it; a unit that isn't open stays so. What is pending is lost to this life."""
+        """Closes the unit, if it is open. Pending events are lost."""
         self._status("close")
 
     # ---- inputs
 
     def telegram(self, data: bytes) -> None:
-        """The bytes that a balise sent, 1 to 104; they need not carry a telegram."""
+        """The bytes that a balise sent, 1 to 104; they need not be a valid telegram."""
         self._call("telegram", data, len(data))
 
     def odometer(self, movement_cm: int, speed_m_per_h: int) -> None:
-        """The movement since the last reading, -10,000 to 10,000 cm, and the speed now, 0 only at standstill."""
+        """The movement since the last reading, -10,000 to 10,000 cm, and the current speed, 0 only at standstill."""
         self._call("odometer", _number(movement_cm, 64, signed=True), _number(speed_m_per_h, 32))
 
     def clock(self, moment_ms: int) -> None:
-        """A moment of this life, below 2^40. Moments don't fall."""
+        """A moment of this life, below 2^40. Moments never decrease."""
         self._call("clock", _number(moment_ms, 64))
 
     def action(self, action: Action) -> None:
@@ -639,8 +637,8 @@ class AnyUnit(_Handle, ABC):
     # ---- outputs
 
     def flush(self) -> list[Output]:
-        """Puts what is pending onto the medium, and answers what may reach the train, the oldest first. Where the
-        medium raises, the unit has failed, and nothing is released any more."""
+        """Writes pending events to the medium, and returns the outputs that may reach the train, the oldest first. If the
+        medium raises, the unit has failed and releases nothing any more."""
         self._prepare()
         return self._release()
 
@@ -659,26 +657,26 @@ class AnyUnit(_Handle, ABC):
             raise
 
     def _carry_out(self) -> None:
-        request, room = _header.etcs_unit_request_info(), ctypes.create_string_buffer(REQUEST_BYTES)
+        request, buffer = _header.etcs_unit_request_info(), ctypes.create_string_buffer(REQUEST_BYTES)
         state = self.state()
         for index in range(state.done, state.requests):
-            self._call("request", index, ctypes.byref(request), room, REQUEST_BYTES)
+            self._call("request", index, ctypes.byref(request), buffer, REQUEST_BYTES)
             with self._fails_with_its_medium():
-                _carry_out(self.medium, request, room)
+                _carry_out(self.medium, request, buffer)
             self._call("done", index + 1)
 
     def state(self) -> State:
-        """How far it is."""
-        told = _header.etcs_unit_state_info()
-        self._call("state", ctypes.byref(told))
-        return State(_output(told.last), told.requests, told.done, told.held, told.has_failed != 0, told.pending,
-                     told.moment_ms, told.front_cm, told.uncertainty_cm)
+        """The state of the unit."""
+        info = _header.etcs_unit_state_info()
+        self._call("state", ctypes.byref(info))
+        return State(_output(info.last), info.requests, info.done, info.held, info.has_failed != 0, info.pending,
+                     info.moment_ms, info.front_cm, info.uncertainty_cm)
 
     def why(self) -> UnitWhy:
-        """Why the newest released output is what it is. NOT_RELEASED while an input is pending or requests aren't released."""
-        told = _header.etcs_unit_why_info()
-        self._call("why", ctypes.byref(told))
-        return _unit_why(told)
+        """Why the newest released output is what it is. NOT_RELEASED while an input is pending or outputs aren't released."""
+        info = _header.etcs_unit_why_info()
+        self._call("why", ctypes.byref(info))
+        return _unit_why(info)
 
 
 class Unit(AnyUnit):
@@ -697,7 +695,7 @@ class Unit(AnyUnit):
 
 
 class Opening(_Wanting):
-    """A power-up that is under way on a medium of so many sectors: begun by `with`, and given up at its end.
+    """A power-up on a medium of `sectors` sectors. `with` begins it, and its end gives up a power-up that isn't complete.
 
         with Opening(sectors, cold) as opening:
             while not opening.go_on(unit):
@@ -718,17 +716,17 @@ class Opening(_Wanting):
         self._status("close")
 
     def go_on(self, unit: "SectorUnit") -> bool:
-        """Goes on as far as sectors are known. True where the unit is open: then the requests of the power-up are in its
-        list. False where a sector is wanted."""
+        """Continues until a sector is needed or the unit is open. True if the unit is open: then the requests of the power-up
+        are in its list. False if a sector is needed."""
         status = self._status("go_on", ctypes.byref(unit._handle))
         if status != Status.SECTOR_WANTED:
-            _told(status)
+            _check(status)
         return status == Status.OK
 
 
 class SectorUnit(AnyUnit, _Wanting):
-    """A unit that holds 16 sectors, whatever the size of its medium, and reads those that it has to know: in a power-up the
-    gate of each slot and the head after it, in a flush one gate."""
+    """A unit that holds 16 sectors, whatever the size of its medium, and reads the sectors that it needs: in a power-up the
+    gate and the head of each slot, in a flush one gate."""
 
     def __init__(self, medium: SectorMedium, cold: Cold = Cold.UNKNOWN) -> None:
         super().__init__(medium, cold)
@@ -747,4 +745,4 @@ class SectorUnit(AnyUnit, _Wanting):
         while (status := self._status("prepare")) == Status.SECTOR_WANTED:
             with self._fails_with_its_medium():
                 self._hand_in(self)
-        _told(status)
+        _check(status)

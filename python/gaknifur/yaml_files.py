@@ -1,8 +1,8 @@
-"""YAML whose values know where they stand: each fault is reported with its file, line and column.
+"""Read YAML whose values know their place, so that each error names the file, line and column.
 
-Every scalar is a text as it was written, so `on`, `no` and `3.10` stay what they are; who asks for a number or a truth
-gets one or a fault. A key reported twice is refused. Anchors and aliases of YAML work; merge keys and tags don't. What a file
-may hold has bounds, so that each file is read in a bounded time, and each fault is one line.
+Every scalar is a text as it was written, so `on`, `no` and `3.10` stay what they are; a caller that needs a number or a truth
+value gets one or an error. A key that is given twice is refused. Anchors and aliases of YAML work; merge keys and tags don't.
+The size of a file is bounded, so that each file is read in a bounded time, and each error is one line.
 """
 import difflib
 import re
@@ -18,32 +18,32 @@ from .files import opened
 from .program import DEVICE, REFUSED, Failed
 
 NUMBER = re.compile(r"-?[0-9][0-9_]*(\.[0-9]+)?")
-MOST_BYTES, MOST_DEPTH, MOST_VALUES, MOST_DIGITS, MOST_SHOWN, MOST_SAID = 1 << 20, 64, 1 << 20, 28, 80, 4_000
-"""Of a file: its bytes, how deep lists and names stand in one another, how many values it has where each alias counts as what
-it stands for; the digits of a number; how much of a text a fault shows, and how long a fault is."""
+MOST_BYTES, MOST_DEPTH, MOST_VALUES, MOST_DIGITS, MOST_SHOWN, MOST_MESSAGE = 1 << 20, 64, 1 << 20, 28, 80, 4_000
+"""The bounds of a file: its bytes, how deep lists and mappings are nested, and the number of its values, where each alias counts
+as what it refers to; the digits of a number; the length of a text that an error quotes, and of an error."""
 PLAIN_TAGS = {f"tag:yaml.org,2002:{name}" for name in
               ("str", "int", "float", "bool", "null", "timestamp", "map", "seq", "value", "merge", "binary")}
 
 
 class BadFile(Failed):
-    """What stands at a place of a file isn't what may stand there."""
+    """A value of a file isn't allowed at its place."""
 
-    def __init__(self, path: Path, line: int, column: int, said: str) -> None:
-        super().__init__(f"{path}:{line}:{column}: {on_a_line(said[:MOST_SAID])}", REFUSED)
+    def __init__(self, path: Path, line: int, column: int, message: str) -> None:
+        super().__init__(f"{path}:{line}:{column}: {on_a_line(message[:MOST_MESSAGE])}", REFUSED)
 
 
-def on_a_line(said: str) -> str:
-    """A text without line breaks and other characters that aren't to be seen."""
-    return "".join(one if one.isprintable() else one.encode("unicode_escape").decode() for one in said)
+def on_a_line(message: str) -> str:
+    """A text with line breaks and invisible characters escaped."""
+    return "".join(one if one.isprintable() else one.encode("unicode_escape").decode() for one in message)
 
 
 def shortened(text: str) -> str:
-    """A text as a fault shows it: a long one has its beginning alone."""
+    """A text as an error quotes it: only the beginning of a long one."""
     return text if len(text) <= MOST_SHOWN else f"{text[:MOST_SHOWN]}.. ({len(text):,} characters)"
 
 
 def guess(word: str, words: Iterable[str]) -> str:
-    """What a wrong word may have been, and the words that there are."""
+    """The nearest known word, and all known words."""
     there = sorted(words)
     near = difflib.get_close_matches(word, there, 1)
     return (f"did you mean \"{near[0]}\"? " if near else "") + f"known: {', '.join(there)}"
@@ -51,7 +51,7 @@ def guess(word: str, words: Iterable[str]) -> str:
 
 @dataclass(frozen=True)
 class Value:
-    """A value of a file, and where it stands."""
+    """A value of a file, with its place."""
 
     path: Path
     node: yaml.Node
@@ -66,12 +66,12 @@ class Value:
         """The column where it begins, from 1 on."""
         return int(self.node.start_mark.column) + 1
 
-    def fault(self, said: str) -> BadFile:
-        """The fault at this place."""
-        return BadFile(self.path, self.line, self.column, said)
+    def fault(self, message: str) -> BadFile:
+        """An error at this place."""
+        return BadFile(self.path, self.line, self.column, message)
 
     def inner(self, pointer: str) -> "Value":
-        """The value that a JSON pointer leads to; of one that leads nowhere, the last one on the way."""
+        """The value at a JSON pointer; if there is none, the last one on the way."""
         at = self
         for word in pointer.split("/")[1:]:
             inner = at.entries() if at.is_mapping() else {}
@@ -91,11 +91,11 @@ class Value:
         return isinstance(self.node, yaml.SequenceNode)
 
     def is_mapping(self) -> bool:
-        """Whether it is names with values."""
+        """Whether it is a mapping."""
         return isinstance(self.node, yaml.MappingNode)
 
-    def told_by(self) -> str:
-        """What kind of value it is, for people."""
+    def describe(self) -> str:
+        """The value as an error names it."""
         if isinstance(self.node, yaml.ScalarNode):
             return f"\"{shortened(self.node.value)}\"" if self.node.value else "nothing"
         return "a list" if self.is_list() else "names with values"
@@ -104,33 +104,33 @@ class Value:
         """A text that isn't empty."""
         if isinstance(self.node, yaml.ScalarNode) and self.node.value:
             return str(self.node.value)
-        raise self.fault(f"expected a text, found {self.told_by()}")
+        raise self.fault(f"expected a text, found {self.describe()}")
 
     def number(self) -> Decimal:
-        """A number, perhaps with decimals."""
+        """A number, with or without decimals."""
         text = self.node.value if isinstance(self.node, yaml.ScalarNode) else ""
         if not NUMBER.fullmatch(text):
-            raise self.fault(f"expected a number, found {self.told_by()}")
+            raise self.fault(f"expected a number, found {self.describe()}")
         return self.decimal(text)
 
     def decimal(self, text: str) -> Decimal:
-        """The number of some digits that stand here, which are no more than are reckoned with."""
+        """The number of some digits at this place; refuses more digits than it can calculate with."""
         if sum(one.isdigit() for one in text) > MOST_DIGITS:
-            raise self.fault(f"expected a number of at most {MOST_DIGITS} digits, found {self.told_by()}")
+            raise self.fault(f"expected a number of at most {MOST_DIGITS} digits, found {self.describe()}")
         return Decimal(text.replace("_", ""))
 
     def integer(self, least: int, most: int) -> int:
         """A whole number within limits."""
         number = self.number()
         if number != int(number) or not least <= number <= most:
-            raise self.fault(f"expected a whole number from {least:,} to {most:,}, found {self.told_by()}")
+            raise self.fault(f"expected a whole number from {least:,} to {most:,}, found {self.describe()}")
         return int(number)
 
     def truth(self) -> bool:
-        """`true` or `false`, and no other word."""
+        """`true` or `false`, and nothing else."""
         text = self.node.value if isinstance(self.node, yaml.ScalarNode) else ""
         if text not in ("true", "false"):
-            raise self.fault(f"expected true or false, found {self.told_by()}")
+            raise self.fault(f"expected true or false, found {self.describe()}")
         return bool(text == "true")
 
     def one_of(self, words: Iterable[str]) -> str:
@@ -141,7 +141,7 @@ class Value:
         return text
 
     def file(self) -> Path:
-        """The file that a text names, along with the one where it stands."""
+        """The file that a text names, relative to the file that contains the text."""
         text = self.text()
         path = self.path.parent / text
         try:
@@ -156,11 +156,11 @@ class Value:
     def elements(self) -> list["Value"]:
         """The elements of a list."""
         if not isinstance(self.node, yaml.SequenceNode):
-            raise self.fault(f"expected a list, found {self.told_by()}")
+            raise self.fault(f"expected a list, found {self.describe()}")
         return [Value(self.path, node) for node in self.node.value]
 
     def below(self, names: Iterable[str]) -> Iterator["Value"]:
-        """The texts that stand anywhere below some names, one of each node."""
+        """The texts anywhere below some names, one for each node."""
         left, seen = [(self.node, False)], set[tuple[int, bool]]()
         while left:
             node, is_named = left.pop()
@@ -175,9 +175,9 @@ class Value:
                 left += [(value, key.value in names) for key, value in node.value if isinstance(key, yaml.ScalarNode)]
 
     def entries(self) -> dict[str, "Value"]:
-        """Names with values."""
+        """The names of a mapping, with their values."""
         if not isinstance(self.node, yaml.MappingNode):
-            raise self.fault(f"expected names with values, found {self.told_by()}")
+            raise self.fault(f"expected names with values, found {self.describe()}")
         found: dict[str, Value] = {}
         for key, value in self.node.value:
             name = Value(self.path, key).text()
@@ -187,7 +187,7 @@ class Value:
         return found
 
     def members(self, needed: Iterable[str], others: Iterable[str] = ()) -> dict[str, "Value"]:
-        """Names with values, of which some have to be there and no others may."""
+        """The names of a mapping with their values: all of the needed ones, and no others than those given."""
         found, needed, others = self.entries(), list(needed), list(others)
         assert isinstance(self.node, yaml.MappingNode)
         for key, _ in self.node.value:
@@ -199,14 +199,14 @@ class Value:
 
 
 class Loader(yaml.SafeLoader):  # type: ignore[misc]
-    """Makes nodes of YAML. What stands too deep, or holds itself, is refused where it stands."""
+    """Makes nodes of YAML. Refuses nodes that are too deep or contain themselves."""
 
     def __init__(self, text: str) -> None:
         super().__init__(text)
         self.around: list[yaml.Node | None] = []
 
     def compose_node(self, parent: yaml.Node | None, index: Any) -> yaml.Node:
-        """The next node, within those around it."""
+        """The next node, inside those around it."""
         event = self.peek_event()
         if len(self.around) > MOST_DEPTH:
             raise yaml.MarkedYAMLError(problem=f"it is more than {MOST_DEPTH} deep", problem_mark=event.start_mark)
@@ -220,8 +220,8 @@ class Loader(yaml.SafeLoader):  # type: ignore[misc]
 
 
 def check(path: Path, node: yaml.Node, sizes: dict[int, int]) -> int:
-    """Refuses tags such as `!!python`, which have no meaning here, and texts that are none; answers how many values the
-    node has, each alias counted as what it stands for."""
+    """Refuses tags such as `!!python`, which have no meaning here, and texts with lone surrogates. Returns the number of values
+    of the node, each alias counted as what it refers to."""
     if id(node) in sizes:
         return sizes[id(node)]
     value = Value(path, node)
@@ -236,7 +236,7 @@ def check(path: Path, node: yaml.Node, sizes: dict[int, int]) -> int:
         inner = [one for pair in node.value for one in pair]
     sizes[id(node)] = 1 + sum(check(path, one, sizes) for one in inner)
     if sizes[id(node)] > MOST_VALUES:
-        raise value.fault(f"this has more than {MOST_VALUES:,} values, each alias counted as what it stands for")
+        raise value.fault(f"this has more than {MOST_VALUES:,} values, each alias counted as what it refers to")
     return sizes[id(node)]
 
 
@@ -258,14 +258,14 @@ def text_of(path: Path) -> str:
         raise at_end_of(path, before, "this is no text in UTF-8") from error
 
 
-def at_end_of(path: Path, before: str, said: str) -> BadFile:
-    """The fault after a text."""
-    return BadFile(path, before.count("\n") + 1, len(before) - before.rfind("\n"), said)
+def at_end_of(path: Path, before: str, message: str) -> BadFile:
+    """An error after a text."""
+    return BadFile(path, before.count("\n") + 1, len(before) - before.rfind("\n"), message)
 
 
-def at_mark(path: Path, mark: Any, said: object) -> BadFile:
-    """What is no YAML, at a mark of its reader."""
-    return BadFile(path, mark.line + 1 if mark else 1, mark.column + 1 if mark else 1, f"not YAML: {said}")
+def at_mark(path: Path, mark: Any, message: object) -> BadFile:
+    """An error in the YAML, at a mark of its reader."""
+    return BadFile(path, mark.line + 1 if mark else 1, mark.column + 1 if mark else 1, f"not YAML: {message}")
 
 
 def documents(path: Path) -> list[Value]:
@@ -280,11 +280,11 @@ def documents(path: Path) -> list[Value]:
     except yaml.MarkedYAMLError as error:
         raise at_mark(path, error.problem_mark or error.context_mark, error.problem or error.context) from error
     except yaml.reader.ReaderError as error:
-        said = f"not YAML: the character U+{ord(text[error.position]):04X} is not allowed"
-        raise at_end_of(path, text[:error.position], said) from error
+        message = f"not YAML: the character U+{ord(text[error.position]):04X} is not allowed"
+        raise at_end_of(path, text[:error.position], message) from error
     except (yaml.YAMLError, ValueError, OverflowError) as error:  # of a number that is no character's, among others
-        said = " ".join(str(error).split()) if isinstance(error, yaml.YAMLError) else "there is no such character"
-        raise at_mark(path, loader.get_mark() if loader else None, said) from error
+        message = " ".join(str(error).split()) if isinstance(error, yaml.YAMLError) else "there is no such character"
+        raise at_mark(path, loader.get_mark() if loader else None, message) from error
     sizes: dict[int, int] = {}
     for node in nodes:
         check(path, node, sizes)
@@ -292,7 +292,7 @@ def documents(path: Path) -> list[Value]:
 
 
 def document(path: Path) -> Value:
-    """The one document of a file."""
+    """The only document of a file."""
     found = documents(path)
     if not found:
         raise BadFile(path, 1, 1, "the file is empty; one document is needed")

@@ -22,10 +22,10 @@ class PlainUnit:
     def take(self, word: str, value: str = "") -> None:
         """One event."""
         self.life.take(word, value)
-        told = self.life.now.output
+        output = self.life.now.output
         self.events += 1
-        self.pending.append(Output(self.events, CODES[told.mode], Level.INVALID if told.level == "-" else Level(int(told.level)),
-                                   Brake[told.brake.upper()], told.limit, Indication(told.indications)))
+        self.pending.append(Output(self.events, CODES[output.mode], Level.INVALID if output.level == "-" else Level(int(output.level)),
+                                   Brake[output.brake.upper()], output.limit, Indication(output.indications)))
 
     def telegram(self, data: bytes) -> None:
         """A balise sent these bytes."""

@@ -13,23 +13,23 @@ AUTHORITY: Json = {
     "bits": 243}
 
 
-def record(event: int, kind: str = "clock", **told: Any) -> Json:
+def record(event: int, kind: str = "clock", **more: Any) -> Json:
     """A record; what isn't reported is usual."""
     usual = {"block": 1 + event // 8, "event": event, "life": 1, "kind": kind, "time_ms": 0, "mode": "FS", "level": 1,
              "brake": "none", "indications": [], "place_cm": 100 * event, "uncertainty_cm": 500,
              "min_safe_front_cm": 100 * event - 500, "max_safe_front_cm": 100 * event + 500, "limit_m_per_h": 40_000}
     of_kind: dict[str, Json] = {"clock": {"now_ms": 0}, "powerup": {"word": "unknown"}}
-    return usual | of_kind.get(kind, {}) | told
+    return usual | of_kind.get(kind, {}) | more
 
 
-def reading(event: int, speed: int, **told: Any) -> Json:
+def reading(event: int, speed: int, **more: Any) -> Json:
     """A reading of the odometer."""
-    return record(event, "odometer", movement_cm=100, speed_m_per_h=speed, **told)
+    return record(event, "odometer", movement_cm=100, speed_m_per_h=speed, **more)
 
 
-def action(event: int, what: str, **told: Any) -> Json:
+def action(event: int, what: str, **more: Any) -> Json:
     """An action of the driver."""
-    return record(event, "driver", action=what, **told)
+    return record(event, "driver", action=what, **more)
 
 
 def line(event: int, brake: str, **since: int) -> Json:
@@ -38,11 +38,11 @@ def line(event: int, brake: str, **since: int) -> Json:
             "allowed_backward_cm": 200, **dict.fromkeys(CAUSES), **since}
 
 
-def journal(*records: Json, **told: Any) -> Journal:
+def journal(*records: Json, **more: Any) -> Journal:
     """A journal of these records."""
     examination: Json = {
         "image": {"bytes": 12_800, "sectors": 25, "slots": 4, "whole_slots": 4, "trailing_bytes": 0, "sha256": "ab" * 32},
         "slots": [], "between": [],
         "journal": {"first_block": 1, "newest_block": 1, "first_event": 0, "last_event": len(records) - 1, "lives": 1},
         "power_up": {"opens": True, "refusal": None, "kept": None}, "whole": True}
-    return Journal(Path("image"), examination | told, list(records))
+    return Journal(Path("image"), examination | more, list(records))

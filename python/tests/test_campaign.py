@@ -94,9 +94,9 @@ class Folders(unittest.TestCase):
 
     def test_a_folder_of_nothing_is_refused(self) -> None:
         (empty := self.folder / "empty").mkdir()
-        told = SimpleNamespace(folder=empty, out=self.out, slots=64, random=3, seed=1, csv=None, scheduler=None, workers=1)
+        given = SimpleNamespace(folder=empty, out=self.out, slots=64, random=3, seed=1, csv=None, scheduler=None, workers=1)
         with patch.object(campaign_table, "settings_of", dict), self.assertRaisesRegex(Failed, "empty: contains no test case and no scenario"):
-            campaign_commands.play_campaign(told, lambda what, done, whole: None)
+            campaign_commands.play_campaign(given, lambda what, done, whole: None)
         self.assertFalse(self.out.exists())
 
     def test_a_file_that_goes_meanwhile(self) -> None:
@@ -105,9 +105,9 @@ class Folders(unittest.TestCase):
             shutil.rmtree(self.folder)
             next(jobs)
 
-        told = SimpleNamespace(folder=self.folder, out=self.out, slots=64, random=0, seed=1, csv=None, scheduler=None, workers=1)
+        given = SimpleNamespace(folder=self.folder, out=self.out, slots=64, random=0, seed=1, csv=None, scheduler=None, workers=1)
         with patch.object(campaign, "here", here), patch.object(campaign_table, "settings_of", dict), self.assertRaises(FileNotFoundError):
-            campaign_commands.play_campaign(told, lambda what, done, whole: None)
+            campaign_commands.play_campaign(given, lambda what, done, whole: None)
         self.assertEqual(list(campaign_table.rows_of(self.out)), ["0/a/c.json"])
 
 
@@ -147,9 +147,9 @@ class Scheduler:
 
     def module(self) -> types.ModuleType:
         """What a campaign takes of the modules `dask` and `distributed`."""
-        told = types.ModuleType("distributed")
-        told.__dict__.update(Client=lambda *words, **named: self, as_completed=lambda loop: self, config=self)
-        return told
+        module = types.ModuleType("distributed")
+        module.__dict__.update(Client=lambda *words, **named: self, as_completed=lambda loop: self, config=self)
+        return module
 
     def set(self, settings: dict[str, Any]) -> None:
         """What a client is to do otherwise."""
@@ -227,9 +227,9 @@ class Judged(unittest.TestCase):
     """Lives that stand-ins of both programs play."""
 
     def test_an_output_that_is_not_its_record_s(self) -> None:
-        told = journal(record(0, "powerup"), record(1))
-        lines = {"events": [*told.records, {"end": "done"}],
-                 "check": [told.examination, {"life": 1, "replay": "agrees"}, {"end": "nothing_differs"}, {"check": {}}]}
+        sample = journal(record(0, "powerup"), record(1))
+        lines = {"events": [*sample.records, {"end": "done"}],
+                 "check": [sample.examination, {"life": 1, "replay": "agrees"}, {"end": "nothing_differs"}, {"check": {}}]}
         with tempfile.TemporaryDirectory() as folder, tempfile.TemporaryDirectory() as room:
             for name, text in (("etcs", ETCS), ("lab", LAB), *((f"lab.{word}", "".join(json.dumps(one) + "\n" for one in some))
                                                               for word, some in lines.items())):

@@ -65,7 +65,7 @@ def plain_lines(digits: str) -> list[str]:
     return [*decoded.lines_of(bytes.fromhex(digits)), "end"]
 
 
-def output_told(output: Output) -> dict[str, Any]:
+def output_members(output: Output) -> dict[str, Any]:
     """An output as a record says it."""
     return {"mode": driving.MODES[output.mode], "level": None if output.level.value > 1 else output.level.value,
             "brake": driving.BRAKES[output.brake], "limit_m_per_h": output.limit_m_per_h,
@@ -74,13 +74,13 @@ def output_told(output: Output) -> dict[str, Any]:
 
 def played(driven: Driven, case: cases.Case) -> Played:
     """The records of a drive."""
-    told = [step for step in driven.steps if "flush" not in step]
+    steps = [step for step in driven.steps if "flush" not in step]
     records = [record(0, "powerup", mode="SB", level=None, brake="emergency", limit_m_per_h=0, indications=["not_revalidated"])]
-    for step, output in zip(told, driven.outputs, strict=True):
+    for step, output in zip(steps, driven.outputs, strict=True):
         (word, value), = step.items()
         more = {"speed_m_per_h": value[1], "movement_cm": value[0]} if word == "drive" else {}
         kind = {"drive": "odometer", "driver": "driver", "telegram": "telegram", "clock": "clock"}[word]
-        records.append(record(output.event, kind, **output_told(output), **more))
+        records.append(record(output.event, kind, **output_members(output), **more))
     trains = with_trains(with_speeds(records), [driven])
     return Played(trains, case_runner.marked(case, trains, [driven]))
 
@@ -92,7 +92,7 @@ class Trains(unittest.TestCase):
         """A train that runs, and is braked to a standstill."""
         motion, moment = Motion(train), 0
         motion.speed = speed
-        motion.ask(0, ask)
+        motion.command(0, ask)
         while motion.speed > 0:
             motion.move(moment, ms, 0.0)
             moment += ms
@@ -108,7 +108,7 @@ class Trains(unittest.TestCase):
         for ms in (10, 500, 1000):
             self.assertAlmostEqual(self.moved(Train(50, 70, 90), 2000, 70, ms).place, 2000 ** 2 / 140, 6)
 
-    def test_it_brakes_behind_its_reaction(self) -> None:
+    def test_it_brakes_after_its_reaction(self) -> None:
         self.assertAlmostEqual(self.moved(Train(50, 70, 90, reaction_ms=1000), 2000, 90).place, 2000 + 2000 ** 2 / 180, 6)
 
     def test_its_brakes_build_up(self) -> None:
@@ -118,7 +118,7 @@ class Trains(unittest.TestCase):
 
     def test_it_stands(self) -> None:
         motion = Motion(Train(50, 70, 70))
-        motion.ask(0, 70)
+        motion.command(0, 70)
         motion.move(0, 500, 0.0)
         self.assertEqual((motion.speed, motion.place, motion.stands), (0.0, 0.0, True))
 
@@ -200,11 +200,11 @@ class Loops(unittest.TestCase):
         scenario, found = self.written(drive)
         (self.folder / "x.case.yaml").write_text(CASE, encoding="utf-8")
         case, = cases.read(self.folder / "x.case.yaml")
-        told = played(driving.play(unit, scenario, found), case)
+        result = played(driving.play(unit, scenario, found), case)
         missed = set()
         for expected in case.expected:
             try:
-                case_runner.judge(expected, told, {})
+                case_runner.judge(expected, result, {})
             except Missed:
                 missed.add(expected.note)
         return missed
@@ -232,14 +232,14 @@ class Loops(unittest.TestCase):
 
         self.assertEqual(self.missed(Swapped()), {"runs", "no brake", "stands"})
 
-    def test_what_the_unit_is_told(self) -> None:
+    def test_the_inputs_of_the_unit(self) -> None:
         scenario, drive = self.written(DRIVE.replace("lasts: 100 s", "lasts: 4 s"), 'groups: [{at: 1 m, spacing: 1 m, balises: ["9000", "9001"]}]\n')
         driven = driving.play(PlainUnit(), scenario, drive)
-        told = [step for step in driven.steps if "flush" not in step][5:]
+        steps = [step for step in driven.steps if "flush" not in step][5:]
         # With 60 cm/s2 the front is at 30 * t * t cm: 8, 30, 68, 120 after the first four half seconds.
-        self.assertEqual(told[:9], [{"clock": 500}, {"drive": [8, 1080]}, {"clock": 1000}, {"drive": [22, 2160]}, {"clock": 1500},
+        self.assertEqual(steps[:9], [{"clock": 500}, {"drive": [8, 1080]}, {"clock": 1000}, {"drive": [22, 2160]}, {"clock": 1500},
                                     {"drive": [38, 3240]}, {"clock": 2000}, {"drive": [32, 4320]}, {"telegram": "9000"}])
-        self.assertEqual(told[9:13], [{"drive": [20, 4320]}, {"clock": 2500}, {"drive": [68, 5400]}, {"clock": 3000}])
+        self.assertEqual(steps[9:13], [{"drive": [20, 4320]}, {"clock": 2500}, {"drive": [68, 5400]}, {"clock": 3000}])
         self.assertEqual([round(row.place_cm) for row in driven.rows[:4]], [8, 30, 68, 120])
         self.assertEqual(driven.heard[1:], [(100, "9000"), (100, "9001")])
         self.assertEqual((driven.rows[0].first_event, driven.rows[0].event, driven.rows[3].event), (6, 7, 15))
@@ -252,22 +252,22 @@ class Loops(unittest.TestCase):
         self.assertGreaterEqual(len(braked), 3)
         self.assertEqual({row.speed_m_per_h for row in braked}, {braked[0].speed_m_per_h})
 
-    def test_an_odometer_that_tells_less(self) -> None:
+    def test_an_odometer_that_measures_less(self) -> None:
         scenario, drive = self.written(DRIVE.replace("build_up: 1 s", "build_up: 1 s, odometer: 95 %"), steps=STEPS + "  - drive: 10 m at 5 km/h\n")
         loop = Loop(PlainUnit(), scenario, drive)
         driven = loop.play()
-        told = sum(step["drive"][0] for step in driven.steps if "drive" in step)
-        self.assertEqual(told, 1000 + round((loop.motion.place - 1000) * 0.95))
+        measured = sum(step["drive"][0] for step in driven.steps if "drive" in step)
+        self.assertEqual(measured, 1000 + round((loop.motion.place - 1000) * 0.95))
         self.assertEqual([step["drive"] for step in driven.steps if "drive" in step][0], [1000, 5000])
 
     def test_a_speedometer_and_readings_that_are_off(self) -> None:
         words = "build_up: 1 s, speedometer: 90 %, reading_error: 20 cm"
         scenario, drive = self.written(DRIVE.replace("build_up: 1 s", words).replace("lasts: 100 s", "lasts: 2 s"))
-        told = [step["drive"] for step in driving.play(PlainUnit(), scenario, drive).steps if "drive" in step]
+        readings = [step["drive"] for step in driving.play(PlainUnit(), scenario, drive).steps if "drive" in step]
         # The front is at 8, 30, 68, 120. It is reported 28, then not 10 but as before, 88, 100.
-        self.assertEqual(told, [[28, 972], [0, 1944], [60, 2916], [12, 3888]])
+        self.assertEqual(readings, [[28, 972], [0, 1944], [60, 2916], [12, 3888]])
 
-    def test_an_antenna_behind_the_front(self) -> None:
+    def test_an_antenna_away_from_the_front(self) -> None:
         groups = 'groups: [{at: 1 m, spacing: 1 m, balises: ["9000", "9001"]}]\n'
         scenario, drive = self.written(DRIVE.replace("build_up: 1 s", "build_up: 1 s, antenna: 50 cm"), groups)
         loop = Loop(PlainUnit(), scenario, drive)
@@ -285,20 +285,20 @@ class Loops(unittest.TestCase):
         stood = next(at for at, row in enumerate(driven.rows) if row.time_ms >= 5000 and not row.speed_m_per_h)
         self.assertEqual([row.mode for row in driven.rows[stood:stood + 2]], ["FS", "SB"])
 
-    def test_what_is_told(self) -> None:
+    def test_the_description(self) -> None:
         scenario, drive = self.written()
         driven = driving.play(PlainUnit(), scenario, drive)
-        lines, last = drive_commands.told(driven), driven.rows[-1]
+        lines, last = drive_commands.describe(driven), driven.rows[-1]
         self.assertEqual(closed_loop.ends_of(driven), (30_000, 30_000))
         self.assertTrue(lines[0].startswith("FS, brake none: at 0.08 m after 0.5 s, speed 1.1, limit "))
-        self.assertTrue(lines[-2].startswith(f"stands: at {last.place_cm / 100:.2f} m after {last.time_ms / 1000:g} s, speed 0.0, limit "))
+        self.assertTrue(lines[-2].startswith(f"stopped: at {last.place_cm / 100:.2f} m after {last.time_ms / 1000:g} s, speed 0.0, limit "))
         self.assertEqual(lines[-1], f"the end of authority is at 300.00 m: {(30_000 - last.place_cm) / 100:.2f} m before it")
         text = drive_commands.csv_text(driven).splitlines()
         self.assertEqual(text[0], "time_ms,first_event,event,place_cm,speed_m_per_h,limit_m_per_h,above_m_per_h,brake,mode,braking_cm_per_s2")
         self.assertEqual(len(text), 1 + len(driven.rows))
 
     def test_faults_and_their_places(self) -> None:
-        for wrong, said in (
+        for wrong, message in (
                 (DRIVE.replace("service", "servise"), 'drive.yaml:9:35: "servise" is not allowed here; did you mean "service"?'),
                 (DRIVE.replace("0.6 m/s2", "0.6 m"), "drive.yaml:9:25: expected an acceleration, a number and cm/s2 or m/s2"),
                 (DRIVE.replace("limit", "limits"), 'drive.yaml:10:19: "limits" is not allowed here; did you mean "limit"?'),
@@ -316,7 +316,7 @@ class Loops(unittest.TestCase):
                 (DRIVE.replace("build_up: 1 s", "odometer: 5 %"), "drive.yaml:9:81: expected a number from 50 to 150 with %")):
             with self.assertRaises(Failed) as found:
                 self.written(wrong)
-            self.assertTrue(str(found.exception).removeprefix(f"{self.folder}/").startswith(said), f"{found.exception}\n{said}")
+            self.assertTrue(str(found.exception).removeprefix(f"{self.folder}/").startswith(message), f"{found.exception}\n{message}")
 
     def test_a_long_drive(self) -> None:
         """Its journal has the newest blocks alone, so that no case has such a drive."""
@@ -347,9 +347,9 @@ class Loops(unittest.TestCase):
                 case_runner.judge(case.expected[number], Played(with_speeds([record(1)]), {"started": 0}), {})
 
 
-def rows(*told: tuple[str, str]) -> Driven:
+def rows(*states: tuple[str, str]) -> Driven:
     """Rows with these modes and brakes."""
-    return Driven([Row(500 * at, at, at, 100 * at, 10, 20, brake, mode, 0) for at, (mode, brake) in enumerate(told, 1)])
+    return Driven([Row(500 * at, at, at, 100 * at, 10, 20, brake, mode, 0) for at, (mode, brake) in enumerate(states, 1)])
 
 
 class Pictures(unittest.TestCase):
@@ -362,16 +362,16 @@ class Pictures(unittest.TestCase):
     def test_files(self) -> None:
         drive_picture: Any = importlib.import_module("gaknifur.simulation.drive_picture")
         drawn: Callable[..., bytes] = drive_picture.drawn
-        told = rows(("FS", "none"), ("FS", "service"), ("FS", "emergency"), ("TR", "emergency"))
+        driven = rows(("FS", "none"), ("FS", "service"), ("FS", "emergency"), ("TR", "emergency"))
         for ends, count in ((None, 0), ((300, 300), 1), ((300, 400), 2)):
-            svg = drawn(told, ends, "a drive", ".svg")
-            self.assertEqual(svg, drawn(told, ends, "a drive", ".svg"))
+            svg = drawn(driven, ends, "a drive", ".svg")
+            self.assertEqual(svg, drawn(driven, ends, "a drive", ".svg"))
             self.assertEqual(sum(text in svg for text in (b"end of authority", b"supervised location")), count)
-        self.assertTrue(drawn(told, None, "a drive", ".png").startswith(b"\x89PNG"))
+        self.assertTrue(drawn(driven, None, "a drive", ".png").startswith(b"\x89PNG"))
         with self.assertRaisesRegex(Failed, "--picture: the file name has to end in .svg or .png"):
             drive_commands.picture_kind(Path("drive.gif"))
         self.assertTrue(files.SVG.is_own(svg[:files.FIRST_BYTES]))
-        self.assertTrue(files.PNG.is_own(drawn(told, None, "a drive", ".png")[:files.FIRST_BYTES]))
+        self.assertTrue(files.PNG.is_own(drawn(driven, None, "a drive", ".png")[:files.FIRST_BYTES]))
 
 
 class Library(unittest.TestCase):
@@ -381,12 +381,12 @@ class Library(unittest.TestCase):
         """By what tools/library --unproved leaves in its file."""
         for mark, is_named in ((b"\0Gaknifur 0.1.0, commit 0123abc, unproved\0", True), (b"\0Gaknifur 0.1.0, commit 0123abc, proved\0", False),
                                (b"", False)):
-            with self.subTest(mark=mark), tempfile.TemporaryDirectory() as folder, contextlib.redirect_stderr(io.StringIO()) as said:
+            with self.subTest(mark=mark), tempfile.TemporaryDirectory() as folder, contextlib.redirect_stderr(io.StringIO()) as errors:
                 path = Path(folder, "libetcs_unit.so")
                 path.write_bytes(b"\x7fELF" + mark + b"\0")
                 with patch("gaknifur.simulation.closed_loop.library", lambda: SimpleNamespace(_name=str(path))):
                     closed_loop.check_library.__wrapped__()
-                self.assertEqual(said.getvalue(), f"lab: this run is unproved: {path} was compiled without proof\n" if is_named else "")
+                self.assertEqual(errors.getvalue(), f"lab: this run is unproved: {path} was compiled without proof\n" if is_named else "")
 
 
 if __name__ == "__main__":

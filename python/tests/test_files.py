@@ -51,10 +51,10 @@ class Room(unittest.TestCase):
         """What the folder has."""
         return sorted(path.name for path in self.room.iterdir())
 
-    def refuses(self, said: str, out: Out, *inputs: Path) -> None:
+    def refuses(self, message: str, out: Out, *inputs: Path) -> None:
         """A file isn't written, and nothing is left next to it."""
         before = self.names()
-        with self.assertRaisesRegex(Failed, said) as caught:
+        with self.assertRaisesRegex(Failed, message) as caught:
             files.write(out, b"new", inputs)
         self.assertEqual((caught.exception.status, self.names()), (REFUSED, before))
 
@@ -136,20 +136,20 @@ class Writing(Room):
                 files.write(Out(path, files.TABLE, True), b"new")
             self.assertEqual((caught.exception.status, path.read_bytes(), self.names()), (DEVICE, TABLE, ["out"]))
 
-    def test_synced_before_it_has_its_name_and_its_folder_behind(self) -> None:
-        told: list[str] = []
+    def test_synced_before_it_has_its_name_and_its_folder_after(self) -> None:
+        calls: list[str] = []
         sync, link, replace = os.fsync, os.link, os.replace
 
         def noted(word: str, do: Callable[..., None]) -> Callable[..., None]:
             def call(*given: object) -> None:
-                told.append(f"{word} {'folder' if os.path.isdir(f'/proc/self/fd/{given[0]}') else 'file'}" if word == "sync" else word)
+                calls.append(f"{word} {'folder' if os.path.isdir(f'/proc/self/fd/{given[0]}') else 'file'}" if word == "sync" else word)
                 do(*given)
             return call
 
         with patch("os.fsync", noted("sync", sync)), patch("os.link", noted("name", link)), patch("os.replace", noted("name", replace)):
             files.write(Out(self.room / "out", files.TABLE), TABLE)
             files.write(Out(self.room / "out", files.TABLE, True), TABLE)
-        self.assertEqual(told, ["sync file", "name", "sync folder"] * 2)
+        self.assertEqual(calls, ["sync file", "name", "sync folder"] * 2)
 
     def test_two_of_one_name(self) -> None:
         (self.room / "link").symlink_to(self.room / "out")
@@ -181,10 +181,10 @@ class Words(Room):
                 (self.room / "folder").mkdir(exist_ok=True)
                 forces: list[list[str]] = [[], ["--force"] if words[0] != "database" else []]
                 for force in forces:
-                    said = io.StringIO()
-                    with contextlib.redirect_stderr(said), patch("gaknifur.simulation.campaign_table.settings_of", dict):
+                    errors = io.StringIO()
+                    with contextlib.redirect_stderr(errors), patch("gaknifur.simulation.campaign_table.settings_of", dict):
                         self.assertEqual(main([*words, *force]), REFUSED, words)
-                    self.assertEqual(len(said.getvalue().splitlines()), 1)
+                    self.assertEqual(len(errors.getvalue().splitlines()), 1)
                     tried += 1
         self.assertEqual({name: (self.room / name).read_bytes() for name in before}, before)
         self.assertEqual((tried, self.names()), (4 * 6 * 2, sorted([*before, "folder"])))
@@ -233,22 +233,22 @@ class Images(Room):
 
     def test_one_that_is_there_goes_on_in_the_unit_s_own_order(self) -> None:
         image = self.file("image", IMAGE * 3)
-        told: list[object] = []
+        calls: list[object] = []
         write, sync = os.pwrite, os.fsync
 
         def noted_write(number: int, data: bytes, at: int) -> int:
-            told.append((at, len(data)))
+            calls.append((at, len(data)))
             return write(number, data, at)
 
         def noted_sync(number: int) -> None:
-            told.append("sync")
+            calls.append("sync")
             sync(number)
 
         with patch("os.pwrite", noted_write), patch("os.fsync", noted_sync), \
                 patch.object(drive_commands, "on_medium", self.on_medium):
             drive_commands.on_file(image, self.scenario, self.drive)
-        self.assertEqual([one for one in told if one != "sync"], [(1024, 512), (512, 512)])
-        self.assertEqual(told[-4:], [(1024, 512), "sync", (512, 512), "sync"])
+        self.assertEqual([one for one in calls if one != "sync"], [(1024, 512), (512, 512)])
+        self.assertEqual(calls[-4:], [(1024, 512), "sync", (512, 512), "sync"])
         self.assertEqual(image.read_bytes(), IMAGE + b"\1" * 512 + b"\2" * 512)
 
     def test_a_cut_within_it_loses_nothing_that_was_there(self) -> None:
@@ -281,9 +281,9 @@ def add_one(path: Path, number: int) -> None:
     """Adds a journal with a digest of its own, and one that all add."""
     connection = database.open_database(path)
     for digest in (f"{number:064x}", "f" * 64):
-        told = journal(record(0), record(1))
-        told.examination["image"]["sha256"] = digest
-        database.add(connection, told, tables.frame(told))
+        sample = journal(record(0), record(1))
+        sample.examination["image"]["sha256"] = digest
+        database.add(connection, sample, tables.frame(sample))
     connection.close()
 
 
@@ -307,9 +307,9 @@ class Inputs(Room):
         (self.room / "folder").mkdir()
         with socket.socket(socket.AF_UNIX) as bound:
             bound.bind(str(self.room / "socket"))
-            for name, said in (("folder", "is a folder, and a regular file"), ("/dev/null", "is a device, and"), ("socket", "No such device"),
+            for name, message in (("folder", "is a folder, and a regular file"), ("/dev/null", "is a device, and"), ("socket", "No such device"),
                                ("none", "No such file")):
-                with self.assertRaisesRegex(Failed, said) as caught:
+                with self.assertRaisesRegex(Failed, message) as caught:
                     files.opened(self.room / name)
                 self.assertEqual(caught.exception.status, DEVICE)
         with files.opened(self.file("a", b"text")) as file:

@@ -18,23 +18,23 @@ class Course(unittest.TestCase):
 
     def test_a_balise_is_passed_again(self) -> None:
         # Back at 140 cm the train passes the balise at 150 cm once more; the way to 10,300 cm has 9,850 cm, less than a reading.
-        self.assertEqual(list(course.asked(TRACK)), [
+        self.assertEqual(list(course.planned(TRACK)), [
             ("/steps/0/drive", 150), ("/groups/0/balises/0", 150), ("/steps/1/drive", 140), ("/steps/2/drive", 150),
             ("/groups/0/balises/0", 150), ("/steps/2/drive", 450), ("/groups/0/balises/1", 450), ("/steps/2/drive", 10_300),
             ("/groups/1/balises/0", 10_300), ("/steps/2/drive", 12_140), ("/steps/4/telegram", 12_140), ("/steps/5/drive", 12_140),
             ("/steps/6/clock", 12_140)])
 
     def test_long_ways_have_several_readings(self) -> None:
-        self.assertEqual(list(course.asked(Scenario(steps=[{"drive": [20_001, 1_000]}]))),
+        self.assertEqual(list(course.planned(Scenario(steps=[{"drive": [20_001, 1_000]}]))),
                          [("/steps/0/drive", 10_000), ("/steps/0/drive", 20_000), ("/steps/0/drive", 20_001)])
 
     def test_a_closed_loop_is_followed_by_what_balises_send(self) -> None:
-        def told(kind: str, **more: Any) -> dict[str, Any]:
+        def event(kind: str, **more: Any) -> dict[str, Any]:
             return {"kind": kind, **more}
 
         # The odometer reports 160 and 305 cm of the ways of 150 and 300 cm.
-        records = [told("clock"), told("odometer", movement_cm=160), told("telegram", telegram="aa"), told("odometer", movement_cm=305),
-                   told("telegram", telegram="bb"), told("odometer", movement_cm=-5), told("driver")]
+        records = [event("clock"), event("odometer", movement_cm=160), event("telegram", telegram="aa"), event("odometer", movement_cm=305),
+                   event("telegram", telegram="bb"), event("odometer", movement_cm=-5), event("driver")]
         self.assertEqual([(event.pointer, event.place_cm) for event in course.driven(TRACK, 0, records)],
                          [("/drive", 0), ("/drive", 160), ("/groups/0/balises/0", 150), ("/drive", 455), ("/groups/0/balises/1", 450),
                           ("/drive", 445), ("/drive", 445)])

@@ -20,9 +20,9 @@ from .samples import action, reading, record
 POWER_UP = record(0, kind="powerup", word="unknown", mode="SB", level=None)
 
 
-def life(*told: dict[str, Any]) -> list[Json]:
+def life(*members: dict[str, Any]) -> list[Json]:
     """Records after a power-up."""
-    return [record(number, **one) for number, one in enumerate(told, 1)]
+    return [record(number, **one) for number, one in enumerate(members, 1)]
 
 
 def reached(records: list[Json], trips: dict[int, str] | None = None, driver: Driver | None = None) -> dict[str, set[str]]:
@@ -70,9 +70,9 @@ class Reaching(unittest.TestCase):
             return found.sets.get("ends of brake causes", set())
 
         moving, standing = reading(1, 9), reading(2, 0)
-        told = record(2, kind="telegram", decoded={"refused": {"number": 1, "name": "Truncated"}})
+        refused = record(2, kind="telegram", decoded={"refused": {"number": 1, "name": "Truncated"}})
         self.assertEqual(ends("rolled_too_far", moving, standing), {"rolled_too_far: the train stands"})
-        self.assertEqual(ends("rolled_too_far", moving, told), {"rolled_too_far: a greater D_NVROLL comes into force"})
+        self.assertEqual(ends("rolled_too_far", moving, refused), {"rolled_too_far: a greater D_NVROLL comes into force"})
         self.assertEqual(ends("must_stand", moving, action(2, "override", mode="OS")), {"must_stand: in another mode"})
         self.assertEqual(ends("owes_too_long", moving, action(2, "close_desk", mode="SB")), {"owes_too_long: a mode deletes it"})
         # At a power-up a cause is no more, and only System Failure says that it ends so.
@@ -85,8 +85,8 @@ class Reaching(unittest.TestCase):
         # By hand: 46 transitions; 10 causes; 20 kinds; 5 causes and one of before; 9 packets in 9 modes; 9 x 5 directions.
         self.assertEqual([len(members[name]) for name in ("mode rows", "brake causes", "limit kinds", "trip causes", "packets by mode",
                                                           "packets by direction")], [46, 10, 20, 6, 81, 45])
-        for name, told in members.items():
-            self.assertEqual(len(told), len(set(told)), name)
+        for name, names in members.items():
+            self.assertEqual(len(names), len(set(names)), name)
 
     def test_a_row_that_nothing_recognises_is_a_fault(self) -> None:
         coverage_sets.actions.cache_clear()
@@ -114,10 +114,10 @@ class Floors(unittest.TestCase):
         """Floors and reasons over two sets of which two members are reached."""
         with tempfile.TemporaryDirectory() as name:
             (Path(name) / measured_coverage.FLOORS).write_text(text, encoding="utf-8")
-            told = Measured(1, {"a": {"x 1": ["one"], "x 2": [], "y": []}, "b": {"z": ["one", "two"]}})
-            add_floors(told, Path(name))
-            check_floors(told)
-            return told
+            measured = Measured(1, {"a": {"x 1": ["one"], "x 2": [], "y": []}, "b": {"z": ["one", "two"]}})
+            add_floors(measured, Path(name))
+            check_floors(measured)
+            return measured
 
     def test_floors_and_reasons(self) -> None:
         self.assertEqual(self.found("floors: {a: 1, b: all}").faults, [])
@@ -128,17 +128,17 @@ class Floors(unittest.TestCase):
                          ["a: x 1: one reaches it, and there is a reason why none does"])
 
     def test_faults_have_their_places(self) -> None:
-        for text, said in (("floors: {c: 1}", 'measured.yaml:1:10: "c" is not allowed here'),
+        for text, message in (("floors: {c: 1}", 'measured.yaml:1:10: "c" is not allowed here'),
                            ("floors: {a: 4}", "measured.yaml:1:13: expected a whole number from 0 to 3"),
-                           ("out_of_reach: {a: {'q*': why}}", 'measured.yaml:1:26: "q*" names nothing that is counted'),
+                           ("out_of_reach: {a: {'q*': why}}", 'measured.yaml:1:26: "q*" matches no member'),
                            ("floor: {a: 1}", 'did you mean \"floors\"?')):
-            with self.assertRaises(Failed) as told:
+            with self.assertRaises(Failed) as failure:
                 self.found(text)
-            self.assertIn(said, str(told.exception))
+            self.assertIn(message, str(failure.exception))
 
-    def test_what_is_told(self) -> None:
-        told = self.found("floors: {a: 1}\nout_of_reach: {a: {y: so}}")
-        self.assertEqual(measured_coverage.told(told, True), "a: 1 of 3, floor 1\n  missing: x 2; no reason is told\n  missing: y; so\n"
+    def test_the_text(self) -> None:
+        found = self.found("floors: {a: 1}\nout_of_reach: {a: {y: so}}")
+        self.assertEqual(measured_coverage.text(found, True), "a: 1 of 3, floor 1\n  missing: x 2; without a reason\n  missing: y; so\n"
                          "  x 1: one\nb: 1 of 1\n  z: one and 1 more\n1 cases reach 2 of 4.\n")
 
 

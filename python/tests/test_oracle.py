@@ -24,25 +24,25 @@ ANSWER: Json = {"event": 3, "mode": "FS", "level": 1, "brake": "none", "indicati
                 "limit_m_per_h": 0}
 
 
-def line(told: object) -> bytes:
+def line(members: object) -> bytes:
     """A message."""
-    return json.dumps(told).encode()
+    return json.dumps(members).encode()
 
 
 class Messages(unittest.TestCase):
     """What is a message, and what isn't."""
 
-    def wrong(self, told: object, tells: tuple[str, ...] = protocol.ANSWER) -> str:
-        """What is said of an answer that isn't one."""
+    def wrong(self, message: object, members: tuple[str, ...] = protocol.ANSWER) -> str:
+        """The error for an answer that is malformed."""
         with self.assertRaises(protocol.Wrong) as found:
-            protocol.checked(told if isinstance(told, bytes) else line(told), 3, tells)
+            protocol.checked(message if isinstance(message, bytes) else line(message), 3, members)
         return str(found.exception)
 
     def test_an_event_is_all_but_the_answer(self) -> None:
         self.assertEqual(protocol.event_of(reading(4, 5)),
                          {"life": 1, "event": 4, "kind": "odometer", "movement_cm": 100, "speed_m_per_h": 5})
-        told = protocol.event_of(action(4, "confirm", confirmed="level"))
-        self.assertEqual(told, {"life": 1, "event": 4, "kind": "driver", "action": "confirm", "confirmed": "level"})
+        event = protocol.event_of(action(4, "confirm", confirmed="level"))
+        self.assertEqual(event, {"life": 1, "event": 4, "kind": "driver", "action": "confirm", "confirmed": "level"})
 
     def test_an_answer(self) -> None:
         self.assertEqual(protocol.checked(line(ANSWER), 3, protocol.ANSWER), ANSWER)
@@ -61,19 +61,19 @@ class Messages(unittest.TestCase):
                       self.wrong({name: value for name, value in ANSWER.items() if name != "brake"}))
         self.assertIn("which isn't one of event, mode", self.wrong(ANSWER, ("mode", "brake")))
         self.assertIn("answer to event 4", self.wrong(ANSWER | {"event": 4}))
-        self.assertIn("no JSON", self.wrong(b"[" * 100_000))
-        self.assertIn("no JSON object", self.wrong([]))
+        self.assertIn("not JSON", self.wrong(b"[" * 100_000))
+        self.assertIn("not a JSON object", self.wrong([]))
         self.assertIn("is given twice", self.wrong(line(ANSWER)[:-1] + b', "mode": "FS"}'))
 
     def test_a_greeting(self) -> None:
-        told = protocol.greeting_of(line({"protocol": 1, "unit": "x", "tells": ["brake", "mode"]}))
-        self.assertEqual(told.tells, ("mode", "brake"))
-        self.assertEqual(told.leaves_out, ("level", "indications", "place_cm", "uncertainty_cm", "limit_m_per_h"))
-        told_wrong: list[Json] = [{"protocol": True}, {"protocol": "1"}, {"tells": []},
-                                  {"tells": ["mode", "brake", "mode"]}, {"unit": "x" * 201}]
-        for wrong in told_wrong:
+        greeting = protocol.greeting_of(line({"protocol": 1, "unit": "x", "members": ["brake", "mode"]}))
+        self.assertEqual(greeting.members, ("mode", "brake"))
+        self.assertEqual(greeting.leaves_out, ("level", "indications", "place_cm", "uncertainty_cm", "limit_m_per_h"))
+        all_wrong: list[Json] = [{"protocol": True}, {"protocol": "1"}, {"members": []},
+                                  {"members": ["mode", "brake", "mode"]}, {"unit": "x" * 201}]
+        for wrong in all_wrong:
             with self.assertRaises(protocol.Wrong):
-                protocol.greeting_of(line({"protocol": 1, "unit": "x", "tells": ["brake", "mode"]} | wrong))
+                protocol.greeting_of(line({"protocol": 1, "unit": "x", "members": ["brake", "mode"]} | wrong))
 
 
 class Processes(unittest.TestCase):
@@ -102,12 +102,12 @@ class Processes(unittest.TestCase):
 NO_SANDBOX = {"GAKNIFUR_UNIT_SANDBOX": "none"}
 GREETS = """
 import fcntl, json, os, resource, socket, subprocess, sys, time
-def say(told):
-    sys.stdout.write(json.dumps(told) + "\\n")
+def say(message):
+    sys.stdout.write(json.dumps(message) + "\\n")
     sys.stdout.flush()
 def greet(name="x"):
     sys.stdin.readline()
-    say({"protocol": 1, "unit": name, "tells": ["mode", "brake"]})
+    say({"protocol": 1, "unit": name, "members": ["mode", "brake"]})
 """
 
 
@@ -137,7 +137,7 @@ for number in range(10_000):
             for number in range(10_000):
                 unit.answer({"event": number, "kind": "telegram", "telegram": "0" * 200})
         # (which of the two comes first is a matter of how busy the machine is)
-        self.assertRegex(str(found.exception), "it doesn't read its input|a line that nobody asked for")
+        self.assertRegex(str(found.exception), "it doesn't read its input|a line that wasn.t requested")
         self.assertLess(time.monotonic() - begun, 60)
 
     def test_it_neither_reads_nor_answers(self) -> None:
@@ -150,7 +150,7 @@ for number in range(10_000):
 
     def test_a_line_at_the_limit(self) -> None:
         text = """sys.stdin.readline()
-greeting = json.dumps({"protocol": 1, "unit": "x", "tells": ["mode", "brake"]})
+greeting = json.dumps({"protocol": 1, "unit": "x", "members": ["mode", "brake"]})
 sys.stdout.write(greeting + " " * (SIZE - 1 - len(greeting)) + "\\n")
 sys.stdout.flush()
 time.sleep(60)
@@ -174,12 +174,12 @@ time.sleep(60)
         self.assertIn("event 0: no answer within 2 s", str(found.exception))
 
     def test_it_is_limited(self) -> None:
-        told = "greet(' '.join(str(resource.getrlimit(getattr(resource, 'RLIMIT_' + one))[1]) for one in ('CORE', 'FSIZE', 'NOFILE', 'AS')))"
+        code = "greet(' '.join(str(resource.getrlimit(getattr(resource, 'RLIMIT_' + one))[1]) for one in ('CORE', 'FSIZE', 'NOFILE', 'AS')))"
         wanted = f"0 {64 << 20} 256 {4096 << 20}"
-        self.assertEqual(self.name(told, **NO_SANDBOX), wanted)
-        self.assertEqual(self.name(told), wanted)
-        self.assertEqual(self.name(told, GAKNIFUR_UNIT_MEMORY="1000").split()[-1], str(1000 << 20))
-        self.assertEqual(self.name(told, GAKNIFUR_UNIT_MEMORY="0").split()[-1], str(resource.getrlimit(resource.RLIMIT_AS)[1]))
+        self.assertEqual(self.name(code, **NO_SANDBOX), wanted)
+        self.assertEqual(self.name(code), wanted)
+        self.assertEqual(self.name(code, GAKNIFUR_UNIT_MEMORY="1000").split()[-1], str(1000 << 20))
+        self.assertEqual(self.name(code, GAKNIFUR_UNIT_MEMORY="0").split()[-1], str(resource.getrlimit(resource.RLIMIT_AS)[1]))
         for wrong in ("much", "-1", ""):
             with self.assertRaises(Failed):
                 self.unit("", GAKNIFUR_UNIT_MEMORY=wrong)
@@ -222,10 +222,10 @@ greet("; ".join((tried(lambda: open(WRITTEN, "w")), tried(lambda: open(scratch +
             name = self.name(text.replace("WRITTEN", repr(f"{room}/made")))
             self.assertEqual(name, "Read-only file system; done; File too large; 1; True")
             self.assertEqual(list(Path(room).iterdir()), [])
-        for text, said in (("os.kill(os.getpid(), 11)", "it was ended by signal 11 (SIGSEGV)"), ("sys.exit(3)", "it ended with status 3")):
+        for text, message in (("os.kill(os.getpid(), 11)", "it was ended by signal 11 (SIGSEGV)"), ("sys.exit(3)", "it ended with status 3")):
             with self.unit(text) as unit, self.assertRaises(Broken) as found:
                 unit.greet("a")
-            self.assertEqual(str(found.exception), f"greeting: {said}")
+            self.assertEqual(str(found.exception), f"greeting: {message}")
         with self.assertRaises(Failed) as failed:
             OtherUnit("/nowhere/unit")
         self.assertIn("/nowhere/unit: No such file", str(failed.exception))
@@ -233,21 +233,21 @@ greet("; ".join((tried(lambda: open(WRITTEN, "w")), tried(lambda: open(scratch +
     def test_its_name_is_spelled(self) -> None:
         for name, wanted in (("good\nnothing differs\x1b[8m", "good\\x0anothing differs\\x1b[8m"), ("\ud800", "\\ud800"),
                              ("a\u202eb", "a\\u202eb")):
-            told = oracle.Asked([], protocol.Greeting(name, protocol.ANSWER))
-            self.assertEqual(next(oracle.lines(told)).text, f"the unit {wanted}")
+            comparison = oracle.Comparison([], protocol.Greeting(name, protocol.ANSWER))
+            self.assertEqual(next(oracle.lines(comparison)).text, f"the unit {wanted}")
 
     def test_many_names_take_linear_time(self) -> None:
-        told = line({f"n{number}": 0 for number in range(12_000)})
+        long = line({f"n{number}": 0 for number in range(12_000)})
         begun = time.process_time()
         with self.assertRaises(protocol.Wrong):
-            protocol.greeting_of(told)
+            protocol.greeting_of(long)
         self.assertLess(time.process_time() - begun, 1)
 
 
-def asked(records: list[Json], **changes: Json) -> oracle.Asked:
+def comparison_of(records: list[Json], **changes: Json) -> oracle.Comparison:
     """What a unit answers that says all, with some answers that are other ones: `e3={..}` of event 3."""
     answers = [protocol.answer_of(one, protocol.ANSWER) | changes.get(f"e{one['event']}", {}) for one in records]
-    return oracle.Asked(records, protocol.Greeting("x", protocol.ANSWER), answers)
+    return oracle.Comparison(records, protocol.Greeting("x", protocol.ANSWER), answers)
 
 
 class Compared(unittest.TestCase):
@@ -256,57 +256,57 @@ class Compared(unittest.TestCase):
     records = [record(0, "powerup"), *(record(event) for event in range(1, 4)), record(4, "powerup", life=2),
                record(5, life=2)]
 
-    def told(self, **changes: Json) -> list[Json]:
+    def changed(self, **changes: Json) -> list[Json]:
         """The lines after the first one."""
-        return [one.told for one in oracle.lines(asked(self.records, **changes))][1:]
+        return [one.members for one in oracle.lines(comparison_of(self.records, **changes))][1:]
 
     def test_all_agree(self) -> None:
-        self.assertTrue(asked(self.records).agrees)
-        self.assertEqual(self.told(), [{"life": 1, "first_event": 0, "last_event": 3, "against": "agrees"},
+        self.assertTrue(comparison_of(self.records).agrees)
+        self.assertEqual(self.changed(), [{"life": 1, "first_event": 0, "last_event": 3, "against": "agrees"},
                                        {"life": 2, "first_event": 4, "last_event": 5, "against": "agrees"},
                                        {"end": "nothing_differs"}])
 
     def test_the_first_difference_ends_a_life(self) -> None:
-        told = self.told(e1={"brake": "service"}, e2={"mode": "TR"})
-        self.assertEqual([(one.get("against"), one.get("field")) for one in told],
+        lines = self.changed(e1={"brake": "service"}, e2={"mode": "TR"})
+        self.assertEqual([(one.get("against"), one.get("field")) for one in lines],
                          [("agrees", None), ("differs", "brake"), ("not_compared", None), ("agrees", None),
                           (None, None)])
-        self.assertEqual(told[2],
+        self.assertEqual(lines[2],
                          {"life": 1, "first_event": 2, "last_event": 3, "against": "not_compared",
                           "reason": "after_difference"})
-        self.assertFalse(asked(self.records, e5={"limit_m_per_h": 39_999}).agrees)
+        self.assertFalse(comparison_of(self.records, e5={"limit_m_per_h": 39_999}).agrees)
 
     def test_each_member_is_compared(self) -> None:
         for name, value in (("mode", "OS"), ("level", None), ("brake", "service"), ("indications", ["trip"]),
                             ("place_cm", 1), ("uncertainty_cm", 1),
                             ("limit_m_per_h", 1)):
-            self.assertEqual(self.told(e3={name: value})[1]["field"], name)
+            self.assertEqual(self.changed(e3={name: value})[1]["field"], name)
 
     def test_the_order_of_indications_says_nothing(self) -> None:
         shown = [record(0, "powerup", indications=["trip", "overspeed"])]
-        self.assertTrue(asked(shown, e0={"indications": ["overspeed", "trip"]}).agrees)
+        self.assertTrue(comparison_of(shown, e0={"indications": ["overspeed", "trip"]}).agrees)
 
-    def test_what_is_not_told(self) -> None:
-        self.assertEqual(oracle.untold({"limit_kmh", "mode", "shows_trip", "event", "min_safe_front_cm"},
+    def test_what_is_not_reported(self) -> None:
+        self.assertEqual(oracle.not_reported({"limit_kmh", "mode", "shows_trip", "event", "min_safe_front_cm"},
                                        ("mode", "brake", "place_cm")),
                          ["limit_kmh", "min_safe_front_cm", "shows_trip"])
 
     def test_answers_in_place_of_records(self) -> None:
-        told = oracle.answered(asked([cases.derived(record(0, "powerup") | {"speed_m_per_h": 0})],
+        answered = oracle.answered(comparison_of([cases.derived(record(0, "powerup") | {"speed_m_per_h": 0})],
                                      e0={"place_cm": 50, "uncertainty_cm": 7, "limit_m_per_h": 1_500,
                                          "indications": ["trip"]}))[0]
-        self.assertEqual((told["min_safe_front_cm"], told["max_safe_front_cm"], str(told["limit_kmh"]),
-                          told["shows_trip"]), (43, 57, "1.5", True))
+        self.assertEqual((answered["min_safe_front_cm"], answered["max_safe_front_cm"], str(answered["limit_kmh"]),
+                          answered["shows_trip"]), (43, 57, "1.5", True))
 
 
 class Properties(unittest.TestCase):
     """What is judged, and what isn't."""
 
-    def judged(self, told: str, records: list[Json]) -> int | str:
+    def judged(self, members: str, records: list[Json]) -> int | str:
         """How many records of some were judged by a property; or which event broke it."""
         with tempfile.TemporaryDirectory() as room:
             path = Path(room) / "x.search.yaml"
-            path.write_text(f"search: x\nproperties:\n  - {{note: a, {told}}}\n", encoding="utf-8")
+            path.write_text(f"search: x\nproperties:\n  - {{note: a, {members}}}\n", encoding="utf-8")
             one, = properties.read(path).properties
         found = properties.derived(case_runner.with_speeds(records))
         try:
@@ -319,11 +319,11 @@ class Properties(unittest.TestCase):
              record(5, "powerup", mode="SB", life=2), record(6, mode="FS", life=2)]
 
     def test_always_and_never(self) -> None:
-        for told, wanted in (("always: {mode: [SB, FS, TR]}", 7), ("always: {mode: [SB, FS]}", "event 3"),
+        for text, wanted in (("always: {mode: [SB, FS, TR]}", 7), ("always: {mode: [SB, FS]}", "event 3"),
                              ("never: {mode: TR}", "event 3"),
                              ("where: {mode: TR}, always: {brake: emergency}", "event 4"),
                              ("where: {mode: PT}, never: {brake: none}", 0)):
-            self.assertEqual(self.judged(told, self.lives), wanted, told)
+            self.assertEqual(self.judged(text, self.lives), wanted, text)
 
     def test_before_is_of_the_same_life(self) -> None:
         self.assertEqual(self.judged("before: {mode: TR}, always: {mode: TR}", self.lives), 1)
@@ -337,9 +337,9 @@ class Properties(unittest.TestCase):
         self.assertEqual(self.judged("since: {mode: TR}, always: {life: 1}", self.lives), 2)
 
     def test_preceded_by_is_of_the_same_life(self) -> None:
-        told = "where: {mode: [FS, TR]}, preceded_by: {event: 1}"
-        self.assertEqual(self.judged(told, self.lives[:5]), 4)
-        self.assertEqual(self.judged(told, self.lives), "event 6")
+        text = "where: {mode: [FS, TR]}, preceded_by: {event: 1}"
+        self.assertEqual(self.judged(text, self.lives[:5]), 4)
+        self.assertEqual(self.judged(text, self.lives), "event 6")
 
     def test_leads_to(self) -> None:
         self.assertEqual(self.judged("where: {event: 1}, leads_to: {mode: TR}, within_events: 2", self.lives), 1)
@@ -348,19 +348,19 @@ class Properties(unittest.TestCase):
         self.assertEqual(self.judged("where: {event: 4}, leads_to: {mode: PT}, within_events: 9", self.lives), 0)
 
     def test_how_far_a_train_rolled_back(self) -> None:
-        told = [record(0, "powerup"), reading(1, 500) | back(100), reading(2, 500), reading(3, 500) | back(101),
+        records = [record(0, "powerup"), reading(1, 500) | back(100), reading(2, 500), reading(3, 500) | back(101),
                 reading(4, 0) | back(7)]
         for event, cm in enumerate((0, 100, 100, 201, 7)):
             self.assertEqual(self.judged(f"where: {{event: {event}, rolled_back_cm: {cm}}}, always: {{event: {event}}}",
-                                         told), 1)
+                                         records), 1)
 
     def test_faults(self) -> None:
-        for told in ("always: {mode: FS}, never: {mode: TR}", "where: {mode: FS}",
+        for text in ("always: {mode: FS}, never: {mode: TR}", "where: {mode: FS}",
                      "until: {mode: FS}, always: {mode: FS}", "always: {packet: 12}",
                      "preceded_by: {mode: FS}", "leads_to: {mode: FS}", "always: {mode: FS}, within_ms: 2",
                      "always: {mode: XX}"):
-            with self.assertRaises(Failed, msg=told):
-                self.judged(told, self.lives)
+            with self.assertRaises(Failed, msg=text):
+                self.judged(text, self.lives)
 
 
 def back(cm: int) -> Json:
@@ -371,8 +371,8 @@ def back(cm: int) -> Json:
 class Records(unittest.TestCase):
     """Records that somebody has."""
 
-    def said(self, text: str) -> str:
-        """What is said of a file that holds no records."""
+    def error(self, text: str) -> str:
+        """The error for a file without records."""
         with tempfile.TemporaryDirectory() as room:
             path = Path(room) / "events"
             path.write_text(text, encoding="utf-8")
@@ -381,12 +381,12 @@ class Records(unittest.TestCase):
             return str(found.exception).removeprefix(f"{path}:")
 
     def test_faults(self) -> None:
-        self.assertIn("contains no record", self.said('{"image": {}}\n{"end": "done"}\n'))
-        self.assertIn("2:1: not JSON", self.said("{}\n{"))
-        self.assertIn("1:1: not an object", self.said("[]"))
-        self.assertIn("1:1: member life is missing", self.said('{"event": 1}'))
+        self.assertIn("contains no record", self.error('{"image": {}}\n{"end": "done"}\n'))
+        self.assertIn("2:1: not JSON", self.error("{}\n{"))
+        self.assertIn("1:1: not an object", self.error("[]"))
+        self.assertIn("1:1: member life is missing", self.error('{"event": 1}'))
         wrongs: list[Json] = [{"event": "1"}, {"limit_m_per_h": "40"}, {"indications": [1]}, {"decoded": []},
                               {"decoded": {"packets": [{}]}},
                               {"life": None}, {"place_cm": 1.5}]
         for wrong in wrongs:
-            self.assertIn("1:1: a value of this record", self.said(json.dumps(record(1) | wrong)), wrong)
+            self.assertIn("1:1: a value of this record", self.error(json.dumps(record(1) | wrong)), wrong)

@@ -22,7 +22,7 @@ RUN = (record(0, "powerup", mode="SB", brake="emergency"), record(1, "telegram",
        reading(2, 30_000), reading(3, 55_000, brake="emergency", indications=["overspeed"]), reading(4, 0, brake="none"))
 
 
-def told() -> Journal:
+def sample() -> Journal:
     """The journal of RUN, with the causes of its brakes."""
     found = journal(*RUN)
     found.replay = [{"replay": "agrees", "life": 1, "first_event": 0, "last_event": 4}, {"end": "nothing_differs"}]
@@ -62,8 +62,8 @@ class Pages(unittest.TestCase):
         page = report.page(journal(*RUN))
         self.assertEqual(page.count("<b>Cause not known:</b> no replay was made."), 2)
 
-    def test_causes_are_told(self) -> None:
-        page = report.page(told())
+    def test_causes_are_listed(self) -> None:
+        page = report.page(sample())
         self.assertNotIn("ause not known", page)
         self.assertIn(f"<li>the speed was above the limit by more than 10 km/h, and the train has not stood since: since <a href=\"#r3\">event 3</a>; ends when the train stands</li>", page)
 
@@ -103,17 +103,17 @@ class Trips(unittest.TestCase):
         self.assertIn("<li>the train was tripped: it was tripped before the power-up, and why isn&#39;t known</li>", page)
 
     def test_where_it_is_not_known(self) -> None:
-        told = tripped()
-        told.replay, told.why = [], []
-        self.assertIn("km/h: cause not known: no replay was made", report.page(told))
+        sample = tripped()
+        sample.replay, sample.why = [], []
+        self.assertIn("km/h: cause not known: no replay was made", report.page(sample))
 
 
 class Briefs(unittest.TestCase):
     """The box at the top."""
 
-    def brief(self, told: Journal) -> summary.Brief:
-        table = tables.frame(told)
-        return summary.brief(told, table, tables.interventions(table))
+    def brief(self, sample: Journal) -> summary.Brief:
+        table = tables.frame(sample)
+        return summary.brief(sample, table, tables.interventions(table))
 
     def test_of_lives(self) -> None:
         found = self.brief(tripped())
@@ -129,9 +129,9 @@ class Briefs(unittest.TestCase):
 
     def test_only_power_ups_are_folded(self) -> None:
         page = report.page(tripped())
-        _, _, behind = page.partition("<details><summary>1 power-up, each")
-        self.assertIn('<a href="#r0">0</a>–0', behind.partition("</details>")[0])
-        self.assertNotIn('<a href="#r4">', behind.partition("</details>")[0])
+        _, _, rest = page.partition("<details><summary>1 power-up, each")
+        self.assertIn('<a href="#r0">0</a>–0', rest.partition("</details>")[0])
+        self.assertNotIn('<a href="#r4">', rest.partition("</details>")[0])
         self.assertIn("1 power-up", page.partition("<h2>What was read")[0])
 
     def test_lives_newest_first(self) -> None:
@@ -142,20 +142,20 @@ class Briefs(unittest.TestCase):
 
     def test_what_is_perhaps_not_released(self) -> None:
         block = {"slot": 0, "state": "block", "block": 1, "life": 1, "first_event": 0, "last_event": 4, "gate_is_own": True, "in_journal": True}
-        behind = {"slot": 1, "state": "unwritten", "block": 2, "life": 1, "first_event": 5, "last_event": 6}
-        for slots, wanted in (([block], (False, None)), ([block, behind], (True, 5)), ([block, behind | {"life": 2}], (False, 5))):
-            told = journal(*RUN, slots=slots)
-            told.records = [one | {"block": 1} for one in told.records]
-            found = self.brief(told).newest
+        following = {"slot": 1, "state": "unwritten", "block": 2, "life": 1, "first_event": 5, "last_event": 6}
+        for slots, wanted in (([block], (False, None)), ([block, following], (True, 5)), ([block, following | {"life": 2}], (False, 5))):
+            sample = journal(*RUN, slots=slots)
+            sample.records = [one | {"block": 1} for one in sample.records]
+            found = self.brief(sample).newest
             assert found
             self.assertEqual((found.is_released, found.unwritten and found.unwritten["first_event"]), wanted)
-            page = report.page(told)
+            page = report.page(sample)
             self.assertEqual("<b>perhaps not</b>: the outputs of block 1, the newest, of events 0 to 4" in page, not wanted[0])
             self.assertEqual("<b>None</b> of the outputs of block 2, events 5 to 6" in page, wanted[1] is not None)
 
     def test_a_power_up_alone_releases_nothing(self) -> None:
         block = {"slot": 0, "state": "block", "block": 1, "life": 1, "first_event": 0, "last_event": 0, "gate_is_own": True, "in_journal": True}
-        self.assertIn("holds a power-up alone, whose output is never released", report.page(journal(record(0, "powerup"), slots=[block])))
+        self.assertIn("holds only a power-up, whose output is never released", report.page(journal(record(0, "powerup"), slots=[block])))
 
     def test_faults(self) -> None:
         differs = {"replay": "record_differs", "life": 1, "block": 1, "event": 3, "field": "brake", "journal": {}, "kernel": {}}
@@ -170,12 +170,12 @@ class Briefs(unittest.TestCase):
                 ([differs, head, ends[1]], {"whole": False}, [lost, "the replay differs: life 1, event 3, in brake, and 1 more"]),
                 ([head, ends[1]], {}, ["the replay differs: life 1, the head of block 2, in level"]),
                 ([left | {"reason": "within_block"}, ends[1]], {}, ["events 4 to 4 can't be replayed: no head contains what was kept before its power-up"]),
-                ([ends[1]], {}, ["the replay says that something differs or is lost"]),
+                ([ends[1]], {}, ["the replay reports that something differs or is lost"]),
                 ([ends[0]], {"whole": False, "image": {"first_sector": {"slots": 16, "size_slots": 17}}},
-                 [f"{lost}: the file has 17 slots, and its first sector says 16. So a power-up and an examination accept no journal in it; "
-                  "the records are those of each slot that can be read"])]
-        for replay, told, wanted in rows:
-            one = journal(*RUN, **told)
+                 [f"{lost}: the file has 17 slots, and its first sector says 16, so a power-up and an examination accept no journal in it; "
+                  "the records are those of each readable slot"])]
+        for replay, members, wanted in rows:
+            one = journal(*RUN, **members)
             one.replay = replay
             self.assertEqual(summary.faults(one), wanted)
 
@@ -187,15 +187,15 @@ class Forms(unittest.TestCase):
 
     def test_charts_have_role_and_title(self) -> None:
         found = re.findall(r'<svg [^>]*role="img" aria-labelledby="(\S+) (\S+)"><title id="(\S+)">([^<]+)</title><desc id="(\S+)">([^<]+)</desc>',
-                           report.page(told()))
-        self.assertEqual(len(found), report.page(told()).count("<svg "))
+                           report.page(sample()))
+        self.assertEqual(len(found), report.page(sample()).count("<svg "))
         self.assertEqual([(one[0], one[1]) for one in found], [(one[2], one[4]) for one in found])
         self.assertEqual(found[0][3], "Life 1: speed over distance")
         self.assertEqual(found[0][5], "Events 0 to 4; modes SB, FS; speed at most 55.0 km/h; 0 of 5 events command the service brake, "
                                       "2 the emergency brake.")
 
     def test_no_link_of_a_chart_is_a_stop_of_the_keyboard(self) -> None:
-        pictures = re.findall("<svg .*?</svg>", report.page(told()), re.DOTALL)
+        pictures = re.findall("<svg .*?</svg>", report.page(sample()), re.DOTALL)
         links = [link for picture in pictures for link in re.findall("<a [^>]*>", picture)]
         self.assertTrue(links)
         self.assertEqual([link for link in links if 'tabindex="-1"' not in link], [])
@@ -255,10 +255,10 @@ class Parts(unittest.TestCase):
     def test_lives(self) -> None:
         rows: list[tuple[list[int], list[tuple[int, list[int]]]]] = [
             ([1, 1, 2], [(1, [0, 1]), (2, [2])]), ([2, 2, 1], [(1, [2]), (2, [0, 1])]), ([1, 2, 1], [(1, [0, 2]), (2, [1])]), ([], [])]
-        for lives, told in rows:
+        for lives, wanted in rows:
             table = tables.frame(journal(*(record(event, life=life) for event, life in enumerate(lives))))
             found = report.lives_of(table)
-            self.assertEqual([(one.life, list(one.table["event"])) for one in found], told)
+            self.assertEqual([(one.life, list(one.table["event"])) for one in found], wanted)
 
     def test_take(self) -> None:
         table = tables.frame(journal(*RUN))
@@ -280,15 +280,15 @@ class Databases(unittest.TestCase):
         return int(self.connection.execute(f"SELECT COUNT(*) FROM {name}").fetchone()[0])
 
     def test_an_image_is_added_once(self) -> None:
-        told = journal(*RUN)
-        self.assertTrue(database.add(self.connection, told, tables.frame(told)))
-        self.assertFalse(database.add(self.connection, told, tables.frame(told)))
+        sample = journal(*RUN)
+        self.assertTrue(database.add(self.connection, sample, tables.frame(sample)))
+        self.assertFalse(database.add(self.connection, sample, tables.frame(sample)))
         self.assertEqual([self.count(name) for name in ("image", "event", "telegram", "packet", "field")], [1, 5, 1, 1, 6])
 
     def test_whole_or_not_at_all(self) -> None:
-        told = journal(*RUN, record(5, kind="strange"))
+        sample = journal(*RUN, record(5, kind="strange"))
         with self.assertRaises(Failed):
-            database.add(self.connection, told, tables.frame(told))
+            database.add(self.connection, sample, tables.frame(sample))
         self.assertEqual([self.count(name) for name in ("image", "block", "event")], [0, 0, 0])
 
     def test_types_are_strict(self) -> None:
@@ -296,15 +296,15 @@ class Databases(unittest.TestCase):
             self.connection.execute("INSERT INTO lost (image, first_block, last_block) VALUES (1, 'x', 2)")
 
     def test_views(self) -> None:
-        told = journal(*RUN)
-        database.add(self.connection, told, tables.frame(told))
+        sample = journal(*RUN)
+        database.add(self.connection, sample, tables.frame(sample))
         found = self.connection.execute("SELECT first_event, last_event, is_power_up FROM brake_intervention").fetchall()
         self.assertEqual(found, [(0, 0, 1), (3, 3, 0)])
         found = self.connection.execute("SELECT first_event, until_event, most_over_kmh FROM above_limit").fetchall()
         self.assertEqual(found, [(3, 4, 15.0)])
 
     def test_causes(self) -> None:
-        journals = told(), journal(*RUN)
+        journals = sample(), journal(*RUN)
         journals[1].examination["image"]["sha256"] = "cd" * 32
         for one in journals:
             database.add(self.connection, one, tables.frame(one))
@@ -315,8 +315,8 @@ class Databases(unittest.TestCase):
         self.assertEqual(self.count("why"), 4)
 
     def test_trips(self) -> None:
-        told = tripped()
-        database.add(self.connection, told, tables.frame(told))
+        sample = tripped()
+        database.add(self.connection, sample, tables.frame(sample))
         found = self.connection.execute("SELECT life, event, trip_cause, says, section FROM trip").fetchall()
         self.assertEqual(found, [(1, 2, "staff_distance", "the path in Staff Responsible was above D_NVSTFF", "4.4")])
         found = self.connection.execute("SELECT event, trip_cause_event, trip_cause_section FROM why WHERE trip_cause IS NOT NULL").fetchall()

@@ -41,23 +41,23 @@ class Reading(unittest.TestCase):
         os.environ["GAKNIFUR_ETCS_LAB"] = str(self.program)
         self.addCleanup(lambda: os.environ.pop("GAKNIFUR_ETCS_LAB") if before is None else
                         os.environ.update(GAKNIFUR_ETCS_LAB=before))
-        told = journal(record(0)).examination
-        told["image"]["sha256"] = hashlib.sha256(b"image").hexdigest()
-        self.told = told
+        examination = journal(record(0)).examination
+        examination["image"]["sha256"] = hashlib.sha256(b"image").hexdigest()
+        self.examination = examination
         self.replayed({"life": 1, "first_event": 0, "last_event": 0, "replay": "agrees"}, {"end": "nothing_differs"})
-        self.says("examine", [told])
+        self.says("examine", [examination])
         self.says("events", [{"image": {}}, record(0), {"unreadable": {"block": 4}}, {"end": "done"}])
         self.says("why", [line(0, "none")])
 
-    def says(self, word: str, lines: list[object], status: int = 0, said: str = "") -> None:
+    def says(self, word: str, lines: list[object], status: int = 0, errors: str = "") -> None:
         """What the stand-in prints."""
-        for end, text in ((f".{word}", "".join(json.dumps(line) + "\n" for line in lines)), (f".{word}.said", said),
+        for end, text in ((f".{word}", "".join(json.dumps(line) + "\n" for line in lines)), (f".{word}.said", errors),
                           (f".{word}.status", str(status))):
             self.program.with_name(self.program.name + end).write_text(text)
 
     def replayed(self, *lines: object) -> None:
         """What the stand-in prints of a check: the examination, these lines of the replay, and the verdict."""
-        self.says("check", [self.told, *lines, {"check": {"whole": True, "replay": "nothing_differs"}}])
+        self.says("check", [self.examination, *lines, {"check": {"whole": True, "replay": "nothing_differs"}}])
 
     def read(self) -> Journal:
         return read(self.image, replay=True, why=True)
@@ -84,7 +84,7 @@ class Reading(unittest.TestCase):
         self.assertRaisesRegex(Failed, "cut off", self.read)
 
     def test_a_replay_that_was_cut_off(self) -> None:
-        self.says("check", [self.told, {"life": 1, "replay": "agrees"}])
+        self.says("check", [self.examination, {"life": 1, "replay": "agrees"}])
         self.assertRaisesRegex(Failed, "cut off", self.read)
 
     def test_a_replay_that_is_refused(self) -> None:
@@ -120,10 +120,10 @@ class Reading(unittest.TestCase):
         self.assertEqual(len(read(self.image, is_own=True).records), 1)
 
     def test_no_json(self) -> None:
-        for text, said in (("event 1\n", "isn't JSON"), ('{"end": "done"}\n[1\n', "isn't JSON"), ('{"end": "done"}\n1\n', "isn't an object"),
+        for text, message in (("event 1\n", "isn't JSON"), ('{"end": "done"}\n[1\n', "isn't JSON"), ('{"end": "done"}\n1\n', "isn't an object"),
                            ('{"end": "done"}, {"end": "done"}\n', "isn't JSON"), ('[1\n2]\n', "isn't JSON")):
             self.program.with_name("etcs_lab.events").write_text(text)
-            self.assertRaisesRegex(Failed, said, self.read)
+            self.assertRaisesRegex(Failed, message, self.read)
 
 
 class Whole(unittest.TestCase):
@@ -142,8 +142,8 @@ class Whole(unittest.TestCase):
 
     def test_all_that_it_prints(self) -> None:
         done = self.ran('printf "%300000s" "$1"; printf "%200000s" "$2" 1>&2; exit 3')
-        self.assertEqual((done.status, len(done.output), len(done.said)), (3, 300_000, 200_000))
-        self.assertEqual((done.output[-6:], done.said[-7:]), (b" first", b" second"))
+        self.assertEqual((done.status, len(done.output), len(done.errors)), (3, 300_000, 200_000))
+        self.assertEqual((done.output[-6:], done.errors[-7:]), (b" first", b" second"))
         self.assertEqual(self.ran("echo $GAKNIFUR_A"), Ran(0, b"\n", b""))
         with patch.dict(os.environ, {"GAKNIFUR_A": "a"}):
             self.assertEqual(self.ran("echo $GAKNIFUR_A"), Ran(0, b"a\n", b""))
@@ -169,7 +169,7 @@ class Whole(unittest.TestCase):
         with patch.dict(os.environ, GAKNIFUR_ETCS="/none/etcs"):
             self.assertRaisesRegex(Failed, "^/none/etcs: No such file or directory$", etcs, "decode", "90")
 
-    def test_none_stays_behind_an_interrupt(self) -> None:
+    def test_none_is_left_after_an_interrupt(self) -> None:
         waited: list[int] = []
 
         def interrupted(process: int, options: int) -> tuple[int, int]:
@@ -186,12 +186,12 @@ class Whole(unittest.TestCase):
 
     def test_streams_that_are_closed(self) -> None:
         self.ran("echo out; echo said 1>&2")
-        asked = ("import sys; sys.path.insert(0, sys.argv[1]); from gaknifur.program import ran; told = ran([sys.argv[2]])\n"
-                 "open(sys.argv[2] + '.told', 'w').write(repr((told.status, told.output, told.said)))")
+        asked = ("import sys; sys.path.insert(0, sys.argv[1]); from gaknifur.program import ran; done = ran([sys.argv[2]])\n"
+                 "open(sys.argv[2] + '.done', 'w').write(repr((done.status, done.output, done.errors)))")
         for closes in ("", "<&-", ">&-", "<&- >&-", "<&- >&- 2>&-"):
             subprocess.run(["sh", "-c", f'exec "$0" -I -B -c "$1" "$2" "$3" {closes}', sys.executable, asked, str(TOP / "python"), str(self.path)],
                            check=True)
-            self.assertEqual(Path(f"{self.path}.told").read_text(), r"(0, b'out\n', b'said\n')", closes)
+            self.assertEqual(Path(f"{self.path}.done").read_text(), r"(0, b'out\n', b'said\n')", closes)
 
     def test_whose_status_the_system_throws_away(self) -> None:
         before = signal.signal(signal.SIGCHLD, signal.SIG_IGN)
@@ -205,16 +205,16 @@ class Packed(unittest.TestCase):
     """Records of a long journal."""
 
     def test_are_those_that_were_added(self) -> None:
-        told = [record(number, identity=f"IC {number}", telegram=None if number % 2 else "90" * 104) for number in range(23)]
+        records = [record(number, identity=f"IC {number}", telegram=None if number % 2 else "90" * 104) for number in range(23)]
         for count in (0, 1, 7, 8, 9, 11, 12, 23):
             found = Records()
             with patch.multiple(reading, PACK=4, MOST_UNPACKED=8):
-                for one in told[:count]:
+                for one in records[:count]:
                     found.append(one)
                 self.assertEqual((len(found), bool(found), len(found.packs)), (count, count > 0, count // 4 if count >= 8 else 0))
-                self.assertEqual(list(found), told[:count])
-                self.assertEqual([found[at] for at in range(-count, count)], 2 * told[:count])
-                self.assertEqual((found[3:], found[-2:], found[::5]), (told[:count][3:], told[:count][-2:], told[:count:5]))
+                self.assertEqual(list(found), records[:count])
+                self.assertEqual([found[at] for at in range(-count, count)], 2 * records[:count])
+                self.assertEqual((found[3:], found[-2:], found[::5]), (records[:count][3:], records[:count][-2:], records[:count:5]))
                 self.assertRaises(IndexError, lambda: found[count])
 
 

@@ -39,8 +39,8 @@ class Tables(unittest.TestCase):
         """The cases of a table."""
         (self.room / "map.yaml").write_text(mapping, encoding="utf-8")
         (self.room / "table.csv").write_text(table, encoding="utf-8")
-        told = sequences.mapping(self.room / "map.yaml")
-        return sequences.cases_of(told, sequences.table(self.room / "table.csv", told.columns), "table")
+        found = sequences.mapping(self.room / "map.yaml")
+        return sequences.cases_of(found, sequences.table(self.room / "table.csv", found.columns), "table")
 
     def test_a_row(self) -> None:
         made = self.made("a title\n\nNo,I/F,Action,Expected\n1,ODO,5  m,brake none\n")
@@ -48,7 +48,7 @@ class Tables(unittest.TestCase):
         self.assertIn('      - {drive: "5 m at 5 km/h"}\n      - flush\n      - {mark: row_4}\n', made.cases[0])
         self.assertIn('  - {note: "step 1: brake none", at: {mark: row_4}, expect: {brake: none}}\n', made.cases[0])
 
-    def test_what_is_not_mapped_is_told_and_not_guessed(self) -> None:
+    def test_what_is_not_mapped_is_reported_and_not_guessed(self) -> None:
         made = self.made("No;I/F;Action;Expected\n1;DMI;5 m;\n2;ODO;5 m and more;all is well\n3;X;nothing;\n")
         self.assertEqual((made.steps, made.results), (0, 0))
         self.assertEqual([one.partition(": ")[2] for one in made.unmapped],
@@ -76,7 +76,7 @@ class Tables(unittest.TestCase):
             self.made(f"{head}a\t1\tODO\t5 m\t\nb\t1\tODO\t7 m\t\na\t2\tODO\t6 m\t\n", mapping)
 
     def test_faults(self) -> None:
-        for table, mapping, said in (
+        for table, mapping, message in (
                 ("No,Action\n", MAPPING, "no row has the column names"),
                 ("No,I/F,Action,Expected\n\"1", MAPPING, "not a UTF-8 table"),
                 ("", MAPPING.replace("(?P<way>", "(?P<way"), "not a regular expression"),
@@ -84,7 +84,7 @@ class Tables(unittest.TestCase):
                 ("", MAPPING.replace("left_out: why", "left_out: why, steps: [flush]"), "expected one of steps, left_out")):
             with self.assertRaises(Failed) as found:
                 self.made(table, mapping)
-            self.assertIn(said, str(found.exception))
+            self.assertIn(message, str(found.exception))
 
 
 class Workbooks(unittest.TestCase):
@@ -103,8 +103,8 @@ class Workbooks(unittest.TestCase):
             book.active.append(row)
         book.create_sheet("others").append(["No", "I/F", "Action", "Expected"])
         book.save(self.path)
-        with ZipFile(self.path) as told:
-            parts = {name: told.read(name) for name in told.namelist()}
+        with ZipFile(self.path) as archive:
+            parts = {name: archive.read(name) for name in archive.namelist()}
         sheet = "xl/worksheets/sheet1.xml"
         parts[sheet] = change(parts[sheet].decode()).encode()
         with ZipFile(self.path, "w") as made:
@@ -128,9 +128,9 @@ class Workbooks(unittest.TestCase):
         def saved(xml: str) -> str:
             """As a spreadsheet saves it: a formula, and next to it what it came to."""
             for place, formula, kind, value in (("A2", "1+1", "n", "2.0"), ("C2", "B2&amp;A2", "str", "ODO2"), ("D2", 'IF(1,"","x")', "str", "")):
-                told = f'<c r="{place}"><f>{formula}</f><v></v></c>'
-                assert told in xml or told.replace("<v></v>", "<v />") in xml, xml
-                for one in (told, told.replace("<v></v>", "<v />")):
+                cell = f'<c r="{place}"><f>{formula}</f><v></v></c>'
+                assert cell in xml or cell.replace("<v></v>", "<v />") in xml, xml
+                for one in (cell, cell.replace("<v></v>", "<v />")):
                     xml = xml.replace(one, f'<c r="{place}" t="{kind}"><f>{formula}</f><v>{value}</v></c>')
             return xml
 
@@ -142,10 +142,10 @@ class Workbooks(unittest.TestCase):
                                               "A1": [["=A9"], self.HEAD]}
         for cell, rows in tables.items():
             self.save(rows)
-            with self.assertRaisesRegex(Failed, f"table.xlsx: the cell {cell} has a formula, and the workbook doesn't say"):
+            with self.assertRaisesRegex(Failed, f"table.xlsx: the cell {cell} has a formula without a saved value"):
                 self.rows()
 
-    def test_a_sheet_that_tells_another_size(self) -> None:
+    def test_a_sheet_with_another_size(self) -> None:
         self.save([self.HEAD, [1, "ODO", "5 m", "brake none"]],
                   lambda xml: xml.replace('<dimension ref="A1:D2"', '<dimension ref="A1"'))
         self.assertEqual(self.rows(), [("2", "1", "ODO", "5 m", "brake none")])
@@ -153,10 +153,10 @@ class Workbooks(unittest.TestCase):
     def test_the_cases_are_those_of_the_same_table_as_text(self) -> None:
         rows: list[list[Any]] = [self.HEAD, [1, "ODO", "5 m", "brake none"], [2, "X", "nothing", None]]
         self.save(rows)
-        text, told = self.path.with_suffix(".csv"), self.path.with_name("map.yaml")
+        text, map_path = self.path.with_suffix(".csv"), self.path.with_name("map.yaml")
         text.write_text("No,I/F,Action,Expected\n1,ODO,5 m,brake none\n2,X,nothing,\n", encoding="utf-8")
-        told.write_text(MAPPING, encoding="utf-8")
-        mapping = sequences.mapping(told)
+        map_path.write_text(MAPPING, encoding="utf-8")
+        mapping = sequences.mapping(map_path)
         first, second = (sequences.cases_of(mapping, sequences.table(one, mapping.columns), "table") for one in (self.path, text))
         self.assertEqual((first.cases, first.steps, first.results, len(first.left_out)), (second.cases, 1, 1, 1))
 
@@ -195,7 +195,7 @@ class Captures(unittest.TestCase):
         self.assertEqual(times, [(0, 0), (0, 999_000), (2, 0), (7, 0)])
 
     def test_the_layouts_in_lua(self) -> None:
-        told = dissector.lua()
-        self.assertIn('    [66] = {"NID_TSR"},\n', told)
-        self.assertIn('{where = "Q_SECTIONTIMER", is = 1, "T_SECTIONTIMER", "D_SECTIONTIMERSTOPLOC"}', told)
-        self.assertTrue(dissector.LUA.is_own(told.encode()))
+        text = dissector.lua()
+        self.assertIn('    [66] = {"NID_TSR"},\n', text)
+        self.assertIn('{where = "Q_SECTIONTIMER", is = 1, "T_SECTIONTIMER", "D_SECTIONTIMERSTOPLOC"}', text)
+        self.assertTrue(dissector.LUA.is_own(text.encode()))

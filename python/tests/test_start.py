@@ -51,7 +51,7 @@ class Room(unittest.TestCase):
         return path.read_text().split() if path.exists() else []
 
     def lab(self, *words: str, env: Mapping[str, str] = {}, **named: object) -> tuple[int, str, str]:
-        """Runs ./lab in the folder: status, output and what it said."""
+        """Runs ./lab in the folder: its status and both outputs."""
         done = subprocess.run([TOP / "lab", *words], cwd=self.work, env={**os.environ, **env}, stdin=subprocess.DEVNULL, capture_output=True,
                               text=True, timeout=120)
         return done.returncode, done.stdout, done.stderr
@@ -68,11 +68,11 @@ class WithoutLocks(Room):
         return done.returncode, done.stdout, done.stderr
 
     def test_what_needs_none_goes(self) -> None:
-        status, printed, said = self.begun("--version")
-        self.assertEqual((status, printed.splitlines()[-1], said), (0, "not proved: the package is tested", ""))
+        status, printed, stderr = self.begun("--version")
+        self.assertEqual((status, printed.splitlines()[-1], stderr), (0, "not proved: the package is tested", ""))
         (self.work / "a.yaml").write_text("steps: [{drive: 1 m at 5 km/h}]\n")
-        status, printed, said = self.begun("build", "a.yaml")
-        self.assertEqual((status, json.loads(printed), said), (0, {"groups": [], "steps": [{"drive": [100, 5000]}]}, ""))
+        status, printed, stderr = self.begun("build", "a.yaml")
+        self.assertEqual((status, json.loads(printed), stderr), (0, {"groups": [], "steps": [{"drive": [100, 5000]}]}, ""))
 
     def test_what_needs_one_is_refused(self) -> None:
         with patch.object(locks, "fcntl", None), self.assertRaisesRegex(Failed, "no file locks") as found:
@@ -109,8 +109,8 @@ class Folders(Room):
         self.plant(self.work / "matplotlib", "__init__.py")
         (self.work / "a.yaml").write_text("steps: [start]\n")
         for path in (".", f":{self.work}", str(self.work)):
-            told = self.lab("build", "a.yaml", env={"PYTHONPATH": path, "PYTHONSTARTUP": "csv.py", "HOME": str(self.work)})
-            self.assertEqual((told[0], '{"driver": [6]}' in told[1], told[2], self.ran()), (0, True, "", []))
+            result = self.lab("build", "a.yaml", env={"PYTHONPATH": path, "PYTHONSTARTUP": "csv.py", "HOME": str(self.work)})
+            self.assertEqual((result[0], '{"driver": [6]}' in result[1], result[2], self.ran()), (0, True, "", []))
         # a control: what is planted runs where it may
         subprocess.run([sys.executable, "-c", "import pandas"], cwd=self.work, capture_output=True)
         self.assertIn("pandas.py", self.ran())
@@ -139,19 +139,19 @@ class Folders(Room):
         self.plant(self.work, "conftest.py", "plugged.py")
         (suite / "pytest.ini").write_text("[pytest]\npythonpath = ..\naddopts = -p plugged\n")
         (suite / "a.case.yaml").write_text(CASE)
-        status, told, said = self.lab("test", "suite")
-        self.assertEqual((status, "no such file" in told, self.ran()), (1, True, []), told + said)
+        status, output, stderr = self.lab("test", "suite")
+        self.assertEqual((status, "no such file" in output, self.ran()), (1, True, []), output + stderr)
         self.assertEqual(self.lab("test", "suite", "--python")[::2], (1, "lab: suite: pytest can't start: Error importing plugin "
                                                                      "\"plugged\": No module named 'plugged'\n"))
         (suite / "pytest.ini").unlink()
-        status, told, said = self.lab("test", "suite", "--python")
-        self.assertIn("conftest.py", self.ran(), told + said)
+        status, output, stderr = self.lab("test", "suite", "--python")
+        self.assertIn("conftest.py", self.ran(), output + stderr)
 
     def test_words_of_pytest_that_write(self) -> None:
         (self.work / "a.case.yaml").write_text(CASE)
         for word in ("--log-file=kept", "--basetemp=.", "--debug=kept"):
-            status, _, said = self.lab("test", ".", word)
-            self.assertEqual((status, said), (2, f"lab: pytest's {word} isn't supported here, since it overwrites files\n"))
+            status, _, stderr = self.lab("test", ".", word)
+            self.assertEqual((status, stderr), (2, f"lab: pytest's {word} isn't supported here, since it overwrites files\n"))
         self.assertEqual([path.name for path in self.work.iterdir()], ["a.case.yaml"])
 
     def test_results_in_xml(self) -> None:
@@ -161,11 +161,11 @@ class Folders(Room):
                  '</testsuite></testsuites>'
         for notes in ("my own notes", others):
             (self.work / "notes.xml").write_text(notes)
-            status, told, said = self.lab("test", ".", "--junitxml=notes.xml", "--force")
-            self.assertEqual((status, said.split(": ")[1], (self.work / "notes.xml").read_text()), (1, "notes.xml", notes))
-        status, told, said = self.lab("test", ".", "--junitxml", "out.xml")
+            status, output, stderr = self.lab("test", ".", "--junitxml=notes.xml", "--force")
+            self.assertEqual((status, stderr.split(": ")[1], (self.work / "notes.xml").read_text()), (1, "notes.xml", notes))
+        status, output, stderr = self.lab("test", ".", "--junitxml", "out.xml")
         first = (self.work / "out.xml").read_text()
-        self.assertIn(f"generated xml file: {self.work / 'out.xml'}", told)
+        self.assertIn(f"generated xml file: {self.work / 'out.xml'}", output)
         self.assertIn('errors="1"', first)
         self.assertEqual(self.lab("test", ".", "--junitxml=out.xml")[2], "lab: out.xml: already exists; --force overwrites what lab made\n")
         self.assertEqual((self.work / "out.xml").read_text(), first)
@@ -176,8 +176,8 @@ class Folders(Room):
     def test_results_whose_name_is_taken_meanwhile(self) -> None:
         (self.work / "a.case.yaml").write_text(CASE)
         (self.work / "conftest.py").write_text("open('out.xml', 'x').write('my own notes')\n")
-        status, _, said = self.lab("test", ".", "--junitxml=out.xml", "--python")
-        self.assertEqual((status, said), (1, "lab: out.xml: exists and is not results in XML that lab made; it is never overwritten\n"))
+        status, _, stderr = self.lab("test", ".", "--junitxml=out.xml", "--python")
+        self.assertEqual((status, stderr), (1, "lab: out.xml: exists and is not results in XML that lab made; it is never overwritten\n"))
         self.assertEqual((self.work / "out.xml").read_text(), "my own notes")
 
 
@@ -185,7 +185,7 @@ class Nets(Room):
     """Whatever goes wrong."""
 
     def caught(self, error: BaseException) -> tuple[int, str]:
-        """What is said of an exception."""
+        """The status and the message for an exception."""
         def do() -> int:
             raise error
 
@@ -193,10 +193,10 @@ class Nets(Room):
             status = errors.caught(do)
         return status, say.call_args.args[0] if say.called else ""
 
-    def test_each_is_told_in_a_line(self) -> None:
-        status, said = self.caught(KeyError("a\nb"))
+    def test_each_is_reported_in_a_line(self) -> None:
+        status, message = self.caught(KeyError("a\nb"))
         self.assertEqual(status, 5)
-        self.assertRegex(said, r"^internal error: KeyError: 'a\\nb' at errors.py:\d+; docs/reference/lab.md says how to report it$")
+        self.assertRegex(message, r"^internal error: KeyError: 'a\\nb' at errors.py:\d+; docs/reference/lab.md says how to report it$")
         for error in (RecursionError("deep"), AssertionError(), UnicodeEncodeError("utf-8", "\ud800", 0, 1, "surrogates"), StopIteration()):
             self.assertIn(f"internal error: {type(error).__name__}", self.caught(error)[1])
         self.assertEqual(self.caught(MemoryError()), (3, "out of memory"))
@@ -214,10 +214,10 @@ class Nets(Room):
 
     def test_streams_that_are_full_or_closed(self) -> None:
         (self.work / "a.yaml").write_text("steps: [start]\n")
-        for closes, status, said in ((">/dev/full", 3, "lab: No space left on device\n"), (">&-", 3, "lab: standard output is closed\n"),
-                                     ("2>&-", 0, ""), ("<&- >&- 2>&-", 3, "")):
+        for closes, status, message in ((">/dev/full", 3, "lab: No space left on device\n"), (">&-", 3, "lab: standard output is closed\n"),
+                                       ("2>&-", 0, ""), ("<&- >&- 2>&-", 3, "")):
             done = subprocess.run(["sh", "-c", f'"$0" build a.yaml {closes}', TOP / "lab"], cwd=self.work, capture_output=True, text=True)
-            self.assertEqual((done.returncode, done.stderr), (status, said), closes)
+            self.assertEqual((done.returncode, done.stderr), (status, message), closes)
         # no file takes the number of a stream that is closed
         opened = ("import os, sys; sys.path.insert(0, sys.argv[1]); from gaknifur import errors; errors.hold_streams(); "
                   "sys.exit(os.open(os.devnull, os.O_RDONLY))")
@@ -246,11 +246,11 @@ class Names(Room):
         for name, wanted in (("a\x1b[31m\n\u202e", r"a\x1b[31m\x0a\u202e"), (os.fsdecode(b"\xff"), r"\xff")):
             for words in (["table", name], ["build", name], ["report", "none", f"{name}/out"], ["coverage", name], ["compare", name, name]):
                 for language in ("C", "C.UTF-8"):
-                    status, told, said = self.lab(*words, env={"LC_ALL": language})
-                    self.assertEqual((status, told, said.count("\n"), wanted in said or words[0] == "report"), (3, "", 1, True), said)
-                    self.assertTrue(said[:-1].isprintable(), said)
-            status, _, said = self.lab("table", name, "out", name)
-            self.assertEqual((status, wanted in said), (2, True))
+                    status, output, stderr = self.lab(*words, env={"LC_ALL": language})
+                    self.assertEqual((status, output, stderr.count("\n"), wanted in stderr or words[0] == "report"), (3, "", 1, True), stderr)
+                    self.assertTrue(stderr[:-1].isprintable(), stderr)
+            status, _, stderr = self.lab("table", name, "out", name)
+            self.assertEqual((status, wanted in stderr), (2, True))
 
 
 class Calls(Room):
@@ -274,11 +274,11 @@ class Version(Room):
     """One way of numbers."""
 
     def test_is_that_of_the_other_scripts(self) -> None:
-        told = [subprocess.run([TOP / name, "--version"], capture_output=True, text=True).stdout.splitlines()[0].split(" ", 1)
+        versions = [subprocess.run([TOP / name, "--version"], capture_output=True, text=True).stdout.splitlines()[0].split(" ", 1)
                 for name in ("etcs", "etcs_lab", "lab")]
-        self.assertEqual([name for name, _ in told], ["etcs", "etcs_lab", "lab"])
-        self.assertEqual(len({version for _, version in told}), 1)
-        number = told[0][1].split(",")[0]
+        self.assertEqual([name for name, _ in versions], ["etcs", "etcs_lab", "lab"])
+        self.assertEqual(len({version for _, version in versions}), 1)
+        number = versions[0][1].split(",")[0]
         self.assertRegex(number, r"^\d+\.\d+\.\d+$")
         self.assertIn(f'version = "{number}"', (TOP / "python/pyproject.toml").read_text())
 

@@ -1,4 +1,4 @@
-"""Scenarios and test cases in YAML: what they come to, and what is said of their faults."""
+"""Scenarios and test cases in YAML: how they are expanded, and the errors for their faults."""
 import json
 import re
 import tempfile
@@ -41,9 +41,9 @@ OF_UNIT_BITS = f"{HEADER_BITS} 00000011 10 0000010011101 {SPEEDS_BITS} {OVERRIDE
 
 def digits_of(bits: str) -> str:
     """Bits as digits, with zeros up to a whole byte."""
-    told = bits.replace(" ", "")
-    told += "0" * (-len(told) % 8)
-    return f"{int(told, 2):0{len(told) // 4}X}"
+    digits = bits.replace(" ", "")
+    digits += "0" * (-len(digits) % 8)
+    return f"{int(digits, 2):0{len(digits) // 4}X}"
 
 
 class InFiles(unittest.TestCase):
@@ -58,15 +58,15 @@ class InFiles(unittest.TestCase):
         self.path.write_text(text, encoding="utf-8")
         return self.path
 
-    def said(self, text: str, of_case: bool = False) -> str:
-        """What is said of a fault, without the file."""
+    def error(self, text: str, of_case: bool = False) -> str:
+        """The error for a text, without the file."""
         with self.assertRaises(Failed) as found:
             (cases.read if of_case else scenarios.read)(self.write(text))
         return str(found.exception).removeprefix(f"{self.path}:")
 
-    def said_of(self, expected: str) -> str:
-        """What is said of a case with this expected result."""
-        return self.said(CASE + f"  - {expected}\n", True)
+    def error_of(self, expected: str) -> str:
+        """The error for a case with this expected result."""
+        return self.error(CASE + f"  - {expected}\n", True)
 
 
 class Scenarios(InFiles):
@@ -89,7 +89,7 @@ steps: [{use: both}, {drive: 150.5 m at 36.5 km/h}, {confirm: running_number}, f
         self.assertEqual((built.events, built.marks), (2 + 6 + 1 + 1 + 1, {"m": 10}))
 
     def test_faults_and_their_places(self) -> None:
-        for text, said in (
+        for text, message in (
                 ("steps: [{dirve: 1 m}]", '1:10: "dirve" is not allowed here; did you mean "drive"?'),
                 ("steps:\n  - drive: 200 m", '2:12: expected a distance and a speed'),
                 ("steps:\n  - drive: 200 at 3 km/h", '2:12: expected a distance, a number and cm or m or km'),
@@ -107,7 +107,7 @@ steps: [{use: both}, {drive: 150.5 m at 36.5 km/h}, {confirm: running_number}, f
                 ("steps: [{telegram: xy}]", '1:20: no telegram is called "xy"'),
                 ("steps: [!!python/name:os.system x]", "1:9: the tag tag:yaml.org,2002:python/name:os.system is not allowed"),
                 ("steps: [", "1:9: not YAML")):
-            self.assertTrue(self.said(text).startswith(said), f"{text}\n{self.said(text)}\n{said}")
+            self.assertTrue(self.error(text).startswith(message), f"{text}\n{self.error(text)}\n{message}")
 
     def test_telegrams_are_compared(self) -> None:
         header = "telegram Q_UPDOWN=1 M_VERSION=16 Q_MEDIA=0 N_PIG=0 N_TOTAL=0 M_DUP=0 M_MCOUNT=255 NID_C=1 NID_BG=2 Q_LINK=1"
@@ -116,31 +116,31 @@ steps: [{use: both}, {drive: 150.5 m at 36.5 km/h}, {confirm: running_number}, f
         with patch("gaknifur.program.decode", return_value=[header, packet + "4", "end 129"]):
             self.assertEqual(scenarios.read(self.write(text)).steps, [{"telegram": RESTRICTION_DIGITS}])
         with patch("gaknifur.program.decode", return_value=[header, packet + "5", "end 129"]):
-            self.assertIn("1:16: etcs decode finds another telegram: packet 65", self.said(text))
+            self.assertIn("1:16: etcs decode finds another telegram: packet 65", self.error(text))
         with patch("gaknifur.program.decode", return_value=["refused 2 WrongLength"]):
-            self.assertIn("1:16: etcs decode says of this telegram: refused 2 WrongLength", self.said(text))
-            self.assertIn("was to be refused with 3 Spare", self.said(f"steps: [{{telegram: {{fields: '{RESTRICTION}', refused: 3 Spare}}}}]"))
+            self.assertIn("1:16: etcs decode says of this telegram: refused 2 WrongLength", self.error(text))
+            self.assertIn("was to be refused with 3 Spare", self.error(f"steps: [{{telegram: {{fields: '{RESTRICTION}', refused: 3 Spare}}}}]"))
 
     def test_a_telegram_of_an_installed_track(self) -> None:
         header = "telegram Q_UPDOWN=1 M_VERSION=16 Q_MEDIA=0 N_PIG=0 N_TOTAL=0 M_DUP=0 M_MCOUNT=255 NID_C=1 NID_BG=2 Q_LINK=1"
         packet = ("packet 3 Q_DIR=2 L_PACKET=157 Q_SCALE=1 D_VALIDNV=32767 N_ITER=1 NID_C=7 V_NVSHUNT=6 V_NVSTFF=8 V_NVONSIGHT=6 V_NVUNFIT=20 "
                   "V_NVREL=8 D_NVROLL=2 V_NVALLOWOVTRP=0 V_NVSUPOVTRP=6 D_NVOVTRP=200 T_NVOVTRP=60 D_NVSTFF=32767")
-        told = [header, packet, "end 215"]
+        decoded = [header, packet, "end 215"]
         sent, handed = digits_of(OF_TRACK_BITS), digits_of(OF_UNIT_BITS)
         by_name = f"telegrams: {{t: {{installed: '{OF_TRACK}'}}}}\nsteps: [{{telegram: t}}]"
-        with patch("gaknifur.program.adapted", return_value=handed) as adapted, patch("gaknifur.program.decode", return_value=told):
+        with patch("gaknifur.program.adapted", return_value=handed) as adapted, patch("gaknifur.program.decode", return_value=decoded):
             self.assertEqual(scenarios.read(self.write(by_name)).steps, [{"telegram": handed}])
             text = f"groups: [{{at: 1 m, balises: [{{installed: {sent}}}]}}]\nsteps: [{{drive: 2 m at 3 km/h}}]"
             self.assertEqual(scenarios.read(self.write(text)).groups[0]["balises"], [handed])
             self.assertEqual([one.args for one in adapted.call_args_list], [(sent,), (sent,)])
         with patch("gaknifur.program.adapted", return_value=handed), patch("gaknifur.program.decode", return_value=[header, packet[:-1], "end"]):
-            self.assertIn("1:28: etcs decode finds another telegram: packet 3", self.said(by_name))
+            self.assertIn("1:28: etcs decode finds another telegram: packet 3", self.error(by_name))
         with patch("gaknifur.program.adapted", side_effect=Failed("has more than one packet 3", 1)):
-            self.assertIn("1:28: the telegram has more than one packet 3", self.said(by_name))
-        self.assertIn("1:20: nothing else is allowed next to `installed`", self.said("steps: [{telegram: {installed: 90, refused: 2}}]"))
-        self.assertIn("1:20: `fields` or `installed` is missing", self.said("steps: [{telegram: {refused: 2}}]"))
+            self.assertIn("1:28: the telegram has more than one packet 3", self.error(by_name))
+        self.assertIn("1:20: nothing else is allowed next to `installed`", self.error("steps: [{telegram: {installed: 90, refused: 2}}]"))
+        self.assertIn("1:20: `fields` or `installed` is missing", self.error("steps: [{telegram: {refused: 2}}]"))
         self.assertIn("1:32: packet 3: V_NVSHUNT is missing before V_NVSTFF",
-                      self.said(f"steps: [{{telegram: {{installed: '{OF_TRACK.replace('V_NVSHUNT 6, ', '')}'}}}}]"))
+                      self.error(f"steps: [{{telegram: {{installed: '{OF_TRACK.replace('V_NVSHUNT 6, ', '')}'}}}}]"))
 
 
 class Bounds(InFiles):
@@ -153,7 +153,7 @@ class Bounds(InFiles):
         laughs = "\n".join(f"a{n + 1}: &a{n + 1} [{', '.join([f'*a{n}'] * 10)}]" for n in range(9))
         long = "1" * 300_000
         begun = time.process_time()
-        for text, said in (
+        for text, wanted in (
                 ("steps: " + "[" * 100_000, "1:72: not YAML: it is more than 64 deep"),
                 ("\n".join(" " * deep + "a:" for deep in range(1_000)), "65:65: not YAML: it is more than 64 deep"),
                 ("steps: &a [start, *a]", "1:19: not YAML: *a holds itself"),
@@ -166,7 +166,7 @@ class Bounds(InFiles):
                 ("steps: [{drive: 1.0000000000000000000000000001 m at 3 km/h}]", "1:17: expected a number of at most 28 digits"),
                 ("steps: [{telegram: 'NID_BG " + "9" * 5_000 + "'}]", '1:20: "NID_BG 999'),
                 ("steps: [{telegram: 'NID_BG 2; ²: NID_TSR 1'}]", '1:20: "²: NID_TSR 1" begins with no number'),
-                ("steps: [{telegram: 'NID_BG 2; 3: " + "NID_C 1, " * 50_000 + "'}]", "1:20: a telegram is told in at most 20,000 characters"),
+                ("steps: [{telegram: 'NID_BG 2; 3: " + "NID_C 1, " * 50_000 + "'}]", "1:20: a telegram is written in at most 20,000 characters"),
                 ('include: "a\\0b"\nsteps: []', "1:10: no such file"), ("include: " + "a" * 5_000 + "\nsteps: []", '1:10: "aaaa'),
                 ("include: /dev/zero\nsteps: []", "1:10: no such file: /dev/zero"), ("include: .\nsteps: []", "1:10: no such file"),
                 ("steps: [\n a\0]", "2:3: not YAML: the character U+0000 is not allowed"),
@@ -175,33 +175,33 @@ class Bounds(InFiles):
                 ('steps: ["a\\nb\\u202e"]', '1:9: "a\\nb\\u202e" is not allowed here'),
                 ("steps: [{" + "x" * 100_000 + "}]", '1:10: "xxxx'), ("", "1:1: the file is empty"),
                 ("steps: []\n---\nsteps: []", "3:1: expected one document, found 2")):
-            told = self.said(text)
-            self.assertTrue(told.startswith(said), f"{text[:80]}\n{told[:300]}\n{said}")
-            self.assertEqual((len(told.splitlines()), len(told) < 500), (1, True), told[:300])
+            message = self.error(text)
+            self.assertTrue(message.startswith(wanted), f"{text[:80]}\n{message[:300]}\n{wanted}")
+            self.assertEqual((len(message.splitlines()), len(message) < 500), (1, True), message[:300])
         self.assertLess(time.process_time() - begun, self.MOST_SECONDS)
 
     def test_steps_are_counted(self) -> None:
         text = "parts:\n  p0: [start]\n  p1: [" + ", ".join(["{use: p0}"] * 1_000) + "]\nsteps: [" + ", ".join(["{use: p1}"] * 50) + "]"
-        self.assertIn("a life has at most 100,000 steps, with each use of a part and each mark", self.said(text))
+        self.assertIn("a life has at most 100,000 steps, with each use of a part and each mark", self.error(text))
         self.assertEqual(len(scenarios.read(self.write(text.replace("steps: [{use: p1}, ", "steps: ["))).steps), 49_000)
 
     def test_of_a_case(self) -> None:
-        self.assertIn("not YAML: *m holds itself", self.said_of("{note: x, never: {mode: &m [*m]}}"))
-        self.assertIn("no such file", self.said(CASE.replace("{steps: [start, {mark: here}, flush]}", '{scenario: "a\\0.json"}'), True))
+        self.assertIn("not YAML: *m holds itself", self.error_of("{note: x, never: {mode: &m [*m]}}"))
+        self.assertIn("no such file", self.error(CASE.replace("{steps: [start, {mark: here}, flush]}", '{scenario: "a\\0.json"}'), True))
 
     def test_a_file_that_is_too_large_or_no_text(self) -> None:
-        self.assertIn("has more than 1,048,576 bytes", self.said("#" * (1 << 20) + "\nsteps: []"))
+        self.assertIn("has more than 1,048,576 bytes", self.error("#" * (1 << 20) + "\nsteps: []"))
         self.path.write_bytes(b"steps: [\n \"\xff\"]")
         with self.assertRaises(Failed) as found:
             scenarios.read(self.path)
         self.assertEqual(str(found.exception), f"{self.path}:2:3: this is no text in UTF-8")
 
     def test_28_digits_are_exact(self) -> None:
-        told = scenarios.read(self.write("steps: [{clock: 1.000000000000000000000000000 s}, {clock: 0000000000000000000000000020 ms}]"))
-        self.assertEqual(told.steps, [{"clock": 1000}, {"clock": 20}])
+        scenario = scenarios.read(self.write("steps: [{clock: 1.000000000000000000000000000 s}, {clock: 0000000000000000000000000020 ms}]"))
+        self.assertEqual(scenario.steps, [{"clock": 1000}, {"clock": 20}])
         # 1.666666666666666666666666667 * 60,000 is 100,000.00000000000000000000002
         for text in ("1.000000000000000000000000001 s", "1.666666666666666666666666667 min"):
-            self.assertIn("is not a whole number of ms", self.said(f"steps: [{{clock: {text}}}]"))
+            self.assertIn("is not a whole number of ms", self.error(f"steps: [{{clock: {text}}}]"))
 
     def test_a_chain_of_files(self) -> None:
         folder = self.path.parent
@@ -228,7 +228,7 @@ class Named(InFiles):
         for name in ("a part.yaml", "commented.yaml", "noted.json", "inner.yaml", "life.json", "other.yaml"):
             (folder / name).write_text("include: [inner.yaml]\nparts: {}" if name == "a part.yaml" else "# commented.yaml\nparts: {}")
         (folder / "life.json").write_text("{}")
-        self.write("# see commented.yaml\n" + CASE.replace("rule: c", "rule: as noted.json tells\ninclude: a part.yaml").replace(
+        self.write("# see commented.yaml\n" + CASE.replace("rule: c", "rule: as in noted.json\ninclude: a part.yaml").replace(
             "lives: [", "lives: [{scenario: life.json}, {scenario: missing.json}, ") + "  - {note: x, never: {mode: SF}}\n")
         self.assertEqual([path.name for path in case_files.files_of(self.path)][0], self.path.name)
         self.assertEqual({path.name for path in case_files.files_of(self.path)}, {self.path.name, "a part.yaml", "inner.yaml", "life.json"})
@@ -242,30 +242,30 @@ class Telegrams(unittest.TestCase):
 
     def test_what_is_worked_out(self) -> None:
         self.assertEqual(telegrams.telegram(RESTRICTION).digits, RESTRICTION_DIGITS)
-        told = telegrams.telegram("NID_BG 2; 12: V_MAIN 24, L_ENDSECTION 1500; 21: D_GRADIENT 0, Q_GDIR 1, G_A 0; 27: D_STATIC 0, "
+        telegram = telegrams.telegram("NID_BG 2; 12: V_MAIN 24, L_ENDSECTION 1500; 21: D_GRADIENT 0, Q_GDIR 1, G_A 0; 27: D_STATIC 0, "
                                   "V_STATIC 24, Q_FRONT 1; 80: D_MAMODE 400, M_MAMODE 0, V_MAMODE 6, L_MAMODE 300, L_ACKMAMODE 100")
-        self.assertEqual(told.digits, "90007F802001432024A6007FE00BB802B00D900010000DC03A400018800A10151032006025801901FE")
+        self.assertEqual(telegram.digits, "90007F802001432024A6007FE00BB802B00D900010000DC03A400018800A10151032006025801901FE")
 
     def test_a_track_s_packet_3(self) -> None:
-        told = telegrams.telegram(OF_TRACK, of_track=True)
-        self.assertEqual((told.digits, told.adapted().digits), (digits_of(OF_TRACK_BITS), digits_of(OF_UNIT_BITS)))
+        telegram = telegrams.telegram(OF_TRACK, of_track=True)
+        self.assertEqual((telegram.digits, telegram.adapted().digits), (digits_of(OF_TRACK_BITS), digits_of(OF_UNIT_BITS)))
         self.assertEqual(telegrams.telegram(RESTRICTION, of_track=True).adapted().digits, RESTRICTION_DIGITS)
         with self.assertRaisesRegex(telegrams.Wrong, "^packet 3: V_NVALLOWOVTRP is missing before Q_NVSRBKTRG"):
             telegrams.telegram(OF_TRACK)
 
     def test_lists(self) -> None:
-        told = telegrams.telegram("NID_BG 2; 5: D_LINK 400, NID_BG 3, Q_LINKORIENTATION 1, Q_LINKREACTION 1, Q_LOCACC 5, D_LINK 10, "
+        telegram = telegrams.telegram("NID_BG 2; 5: D_LINK 400, NID_BG 3, Q_LINKORIENTATION 1, Q_LINKREACTION 1, Q_LOCACC 5, D_LINK 10, "
                                   "NID_C 2, NID_BG 4, Q_LINKORIENTATION 1, Q_LINKREACTION 1, Q_LOCACC 5")
         self.assertIn(" Q_NEWCOUNTRY=0 NID_BG=3 Q_LINKORIENTATION=1 Q_LINKREACTION=1 Q_LOCACC=5 N_ITER=1 D_LINK=10 Q_NEWCOUNTRY=1 "
-                      "NID_C=2 NID_BG=4 ", told.lines()[1])
+                      "NID_C=2 NID_BG=4 ", telegram.lines()[1])
 
     def test_faults(self) -> None:
-        for text, said in (("NID_BG 2; 65: NID_TSR 7, L_TSR 50", "packet 65: D_TSR is missing before L_TSR"),
+        for text, message in (("NID_BG 2; 65: NID_TSR 7, L_TSR 50", "packet 65: D_TSR is missing before L_TSR"),
                            ("NID_BG 2; 65: NID_TSR 256, D_TSR 1, L_TSR 1, Q_FRONT 1, V_TSR 4", "NID_TSR has 8 bits, from 0 to 255"),
                            ("NID_BG 2; 66: NID_TSR 7, NID_TSR 8", "packet 66 has no NID_TSR there"),
                            ("NID_BG 2; 66: NID_TRS 7", "there is no variable NID_TRS; did you mean \"NID_TSR\"?"),
-                           ("NID_C 2", "the header tells no NID_BG"), ("NID_BG 2; V_MAIN 3", "\"V_MAIN 3\" begins with no number of a packet")):
-            with self.assertRaisesRegex(telegrams.Wrong, f"^{said}"):
+                           ("NID_C 2", "the header has no NID_BG"), ("NID_BG 2; V_MAIN 3", "\"V_MAIN 3\" begins with no number of a packet")):
+            with self.assertRaisesRegex(telegrams.Wrong, f"^{message}"):
                 telegrams.telegram(text).digits
 
 
@@ -273,7 +273,7 @@ class Cases(InFiles):
     """The words of a case."""
 
     def test_faults_and_their_places(self) -> None:
-        for expected, where, said in (
+        for expected, where, wanted in (
                 ("{note: x, at: {mode: FS}, expct: {mode: FS}}", "expct", '"expct" is not allowed here; did you mean "expect"?'),
                 ("{note: x, at: {mode: FS}, expect: {mode: SF, mode: FS}}", "mode: FS}}", '"mode" is given twice'),
                 ("{note: x, at: {mode: XX}, expect: {mode: FS}}", "XX", '"XX" is not allowed here'),
@@ -281,7 +281,7 @@ class Cases(InFiles):
                 ("{note: x, at: {mark: there}, expect: {mode: FS}}", "there", '"there" is not allowed here'),
                 ("{note: x, never: {shows_trip: on}}", "on}", 'expected true or false, found "on"'),
                 ("{note: x, never: {place_cm: 5 m}}", "5 m", "expected a number"),
-                ("{note: x, never: {place_cm: {least: 5, most: 4}}}", "{least", "no number is both 5 at least and 4 at most"),
+                ("{note: x, never: {place_cm: {least: 5, most: 4}}}", "{least", "no number is at least 5 and at most 4"),
                 ("{note: x, never: {}}", "{}", "a condition needs at least one name"),
                 ("{note: x, at: {mode: FS}}", "{note", "expect or row is missing"),
                 ("{note: x, at: {mode: FS}, never: {mode: SF}}", "{note", "an expected result is one of"),
@@ -293,11 +293,11 @@ class Cases(InFiles):
                 ("{note: x, never: {level: 2}}", "2}", 'expected level 0, 1 or unknown, found "2"'),
                 ("{note: x, never: {level: {least: -1}}}", "-1", 'expected level 0, 1 or unknown, found "-1"'),
                 ("{note: x, sections: [9.1], never: {mode: SF}}", "9.1", '"9.1" is not a section of SUBSET-026')):
-            told, place = self.said_of(expected), f"8:{5 + expected.index(where)}: "
-            self.assertTrue(told.startswith(place + said), f"{expected}\n{told}\n{place}{said}")
+            message, place = self.error_of(expected), f"8:{5 + expected.index(where)}: "
+            self.assertTrue(message.startswith(place + wanted), f"{expected}\n{message}\n{place}{wanted}")
 
     def test_a_case_without_results(self) -> None:
-        self.assertIn("nothing is expected", self.said(CASE.replace("expected:\n", ""), True))
+        self.assertIn("nothing is expected", self.error(CASE.replace("expected:\n", ""), True))
 
     def test_what_stays_text(self) -> None:
         case, = cases.read(self.write(CASE + "  - {note: no, never: {mode: SF}}\n"))
@@ -333,17 +333,17 @@ class Judging(InFiles):
     def test_what_does_not(self) -> None:
         for expected, wanted, found in (
                 ("at: {mark: here}, expect: {mode: OS}", "mode OS", "mode FS"),
-                ("at: {mode: TR}, expect: {mode: TR}", "a record with mode TR", "none of 4 records is so"),
+                ("at: {mode: TR}, expect: {mode: TR}", "a record with mode TR", "none among 4 records"),
                 ("at: {event: 2}, row: 16", "row 16 of the mode table: from SB to FS", "from FS to FS"),
                 ("at: {event: 0}, expect: {level: 1}", "level 1", "level unknown"),
-                ("from: {mode: TR}, never: {mode: SF}", "a record with mode TR", "none of 4 records is so"),
+                ("from: {mode: TR}, never: {mode: SF}", "a record with mode TR", "none among 4 records"),
                 ("where: {mode: TR}, never: {mode: SF}", "records to be judged", "there is none with mode TR"),
                 ("where: {mode: TR}, always: {mode: TR}", "records to be judged", "there is none with mode TR"),
-                ("always: {mode: FS}", "mode FS", "mode SB"), ("never: {brake: service}", "never brake service", "it is so"),
-                ("from: {event: 1}, until: {mode: TR}, never: {mode: SF}", "a record with mode TR", "none of 4 records is so"),
-                ("after: {mark: here}, within_events: 1, expect: {time_ms: 4000}", "time_ms 4000 within 1 events", "it didn't come")):
-            told = self.judge(f"{{note: x, {expected}}}")
-            self.assertTrue(told.startswith(f"expected: {wanted}\nfound:    {found}"), f"{expected}: {told}")
+                ("always: {mode: FS}", "mode FS", "mode SB"), ("never: {brake: service}", "never brake service", "this record has it"),
+                ("from: {event: 1}, until: {mode: TR}, never: {mode: SF}", "a record with mode TR", "none among 4 records"),
+                ("after: {mark: here}, within_events: 1, expect: {time_ms: 4000}", "time_ms 4000 within 1 events", "no such record")):
+            message = self.judge(f"{{note: x, {expected}}}")
+            self.assertTrue(message.startswith(f"expected: {wanted}\nfound:    {found}"), f"{expected}: {message}")
 
     def test_nothing_holds_of_no_record(self) -> None:
         """A journal without records, as of a scenario that was refused."""
@@ -371,23 +371,23 @@ class Coverage(InFiles):
 
     def test_what_another_train_does(self) -> None:
         """Each section that isn't left out says what a train of issue 2.3.0 does, each difference with its sign and how sure it is."""
-        text, told = page("explain/conformance.md"), 0
+        text, count = page("explain/conformance.md"), 0
         for heading in ("Chapter 3", "Chapters 4 and 5", "Chapters 7 and 8"):
             for name, _, here, otherwise in table_rows(text, heading):
                 if otherwise or not here.startswith("left out"):
-                    told += 1
+                    count += 1
                     self.assertRegex(otherwise, "^(agrees [SFB]|none known|see [0-9]|B: |[-+=] [SFB]: )", name)
                 for at in re.finditer(r"(?:^|; )([-+=] .{2}|agrees.{2})", otherwise):
                     self.assertRegex(at[1], "^([-+=] [SFB]:|agrees [SFB])$", name)
-        self.assertGreaterEqual(told, 48)
+        self.assertGreaterEqual(count, 48)
 
     def test_what_is_missing(self) -> None:
         self.write(CASE.replace("[3.10]", "[3.8.1, 3.99]") + "  - {note: x, at: {mode: FS}, row: 2 from OS}\n")
         faults = "\n".join(coverage.matrix(self.path.parent).faults)
-        for said in ("3.99 is no section of docs/explain/conformance.md", "3.8.3 has no case, and no reason why", "16 from SB has no case"):
-            self.assertIn(said, faults)
-        for said in ("3.8.1 has no case", "2 from OS has no case"):
-            self.assertNotIn(said, faults)
+        for message in ("3.99 is not a section of docs/explain/conformance.md", "3.8.3 has no case, and no reason why", "16 from SB has no case"):
+            self.assertIn(message, faults)
+        for message in ("3.8.1 has no case", "2 from OS has no case"):
+            self.assertNotIn(message, faults)
 
     def test_a_page_that_is_a_document(self) -> None:
         self.assertTrue(document(self.write("a: 1")).is_mapping())

@@ -11,7 +11,7 @@ from gaknifur.program import Failed
 from gaknifur.testing import case_runner, sweep_tables, sweeps
 from gaknifur.testing.case_runner import Missed, Played, with_speeds
 from gaknifur.testing.cases import Case
-from gaknifur.testing.sweeps import Told
+from gaknifur.testing.sweeps import PointResult
 
 from .samples import reading, record
 
@@ -19,7 +19,7 @@ SWEEP = """\
 sweep: a
 for: {way: [10, 20], speed: 10..30 step 10}
 lives: [{steps: [{enter_running_number: "$way"}, {drive: $way m at $speed km/h}, {mark: there}]}]
-tell:
+columns:
   - {name: run, at: {mark: there}, value: speed_kmh}
   - {name: most, most: place_m, where: {kind: odometer}}
   - {name: none, least: limit_kmh, where: {mode: SF}}
@@ -67,7 +67,7 @@ class Sweeps(unittest.TestCase):
         self.path.write_text(text, encoding="utf-8")
         return sweeps.read(self.path)
 
-    def told(self) -> tuple[sweeps.Sweep, list[Told]]:
+    def results(self) -> tuple[sweeps.Sweep, list[PointResult]]:
         """A sweep, and what came of it."""
         sweep = self.read()
         with patch.object(case_runner, "play", played):
@@ -85,12 +85,12 @@ class Sweeps(unittest.TestCase):
         self.assertEqual(decimals, ["0.5", "0.75", "1", "1.25"])
         self.assertEqual(len(self.read(SWEEP.replace("10..30 step 10", "1..63")).points()), 126)
 
-    def test_what_is_told(self) -> None:
-        _, told = self.told()
-        self.assertEqual(told[1].cells, {"run": Decimal(20), "most": Decimal(10), "none": None, "readings": 3, "least": Decimal("2.5"),
+    def test_the_results(self) -> None:
+        _, results = self.results()
+        self.assertEqual(results[1].cells, {"run": Decimal(20), "most": Decimal(10), "none": None, "readings": 3, "least": Decimal("2.5"),
                                          "first": Decimal(5), "brake": "service"})
-        self.assertEqual([one.missed for one in told], [(), (), ("slow",), (), (), ()])
-        self.assertEqual(told[5].fault, "expected: one end found: another")
+        self.assertEqual([one.missed for one in results], [(), (), ("slow",), (), (), ()])
+        self.assertEqual(results[5].fault, "expected: one end found: another")
 
     def test_of_a_train(self) -> None:
         self.path.write_text(DRIVE, encoding="utf-8")
@@ -106,17 +106,17 @@ class Sweeps(unittest.TestCase):
             sweeps.at_point(sweep, {"build_up": "2 m"})
 
     def test_tables(self) -> None:
-        sweep, told = self.told()
-        text = sweep_tables.as_text(sweep, told).splitlines()
+        sweep, results = self.results()
+        text = sweep_tables.as_text(sweep, results).splitlines()
         self.assertEqual(text[0].split(), ["way", "speed", "run", "most", "none", "readings", "least", "first", "brake", "missed", "fault"])
         self.assertEqual(text[3].split(), ["10", "30", "30", "10", "-", "3", "2.5", "5", "service", "slow", "-"])
-        written = sweep_tables.as_csv(sweep, told)
+        written = sweep_tables.as_csv(sweep, results)
         self.assertTrue(written.startswith("point,way,speed,run,most,none,readings,least,first,brake,missed,fault\n1,10,10,10,10,,3,2.5,5,service,,\n"))
         self.assertTrue(files.SWEEP_TABLE.is_own(written.encode()))
 
     def test_maps(self) -> None:
-        sweep, told = self.told()
-        drawn = {one.name: one for one in sweep_tables.maps(sweep, told)}
+        sweep, results = self.results()
+        drawn = {one.name: one for one in sweep_tables.maps(sweep, results)}
         self.assertEqual((drawn["run"].across, drawn["run"].down, drawn["run"].span), ("speed", "way", ("10", "30")))
         (_, first), (_, second) = drawn["run"].lines
         # The least number is light with dark letters, the greatest dark with white ones; a point that wasn't judged has neither.
@@ -124,7 +124,7 @@ class Sweeps(unittest.TestCase):
                          [("10", "#eff6fb", "#1c2733"), ("30", "#005a8c", "#ffffff"), ("–", "#ffffff", "#1c2733")])
         self.assertEqual((drawn["brake"].span, drawn["brake"].lines[0][1][0].paper), (None, "#E69F00"))
         self.assertEqual([one.fixed for one in drawn.values()], [{}] * 7)
-        page = sweep_tables.as_page(sweep, told)
+        page = sweep_tables.as_page(sweep, results)
         self.assertTrue(files.REPORT.is_own(page.encode()[:files.FIRST_BYTES]))
         self.assertIn("at 1 points expected results didn&#39;t come", page.replace("didn't", "didn&#39;t"))
         for word in ("<script", "http://", "https://", "src="):
@@ -133,8 +133,8 @@ class Sweeps(unittest.TestCase):
     def test_three_parameters_have_a_map_for_each_of_the_first(self) -> None:
         sweep = self.read(SWEEP.replace("for: {", "for: {number: [1, 2], ").replace('"$way"', "$number"))
         with patch.object(case_runner, "play", played):
-            told = [sweeps.play(sweep, point) for point in sweep.points()]
-        self.assertEqual([one.fixed for one in sweep_tables.maps(sweep, told)][:2], [{"number": "1"}, {"number": "2"}])
+            results = [sweeps.play(sweep, point) for point in sweep.points()]
+        self.assertEqual([one.fixed for one in sweep_tables.maps(sweep, results)][:2], [{"number": "1"}, {"number": "2"}])
 
     def test_processes(self) -> None:
         sweep = self.read()
@@ -150,7 +150,7 @@ class Sweeps(unittest.TestCase):
 
     def test_faults_and_their_places(self) -> None:
         replaced: Callable[[str, str], str] = SWEEP.replace
-        for text, said in (
+        for text, message in (
                 (replaced("$speed km", "$sped km"), '3:58: no parameter is called $sped; did you mean "speed"? known: speed, way'),
                 (replaced("$speed km", "20 km"), "2:6: the parameter speed is used nowhere as $speed"),
                 (replaced("10..30 step 10", "30..10"), "2:29: expected a list of values, or a range such as 1..63"),
@@ -162,11 +162,11 @@ class Sweeps(unittest.TestCase):
                 (replaced("{way:", "{Way:"), '2:12: "Way" is not a parameter name'),
                 (replaced("value: speed_kmh", "value: speed_mh"), '5:43: "speed_mh" is not allowed here'),
                 (replaced(", value: speed_kmh", ""), "5:5: expected one of: at and value"),
-                (replaced("name: most", "name: run"), "5:3: `tell` needs at least one outcome"),
-                (replaced("name: most", "name: way"), "5:3: `tell` needs at least one outcome"),
+                (replaced("name: most", "name: run"), "5:3: `columns` needs at least one column"),
+                (replaced("name: most", "name: way"), "5:3: `columns` needs at least one column"),
                 (replaced("count: {kind: odometer}", "count: {kind: wheel}"), '8:36: "wheel" is not allowed here'),
                 (replaced("[10, 20]", "[10, 20000]"), None)):
-            if said is None:
+            if message is None:
                 # What a later point makes wrong is reported with its place too.
                 sweep = self.read(text)
                 with self.assertRaisesRegex(Failed, '3:5[0-9]: "20000 m" is not between'):
@@ -174,7 +174,7 @@ class Sweeps(unittest.TestCase):
                 continue
             with self.assertRaises(Failed) as found:
                 self.read(text)
-            self.assertTrue(str(found.exception).removeprefix(f"{self.path}:").startswith(said), f"{found.exception}\n{said}")
+            self.assertTrue(str(found.exception).removeprefix(f"{self.path}:").startswith(message), f"{found.exception}\n{message}")
 
 
 if __name__ == "__main__":

@@ -23,7 +23,7 @@ class Speeds(unittest.TestCase):
         self.assertEqual(list(table["speed_m_per_h"]), [0, 36_000, 36_000, 0])
         self.assertEqual(list(table["over_limit_kmh"]), [-40, -4, -4, -40])
 
-    def test_is_missing_behind_a_gap(self) -> None:
+    def test_is_missing_after_a_gap(self) -> None:
         table = tables.frame(journal(record(0, "powerup"), reading(1, 36_000), record(9), reading(10, 1_000)))
         self.assertEqual(list(table["stretch"]), [0, 0, 1, 1])
         self.assertIs(table["speed_m_per_h"].iat[2], pd.NA)
@@ -59,13 +59,13 @@ class Columns(unittest.TestCase):
         self.assertEqual(table["nid_bg"].iat[0], 2)
 
     def test_a_long_journal_is_taken_in_pieces(self) -> None:
-        told = journal(record(0, "powerup"), reading(1, 30_000), record(2, "telegram", telegram="90", decoded=AUTHORITY),
+        sample = journal(record(0, "powerup"), reading(1, 30_000), record(2, "telegram", telegram="90", decoded=AUTHORITY),
                        action(3, "enter_identity", identity="IC"), record(4, level=None, uncertainty_cm=2**64 - 1), record(5, source="replaced"))
-        whole = tables.frame(told)
+        whole = tables.frame(sample)
         text = tables.csv_text(whole)
         for count in (1, 2, 5):
             with patch.object(tables, "AT_ONCE", count):
-                pd.testing.assert_frame_equal(tables.frame(told), whole)
+                pd.testing.assert_frame_equal(tables.frame(sample), whole)
                 self.assertEqual(tables.csv_text(whole), text)
         self.assertEqual(len(text.splitlines()), 7)
 
@@ -88,12 +88,12 @@ class Written(unittest.TestCase):
         self.assertEqual([row["min_safe_front_cm"] for row in rows][0], "-500")
 
     def test_a_part_without_a_record_is_no_report(self) -> None:
-        told = journal(record(0, "powerup"), record(1))
-        for extent, said in ((Extent(life=9), "of life 9"), (Extent(bound("5000")), "from 5000"), (Extent(None, bound("-1m")), "to -1m")):
+        sample = journal(record(0, "powerup"), record(1))
+        for extent, message in ((Extent(life=9), "of life 9"), (Extent(bound("5000")), "from 5000"), (Extent(None, bound("-1m")), "to -1m")):
             with self.assertRaises(Failed) as found:
-                report.page(told, extent)
+                report.page(sample, extent)
             self.assertEqual((found.exception.status, str(found.exception)),
-                             (REFUSED, f"image: the journal has no record {said}; it has events 0 to 1, of life 1. Nothing was written."))
+                             (REFUSED, f"image: the journal has no record {message}; it has events 0 to 1, of life 1. Nothing was written."))
 
 
 class Interventions(unittest.TestCase):
@@ -112,8 +112,8 @@ class Interventions(unittest.TestCase):
         self.assertEqual(list(zip(found["first_event"], found["last_event"])), [(0, 0), (5, 5)])
 
     def test_the_farthest_above_the_limit(self) -> None:
-        told = [reading(0, 41_000, brake="service"), reading(1, 47_500, brake="service"), reading(2, 10_000, brake="service")]
-        found = tables.interventions(tables.frame(journal(*told)))
+        readings = [reading(0, 41_000, brake="service"), reading(1, 47_500, brake="service"), reading(2, 10_000, brake="service")]
+        found = tables.interventions(tables.frame(journal(*readings)))
         self.assertEqual((found["most_over_kmh"].iat[0], found["most_over_row"].iat[0]), (7.5, 1))
 
 
@@ -130,7 +130,7 @@ class Actions(unittest.TestCase):
         self.assertIs(is_refused("close_desk", None, self.state("FS", 500), self.state("FS", 500)), True)
         self.assertIs(is_refused("enter_identity", None, self.state("FS"), self.state("FS")), True)
 
-    def test_what_records_do_not_tell(self) -> None:
+    def test_what_records_do_not_show(self) -> None:
         self.assertIsNone(is_refused("confirm", "identity", self.state("SB"), self.state("SB")))
         self.assertIsNone(is_refused("override", None, self.state("SR", 0, "overridden"), self.state("SR", 0, "overridden")))
 

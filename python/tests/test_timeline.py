@@ -30,7 +30,7 @@ class Room(unittest.TestCase):
         self.addCleanup(folder.cleanup)
         self.room = Path(folder.name)
 
-    def told(self) -> Journal:
+    def sample(self) -> Journal:
         """A journal of two lives, of which one has a mark."""
         found = journal(record(0, "powerup"), reading(1, 36_000, time_ms=1_500), *(action(at, "enter_identity", identity=text) for at, text in enumerate(BAD, 2)),
                         record(8, "powerup", life=2))
@@ -43,7 +43,7 @@ class Timelines(Room):
     """Lines for other programs."""
 
     def test_csv_has_what_timesketch_asks_for(self) -> None:
-        text, left = timeline.as_csv(self.told())
+        text, left = timeline.as_csv(self.sample())
         rows = list(csv.DictReader(io.StringIO(text)))
         self.assertEqual((len(rows), left), (8, 1))
         self.assertEqual([rows[1][name] for name in ("datetime", "timestamp_desc", "message", "timestamp", "uncertainty_ms")], [
@@ -51,18 +51,18 @@ class Timelines(Room):
             "life 1 event 1: moved 1 m, at 36 km/h; Full Supervision, brake none, limit 40 km/h", "1772359201500000", "51"])
 
     def test_json_has_all_events(self) -> None:
-        lines = [json.loads(line) for line in timeline.as_json(self.told()).splitlines()]
+        lines = [json.loads(line) for line in timeline.as_json(self.sample()).splitlines()]
         self.assertEqual([line["event"] for line in lines], list(range(9)))
         self.assertEqual((lines[1]["datetime"], lines[8]["datetime"], lines[8]["timestamp_desc"]), ("2026-03-01T10:00:01.500+00:00", None, None))
         self.assertEqual(lines[2]["identity"], BAD[0])
 
     def test_without_marks_none_has_a_time(self) -> None:
-        told = self.told()
-        told.times = None
-        self.assertEqual((timeline.as_csv(told)[0].count("\n"), timeline.as_csv(told)[1]), (1, 9))
+        sample = self.sample()
+        sample.times = None
+        self.assertEqual((timeline.as_csv(sample)[0].count("\n"), timeline.as_csv(sample)[1]), (1, 9))
 
     def test_lab_knows_its_own(self) -> None:
-        for data in (timeline.as_csv(self.told())[0].encode(), timeline.as_json(self.told()).encode()):
+        for data in (timeline.as_csv(self.sample())[0].encode(), timeline.as_json(self.sample()).encode()):
             self.assertTrue(files.TIMELINE.is_own(data))
 
 
@@ -70,7 +70,7 @@ class Workbooks(Room):
     """Tables as workbooks."""
 
     def test_numbers_are_numbers_and_texts_are_texts(self) -> None:
-        table = tables.written(tables.frame(self.told()))
+        table = tables.written(tables.frame(self.sample()))
         path = self.room / "out.xlsx"
         files.write(Out(path, files.WORKBOOK), timeline.workbook(table, ["=note", "sha256 ab"]))
         files.write(Out(path, files.WORKBOOK, True), timeline.workbook(table, ["=note", "sha256 ab"]))

@@ -55,11 +55,11 @@ class Moments(Room):
     """What is reported of a moment."""
 
     def test_at_a_mark_and_between_marks(self) -> None:
-        told = self.times(LINES)
-        self.assertEqual(told.utc(1, 0), (TEN_MS, 50))
-        self.assertEqual(told.utc(1, 600_000), (TEN_MS + 600_000, 50))
-        self.assertEqual(told.utc(1, 300_000), (TEN_MS + 300_000, 80))  # 300 s at 100 ppm are 30 ms
-        self.assertEqual(told.faults(), [])
+        marks = self.times(LINES)
+        self.assertEqual(marks.utc(1, 0), (TEN_MS, 50))
+        self.assertEqual(marks.utc(1, 600_000), (TEN_MS + 600_000, 50))
+        self.assertEqual(marks.utc(1, 300_000), (TEN_MS + 300_000, 80))  # 300 s at 100 ppm are 30 ms
+        self.assertEqual(marks.faults(), [])
 
     def test_beyond_the_marks_the_drift_counts(self) -> None:
         self.assertEqual(self.times(LINES).utc(1, 10_600_000), (TEN_MS + 10_600_000, 1_050))
@@ -71,9 +71,9 @@ class Moments(Room):
         self.assertIsNone(self.times(f"{times.FIRST}\n").utc(1, 0))
 
     def test_a_better_mark_narrows_what_others_allow(self) -> None:
-        told = self.times(LINES + "1,1000,,2026-03-01T10:00:01.020Z,5,traffic log\n")
-        self.assertEqual(told.utc(1, 0), (TEN_MS + 20, 6))
-        self.assertEqual(told.utc(1, 1_000), (TEN_MS + 1_020, 5))
+        marks = self.times(LINES + "1,1000,,2026-03-01T10:00:01.020Z,5,traffic log\n")
+        self.assertEqual(marks.utc(1, 0), (TEN_MS + 20, 6))
+        self.assertEqual(marks.utc(1, 1_000), (TEN_MS + 1_020, 5))
 
     def test_what_marks_allow_is_what_each_allows(self) -> None:
         numbers = random.Random(3)
@@ -89,10 +89,10 @@ class Moments(Room):
             for _ in range(numbers.randrange(1, 12)):
                 moment, off = numbers.randrange(7_200_000), numbers.choice((0, 5, 50, 2_000))
                 marks.append((moment, true(moment) + numbers.randint(-off, off), off + 1))
-            told = self.times(times.FIRST + "\n" + "".join(f"{life},{moment},,{times.iso(utc)},{off},a\n" for moment, utc, off in marks), drift)
-            self.assertEqual(told.faults(), [])
+            known = self.times(times.FIRST + "\n" + "".join(f"{life},{moment},,{times.iso(utc)},{off},a\n" for moment, utc, off in marks), drift)
+            self.assertEqual(known.faults(), [])
             for moment in [0, 7_200_000, *(numbers.randrange(7_200_000) for _ in range(10))]:
-                found = told.utc(life, moment)
+                found = known.utc(life, moment)
                 assert found is not None
                 lows = [utc - off + (moment - at) - abs(moment - at) * drift / 1e6 for at, utc, off in marks]
                 highs = [utc + off + (moment - at) + abs(moment - at) * drift / 1e6 for at, utc, off in marks]
@@ -108,46 +108,46 @@ class Moments(Room):
             self.assertEqual(self.times(f"{times.FIRST}\n1,0,,{TEN[:-5]}{text},50,GNSS\n").utc(1, 0), (TEN_MS + ms, 50))
 
     def test_a_year_that_cant_be_written(self) -> None:
-        told = self.times(f"{times.FIRST}\n1,1000,,9999-12-31T23:59:59.999Z,0,a\n2,1000,,0001-01-01T00:00:00Z,0,a\n", 0)
-        self.assertEqual((told.utc(1, 1_000), told.utc(1, 1_001)), ((253_402_300_799_999, 0), None))
-        self.assertEqual((told.utc(2, 1_000), told.utc(2, 999)), ((-62_135_596_800_000, 0), None))
+        marks = self.times(f"{times.FIRST}\n1,1000,,9999-12-31T23:59:59.999Z,0,a\n2,1000,,0001-01-01T00:00:00Z,0,a\n", 0)
+        self.assertEqual((marks.utc(1, 1_000), marks.utc(1, 1_001)), ((253_402_300_799_999, 0), None))
+        self.assertEqual((marks.utc(2, 1_000), marks.utc(2, 999)), ((-62_135_596_800_000, 0), None))
 
 
 class Contradictions(Room):
     """Marks that can't both be right."""
 
-    def test_both_are_named_and_nothing_is_told(self) -> None:
-        told = self.times(LINES + "1,300000,,2026-03-01T10:05:01.000Z,50,watch\n")
-        self.assertIsNone(told.utc(1, 0))
-        self.assertEqual(told.faults()[0], "line 2 (life 1, 0 ms: 2026-03-01T10:00:00.000Z, by GNSS) and line 6 (life 1, 300000 ms: "
+    def test_both_are_named_and_no_time_is_given(self) -> None:
+        marks = self.times(LINES + "1,300000,,2026-03-01T10:05:01.000Z,50,watch\n")
+        self.assertIsNone(marks.utc(1, 0))
+        self.assertEqual(marks.faults()[0], "line 2 (life 1, 0 ms: 2026-03-01T10:00:00.000Z, by GNSS) and line 6 (life 1, 300000 ms: "
                          "2026-03-01T10:05:01.000Z, by watch) contradict, so life 1 has no UTC")
-        self.assertEqual(len(told.faults()), 2)
+        self.assertEqual(len(marks.faults()), 2)
 
     def test_in_both_directions_and_at_the_bound(self) -> None:
         for off, is_one in ((130, False), (131, True), (-130, False), (-131, True)):
-            told = self.times(LINES + f"1,300000,,{times.iso(TEN_MS + 300_000 + off)},50,watch\n")
-            self.assertEqual(bool(told.faults()), is_one, off)
+            marks = self.times(LINES + f"1,300000,,{times.iso(TEN_MS + 300_000 + off)},50,watch\n")
+            self.assertEqual(bool(marks.faults()), is_one, off)
 
     def test_of_one_life_alone(self) -> None:
-        told = self.times(LINES + f"2,0,,{TEN},1,a\n2,0,,2026-03-01T11:00:00.000Z,1,b\n")
-        self.assertEqual((told.utc(1, 0), told.utc(2, 0), len(told.faults())), ((TEN_MS, 50), None, 1))
+        marks = self.times(LINES + f"2,0,,{TEN},1,a\n2,0,,2026-03-01T11:00:00.000Z,1,b\n")
+        self.assertEqual((marks.utc(1, 0), marks.utc(2, 0), len(marks.faults())), ((TEN_MS, 50), None, 1))
 
 
 class Events(Room):
     """Marks at events."""
 
     def test_an_event_came_before_the_next_moment(self) -> None:
-        told = self.times(f"{times.FIRST}\n,,3,2026-03-01T10:00:01.000Z,100,traffic log\n", 0)
-        self.assertEqual(told.utc(1, 1_000), (TEN_MS + 750, 350))  # from 600 ms before, where it came at 1,500 ms, to 100 ms after
+        marks = self.times(f"{times.FIRST}\n,,3,2026-03-01T10:00:01.000Z,100,traffic log\n", 0)
+        self.assertEqual(marks.utc(1, 1_000), (TEN_MS + 750, 350))  # from 600 ms before, where it came at 1,500 ms, to 100 ms after
 
-    def test_a_moment_of_the_clock_is_told_as_it_is(self) -> None:
-        told = self.times(f"{times.FIRST}\n,,2,2026-03-01T10:00:01.000Z,100,traffic log\n", 0)
-        self.assertEqual(told.utc(1, 1_000), (TEN_MS + 1_000, 100))
+    def test_a_moment_of_the_clock_is_exact(self) -> None:
+        marks = self.times(f"{times.FIRST}\n,,2,2026-03-01T10:00:01.000Z,100,traffic log\n", 0)
+        self.assertEqual(marks.utc(1, 1_000), (TEN_MS + 1_000, 100))
 
-    def test_what_isnt_used_is_told(self) -> None:
-        told = self.times(f"{times.FIRST}\n,,99,{TEN},1,a\n,,7,{TEN},1,b\n1,0,,{TEN},1,c")
-        self.assertEqual([fault.split(":")[0].split(" (")[0] for fault in told.faults()], ["line 2", "line 3", "the last line is cut off"])
-        self.assertIsNone(told.utc(1, 0))
+    def test_unused_marks_are_reported(self) -> None:
+        marks = self.times(f"{times.FIRST}\n,,99,{TEN},1,a\n,,7,{TEN},1,b\n1,0,,{TEN},1,c")
+        self.assertEqual([fault.split(":")[0].split(" (")[0] for fault in marks.faults()], ["line 2", "line 3", "the last line is cut off"])
+        self.assertIsNone(marks.utc(1, 0))
 
 
 class Files(Room):
@@ -161,9 +161,9 @@ class Files(Room):
                                         "20260301T100000Z", "2026-03-01T10:00:00,5Z"), ("", "-1", "x"), ("", " "))):
             for value in values:
                 row = [*good[:place], value, *good[place + 1:]]
-                told = self.times(f"{times.FIRST}\n{','.join(row)}\n{','.join(good)}\n")
-                self.assertEqual(told.faults(), [f"line 2 isn't used: it isn't a mark ({times.WANTED})"])
-                self.assertEqual(told.utc(1, 0), (TEN_MS, 50))
+                marks = self.times(f"{times.FIRST}\n{','.join(row)}\n{','.join(good)}\n")
+                self.assertEqual(marks.faults(), [f"line 2 isn't used: it isn't a mark ({times.WANTED})"])
+                self.assertEqual(marks.utc(1, 0), (TEN_MS, 50))
                 tried += 1
         for text in ("", "life,moment\n", f"{times.FIRST}x\n"):
             with self.assertRaisesRegex(Failed, "line 1 isn't life,moment_ms") as caught:
@@ -196,12 +196,12 @@ class Files(Room):
             data[bit // 8] ^= 1 << bit % 8
             path = self.room / "image.times"
             path.write_bytes(f"{first}\n".encode() + data + f"\n{other}\n".encode())
-            told = Times.of(lives(), path)
-            self.assertEqual((told.faults(), told.utc(1, 600_000)), (["line 2 isn't used: its checksum is wrong"], (TEN_MS + 600_000, 50)))
+            marks = Times.of(lives(), path)
+            self.assertEqual((marks.faults(), marks.utc(1, 600_000)), (["line 2 isn't used: its checksum is wrong"], (TEN_MS + 600_000, 50)))
             tried += 1
         for cut in range(1, len(line)):  # a part of a line, which the next one follows: both are one line, and the one after it isn't lost
-            told = self.times(f"{first}\n{line[:cut]}{line}\n{other}\n")
-            self.assertEqual((told.faults(), told.utc(1, 600_000)), (["line 2 isn't used: its checksum is wrong"], (TEN_MS + 600_000, 50)))
+            marks = self.times(f"{first}\n{line[:cut]}{line}\n{other}\n")
+            self.assertEqual((marks.faults(), marks.utc(1, 600_000)), (["line 2 isn't used: its checksum is wrong"], (TEN_MS + 600_000, 50)))
             tried += 1
         self.assertEqual(tried, 46 * 8 + 45)
 
@@ -210,18 +210,18 @@ class Outputs(Room):
     """What outputs report."""
 
     def test_the_table_has_columns_of_its_own(self) -> None:
-        told = lives()
-        self.assertTrue(tables.frame(told)["utc_by_marks"].isna().all())
-        told.times = self.times(LINES)
-        table = tables.frame(told)
+        sample = lives()
+        self.assertTrue(tables.frame(sample)["utc_by_marks"].isna().all())
+        sample.times = self.times(LINES)
+        table = tables.frame(sample)
         self.assertEqual(list(table["utc_by_marks"])[3:], ["2026-03-01T10:00:01.000Z", "2026-03-01T10:00:01.500Z", "2026-03-01T10:10:00.000Z", None, None])
         self.assertEqual(list(table["utc_uncertainty_ms"])[3:5], [51, 51])
 
     def test_the_page_says_where_it_is_from(self) -> None:
-        told = lives()
-        self.assertFalse("outside the proof" in report.page(told))
-        told.times = self.times(LINES + f"2,0,,{TEN},1,a\n2,0,,2026-03-01T11:00:00.000Z,1,<b>\n")
-        page = report.page(told)
+        sample = lives()
+        self.assertFalse("outside the proof" in report.page(sample))
+        sample.times = self.times(LINES + f"2,0,,{TEN},1,a\n2,0,,2026-03-01T11:00:00.000Z,1,<b>\n")
+        page = report.page(sample)
         for text in ("marks next to the journal (image.times), which are outside the journal and outside the proof", "run off by 100 ppm",
                      "2026-03-01 10:00:01.000 UTC ±51 ms", "contradict, so life 2 has no UTC", "by &lt;b&gt;"):
             self.assertTrue(text in page, text)

@@ -38,16 +38,16 @@ class Names(unittest.TestCase):
         text = "".join((INCLUDE / name).read_text() for name in ("etcs.h", "etcs_unit.h", "etcs_image.h"))
         bodies = re.findall(r"^enum \w+ \{(.*?)\};", text, re.DOTALL | re.MULTILINE)
         for one, body in zip(enums, bodies, strict=True):
-            told = re.findall(r"(ETCS_\w+) = (\d+)", body)
-            for member, (name, number) in zip(one.__members__.values(), told, strict=True):
+            numbers = re.findall(r"(ETCS_\w+) = (\d+)", body)
+            for member, (name, number) in zip(one.__members__.values(), numbers, strict=True):
                 self.assertEqual(member, int(number))
                 self.assertTrue(name.endswith(f"_{member.name}"), name)
 
     def test_the_texts_of_statuses(self) -> None:
         """The header's text of each status is its name, and docs/reference/refusals.md explains each."""
         text = HEADER.read_text()
-        told = dict(re.findall(r'case \(uint32_t\)ETCS_UNIT_(\w+): text = "(\w+)";', text))
-        self.assertEqual(told, {one.name: one.name for one in Status})
+        texts = dict(re.findall(r'case \(uint32_t\)ETCS_UNIT_(\w+): text = "(\w+)";', text))
+        self.assertEqual(texts, {one.name: one.name for one in Status})
         page = (INCLUDE.parent / "docs/reference/refusals.md").read_text()
         part = page[page.index("## The unit from C"):page.index("## The program")]
         rows = re.findall(r"^\| (\d+) \| ([A-Z_]+) \|(?:[^|\n]*\|){3}$", part, re.MULTILINE)
@@ -81,7 +81,7 @@ class Noted(MemoryMedium):
             raise OSError("no power")
         return super().read_sector(sector)[:SECTOR - (sector == self.short_at)]
 
-    def told(self) -> list[int]:
+    def taken(self) -> list[int]:
         """The sectors that were read since this was asked last."""
         read, self.read_so_far = self.read_so_far, []
         return read
@@ -109,24 +109,24 @@ class BySectors(OverTheLibrary):
             with self.refused(Status.NOT_OPEN):
                 call()
 
-    def test_a_life_beside_a_copy(self) -> None:
+    def test_a_life_next_to_a_copy(self) -> None:
         """The same outputs, and the same bytes, in each of some lives on a ring that is written over."""
         media = MemoryMedium.formatted(3), MemoryMedium.formatted(3)
         for cold in (Cold.UNKNOWN, Cold.NOT_MOVED, Cold.MOVED):
             units_of_both: list[AnyUnit] = [Unit(media[0], cold), SectorUnit(media[1], cold)]
-            told: list[list[object]] = []
+            outputs: list[list[object]] = []
             for unit in units_of_both:
                 with unit:
                     unit.identity("IC 704")
                     unit.train_data(TRAIN)
                     unit.action(Action.CHOOSE_LEVEL_1)
-                    told.append([unit.flush()])
+                    outputs.append([unit.flush()])
                     for moment in range(4):
                         unit.clock(moment)
                         unit.odometer(-10, 300)
-                        told[-1].append(unit.flush())
-                    told[-1] += [unit.state(), unit.why(), unit.flush()]
-            self.assertEqual(told[0], told[1])
+                        outputs[-1].append(unit.flush())
+                    outputs[-1] += [unit.state(), unit.why(), unit.flush()]
+            self.assertEqual(outputs[0], outputs[1])
             self.assertEqual(media[0].data, media[1].data)
 
     def test_which_sectors_are_read(self) -> None:
@@ -134,26 +134,26 @@ class BySectors(OverTheLibrary):
         that gate, where it isn't one of the 16 sectors that are held."""
         medium = Noted(bytes(MemoryMedium.formatted(4).data))
         with SectorUnit(medium) as unit:
-            self.assertEqual(medium.told(), [0, *gates(range(4))])
+            self.assertEqual(medium.taken(), [0, *gates(range(4))])
             for moment in range(2):
                 unit.clock(moment)
                 unit.flush()
-            self.assertEqual(medium.told(), [])
+            self.assertEqual(medium.taken(), [])
         # Slots 1 to 3 hold blocks 1 to 3. The newest is in slot 3, whose gate and head are known by then.
         with SectorUnit(medium):
-            self.assertEqual(medium.told(), [0, 1, 7, 8, 13, 14, 19, 20, 21, 22, 23, 24])
+            self.assertEqual(medium.taken(), [0, 1, 7, 8, 13, 14, 19, 20, 21, 22, 23, 24])
         medium = Noted(bytes(MemoryMedium.formatted(40).data))
         with SectorUnit(medium) as unit:
-            self.assertEqual(medium.told(), [0, *gates(range(40)), *gates(range(1, 2))])
+            self.assertEqual(medium.taken(), [0, *gates(range(40)), *gates(range(1, 2))])
             for slot in (2, 3, 4):
                 unit.clock(slot)
                 self.assertEqual(len(unit.flush()), 1)
-                self.assertEqual(medium.told(), gates(range(slot, slot + 1)))
+                self.assertEqual(medium.taken(), gates(range(slot, slot + 1)))
             # one that was handed in before isn't asked for
             gate, = gates(range(5, 6))
             unit.provide(gate, medium.read_sector(gate))
             unit.clock(5)
-            self.assertEqual((len(unit.flush()), medium.told()), (1, [gate]))
+            self.assertEqual((len(unit.flush()), medium.taken()), (1, [gate]))
         self.assertEqual([one.event for one in units.records(bytes(medium.data))], [0, 1, 2, 3, 4])
 
     def test_images_that_do_not_open(self) -> None:
@@ -438,10 +438,10 @@ class Calls(OverTheLibrary):
         # The moment of event 1, in the first record of block 2; and then a letter of the identity in the head before it.
         head, first = 512 + 2 * 3_072 + 512, 512 + 2 * 3_072 + 1_024
         image[first + 16:first + 24] = struct.pack(">Q", 7)
-        before, life, behind = lives.lines(bytes(image))
+        before, life, after = lives.lines(bytes(image))
         assert life.difference is not None and isinstance(life.difference.journal, Record) and isinstance(life.difference.kernel, Record)
         self.assertEqual((before, life.verdict, life.last_event), (lives.Line(1, 0, 0, Verdict.AGREES, None), Verdict.RECORD_DIFFERS, 1))
-        self.assertEqual(behind, lives.Line(1, 2, 3, Verdict.AFTER_DIFFERENCE, None))
+        self.assertEqual(after, lives.Line(1, 2, 3, Verdict.AFTER_DIFFERENCE, None))
         self.assertEqual((life.difference.block, life.difference.event, life.difference.field), (2, 1, RecordField.MOMENT))
         self.assertEqual((life.difference.journal.moment_ms, life.difference.kernel.moment_ms), (7, 0))
         image = self.lived()
@@ -457,10 +457,10 @@ class Calls(OverTheLibrary):
 
     def test_why(self) -> None:
         image = bytes(self.lived())
-        told = lives.why_in(image, 2)
-        self.assertEqual(told, lives.Why(2, Brake.EMERGENCY, 0, 300, 30, 200, {BrakeCause.NOT_REVALIDATED: 0, BrakeCause.MUST_STAND: 2},
+        why = lives.why_in(image, 2)
+        self.assertEqual(why, lives.Why(2, Brake.EMERGENCY, 0, 300, 30, 200, {BrakeCause.NOT_REVALIDATED: 0, BrakeCause.MUST_STAND: 2},
                                          TripCause.UNKNOWN, None, LimitCause.NO_SPEED, 0, None, None))
-        self.assertEqual(lives.why_at(image, 2, 2), told)
+        self.assertEqual(lives.why_at(image, 2, 2), why)
         self.assertEqual(lives.why_in(image, 0).causes, {BrakeCause.NOT_REVALIDATED: 0})
         for event, status in ((4, Status.NO_SUCH_RECORD), (-1, Status.NO_SUCH_RECORD)):
             with self.refused(status):

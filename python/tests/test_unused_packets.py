@@ -36,7 +36,7 @@ def skipped(*packets: tuple[int, str | None, int]) -> list[tuple[tuple[int, str 
     return [(packet, "not_known") for packet in packets]
 
 
-class Told(unittest.TestCase):
+class Listed(unittest.TestCase):
     """Where they are reported."""
 
     def test_a_column_of_the_table(self) -> None:
@@ -45,19 +45,19 @@ class Told(unittest.TestCase):
             telegram(4, (STOP_IN_SR, "not_known"), (INFILL, "infill"), (RESTRICTION, "infill"))))
         self.assertEqual(list(table["not_obeyed"]), [None, "137 not_known, 135 not_known", None, "3 refused", "137 not_known, 136 infill, 65 infill"])
 
-    def test_a_record_that_tells_none(self) -> None:
+    def test_a_record_without_any(self) -> None:
         """As of a program of before."""
         table = tables.frame(journal(record(0, "telegram", telegram="90", decoded=AUTHORITY)))
         self.assertEqual(list(table["not_obeyed"]), [None])
 
     def test_a_summary_counts_telegrams(self) -> None:
-        told = journal(telegram(0, *skipped(STOP_IN_SR, STOP_IN_SR, STOP_SHUNTING)), telegram(1), telegram(2, *skipped(STOP_IN_SR)),
+        sample = journal(telegram(0, *skipped(STOP_IN_SR, STOP_IN_SR, STOP_SHUNTING)), telegram(1), telegram(2, *skipped(STOP_IN_SR)),
                        telegram(3, *skipped(VERSION_ORDER)))
-        table = tables.frame(told)
+        table = tables.frame(sample)
         counted = unused_packets.summary(table["not_obeyed"])
         self.assertEqual(counted.text(), "2 telegrams had packets of issue 2.3.0 that this unit does not obey: "
                          "137 Stop if in Staff Responsible (2), 135 Stop Shunting on desk opening (1)")
-        self.assertEqual(summary.brief(told, table, tables.interventions(table)).not_obeyed, counted.text())
+        self.assertEqual(summary.brief(sample, table, tables.interventions(table)).not_obeyed, counted.text())
 
     def test_a_summary_says_why(self) -> None:
         table = tables.frame(journal(telegram(0, (INFILL, "infill"), (RESTRICTION, "infill")),
@@ -67,10 +67,10 @@ class Told(unittest.TestCase):
                          "65 Temporary Speed Restriction in a telegram that is refused (1), 136 Infill location reference in infill (1)")
 
     def test_none_of_issue_2_3_0(self) -> None:
-        told = journal(telegram(0, *skipped(VERSION_ORDER, NAMELESS)))
-        table = tables.frame(told)
+        sample = journal(telegram(0, *skipped(VERSION_ORDER, NAMELESS)))
+        table = tables.frame(sample)
         self.assertEqual(list(table["not_obeyed"]), ["2 not_known, 99 not_known"])
-        self.assertIsNone(summary.brief(told, table, tables.interventions(table)).not_obeyed)
+        self.assertIsNone(summary.brief(sample, table, tables.interventions(table)).not_obeyed)
         self.assertEqual(unused_packets.summary(table["not_obeyed"]).text(), "no telegram had a packet of issue 2.3.0 that this unit does not obey")
 
     def test_the_text_of_an_event(self) -> None:
@@ -83,9 +83,9 @@ class Told(unittest.TestCase):
         connection = sqlite3.connect(":memory:")
         database.fill(connection)
         connection.commit()
-        told = journal(record(0, "powerup"), telegram(1), telegram(2, (STOP_IN_SR, "not_known"), (INFILL, "infill")),
+        sample = journal(record(0, "powerup"), telegram(1), telegram(2, (STOP_IN_SR, "not_known"), (INFILL, "infill")),
                        telegram(3, (NAMELESS, "refused"), refused=True))
-        self.assertTrue(database.add(connection, told, tables.frame(told)))
+        self.assertTrue(database.add(connection, sample, tables.frame(sample)))
         rows = connection.execute("SELECT event, unused, nid_packet, name, bit, bits, why FROM unused ORDER BY event, unused").fetchall()
         self.assertEqual(rows, [(2, 0, 137, "Stop if in Staff Responsible", 50, 24, "not_known"), (2, 1, 136, "Infill location reference", 74, 38, "infill"),
                                 (3, 0, 99, None, 50, 30, "refused")])

@@ -70,30 +70,30 @@ class Order(unittest.TestCase):
     def test_wrong_words(self) -> None:
         for words in ("campaign F O.db more", "campaign --random 3", "table", "table I --al O.csv", "table I --all --damaged", "nothing I", "--all table I",
                       "", "test -x", "campaign O.db --random -1"):
-            with contextlib.redirect_stderr(io.StringIO()) as said:
-                self.assertEqual((main(words.split()), said.getvalue() == ""), (2, False), words)
+            with contextlib.redirect_stderr(io.StringIO()) as errors:
+                self.assertEqual((main(words.split()), errors.getvalue() == ""), (2, False), words)
 
 
 class Wrong(unittest.TestCase):
     """A wrong command or option is named, with the nearest right one; status 2."""
 
     def test_the_nearest_word(self) -> None:
-        for words, said in ((["reprot", "a", "b"], "lab: error: unknown command reprot; did you mean report?"),
+        for words, message in ((["reprot", "a", "b"], "lab: error: unknown command reprot; did you mean report?"),
                             (["zzz"], "lab: error: unknown command zzz; lab --help lists the commands"),
                             (["report", "a", "b", "--lfe", "3"], "lab report: error: unknown option --lfe; did you mean --life?"),
                             (["report", "a", "b", "--life", "x\n"], "lab report: error: invalid value for '--life': 'x\\n' is not a valid integer"),
                             (["report", "a", "b", "c"], "lab report: error: unexpected argument c")):
-            with self.subTest(words=words), contextlib.redirect_stderr(io.StringIO()) as told:
-                self.assertEqual((main(words), told.getvalue().splitlines()[-1]), (2, said))
+            with self.subTest(words=words), contextlib.redirect_stderr(io.StringIO()) as output:
+                self.assertEqual((main(words), output.getvalue().splitlines()[-1]), (2, message))
 
     def test_help_is_natural(self) -> None:
         """Each command and option has a help text in the imperative or as a noun, without the words of the old dialect, and each command an example."""
         dialect = re.compile(r"\b(tells?|told|stands?|behind|beside|alone|so many|puts|makes of|takes apart|words?)\b")
         for name in ("", *lab.commands):
-            with contextlib.redirect_stdout(io.StringIO()) as told:
+            with contextlib.redirect_stdout(io.StringIO()) as output:
                 self.assertEqual(main([*([name] if name else []), "--help"]), 0)
-            self.assertEqual(dialect.findall(told.getvalue()), [], name)
-            self.assertEqual(re.findall(r"^  \$ lab (\w+)", told.getvalue(), re.MULTILINE), [name] if name else [], name)
+            self.assertEqual(dialect.findall(output.getvalue()), [], name)
+            self.assertEqual(re.findall(r"^  \$ lab (\w+)", output.getvalue(), re.MULTILINE), [name] if name else [], name)
 
     def test_examples_are_right(self) -> None:
         for name, command in lab.commands.items():
@@ -109,8 +109,8 @@ class Completion(unittest.TestCase):
     def completed(self, *words: str) -> set[str]:
         """The completions of a last argument of etcs_lab, after which a further one begins."""
         path = Path(__file__).parents[2] / "packaging/completion"
-        told = f'. "$0"; COMP_WORDS=(etcs_lab "$@"); COMP_CWORD={len(words)}; _gaknifur; echo "${{COMPREPLY[@]}}"'
-        return set(subprocess.run(["bash", "-c", told, path, *words], capture_output=True, text=True,
+        script = f'. "$0"; COMP_WORDS=(etcs_lab "$@"); COMP_CWORD={len(words)}; _gaknifur; echo "${{COMPREPLY[@]}}"'
+        return set(subprocess.run(["bash", "-c", script, path, *words], capture_output=True, text=True,
                                   check=True).stdout.split())
 
     def test_of_commands_and_options(self) -> None:
@@ -129,8 +129,8 @@ class Completion(unittest.TestCase):
 
     def test_of_etcs_lab(self) -> None:
         crates = Path(__file__).parents[2] / "crates"
-        told = (crates / "etcs_lab/stdout").read_text(encoding="utf-8")
-        words = set(re.findall(r"^  ([a-z]+) +[A-Z]", told, re.MULTILINE))
+        output = (crates / "etcs_lab/stdout").read_text(encoding="utf-8")
+        words = set(re.findall(r"^  ([a-z]+) +[A-Z]", output, re.MULTILINE))
         options = set(re.findall(r'\.long\("([a-z]+)"\)', (crates / "command_line/src/lab_app.rt").read_text(encoding="utf-8")))
         self.assertEqual(self.completed(""), words | {"--version", "--help"})
         self.assertEqual(self.completed("check", "-"), {f"--{name}" for name in options})
@@ -139,11 +139,11 @@ class Completion(unittest.TestCase):
 class Progress(unittest.TestCase):
     """The bar on standard error."""
 
-    def shown(self, stderr: TextIO, begun: float) -> None:
+    def shown(self, stderr: TextIO, since: float) -> None:
         """Half of the events are done, some seconds after the beginning."""
         with patch("sys.stderr", stderr), patch.dict(os.environ, {"TERM": "xterm", "COLUMNS": "80"}):
             bar = Terminal()
-            bar.begun, bar.last = bar.begun - begun, bar.last - begun
+            bar.start, bar.last = bar.start - since, bar.last - since
             bar("events", 1, 2)
             bar.end()
 
@@ -172,9 +172,9 @@ class Sets(unittest.TestCase):
         self.assertEqual(columns, list(wanted.values()))
         lists = re.findall(r"indications: \[\n(.*?)\n +\] as|INDICATIONS: [^=]*= \[\n(.*?)\n\];",
                            (top / "page/texts.ts").read_text(encoding="utf-8"), re.DOTALL)
-        told = [re.findall(r'\[(\d+), "([^"]*)"\]', words or texts) for words, texts in lists]
-        self.assertEqual([[int(number) for number, _ in one] for one in told], [list(wanted)] * 2)
-        self.assertIn(list(wanted.values()), [[word for _, word in one] for one in told])
+        pairs = [re.findall(r'\[(\d+), "([^"]*)"\]', words or texts) for words, texts in lists]
+        self.assertEqual([[int(number) for number, _ in one] for one in pairs], [list(wanted)] * 2)
+        self.assertIn(list(wanted.values()), [[word for _, word in one] for one in pairs])
 
     def test_of_causes(self) -> None:
         self.assertEqual(list(CAUSES), [one.name.lower() for one in BrakeCause])
@@ -186,32 +186,32 @@ class Names(unittest.TestCase):
     def test_of_parquet(self) -> None:
         with tempfile.TemporaryDirectory() as room:
             out = Path(room) / "out.parquet"
-            with contextlib.redirect_stderr(io.StringIO()) as said:
+            with contextlib.redirect_stderr(io.StringIO()) as errors:
                 self.assertEqual(main(["table", "image", str(out)]), 2)
-            self.assertIn("Parquet isn't supported", said.getvalue())
+            self.assertIn("Parquet isn't supported", errors.getvalue())
             self.assertFalse(out.exists())
 
 
 class Checks(unittest.TestCase):
     """`lab check` by a stand-in of etcs_lab."""
 
-    def check(self, status: int, printed: str, said: str, *words: str, events: Sequence[Json] = ()) -> tuple[int, str, str]:
+    def check(self, status: int, printed: str, message: str, *words: str, events: Sequence[Json] = ()) -> tuple[int, str, str]:
         """Status, standard output and standard error."""
         with tempfile.TemporaryDirectory() as room:
-            program, image, told = (Path(room) / name for name in ("etcs_lab", "image", "events"))
-            told.write_text("".join(json.dumps(one) + "\n" for one in events))
-            program.write_text(f"#!/bin/sh\n[ $1 != events ] || exec cat {told}\nprintf '%s' \"{printed}\"\n"
-                               + (f"echo \"{said}\" 1>&2\n" if said else "") + f"exit {status}\n")
+            program, image, listing = (Path(room) / name for name in ("etcs_lab", "image", "events"))
+            listing.write_text("".join(json.dumps(one) + "\n" for one in events))
+            program.write_text(f"#!/bin/sh\n[ $1 != events ] || exec cat {listing}\nprintf '%s' \"{printed}\"\n"
+                               + (f"echo \"{message}\" 1>&2\n" if message else "") + f"exit {status}\n")
             program.chmod(0o755)
             out, errors = io.StringIO(), io.StringIO()
             with patch.dict(os.environ, {"GAKNIFUR_ETCS_LAB": str(program)}), contextlib.redirect_stdout(out), contextlib.redirect_stderr(errors):
                 return main(["check", *words, str(image)]), out.getvalue(), errors.getvalue().replace(room, "ROOM")
 
     def test_lines_and_status_are_handed_on(self) -> None:
-        nothing = "plausibility: nothing implausible; 0 readings and 0 groups of 0 lives, of which 0 tell moments; thresholds: "
+        nothing = "plausibility: nothing implausible; 0 readings and 0 groups of 0 lives, 0 with moments; thresholds: "
         for status, printed in ((0, "one\ntwo\n"), (4, "the image is not whole\n")):
-            found, text, said = self.check(status, printed, "")
-            self.assertEqual((found, text[:len(printed + nothing)], said), (status, printed + nothing, ""))
+            found, text, errors = self.check(status, printed, "")
+            self.assertEqual((found, text[:len(printed + nothing)], errors), (status, printed + nothing, ""))
         self.assertTrue(self.check(0, "$*\n", "", "--json")[1].startswith("check --json -- /"))
 
     def test_what_is_implausible_has_a_status(self) -> None:
@@ -251,10 +251,10 @@ class Suites(unittest.TestCase):
 
     def lab(self, *words: str) -> tuple[int, str]:
         """The status, and what was printed on both streams."""
-        told = io.StringIO()
-        with contextlib.redirect_stdout(told), contextlib.redirect_stderr(told):
+        output = io.StringIO()
+        with contextlib.redirect_stdout(output), contextlib.redirect_stderr(output):
             status = main(["test", str(self.room / "suite"), *words])
-        return status, told.getvalue()
+        return status, output.getvalue()
 
     def test_a_class_is_a_case(self) -> None:
         out = self.room / "results.xml"
@@ -271,16 +271,16 @@ class Suites(unittest.TestCase):
 
     def test_image_and_report_are_kept(self) -> None:
         kept = self.room / "kept"
-        with patch("gaknifur.journal.reading.read", lambda path, **words: self.told(path)):
+        with patch("gaknifur.journal.reading.read", lambda path, **words: self.sample(path)):
             self.assertEqual(self.lab("--keep", str(kept))[0], 4)
         self.assertEqual(sorted(str(path.relative_to(kept)) for path in kept.rglob("*")),
                          ["one", "one/image", "one/report.html", "two_of_a_kind", "two_of_a_kind/image", "two_of_a_kind/report.html"])
         self.assertEqual((kept / "one/image").read_bytes(), b"the image")
         self.assertIn("<h1>Journal", (kept / "one/report.html").read_text())
-        status, told = self.lab("--keep", str(kept))
-        self.assertEqual((status, "is there already, and isn't an empty folder" in told), (2, True))
+        status, output = self.lab("--keep", str(kept))
+        self.assertEqual((status, "already exists and isn't an empty folder" in output), (2, True))
 
-    def told(self, path: Path) -> Any:
+    def sample(self, path: Path) -> Any:
         """The journal of the stand-in."""
         self.assertEqual(path.read_bytes(), b"the image")
         return journal(record(0, "powerup", mode="SB"))
@@ -289,8 +289,8 @@ class Suites(unittest.TestCase):
         out = self.room / "reached.json"
         self.assertEqual(self.lab("--reached", str(out), "-k", "comes")[0], 0)
         self.assertEqual(measured_coverage.read(out), {name: {"power-up words": ["unknown"]} for name in ("one", "two of a/kind")})
-        status, told = self.lab("--reached", str(out))
-        self.assertEqual((status, "--force overwrites what lab made" in told), (1, True))
+        status, output = self.lab("--reached", str(out))
+        self.assertEqual((status, "--force overwrites what lab made" in output), (1, True))
         self.assertEqual(self.lab("--reached", str(out), "--force", "-k", "comes")[0], 0)
         out.write_text("mine")
         self.assertIn("is not what cases reach that lab made", self.lab("--reached", str(out), "--force")[1])

@@ -1,5 +1,5 @@
 #!/usr/bin/env python3
-"""Campaigns on the programs: the same lives by processes of this machine, by a scheduler with two workers of which one is
+"""Run campaigns on the programs: the same lives in processes of this machine, and by a scheduler with two workers, one of which is
 killed in the middle, and by a campaign that is interrupted and goes on, give the same table; judged by outputs and by all records, lives come
 to the same rows; a case file gives its row.
 
@@ -17,7 +17,7 @@ from pathlib import Path
 TOP = Path(__file__).resolve().parents[2]
 PYTHON = sys.executable
 WAIT = 60
-MOST_REFUSING = 20  # seconds, of which nearly all is Python's beginning on a machine that has other work
+MOST_REFUSING = 20  # seconds, nearly all for starting Python on a busy machine
 failed = 0
 
 
@@ -43,7 +43,7 @@ def rows(path, counted="count(*)"):
 
 
 def until(holds, what):
-    """Waits until something is so."""
+    """Waits until a condition holds."""
     begun = time.monotonic()
     while not holds():
         if time.monotonic() - begun > WAIT:
@@ -53,17 +53,17 @@ def until(holds, what):
 
 def by_two_workers(room, lives):
     """The lives by a scheduler and two workers; one is killed once some rows are there."""
-    told = room / "scheduler.json"
+    scheduler_file = room / "scheduler.json"
     quiet = {"stdout": subprocess.DEVNULL, "stderr": subprocess.DEVNULL, "cwd": room,
              "env": os.environ | {"PYTHONPATH": str(TOP / "python"), "DASK_CONFIG": str(TOP / "python/gaknifur/simulation/dask.yaml")}}
     start = lambda module, *words: subprocess.Popen([PYTHON, "-m", f"distributed.cli.{module}", *words], **quiet)
-    scheduler = start("dask_scheduler", "--host", "127.0.0.1", "--port", "0", "--no-dashboard", "--no-show", "--scheduler-file", str(told))
+    scheduler = start("dask_scheduler", "--host", "127.0.0.1", "--port", "0", "--no-dashboard", "--no-show", "--scheduler-file", str(scheduler_file))
     workers = []
     try:
-        until(told.exists, "the scheduler")
-        workers = [start("dask_worker", "--scheduler-file", str(told), "--nthreads", "1", "--no-nanny", "--no-dashboard", "--host",
+        until(scheduler_file.exists, "the scheduler")
+        workers = [start("dask_worker", "--scheduler-file", str(scheduler_file), "--nthreads", "1", "--no-nanny", "--no-dashboard", "--host",
                          "127.0.0.1") for _ in range(2)]
-        address = __import__("json").loads(told.read_text())["address"]
+        address = __import__("json").loads(scheduler_file.read_text())["address"]
         out = room / "dask.db"
         playing = subprocess.Popen([TOP / "lab", "campaign", str(out), "--random", str(lives), "--seed", "7", "--scheduler", address],
                                    stdin=subprocess.DEVNULL, stdout=subprocess.PIPE, stderr=subprocess.PIPE, text=True)
@@ -72,7 +72,7 @@ def by_two_workers(room, lives):
         workers[0].send_signal(signal.SIGKILL)
         printed, said = playing.communicate(timeout=20 * WAIT)
         unless(playing.returncode == 0 and printed.startswith(f"{lives} rows, {lives} of them"), f"by a scheduler: {printed}{said}")
-        unless("Mismatched versions" not in said, f"the client tells other versions than it has: {said}")
+        unless("Mismatched versions" not in said, f"the client reports other versions than it has: {said}")
         with sqlite3.connect(out) as connection:
             names = connection.execute("SELECT count(DISTINCT worker) FROM result").fetchone()[0]
         unless(names == 2, f"{names} workers played; two are wanted")
@@ -108,10 +108,10 @@ def interrupted(room, lives):
 def second(out):
     """A second campaign into a table to which another one writes is refused at once."""
     begun = time.monotonic()
-    told = lab("campaign", out, "--random", "1", "--seed", "8")
+    done = lab("campaign", out, "--random", "1", "--seed", "8")
     took = time.monotonic() - begun
-    unless((told.returncode, told.stdout, told.stderr) == (3, "", f"lab: {out}: another program is writing to it; wait for its end, or name another "
-           "file\n"), f"a second campaign: {told.returncode} {told.stdout}{told.stderr}")
+    unless((done.returncode, done.stdout, done.stderr) == (3, "", f"lab: {out}: another program is writing to it; wait for its end, or name another "
+           "file\n"), f"a second campaign: {done.returncode} {done.stdout}{done.stderr}")
     unless(took < MOST_REFUSING, f"a second campaign: refused after {took:.0f} s")
 
 
@@ -124,16 +124,16 @@ def faults(room, whole):
         connection.execute("UPDATE result SET image_sha256 = 'other' WHERE name = ?", (name,))
         connection.execute("UPDATE result SET seconds = 99, worker = 'other'")
     connection.close()
-    told = lab("compare", whole, other)
-    unless(told.returncode == 4 and told.stdout.splitlines()[-1] == "1 rows differ" and told.stdout.startswith(f"{name}: image_sha256"),
-           f"a row that differs: {told.stdout}")
+    done = lab("compare", whole, other)
+    unless(done.returncode == 4 and done.stdout.splitlines()[-1] == "1 rows differ" and done.stdout.startswith(f"{name}: image_sha256"),
+           f"a row that differs: {done.stdout}")
     with sqlite3.connect(other) as connection:
         connection.execute("UPDATE campaign SET value = 'other' WHERE name = 'etcs_sha256'")
     connection.close()
-    told = lab("campaign", other, "--random", "1")
-    unless(told.returncode == 1 and "was made with etcs_sha256 other" in told.stderr, f"other programs: {told.stderr}")
-    told = lab("campaign", room / "none.db")
-    unless(told.returncode == 2, f"neither a folder nor lives: {told.returncode}")
+    done = lab("campaign", other, "--random", "1")
+    unless(done.returncode == 1 and "was made with etcs_sha256 other" in done.stderr, f"other programs: {done.stderr}")
+    done = lab("campaign", room / "none.db")
+    unless(done.returncode == 2, f"neither a folder nor lives: {done.returncode}")
     folder = room / "cases"
     (folder / "inner").mkdir(parents=True)
     scenario = (TOP / "examples" / "trip" / "scenario.json").read_bytes()
@@ -142,16 +142,16 @@ def faults(room, whole):
     (folder / "bad.json").write_bytes(b"{}")
     # a file that a comment names is no file of the case
     case = ("# alone.json, ../alone.json\ntest_case: {}\nfeature: Trip\nsections: [3.8.1]\nrule: the train trips\nstarting_conditions: level 1\n"
-            "lives: [{{scenario: ../its lives.json}}]\nexpected:\n  - {{note: as the example tells it, at: {{mode: TR}}, expect: {{brake: {}}}}}\n")
+            "lives: [{{scenario: ../its lives.json}}]\nexpected:\n  - {{note: as in the example, at: {{mode: TR}}, expect: {{brake: {}}}}}\n")
     (folder / "inner" / "good.case.yaml").write_text(case.format("good", "emergency"))
     (folder / "inner" / "wrong.case.yaml").write_text(case.format("wrong", "none"))
     out = room / "cases.db"
-    told = lab("campaign", folder, "--workers", "2", out)
+    done = lab("campaign", folder, "--workers", "2", out)
     with sqlite3.connect(out) as connection:
         found = {name: rest for name, *rest in connection.execute("SELECT name, kind, ended, tests, missed, sound FROM result")}
     wanted = {"inner/good.case.yaml": ["case", "carried out", 1, 0, 1], "inner/wrong.case.yaml": ["case", "carried out", 1, 1, 0],
               "alone.json": ["scenario", "carried out", None, None, 1], "bad.json": ["scenario", "refused 2 Shape", None, None, 1]}
-    unless(told.returncode == 4 and found == wanted, f"the folder: {told.stdout}{told.stderr}{found}")
+    unless(done.returncode == 4 and found == wanted, f"the folder: {done.stdout}{done.stderr}{found}")
 
 
 def main():
@@ -161,12 +161,12 @@ def main():
         room = Path(folder)
         whole = room / "whole.db"
         begun = time.monotonic()
-        told = lab("campaign", whole, "--random", lives, "--seed", "7", "--workers", "2")
-        unless(told.returncode == 0 and told.stdout.startswith(f"{lives} rows, {lives} of them"), f"here: {told.stdout}{told.stderr}")
+        done = lab("campaign", whole, "--random", lives, "--seed", "7", "--workers", "2")
+        unless(done.returncode == 0 and done.stdout.startswith(f"{lives} rows, {lives} of them"), f"here: {done.stdout}{done.stderr}")
         seconds = time.monotonic() - begun
         for made in (by_two_workers(room, lives), interrupted(room, lives)):
-            told = lab("compare", whole, made)
-            unless(told.returncode == 0 and told.stdout == "0 rows differ\n", f"{made.name}: {told.stdout}{told.stderr}")
+            done = lab("compare", whole, made)
+            unless(done.returncode == 0 and done.stdout == "0 rows differ\n", f"{made.name}: {done.stdout}{done.stderr}")
         faults(room, whole)
     print(f"campaign_rows: {lives} lives here, by two workers of which one was killed, and interrupted: the same table; "
           f"{1000 * seconds / lives:.0f} ms a life by two processes; {failed} failed")

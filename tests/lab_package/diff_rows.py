@@ -36,24 +36,24 @@ def reading(number, moment=0, speed=3_000, place=0):
     return entry(number, ("odometer", 100, speed), moment=moment, mode=0, brake=0, level=1, ind=0, estimate=place, uncertainty=500, limit=40_000)
 
 
-def tail(numbers, told, count):
-    """A journal that goes on by so many blocks."""
-    told = dict(told)
+def tail(numbers, by_number, count):
+    """A journal with `count` more blocks."""
+    by_number = dict(by_number)
     for _ in range(count):
-        number = max(told, default=0) + 1
-        before = told.get(number - 1)
+        number = max(by_number, default=0) + 1
+        before = by_number.get(number - 1)
         event, lives = (before["events"], before["lives"]) if before else (0, 0)
         if not before or numbers.random() < 0.15:
-            told[number] = block(3, number, event + 1, lives + 1, [entry(event, ("powerup", numbers.randrange(3)))])
+            by_number[number] = block(3, number, event + 1, lives + 1, [entry(event, ("powerup", numbers.randrange(3)))])
         else:
             records = [reading(event + k, 0, numbers.randrange(1, 9_000), numbers.randrange(10**6)) for k in range(1 + numbers.randrange(4))]
-            told[number] = block(3, number, event + len(records), lives, records)
-    return told
+            by_number[number] = block(3, number, event + len(records), lives, records)
+    return by_number
 
 
-def held(told, slots):
+def held(by_number, slots):
     """The numbers of the blocks that a ring of a journal holds."""
-    return {number for number in told if number > max(told, default=0) - slots}
+    return {number for number in by_number if number > max(by_number, default=0) - slots}
 
 
 def spans(numbers):
@@ -107,10 +107,10 @@ class Pairs(Compared):
         self.verdicts.add(found["verdict"])
         return found
 
-    def told(self, name, a, b, verdict, **told):
-        """A pair has this verdict, and what else is reported of it."""
+    def expect(self, name, a, b, verdict, **members):
+        """Checks the verdict on a pair, and other members of the result."""
         found = self.found(a, b)
-        self.same(name, {key: found[key] for key in ("verdict", *told)}, {"verdict": verdict, **told})
+        self.same(name, {key: found[key] for key in ("verdict", *members)}, {"verdict": verdict, **members})
 
 
 def at_random(pairs, count, seed):
@@ -118,11 +118,11 @@ def at_random(pairs, count, seed):
     for number in range(count):
         kind = KINDS[number % len(KINDS)]
         a, b, slots, fork = pair(numbers, kind)
-        images = [image_of(size, ring(size, told)) for size, told in zip(slots, (a, b))]
+        images = [image_of(size, ring(size, by_number)) for size, by_number in zip(slots, (a, b))]
         verdict, runs = wanted(a, b, slots, fork)
         if kind == "altered":
             verdict, runs = alter(numbers, a, b, slots, images, runs)
-        pairs.told(f"pair {number}, {kind}", *images, verdict, **runs)
+        pairs.expect(f"pair {number}, {kind}", *images, verdict, **runs)
 
 
 def alter(numbers, a, b, slots, images, runs):
@@ -140,19 +140,19 @@ def alter(numbers, a, b, slots, images, runs):
 
 
 def by_hand(pairs):
-    told = {1: block(3, 1, 1, 1, [entry(0, ("powerup", 0))])}
+    by_number = {1: block(3, 1, 1, 1, [entry(0, ("powerup", 0))])}
     for number in range(2, 8):
-        told[number] = block(3, number, 2 * number - 1, 1, [reading(2 * number - 3), reading(2 * number - 2)])
-    upto = {last: image_of(4, ring(4, {n: b for n, b in told.items() if n <= last})) for last in range(1, 8)}
-    pairs.told("the same", upto[6], upto[6], "same", both=[[3, 6]], only_a=[], only_b=[])
-    pairs.told("goes on by one", upto[6], upto[7], "continues", both=[[4, 6]], only_a=[[3, 3]], only_b=[[7, 7]])
-    pairs.told("put back by one", upto[7], upto[6], "older", only_a=[[7, 7]], only_b=[[3, 3]])
-    pairs.told("no block in both", upto[2], upto[6], "apart", both=[], only_a=[[1, 2]], only_b=[[3, 6]])
-    pairs.told("an empty one", image_of(4, {}), upto[6], "empty")
-    pairs.told("in a larger ring", upto[6], image_of(9, ring(9, told)), "continues", only_b=[[1, 2], [7, 7]])
-    other = {**told, 6: with_(told[6], lives=2)}
+        by_number[number] = block(3, number, 2 * number - 1, 1, [reading(2 * number - 3), reading(2 * number - 2)])
+    upto = {last: image_of(4, ring(4, {n: b for n, b in by_number.items() if n <= last})) for last in range(1, 8)}
+    pairs.expect("the same", upto[6], upto[6], "same", both=[[3, 6]], only_a=[], only_b=[])
+    pairs.expect("continues by one", upto[6], upto[7], "continues", both=[[4, 6]], only_a=[[3, 3]], only_b=[[7, 7]])
+    pairs.expect("put back by one", upto[7], upto[6], "older", only_a=[[7, 7]], only_b=[[3, 3]])
+    pairs.expect("no block in both", upto[2], upto[6], "apart", both=[], only_a=[[1, 2]], only_b=[[3, 6]])
+    pairs.expect("an empty one", image_of(4, {}), upto[6], "empty")
+    pairs.expect("in a larger ring", upto[6], image_of(9, ring(9, by_number)), "continues", only_b=[[1, 2], [7, 7]])
+    other = {**by_number, 6: with_(by_number[6], lives=2)}
     forked = image_of(4, ring(4, {n: b for n, b in other.items() if n <= 6}))
-    pairs.told("another head of the newest", upto[6], forked, "fork", differing=[[6, 6]], differences=[
+    pairs.expect("another head of the newest", upto[6], forked, "fork", differing=[[6, 6]], differences=[
         {"block": 6, "head_byte": 27}, *({"block": 6, "event": event, "field": "life", "a": 1, "b": 2} for event in (9, 10))])
     bad = patched(upto[6], SECTOR + SLOT * (5 % 4) + 3 * SECTOR - 1, b"\1")
     found = pairs.found(upto[6], bad)
@@ -170,19 +170,19 @@ def by_hand(pairs):
             found = pairs.found(erased[0], erased[0])
             pairs.same("a block erased in both", (found["verdict"], found["a"]["lost"], found["b"]["lost"]), ("lost", lost, lost))
     shut = patched(upto[6], SECTOR + SLOT * (6 % 4), bytes(SECTOR))
-    pairs.told("the newest gate closed", upto[6], shut, "older", only_a=[[6, 6]])
-    for name, (byte, value, before, behind) in FIELDS.items():
+    pairs.expect("the newest gate closed", upto[6], shut, "older", only_a=[[6, 6]])
+    for name, (byte, value, before, after) in FIELDS.items():
         for number, verdict in ((4, "altered"), (6, "fork")):
             at = SECTOR + SLOT * (number % 4) + 2 * SECTOR + 256 + byte
             raw = upto[6][at] ^ 1 if value == 1 else value
-            line = {"block": number, "event": 2 * number - 2, "field": name, "a": before, "b": behind}
+            line = {"block": number, "event": 2 * number - 2, "field": name, "a": before, "b": after}
             found = pairs.found(upto[6], patched(upto[6], at, bytes([raw])))
             pairs.same(f"{name} of block {number}", (found["verdict"], line in found["differences"]), (verdict, True))
-            pairs.unless(all((one["block"], one["event"]) == (number, 2 * number - 2) for one in found["differences"]), f"{name}: more is told")
-    short = {**told, 6: block(3, 6, 10, 1, [reading(9)])}
+            pairs.unless(all((one["block"], one["event"]) == (number, 2 * number - 2) for one in found["differences"]), f"{name}: other fields differ")
+    short = {**by_number, 6: block(3, 6, 10, 1, [reading(9)])}
     found = pairs.found(upto[6], image_of(4, ring(4, {n: b for n, b in short.items() if n <= 6})))
     pairs.unless({"block": 6, "event": 10, "only": "a"} in found["differences"], f"a record less: {found['differences']}")
-    pairs.told("two that are altered", upto[6], patched(patched(upto[6], SECTOR + 2 * SECTOR + 1, b"\1"), SECTOR + SLOT * 2 + 2 * SECTOR + 1, b"\1"), "altered",
+    pairs.expect("two that are altered", upto[6], patched(patched(upto[6], SECTOR + 2 * SECTOR + 1, b"\1"), SECTOR + SLOT * 2 + 2 * SECTOR + 1, b"\1"), "altered",
                differing=[[4, 4], [6, 6]])
     return upto
 
@@ -193,8 +193,8 @@ def in_words(pairs, upto):
     for path, image in zip(pairs.paths, (upto[6], upto[7])):
         path.write_bytes(image)
     text, said, status = run(lab, ["diff", *pairs.paths])
-    lines = ["A a slots 4 blocks 3..6", "B b slots 4 blocks 4..7", "in both 4..6", "in A alone 3", "in B alone 7",
-             "continues: B continues A: what both hold is the same, and B goes on after it"]
+    lines = ["A a slots 4 blocks 3..6", "B b slots 4 blocks 4..7", "in both 4..6", "only in A 3", "only in B 7",
+             "continues: B continues A: what both hold is the same, and B has more after it"]
     pairs.same("text", (text.splitlines(), said, status), (lines, "", 0))
     text, said, status = run(lab, ["diff", "--json", *reversed(pairs.paths)])
     pairs.same("JSON", (json.loads(text)["verdict"], said, status), ("older", "", 4))

@@ -1,12 +1,12 @@
 #!/usr/bin/env python3
-"""`./lab follow`, while a unit writes.
+"""Run `./lab follow` while a unit writes.
 
     tests/lab_package/follow_rows.py ETCS_LAB
 
-A stand-in of a unit holds the lock that a unit holds, and commits blocks as one does: it closes the gate, writes head and records
-sector by sector, and opens the gate, with waits between, so that whoever reads a slot at once finds parts of two blocks. Each record is
-reported once, in its order, with the byte at which it stands, and each block is in the archive; where the unit runs away from it, what was
-overwritten is said to be. No lock is ever asked for on the image.
+A stand-in for a unit holds the lock of a unit, and commits blocks as one does: it closes the gate, writes head and records sector by
+sector, and opens the gate, with waits between, so that a reader may find parts of two blocks. Each record is reported once, in its
+order, with its byte, and each block is in the archive; if the unit is too fast, the overwritten blocks are reported. No lock is ever
+taken on the image.
 """
 import fcntl
 import json
@@ -34,14 +34,14 @@ WAIT = 0.0015
 
 
 class Unit:
-    """A stand-in of a unit: it writes a journal from a block on, in the order of a commit. Where it is to, it waits with each block
+    """A stand-in for a unit: it writes a journal from a block on, in the order of a commit. With `lines` it waits before each block
     until the one that it overwrites was reported."""
 
-    def __init__(self, path, told, lines=None):
-        self.path, self.told, self.lines = path, told, lines
+    def __init__(self, path, by_number, lines=None):
+        self.path, self.by_number, self.lines = path, by_number, lines
 
     def commit(self, file, number):
-        at, data = SECTOR + SLOT * (number % SLOTS), data_of(self.told[number])
+        at, data = SECTOR + SLOT * (number % SLOTS), data_of(self.by_number[number])
         parts = [(at, bytes(SECTOR)), *((at + offset, data[offset:offset + SECTOR]) for offset in range(SECTOR, SLOT, SECTOR)), (at, data[:SECTOR])]
         for offset, part in parts:
             os.pwrite(file.fileno(), part, offset)
@@ -58,16 +58,16 @@ class Unit:
         with self.path.open("r+b") as file:
             fcntl.flock(file, fcntl.LOCK_EX | fcntl.LOCK_NB)
             held.set()
-            for number in range(FIRST + 1, max(self.told) + 1):
+            for number in range(FIRST + 1, max(self.by_number) + 1):
                 self.wait_for(number - SLOTS + 1)
                 self.commit(file, number)
 
 
 def followed(rows, events, room, is_awaited):
     """A journal is followed while it grows."""
-    told, image, kept, lines, locked = journal(), room / f"image-{is_awaited}", room / f"archive-{is_awaited}", [], []
-    write(image, SLOTS, told, FIRST)
-    unit, held, flock = Unit(image, told, lines if is_awaited else None), threading.Event(), fcntl.flock
+    by_number, image, kept, lines, locked = journal(), room / f"image-{is_awaited}", room / f"archive-{is_awaited}", [], []
+    write(image, SLOTS, by_number, FIRST)
+    unit, held, flock = Unit(image, by_number, lines if is_awaited else None), threading.Event(), fcntl.flock
 
     def noted(file, how):
         locked.append(os.path.realpath(f"/proc/self/fd/{file if isinstance(file, int) else file.fileno()}"))
@@ -80,35 +80,35 @@ def followed(rows, events, room, is_awaited):
         follow.follow(image, lines.append, kept, seconds=60)
     writer.join()
     rows.same("no lock but the archive's was asked for", locked, [os.path.realpath(kept)])
-    last = max(told)
+    last = max(by_number)
     seen = [{key: value for key, value in line.items() if key != "byte"} for line in lines if "event" in line]
     gone = [number for line in lines if "overwritten" in line for number in range(line["overwritten"]["first_block"], line["overwritten"]["last_block"] + 1)]
     gone += range(1, seen[0]["block"])  # (before the first look)
     rows.same("each record, but for those that are said to be overwritten", seen, [line for line in events if line["block"] not in gone])
     rows.unless(not gone if is_awaited else len(gone) < last, f"overwritten: {gone}")
     if is_awaited:
-        rows.same("the archive", data_in(kept), {number: data_of(told[number]) for number in range(1, last + 1)})
-    rows.unless(all(data == data_of(told[number]) for number, data in data_in(kept).items()), "a block of the archive is none of the journal")
+        rows.same("the archive", data_in(kept), {number: data_of(by_number[number]) for number in range(1, last + 1)})
+    rows.unless(all(data == data_of(by_number[number]) for number, data in data_in(kept).items()), "a block of the archive is none of the journal")
     there = {line["event"]: line["byte"] for line in map(json.loads, run(os.environ["GAKNIFUR_ETCS_LAB"], ["events", image])[0].splitlines()) if "event" in line}
     rows.same("the bytes of those that are still there", {line["event"]: line["byte"] for line in lines if line.get("event") in there}, there)
 
 
 def torn(rows, room):
     """A block is written over while it is read, after each of its sectors: then it isn't taken."""
-    told, image, pread = journal(), room / "torn", os.pread
+    by_number, image, pread = journal(), room / "torn", os.pread
     for sectors in range(7):
-        write(image, SLOTS, told, 10)
+        write(image, SLOTS, by_number, 10)
 
         def in_parts(descriptor, size, at, sectors=sectors):
             if size < SLOT:
                 return pread(descriptor, size, at)
             first = pread(descriptor, SECTOR * sectors, at)
-            write(image, SLOTS, told, 11)
+            write(image, SLOTS, by_number, 11)
             return first + pread(descriptor, size - len(first), at + len(first))
 
         with Ring(image) as slots, patch("os.pread", in_parts):
-            rows.same(f"written over behind {sectors} sectors", slots.block(3), None)
-            rows.same(f"and then, behind {sectors} sectors", slots.block(11) == data_of(told[11]), True)
+            rows.same(f"overwritten after {sectors} sectors", slots.block(3), None)
+            rows.same(f"and then, after {sectors} sectors", slots.block(11) == data_of(by_number[11]), True)
 
 
 def of_locks(rows, room):
@@ -133,18 +133,18 @@ def of_locks(rows, room):
 
 def in_words(rows, room):
     """The word itself, where no unit runs, where one ends, and for a time."""
-    told, image = journal(), room / "words"
-    write(image, SLOTS, told, 5)
+    by_number, image = journal(), room / "words"
+    write(image, SLOTS, by_number, 5)
     text, said, status = run(TOP / "lab", ["follow", "--json", image])
-    rows.same("no unit runs", ([json.loads(line)["event"] for line in text.splitlines()][-1], said, status), (told[5]["events"] - 1, "", 0))
+    rows.same("no unit runs", ([json.loads(line)["event"] for line in text.splitlines()][-1], said, status), (by_number[5]["events"] - 1, "", 0))
     text, _, status = run(TOP / "lab", ["follow", image])
     rows.same("for people", (text.splitlines()[0], status),
               ("life 1 event 0 at 0 s: power-up, moved without power: unknown; Stand By, brake emergency, limit 0 km/h, front 0 m", 0))
     with image.open("r+b") as file:
         fcntl.flock(file, fcntl.LOCK_EX)
         process = subprocess.Popen([TOP / "lab", "follow", "--json", image], stdout=subprocess.PIPE, text=True)
-        lines = [process.stdout.readline() for _ in range(told[5]["events"])]
-        rows.same("while a unit runs", (json.loads(lines[-1])["event"], process.poll()), (told[5]["events"] - 1, None))
+        lines = [process.stdout.readline() for _ in range(by_number[5]["events"])]
+        rows.same("while a unit runs", (json.loads(lines[-1])["event"], process.poll()), (by_number[5]["events"] - 1, None))
         begun = time.monotonic()
         rows.same("for a time", (run(TOP / "lab", ["follow", "--for", "0.3", image])[2], time.monotonic() - begun > 0.3), (0, True))
     rows.same("ends with the unit", (process.wait(20), process.stdout.read()), (0, ""))
@@ -156,8 +156,8 @@ def main(words):
     os.environ["GAKNIFUR_ETCS_LAB"] = lab
     rows, follow.POLL_SECONDS = Compared(), 0.01
     with tempfile.TemporaryDirectory() as at:
-        room, told = Path(at), journal()
-        (room / "whole").write_bytes(image_of(max(told), ring(max(told), told)))
+        room, by_number = Path(at), journal()
+        (room / "whole").write_bytes(image_of(max(by_number), ring(max(by_number), by_number)))
         events = [line for line in words_of(lab, room / "whole")[0][1] if "event" in line]
         for is_awaited in (True, False):
             followed(rows, events, room, is_awaited)

@@ -1,15 +1,15 @@
 #!/usr/bin/env python3
-"""Archives of blocks, and what `./lab join` makes of them and of images.
+"""Archives of blocks, and images that `./lab join` makes from archives and images.
 
     tests/lab_package/join_rows.py ETCS_LAB
 
-- Lives in a ring of few slots, of which each block is kept before it is written over: what is joined is, block by block, the
-  image that a larger ring has, and etcs_lab reports the same events, replay and causes of both.
-- An archive is cut within its last block, or has zeros there: no block is lost, what a cut left is reported, and what is kept then goes
-  on after it. Gaps stay gaps, blocks that contradict are named, and what can't be read is taken from where it can.
-- Blocks of two units are reported, and so is a block that can't be read in one source. A gate with a bit altered stops no archive.
-- A sync that fails is owed, and made good by the next call. An archive is settled when it is opened.
-- Files that are there, no archives, and archives that another program holds, stay as they are.
+- Lives in a ring of few slots, each block kept before it is overwritten: the joined image is, block by block, that of a larger ring, and
+  etcs_lab prints the same events, replay and causes for both.
+- An archive is cut within its last block, or has zeros there: no block is lost, the rest of a cut block is reported, and new blocks come
+  after it. Gaps stay gaps, contradicting blocks are named, and an unreadable block is taken from another source.
+- Blocks of two units are reported, and so is a block that can't be read in one source. A gate with an altered bit stops no archive.
+- The next call makes up for a failed sync. An archive is synced when it is opened.
+- Existing files, files that are no archives, and archives that another program holds stay as they are.
 """
 import errno
 import json
@@ -42,9 +42,9 @@ def journal():
     return {block["number"]: block for block in blocks_of(LONG, 3)}
 
 
-def write(path, slots, told, newest, shut=None):
+def write(path, slots, by_number, newest, shut=None):
     """The image of a ring with the blocks up to the newest, and perhaps the gate of one closed."""
-    image = image_of(slots, ring(slots, {n: b for n, b in told.items() if n <= newest}))
+    image = image_of(slots, ring(slots, {n: b for n, b in by_number.items() if n <= newest}))
     path.write_bytes(patched(image, layout.slot_at(shut % slots), bytes(SECTOR)) if shut else image)
 
 
@@ -56,30 +56,30 @@ def data_in(path):
 
 
 def words_of(lab, path):
-    """What etcs_lab says about an image, without the bytes at which records begin and the lines of the image itself."""
-    told = []
+    """The output of etcs_lab about an image, without the bytes of records and the lines of the image itself."""
+    outputs = []
     for words in (["events"], ["replay", "--json"], ["why", "--json"]):
         text, _, status = run(lab, [*words, path])
         lines = [json.loads(line) for line in text.splitlines()]
-        told.append((status, [{key: value for key, value in line.items() if key != "byte"} for line in lines if "image" not in line]))
-    return told
+        outputs.append((status, [{key: value for key, value in line.items() if key != "byte"} for line in lines if "image" not in line]))
+    return outputs
 
 
 def whole_lives(rows, lab, room):
     """Each block is kept before its slot is taken again, whenever that is asked for."""
-    told = journal()
-    last = max(told)
+    by_number = journal()
+    last = max(by_number)
     rows.unless(last > 30, f"too few blocks: {last}")
     image, whole = room / "image", room / "whole"
-    write(whole, last, told, last)
+    write(whole, last, by_number, last)
     for slots, every in ((2, 1), (4, 1), (4, 3), (8, 7), (64, 20)):
         path, out = room / f"archive-{slots}-{every}", room / f"joined-{slots}-{every}"
         for newest in range(every, last + 1, every):
-            write(image, slots, told, newest, shut=newest + 1 if slots > every + 1 else None)
+            write(image, slots, by_number, newest, shut=newest + 1 if slots > every + 1 else None)
             with Archive(path) as kept:
                 kept.keep(image)
-        write(image, slots, told, last)
-        rows.same(f"ring of {slots}, archive", data_in(path), {n: data_of(told[n]) for n in range(1, last - last % every + 1)})
+        write(image, slots, by_number, last)
+        rows.same(f"ring of {slots}, archive", data_in(path), {n: data_of(by_number[n]) for n in range(1, last - last % every + 1)})
         found = archive.join(out, [image, path])
         rows.same(f"ring of {slots}, joined", (out.read_bytes(), found.is_whole, found.slots), (whole.read_bytes(), True, last))
         if every > 1:
@@ -90,9 +90,9 @@ def whole_lives(rows, lab, room):
 
 def late(rows, room):
     """What was overwritten before it was kept is a gap, and stays one."""
-    told, image, path = journal(), room / "late", room / "late-archive"
+    by_number, image, path = journal(), room / "late", room / "late-archive"
     for newest in (6, 20, 23):
-        write(image, 4, told, newest)
+        write(image, 4, by_number, newest)
         with Archive(path) as kept:
             kept.keep(image)
     rows.same("kept late", sorted(data_in(path)), [*range(3, 7), *range(17, 24)])
@@ -101,27 +101,27 @@ def late(rows, room):
     text, said, status = run(TOP / "lab", ["join", room / "late-out", path, image])
     rows.same("in words", (text.splitlines()[-2:], said, status), (["missing 7..16", "joined blocks 3..6 17..23 in 21 slots"], "", 4))
     with Ring(image) as ring_of:
-        rows.same("all blocks behind one", [number for number, _ in ring_of.blocks(2)], [20, 21, 22, 23])
-    write(image, 4, told, 23, shut=20)
+        rows.same("all blocks after one", [number for number, _ in ring_of.blocks(2)], [20, 21, 22, 23])
+    write(image, 4, by_number, 23, shut=20)
     with Ring(image) as ring_of:
-        rows.same("behind a gate that is closed", [number for number, _ in ring_of.blocks(19)], [21, 22, 23])
+        rows.same("after a gate that is closed", [number for number, _ in ring_of.blocks(19)], [21, 22, 23])
         rows.same("nothing newer", [number for number, _ in ring_of.blocks(23)], [])
 
 
 def cut(rows, room):
     """An archive that a loss of power cut off within its last block, or left with zeros there."""
-    told, image, path = journal(), room / "cut", room / "cut-archive"
-    write(image, 8, told, 6)
+    by_number, image, path = journal(), room / "cut", room / "cut-archive"
+    write(image, 8, by_number, 6)
     with Archive(path) as kept:
         kept.keep(image)
     whole = path.read_bytes()
-    write(image, 8, told, 7)
-    good = {n: data_of(told[n]) for n in range(1, 8)}
+    write(image, 8, by_number, 7)
+    good = {n: data_of(by_number[n]) for n in range(1, 8)}
     for size in (*range(0, SLOT, 331), SECTOR + 15, SECTOR + 16, SLOT - 1):
         for is_cut in (True, False):
             path.write_bytes(whole[:-SLOT + size] if is_cut else whole[:-SLOT + size].ljust(len(whole), b"\0"))
             found = archive.source(path)
-            rows.same(f"cut at {size}", (found.behind, found.numbers >= set(range(1, 6))), (size if is_cut else 0, True))
+            rows.same(f"cut at {size}", (found.trailing, found.numbers >= set(range(1, 6))), (size if is_cut else 0, True))
             rows.same(f"cut at {size}: block 6", 6 in found.numbers, not is_cut and size >= SECTOR + 16)
             with Archive(path) as kept:
                 kept.keep(image)
@@ -131,11 +131,11 @@ def cut(rows, room):
 
 def put_back(rows, room):
     """An older image is put back, and the unit goes on from there: the archive keeps both."""
-    told, image, path = journal(), room / "back", room / "back-archive"
-    write(image, 8, told, 12)
+    by_number, image, path = journal(), room / "back", room / "back-archive"
+    write(image, 8, by_number, 12)
     with Archive(path) as kept:
         kept.keep(image)
-    other = {**{n: b for n, b in told.items() if n < 10}, **{n: {**told[n], "lives": told[n]["lives"] + 1} for n in range(10, 15)}}
+    other = {**{n: b for n, b in by_number.items() if n < 10}, **{n: {**by_number[n], "lives": by_number[n]["lives"] + 1} for n in range(10, 15)}}
     for newest in (10, 11, 14):
         write(image, 8, other, newest)
         with Archive(path) as kept:
@@ -146,21 +146,21 @@ def put_back(rows, room):
 
 def contradictions(rows, room):
     """Blocks that differ, and such that can't be read."""
-    told = journal()
+    by_number = journal()
     one, other, bad = (room / name for name in ("one", "other", "bad"))
-    write(one, 8, told, 8)
-    changed = {**told, 7: block(3, 7, told[7]["events"], 1, [entry(told[7]["events"] - 1, ("clock", 9), moment=9)])}
+    write(one, 8, by_number, 8)
+    changed = {**by_number, 7: block(3, 7, by_number[7]["events"], 1, [entry(by_number[7]["events"] - 1, ("clock", 9), moment=9)])}
     write(other, 8, changed, 9)
     found = archive.join(room / "contradicts", [one, other])
     rows.same("a block that differs", [(number, a.path.name, b.path.name) for number, (a, b) in found.contradictions.items()], [(7, "one", "other")])
     rows.same("the first one is taken", (found.chosen[7].path, found.is_whole), (one, False))
-    kept = bytearray(layout.archive_sector() + b"".join(data_of(told[n]) for n in range(1, 10)))
+    kept = bytearray(layout.archive_sector() + b"".join(data_of(by_number[n]) for n in range(1, 10)))
     kept[SECTOR + 6 * SLOT + SECTOR + 500] = 1
     bad.write_bytes(kept)
     found = archive.join(room / "mended", [bad, one])
     rows.same("what can't be read is taken from where it can", (found.chosen[7].path, sorted(found.mended), found.is_whole), (one, [7], False))
     found = archive.join(room / "mended-2", [one, bad])
-    rows.same("and where it can't be is told", (found.chosen[7].path, sorted(found.mended), found.is_whole), (one, [7], False))
+    rows.same("and the source that can't be read", (found.chosen[7].path, sorted(found.mended), found.is_whole), (one, [7], False))
     text, said, status = run(TOP / "lab", ["join", room / "mended-3", bad, one])
     rows.same("in words", ("block 7 can't be read in bad: it is taken from another source" in text.splitlines(), said, status), (True, "", 4))
     found = archive.join(room / "unreadable", [bad])
@@ -169,11 +169,11 @@ def contradictions(rows, room):
 
 def strangers(rows, room):
     """Blocks of two units in one image: it is made, and what doesn't follow is reported."""
-    told, other = journal(), {block["number"]: block for block in blocks_of([("unknown", (*STARTED, "clock 5", "move 7 3")), *TWO, *TWO], 3)}
+    by_number, other = journal(), {block["number"]: block for block in blocks_of([("unknown", (*STARTED, "clock 5", "move 7 3")), *TWO, *TWO], 3)}
     one, two = room / "unit-1", room / "unit-2"
-    write(one, 16, told, 12)
+    write(one, 16, by_number, 12)
     write(two, 4, other, 5)
-    lone = {n: b for n, b in told.items() if 6 <= n <= 12}
+    lone = {n: b for n, b in by_number.items() if 6 <= n <= 12}
     one.write_bytes(image_of(16, ring(16, lone)))
     for name, sources in (("of two units", [one, two]), ("the other first", [two, one])):
         found = archive.join(room / f"strangers-{name}", sources)
@@ -184,24 +184,24 @@ def strangers(rows, room):
 
 def gates(rows, room):
     """A gate with a bit altered names no block, and what comes after it is kept all the same."""
-    told, image, path = journal(), room / "gates", room / "gates-archive"
+    by_number, image, path = journal(), room / "gates", room / "gates-archive"
     for bit in (0, 2, 5, 20, 39, 40, 62):
         path.unlink(missing_ok=True)
-        write(image, 8, told, 6)
+        write(image, 8, by_number, 6)
         data = bytearray(image.read_bytes())
         at = layout.slot_at(5) + 15 - bit // 8
         data[at] ^= 1 << bit % 8
         image.write_bytes(data)
         with Archive(path) as kept:
             kept.keep(image)
-            write(image, 8, told, 9)
+            write(image, 8, by_number, 9)
             kept.keep(image)
         rows.same(f"bit {bit} of a gate", sorted(number for number in data_in(path) if number), [1, 2, 3, 4, 6, 7, 8, 9])
 
 
 def syncs(rows, room):
-    """A sync that fails is owed: the next call writes again what it was for and syncs, also where it has nothing new to keep."""
-    told, image, path, done = journal(), room / "syncs", room / "syncs-archive", []
+    """After a failed sync the next call writes the same blocks again and syncs, also if it has nothing new to keep."""
+    by_number, image, path, done = journal(), room / "syncs", room / "syncs-archive", []
     fsync, pwrite = os.fsync, os.pwrite
 
     def fails(descriptor):
@@ -215,7 +215,7 @@ def syncs(rows, room):
         done.append((at, len(data)))
         return pwrite(descriptor, data, at)
 
-    write(image, 8, told, 6)
+    write(image, 8, by_number, 6)
     with Archive(path) as kept:
         for name in ("the first", "a second"):
             with patch("os.fsync", fails):
@@ -229,7 +229,7 @@ def syncs(rows, room):
             with patch("os.fsync", noted_sync), patch("os.pwrite", noted_write):
                 rows.same(f"{name}: blocks", kept.keep(image), 0)
             rows.same(name, done, wanted)
-    rows.same("what is there", data_in(path), {n: data_of(told[n]) for n in range(1, 7)})
+    rows.same("what is there", data_in(path), {n: data_of(by_number[n]) for n in range(1, 7)})
     with patch("os.fsync", fails):
         try:
             Archive(path).close()
@@ -278,9 +278,9 @@ def many_contradictions(rows, room):
 
 def stays(rows, room):
     """What isn't written."""
-    told = journal()
+    by_number = journal()
     image, text, path = room / "stays", room / "text", room / "held"
-    write(image, 4, told, 5)
+    write(image, 4, by_number, 5)
     text.write_bytes(b"text")
     with Archive(path) as kept:
         kept.keep(image)

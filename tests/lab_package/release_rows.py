@@ -23,7 +23,7 @@ import statements  # noqa: E402
 from compared import Compared  # noqa: E402
 
 SLOW, LEAST = 4, 25
-"""The seconds of a processor that an answer may take, and so many tries at least. An answer that never comes is waited for five minutes."""
+"""The greatest processor time of an answer in seconds, and the least number of tries. A missing answer is waited for five minutes."""
 VERSION, COMMIT, STAMP = "1.2.3+unproved", "0" * 40, "2001-02-03T04:05:06Z"
 DEB = f"gaknifur_{VERSION}_amd64.deb"
 DEEP = b'{"a":' * 200_000
@@ -76,14 +76,14 @@ def release(room):
 
 
 def sums(folder):
-    """Takes the digests anew, as one who alters more does."""
+    """Computes the digests again, like somebody who alters more."""
     lines = [f"{hashlib.sha256(path.read_bytes()).hexdigest()}  {path.name}\n" for path in sorted(folder.iterdir())
              if path.name not in ("SHA256SUMS", "SHA256SUMS.sig") and path.is_file()]
     (folder / "SHA256SUMS").write_text("".join(lines))
 
 
 def sign(room, folder):
-    """Signs the digests anew."""
+    """Signs the digests again."""
     (folder / "SHA256SUMS.sig").unlink(missing_ok=True)
     run("ssh-keygen", "-q", "-Y", "sign", "-f", room / "key", "-n", "gaknifur-release", folder / "SHA256SUMS")
 
@@ -96,12 +96,12 @@ def bomb(inside):
 
 def put(folder, name, *path):
     """Puts the last of some words at the place in a statement that the others name."""
-    told = json.loads((folder / name).read_text())
-    at = told
+    members = json.loads((folder / name).read_text())
+    at = members
     for one in path[:-2]:
         at = at[one]
     at[path[-2]] = path[-1]
-    (folder / name).write_text(json.dumps(told))
+    (folder / name).write_text(json.dumps(members))
     sums(folder)
 
 

@@ -23,7 +23,7 @@ sys.path[:0] = [str(HERE), *(str(TOP / part) for part in ("python", "tests", "te
 import gaknifur.__main__  # noqa: E402
 from compared import Compared  # noqa: E402
 from images import blocks, slots_of  # noqa: E402
-from told_rows import page_faults, page_of  # noqa: E402
+from table_rows import page_faults, page_of  # noqa: E402
 
 LONG, MOST_SECONDS, MOST_BYTES, MOST_VIEW_SECONDS = 100_000, 40, 3_000_000, 1  # (it takes 13 to 16 s here)
 RECORDS = 8
@@ -56,18 +56,18 @@ class Rows(Compared):
         return done.stdout
 
     def page(self, name, *words, charts, text=(), said=""):
-        """A report whose page has so many charts at the least, and these texts; its status is 4 where something is said."""
+        """A report whose page has at least `charts` charts, and these texts; its status is 4 if there is a message."""
         out = self.room / "out.html"
         out.unlink(missing_ok=True)
         self.lab("report", name, out.name, *words, said=said, status=4 if said else 0)
-        told = out.read_text() if out.exists() else ""
-        page = page_of(told)
-        self.same(f"{name} {words}, faults of the page", page_faults(told), [])
+        page_text = out.read_text() if out.exists() else ""
+        page = page_of(page_text)
+        self.same(f"{name} {words}, faults of the page", page_faults(page_text), [])
         self.same(f"{name} {words}, at least {charts} charts", page.elements.get("svg", 0) >= charts, True)
         plain = "".join(page.text)
         for one in text:
-            self.same(f"{name} {words} tells \"{one}\"", one in plain, True)
-        return told
+            self.same(f"{name} {words} contains \"{one}\"", one in plain, True)
+        return page_text
 
     def run(self, *words):
         subprocess.run([self.etcs, *map(str, words)], cwd=self.room, check=True, stdout=subprocess.DEVNULL)
@@ -81,7 +81,7 @@ def examples(rows):
                 rows.run("run", TOP / "examples" / name / scenario, name)
         first = rows.page(name, charts=charts, text=["each event agrees with the kernel", "IC 704"])
         rows.same(f"{name}, the same page twice", rows.page(name, charts=charts), first)
-    rows.page("trip", charts=2, text=["the mode is Trip: since event 10", "not stood since: since event 8, no longer behind event", "15.0 km/h", "event 8", "the driver starts (not accepted)", "300.00 – 327.00", "end announced by event 1",
+    rows.page("trip", charts=2, text=["the mode is Trip: since event 10", "not stood since: since event 8, no longer after event", "15.0 km/h", "event 8", "the driver starts (not accepted)", "300.00 – 327.00", "end announced by event 1",
               "the train was tripped: the minimum safe front was past the end of authority (event 10, 4.6.3)",
               "life 1, event 10, at 325.00 m", "perhaps not: the outputs of block", "1 power-up, each with the emergency brake"])
     row = next(row for row in csv.DictReader(io.StringIO(rows.lab("table", "trip"))) if row["event"] == "11")
@@ -100,12 +100,12 @@ def damaged(rows):
     at = 512 * (1 + 6 * 2) + 1024 + 16
     (rows.room / "byte").write_bytes(image[:at] + b"\xff" + image[at + 1:])
     lost = "lab: byte: something is lost, damaged or contradicts"
-    rows.page("byte", charts=1, said=lost, text=["7 records of blocks that are damaged or in a wrong slot spell an event", "damaged27936", "block 2 can't be read", "Lost: block 2, with events 1 to 8", "Cause not known: blocks or events are missing before."])
+    rows.page("byte", charts=1, said=lost, text=["7 records of blocks that are damaged or in a wrong slot have the form of an event", "damaged27936", "block 2 can't be read", "Lost: block 2, with events 1 to 8", "Cause not known: blocks or events are missing before."])
     (rows.room / "newest").write_bytes(image[:512 * (1 + 6 * 3) + 1024 + 16] + b"\xff" + image[512 * (1 + 6 * 3) + 1024 + 17:])
     rows.page("newest", charts=0, said="lab: newest: something is lost, damaged or contradicts", text=["block 3 can't be read"])
     (rows.room / "short").write_bytes(image[:-512])
-    short = ("lab: short: something is lost, damaged or contradicts: the file has no whole number of slots, and its first sector says 16. "
-             "So a power-up and an examination accept no journal in it; the records are those of each slot that can be read")
+    short = ("lab: short: something is lost, damaged or contradicts: the file has no whole number of slots, and its first sector says 16, "
+             "so a power-up and an examination accept no journal in it; the records are those of each readable slot")
     rows.page("short", charts=EXAMPLES["trip"], said=short)
     rows.run("format", "empty", 4)
     rows.page("empty", charts=0, text=["No block of a journal can be read", "There is nothing to draw"])
@@ -150,7 +150,7 @@ def processor_seconds():
 
 
 def long_image(events):
-    """A life of so many events, written by the plain writer: a train that runs, stops, and now and then is far too fast."""
+    """A life of `events` events, by the plain writer: a train that runs, stops, and sometimes is far too fast."""
     records, place, speed = [], 0, 0
     for number in range(events):
         at = number % 600
@@ -158,8 +158,8 @@ def long_image(events):
         is_fast = number % 7_000 > 6_990
         way = speed // 36
         place += way if number else 0
-        told = ("powerup", 0) if number == 0 else ("clock", 500 * number) if number % 2 else ("odometer", min(way, 10_000), speed)
-        records.append(blocks.entry(number, told, moment=500 * (number - 1 + number % 2) if number else 0, mode=0, level=1,
+        event = ("powerup", 0) if number == 0 else ("clock", 500 * number) if number % 2 else ("odometer", min(way, 10_000), speed)
+        records.append(blocks.entry(number, event, moment=500 * (number - 1 + number % 2) if number else 0, mode=0, level=1,
                                     brake=2 if is_fast or number == 0 else 0, ind=64 if is_fast else 0, estimate=place, uncertainty=500,
                                     limit=1_000 if is_fast else 130_000))
     parts = [records[:1]] + [records[at:at + RECORDS] for at in range(1, events, RECORDS)]
@@ -179,11 +179,11 @@ def braked(rows):
     rows.run("format", "braked", 1_000)
     rows.run("run", "braked.json", "braked")
     begun = processor_seconds()
-    told = rows.page("braked", charts=12, text=[f"events 0 to {4 + 100 * 30:,}", "each event agrees with the kernel"])
+    page = rows.page("braked", charts=12, text=[f"events 0 to {4 + 100 * 30:,}", "each event agrees with the kernel"])
     took = processor_seconds() - begun
-    # 101 interventions, of which the power-up's has one cause and each other one both speeds
-    rows.same("a page of 3,000 events has each cause", (told.count("the train has not stood since: since"), told.count("not within it since: since"),
-                                                       "not known" in told), (100, 100, False))
+    # 101 interventions: that of the power-up has one cause, and each other one both speeds
+    rows.same("a page of 3,000 events has each cause", (page.count("the train has not stood since: since"), page.count("not within it since: since"),
+                                                       "not known" in page), (100, 100, False))
     rows.same(f"a report of 3,000 events takes less than {MOST_SECONDS} s of processor time", took < MOST_SECONDS, True)
 
 
@@ -191,11 +191,11 @@ def long(rows):
     (rows.room / "long").write_bytes(long_image(LONG))
     begun = processor_seconds()
     said = "lab: long: the replay differs: life 1, event 0, in mode"
-    told = rows.page("long", charts=14, said=said, text=[f"{LONG:,} events", "The 12 interventions farthest above the limit"])
+    page = rows.page("long", charts=14, said=said, text=[f"{LONG:,} events", "The 12 interventions farthest above the limit"])
     took = processor_seconds() - begun
     rows.same(f"a report of {LONG} events takes less than {MOST_SECONDS} s of processor time and {MOST_BYTES} bytes",
-               (took < MOST_SECONDS, len(told.encode()) < MOST_BYTES), (True, True))
-    print(f"lab: a report of {LONG} events took {took:.1f} s of processor time, and has {len(told.encode()):,} bytes")
+               (took < MOST_SECONDS, len(page.encode()) < MOST_BYTES), (True, True))
+    print(f"lab: a report of {LONG} events took {took:.1f} s of processor time, and has {len(page.encode()):,} bytes")
     rows.page("long", "--from", "6950", "--to", "7050", charts=2, said=said, text=["101"])
     rows.lab("database", "long", "long.db", said=said, status=4)
     with contextlib.closing(sqlite3.connect("long.db")) as connection:

@@ -40,8 +40,8 @@ from replay_rows import examples  # noqa: E402
 
 LEAST = 300
 SLOW = 3
-"""So many altered bags at least, and the seconds of a processor that an answer may take. One that never comes ends the test."""
-UNSIGNED = "the bag isn't signed by anybody who is named"
+"""The least number of altered bags, and the greatest processor time of an answer in seconds. A missing answer ends the test."""
+UNSIGNED = "the bag isn't signed by any of the named signers"
 AUTHORITY = """
 [req]
 distinguished_name = name
@@ -139,9 +139,9 @@ def alterations():
 def others():
     def swap(folder):
         one, two = folder / "data/replay.jsonl", folder / "data/why.jsonl"
-        told = one.read_bytes(), two.read_bytes()
-        two.write_bytes(told[0])
-        one.write_bytes(told[1])
+        data = one.read_bytes(), two.read_bytes()
+        two.write_bytes(data[0])
+        one.write_bytes(data[1])
     yield "two files in place of each other", swap, "data/why.jsonl"
 
     def link(folder):
@@ -167,7 +167,7 @@ def others():
     yield "nothing of it", lambda folder: [shutil.rmtree(folder), folder.mkdir()], "bagit.txt"
 
 
-def close_anew(folder):
+def close_again(folder):
     """Closes a bag after an alteration, as whoever altered it might."""
     info = [line.split(": ", 1) for line in (folder / bag.INFO).read_text().splitlines()]
     for name in (bag.SIGNED, "tagmanifest-sha256.txt"):
@@ -181,28 +181,28 @@ def close_anew(folder):
         (folder / name).write_bytes(data)
 
 
-def closed_anew(room):
-    """Alterations after which the bag was closed anew: only a signature, a time stamp or `etcs_lab` reports them."""
+def closed_again(room):
+    """Alterations after which the bag was closed again: only a signature, a time stamp or `etcs_lab` shows them."""
     def table(folder):
         text = (folder / "data/table.csv").read_text()
         (folder / "data/table.csv").write_text(text.replace("emergency", "none"))
-    yield "a table, closed anew", [table, close_anew], signing.SSH
-    yield "a table, closed anew and without signatures", [table, close_anew, lambda folder: [(folder / name).unlink() for name in LATER[:2]]], UNSIGNED
-    yield "a table, closed anew and signed by others", [table, close_anew, lambda folder: sign(room, folder, "other")], signing.SSH
-    yield "a table, closed anew and signed again", [table, close_anew, lambda folder: sign(room, folder)], signing.ANSWER
+    yield "a table, closed anew", [table, close_again], signing.SSH
+    yield "a table, closed anew and without signatures", [table, close_again, lambda folder: [(folder / name).unlink() for name in LATER[:2]]], UNSIGNED
+    yield "a table, closed anew and signed by others", [table, close_again, lambda folder: sign(room, folder, "other")], signing.SSH
+    yield "a table, closed anew and signed again", [table, close_again, lambda folder: sign(room, folder)], signing.ANSWER
 
     def image(folder):
         data = bytearray((folder / "data/image").read_bytes())
         data[512 + 3072 + 1024 + 2] ^= 2
         (folder / "data/image").write_bytes(data)
-    anew = [close_anew, lambda folder: sign(room, folder), lambda folder: (folder / signing.REQUEST).unlink(), lambda folder: signing.ask_for_time(folder),
-            close_anew, lambda folder: sign(room, folder), lambda folder: stamp(room, folder)]
-    yield "the image, with all but what is told of it", [image, *anew], "data/image"
+    anew = [close_again, lambda folder: sign(room, folder), lambda folder: (folder / signing.REQUEST).unlink(), lambda folder: signing.ask_for_time(folder),
+            close_again, lambda folder: sign(room, folder), lambda folder: stamp(room, folder)]
+    yield "the image, with all but the output about it", [image, *anew], "data/image"
     for name in ("examine.json", "events.jsonl", "replay.jsonl", "why.jsonl", "digests.csv"):
-        def told(folder, name=name):
+        def alter(folder, name=name):
             text = (folder / "data" / name).read_text()
             (folder / "data" / name).write_text(text.replace("1", "2", 1) if name != "digests.csv" else text.replace("slot,0", "slot,9", 1))
-        yield f"{name}, with all that follows", [told, *anew], f"data/{name}"
+        yield f"{name}, with all that follows", [alter, *anew], f"data/{name}"
     yield "signatures of others", [lambda folder: sign(room, folder, "other")], signing.SSH
     yield "a signature of OpenPGP of others", [lambda folder: [(folder / signing.PGP).unlink(), keys(room, "other")[1].sign(folder / bag.SIGNED)]], signing.PGP
     yield "a time stamp of others", [lambda folder: stamp(room, folder, "other")], signing.ANSWER
@@ -216,7 +216,7 @@ def closed_anew(room):
     yield "a time stamp of another request", [other_request], signing.ANSWER
 
 
-# ---- what whoever closes a bag anew may put into it
+# ---- what somebody who closes a bag again may put into it
 
 LIE = "shown: a@b signed the bag, by the key SHA256:AAAA"
 HEX = "0" * 64
@@ -234,35 +234,35 @@ TEXTS = (b"", b"{", b"[]", b"null", b"\xff\xfe", b"[" * 200_000, b'{"a":' * 50_0
 
 
 def strip(folder):
-    """Takes the signatures and the time stamp away, and closes the bag anew: nothing vouches for it."""
+    """Removes the signatures and the time stamp, and closes the bag again: nothing vouches for it."""
     for name in LATER:
         (folder / name).unlink(missing_ok=True)
-    close_anew(folder)
+    close_again(folder)
 
 
 def put(folder, member, value):
     """Puts a value into seal.json."""
     path = folder / "data/seal.json"
-    told = json.loads(path.read_text())
-    at, name = told, member
+    members = json.loads(path.read_text())
+    at, name = members, member
     while "." in name and name not in at:
         first, _, name = name.partition(".")
         at = at[first]
     at[name] = value
-    path.write_text(json.dumps(told))
+    path.write_text(json.dumps(members))
 
 
 def forged():
-    """Bags that were closed anew and that nobody signed: a name, the steps, and the file that is to be reported."""
+    """Bags that were closed again without a signature: a name, the steps, and the file that has to be reported."""
     for member, value in ODD:
         yield f"{member} is {str(value)[:40]!r}", [lambda folder, member=member, value=value: put(folder, member, value), strip], "data/seal.json"
     for text in TEXTS:
         yield f"seal.json is {text[:20]!r}", [lambda folder, text=text: (folder / "data/seal.json").write_bytes(text), strip], "data/seal.json"
     for member in ("version", "sealed_at", "by", "medium", "image", "etcs_lab", "tools", "times", "signed_by"):
         def less(folder, member=member):
-            told = json.loads((folder / "data/seal.json").read_text())
-            del told[member]
-            (folder / "data/seal.json").write_text(json.dumps(told))
+            members = json.loads((folder / "data/seal.json").read_text())
+            del members[member]
+            (folder / "data/seal.json").write_text(json.dumps(members))
         yield f"no {member}", [less, strip], "data/seal.json"
     for name, text in (("examine.json", b"[" * 200_000), ("examine.json", b'{"image": {"slots": 6, "whole_slots": 1000000000000}, "slots": []}'), ("events.jsonl", b"\xff"),
                        ("why.jsonl", b""), ("digests.csv", b"\0"), ("digests.csv", b"\xff")):
@@ -275,7 +275,7 @@ def forged():
 
 
 def retag(folder):
-    """Closes the tag files of a bag anew."""
+    """Closes the tag files of a bag again."""
     for name in (bag.SIGNED, "tagmanifest-sha256.txt"):
         (folder / name).unlink()
     bag.close_tags(folder)
@@ -335,7 +335,7 @@ def in_lines(count, room):
         status, text, said = printed(step)
         count.unless(not said and text.replace("\n", "").isprintable() and not any(line.startswith("shown: b") for line in text.splitlines()), f"{name}: {text!r} {said!r}")
     status, text, said = printed(lambda folder: [put(folder, "signed_by", []), strip(folder)])
-    count.same("what isn't signed", (status, "not shown: who sealed it: the bag isn't signed, so whoever altered it could have closed it anew" in text.splitlines()), (0, True))
+    count.same("what isn't signed", (status, "not shown: who sealed it: the bag isn't signed, so whoever altered it could have sealed it again" in text.splitlines()), (0, True))
 
 
 def timed(folder, trusted):
@@ -359,12 +359,12 @@ class Count(Compared):
         faults, took = timed(self.made(steps), trusted)
         self.unless(bool(faults) and took < SLOW, f"{name}: took {took:.1f} s: {faults}")
 
-    def told(self, name, steps, file, trusted):
+    def expect_fault(self, name, steps, file, trusted):
         """An altered bag is reported by the name of the file, in time."""
         folder = self.made(steps)
         self.altered += 1
         faults, took = timed(folder, trusted)
-        self.unless(any(line == file or line.startswith(f"{file}: ") for line in faults), f"{name}: {file} isn't told: {faults}")
+        self.unless(any(line == file or line.startswith(f"{file}: ") for line in faults), f"{name}: {file} isn't reported: {faults}")
         self.unless(took < SLOW, f"{name}: took {took:.1f} s")
 
     def made(self, steps):
@@ -382,7 +382,7 @@ class Count(Compared):
 
 
 def whole_bag(count, room, image):
-    """What a bag holds that nobody altered, and what it shows."""
+    """The content of an unaltered bag, and what it shows."""
     data, opened = image.read_bytes(), []
     os_open = os.open
 
@@ -395,7 +395,7 @@ def whole_bag(count, room, image):
         found, odd = seal.seal(image, room / "bag", seal.Sealing("one", "a medium", keys=keys(room)))
     count.same("the image was opened once, to be read", (opened, image.read_bytes()), ([os.O_RDONLY], data))
     count.same("the copy", (room / "bag/data/image").read_bytes(), data)
-    count.same("what it told", (found["by"], found["medium"], found["image"]["bytes"], odd), ("one", "a medium", len(data), []))
+    count.same("the content of seal.json", (found["by"], found["medium"], found["image"]["bytes"], odd), ("one", "a medium", len(data), []))
     stamp(room, room / "bag")
     count.same("its files", formats.names_in(room / "bag"), (sorted(FILES), []))
     count.same("their modes", {(room / "bag" / name).stat().st_mode & 0o222 for name in FILES if name != signing.ANSWER}, {0})
@@ -408,7 +408,7 @@ def whole_bag(count, room, image):
     by = [line for line in seen.shown + seen.not_shown if f"sealed by lab {program.version()}" in line]
     count.same("by which tools", [(program.PROOF[None] in line, "with a proved etcs_lab" in line) for line in by], [(not is_proved, bool(is_proved))])
     seen = seal.verify(room / "bag", Trust())
-    count.same("the bag, where nobody is trusted", (seen.faults, len(seen.shown), len(seen.not_shown)), ([], 4 + is_proved, 5 - is_proved))
+    count.same("the bag, with no trusted signer", (seen.faults, len(seen.shown), len(seen.not_shown)), ([], 4 + is_proved, 5 - is_proved))
     seen = seal.verify(room / "bag", trust(room, "other"))
     count.same("the bag, where others are trusted", sorted(line.split(":")[0] for line in seen.faults),
                sorted([*LATER, UNSIGNED]))
@@ -441,9 +441,9 @@ def at_the_edges(count, room, image):
     data = image.read_bytes()
     for name, made, status in (("damaged", data[:2000] + b"\xff" + data[2001:], 4), ("cut", data[:5000], 4), ("none", b"text", 1), ("empty", b"", 1)):
         (room / name).write_bytes(made)
-        told, odd = seal.seal(room / name, room / f"bag-{name}", seal.Sealing())
+        sealed, odd = seal.seal(room / name, room / f"bag-{name}", seal.Sealing())
         seen = seal.verify(room / f"bag-{name}", Trust())
-        count.same(f"{name}: sealed", (told["etcs_lab"]["examine.json"]["status"], seen.faults), (status, []))
+        count.same(f"{name}: sealed", (sealed["etcs_lab"]["examine.json"]["status"], seen.faults), (status, []))
         count.unless(bool(odd), f"{name}: nothing is said of it")
         count.same(f"{name}: a report", (room / f"bag-{name}/data/report.html").exists(), status == 4)
     unsigned = seal.verify(room / "bag-cut", trust(room))
@@ -477,7 +477,7 @@ def killed(count, room, image):
         left = sorted(set(os.listdir(at)) - set(strangers))
         count.same(f"killed at {name}", (status, [re.sub(r"[0-9a-f]+", "_", one) for one in left]), (-signal.SIGKILL, [".l_-_-_"]))
         seal.seal(image, at / f"sealed-{name}", seal.Sealing())
-        count.same(f"sealed behind that at {name}", sorted(set(os.listdir(at)) - set(strangers)), [f"sealed-{name}"])
+        count.same(f"sealed after that at {name}", sorted(set(os.listdir(at)) - set(strangers)), [f"sealed-{name}"])
         shutil.rmtree(at / f"sealed-{name}")
     for number, said, status in ((errno.EIO, "Input/output error", DEVICE), (errno.EEXIST, "created by somebody else meanwhile", REFUSED)):
         def fails(*_, number=number):
@@ -511,17 +511,17 @@ def main(words):
         count = Count(room)
         whole_bag(count, room, image)
         for name, do, file in alterations():
-            count.told(name, [do], file, trust(room) if file in LATER else Trust())
-        for name, steps, file in closed_anew(room):
-            count.told(name, steps, file, trust(room))
+            count.expect_fault(name, [do], file, trust(room) if file in LATER else Trust())
+        for name, steps, file in closed_again(room):
+            count.expect_fault(name, steps, file, trust(room))
         for name, steps, file in forged():
-            count.told(f"forged: {name}", steps, file, Trust())
-            count.told(f"forged: {name}, signers named", steps, UNSIGNED, Trust(room / "signers-one", room / "one.gpg"))
+            count.expect_fault(f"forged: {name}", steps, file, Trust())
+            count.expect_fault(f"forged: {name}, signers named", steps, UNSIGNED, Trust(room / "signers-one", room / "one.gpg"))
         for name, steps, file in endless():
-            count.told(name, steps, file, trust(room) if file in LATER else Trust())
+            count.expect_fault(name, steps, file, trust(room) if file in LATER else Trust())
             count.answered(name, steps, trust(room))
         in_lines(count, room)
-        count.told("signatures of others, where nobody is trusted", [lambda folder: sign(room, folder, "other")], signing.SSH, Trust())
+        count.expect_fault("signatures of others, with no trusted signer", [lambda folder: sign(room, folder, "other")], signing.SSH, Trust())
         at_the_edges(count, room, image)
         killed(count, room, image)
         subprocess.run(["gpgconf", "--kill", "gpg-agent"], capture_output=True)

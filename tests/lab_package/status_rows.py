@@ -37,7 +37,7 @@ SWEEP = """\
 sweep: of a brake
 for: {seconds: [1, 2]}
 lives: [{steps: [{clock: "$seconds s"}]}]
-tell: [{name: brake, at: end, value: brake}]
+columns: [{name: brake, at: end, value: brake}]
 expected: [{note: it brakes, at: end, expect: {brake: none}}]
 """
 SEARCH = """\
@@ -210,9 +210,9 @@ def main(words):
             seen.add((int(status), row[0]))
             if status == "4":
                 findings.add(row[0] if "/" in row[0] else " ".join(row[:2]))
-    marks, told = tables()
+    marks, commands = tables()
     count.same("marks of the first table", sorted(marks), sorted(seen))
-    count.same("commands of the second table", sorted(told), sorted(findings))
+    count.same("commands of the second table", sorted(commands), sorted(findings))
     return count.end(f"exit statuses: {count.count} comparisons")
 
 

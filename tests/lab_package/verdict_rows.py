@@ -53,8 +53,8 @@ def altered(rows, room):
 def implausible(rows, room):
     """Readings say standstill, and the train moved: no replay finds it, and physics does."""
     image = room / "implausible"
-    told = {block["number"]: block for block in blocks_of([("unknown", (*STARTED, *["move 2000 0"] * 4))], 3)}
-    image.write_bytes(image_of(max(told) + 2, ring(max(told) + 2, told)))
+    by_number = {block["number"]: block for block in blocks_of([("unknown", (*STARTED, *["move 2000 0"] * 4))], 3)}
+    image.write_bytes(image_of(max(by_number) + 2, ring(max(by_number) + 2, by_number)))
     text, _, status = run("check", image)
     rows.same("lab check", (status, MOVED in text), (4, True))
     sentence = next(line for line in text.splitlines() if line.startswith(MOVED))

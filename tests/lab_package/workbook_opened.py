@@ -19,7 +19,7 @@ import openpyxl
 
 TOP = Path(__file__).resolve().parents[2]
 IDENTITIES = ("=1+1", "+49", "-1", "@SUM(1)", "=HYPERLINK(1)", "'7", "007", "1e3", "TRUE")
-"""What a driver entered, of which a spreadsheet might make something else."""
+"""Entries of a driver that a spreadsheet might change."""
 AS_CSV = "csv:Text - txt - csv (StarCalc):44,34,76,1,,0,true,false,true,false,0"
 """Commas, UTF-8, texts in quotes, numbers as they are kept, formulas as formulas, the first sheet."""
 CELL = re.compile(r'"((?:[^"]|"")*)"|([^,\n]*)')
@@ -40,14 +40,14 @@ def cells_of(text):
     return rows
 
 
-def is_same(wanted, is_text, told):
+def is_same(wanted, is_text, found):
     """Whether a cell says what the table reports."""
-    if is_text or wanted == told:
-        return wanted == told
+    if is_text or wanted == found:
+        return wanted == found
     if wanted in ("True", "False"):
-        return told == wanted.upper()
+        return found == wanted.upper()
     try:
-        return float(wanted) == float(told)
+        return float(wanted) == float(found)
     except ValueError:
         return False
 
@@ -66,10 +66,10 @@ def compared(table, rows):
         return 0, [f"{len(rows)} rows of {len(rows[0])} cells, and the table has {len(wanted)} of {len(wanted[0])}"]
     differ = []
     for number, (one, other) in enumerate(zip(wanted, rows), 1):
-        for name, text, (quoted, told) in zip(wanted[0], one, other):
+        for name, text, (quoted, found) in zip(wanted[0], one, other):
             is_text = number == 1 or name in TEXTS and text != ""
-            if quoted != is_text or not is_same(text, is_text, told):
-                differ.append(f"row {number}, {name}: {text!r}, and in the workbook {'text' if quoted else 'number'} {told!r}")
+            if quoted != is_text or not is_same(text, is_text, found):
+                differ.append(f"row {number}, {name}: {text!r}, and in the workbook {'text' if quoted else 'number'} {found!r}")
     return len(wanted) * len(wanted[0]), differ
 
 

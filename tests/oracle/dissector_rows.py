@@ -1,12 +1,12 @@
 #!/usr/bin/env python3
-"""What tshark shows by the dissector of `./lab dissector`, compared with the plain decoder (tests/plain/decoded.py), of random
-telegrams.
+"""Compare what tshark shows with the dissector of `./lab dissector` and the plain decoder (tests/plain/decoded.py), for
+random telegrams.
 
     tests/oracle/dissector_rows.py [COUNT [SEED]]    2,000 telegrams, seed 2026
 
-Each variable of a telegram that can be decoded is shown, with its number and what that means, in its place. Of one that ends too early, or
-whose L_PACKET is wrong, that is shown; what the decoder refuses for another cause (a number out of range) has its
-variables. Two altered layouts and an altered meaning are reported.
+Each variable of a telegram that can be decoded is shown in its place, with its number and meaning. A telegram that ends too
+early, or whose L_PACKET is wrong, is marked as such; one that the decoder refuses for another reason (a number out of range)
+has its variables. Two altered layouts and an altered meaning are found.
 """
 import random
 import subprocess
@@ -28,9 +28,9 @@ COUNT, SEED, LEAST_READ, LEAST_REFUSED = 2_000, 2026, 500, 900
 FAULTS = {"1": "etcs_balise.truncated", "2": "etcs_balise.wrong_length"}
 
 
-def told(data):
-    """The variables that the plain decoder reports, in their order; None where it refuses, and the number of its
-    cause."""
+def decoded_variables(data):
+    """The variables that the plain decoder finds, in their order, or None if it refuses the telegram; and the number of the
+    fault."""
     lines = decoded.answer(data).splitlines()
     if lines[-1].startswith("refused"):
         return None, lines[-1].split()[1]
@@ -47,7 +47,7 @@ def told(data):
 
 
 def shown(program, path):
-    """What tshark shows of each packet of a capture: the variables, and what is wrong."""
+    """What tshark shows for each packet of a capture: the variables, and the faults."""
     lua = path.with_suffix(".lua")
     lua.write_text(program)
     done = subprocess.run(["tshark", "-X", f"lua_script:{lua}", "-r", path, "-T", "pdml"], capture_output=True,
@@ -69,13 +69,12 @@ def shown(program, path):
 
 
 def compared(program, data, path):
-    """How many telegrams are shown otherwise, with the first of them; how many can be read, and how many end too
-    early."""
+    """The telegrams that are shown differently, and the numbers of those that can be read and of those that end too early."""
     wrong, read, refused = [], 0, 0
     answers = shown(program, path)
     assert len(answers) == len(data), f"{len(answers)} of {len(data)} packets"
     for one, (names, faults) in zip(data, answers):
-        wanted, cause = told(one)
+        wanted, cause = decoded_variables(one)
         read += wanted is not None
         refused += cause in FAULTS
         if names != wanted or faults if wanted is not None else cause in FAULTS and not faults:
@@ -88,18 +87,17 @@ def main(count=COUNT, seed=SEED):
     data = [one for one in ((headed if numbers.randrange(2) else mutated)(numbers) for _ in range(int(count))) if one]
     records = [{"kind": "telegram", "telegram": one.hex(), "life": 1, "time_ms": 7 * at} for at, one in enumerate(data)]
     with tempfile.TemporaryDirectory() as room:
-        path = Path(room) / "told.pcap"
+        path = Path(room) / "telegrams.pcap"
         path.write_bytes(dissector.capture(Journal(path, {}, records))[0])
         program = dissector.lua()
         wrong, read, refused = compared(program, data, path)
         planted = [("V_TSR = 7", "V_TSR = 8"), ('"NID_TSR", "D_TSR"', '"D_TSR", "NID_TSR"'), ('[1] = "nominal"', '[1] = "reverse"')]
         for was, is_now in planted:
             if was not in program or not compared(program.replace(was, is_now), data, path)[0]:
-                wrong.append(f"{is_now} for {was} isn't told")
+                wrong.append(f"{is_now} for {was} isn't found")
     least = (LEAST_READ, LEAST_REFUSED) if int(count) >= COUNT else (1, 1)
     print(*wrong[:10],
-          f"tests/oracle/dissector_rows.py: {len(data)} telegrams in tshark, {read} can be read, {refused} end too early or have "
-          "a "
+          f"tests/oracle/dissector_rows.py: {len(data)} telegrams in tshark, {read} can be read, {refused} end too early or have a "
           f"wrong length, {len(planted)} planted, {len(wrong)} wrong; {len(telegrams.LAYOUTS)} layouts", sep="\n")
     return 1 if wrong or read < least[0] or refused < least[1] else 0
 

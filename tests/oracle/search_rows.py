@@ -1,13 +1,11 @@
 #!/usr/bin/env python3
-"""Searches that have to find what is there: wrong properties, a wrong unit, altered records; and the safety laws, which
-hold.
+"""Searches that have to find faults: wrong properties, a wrong unit and altered records; and the safety laws, which hold.
 
     tests/oracle/search_rows.py ETCS ETCS_LAB UNIT [all]    `all`: all wrong properties; else the first three
 
-Each wrong property (wrong.search.yaml) is found, is made small to fewer than 12 steps of which none can be left out,
-and is kept as a case that says what it should. The safety laws (suites/safety_laws.search.yaml) are each judged, and
-hold of the proved unit; of each of them an altered answer is reported; and in a unit whose brake is late a search finds one
-of them broken.
+Each wrong property (wrong.search.yaml) is found, is shrunk to fewer than 12 steps, none of which can be left out, and is
+kept as a case that fails. The safety laws (suites/safety_laws.search.yaml) are each judged, and hold for the proved unit;
+an altered answer breaks each of them; and a search finds one of them broken in a unit whose brake is late.
 """
 import copy
 import os
@@ -30,7 +28,7 @@ OTHERS = {"mode": ["FS", "SR", "UN", "PT", "TR"], "brake": ["none", "service"], 
 
 
 class Rows:
-    """What was tried, and what was wrong."""
+    """Counts what was tried, and what was wrong."""
 
     def __init__(self):
         self.wrong = self.found = self.altered = 0
@@ -41,25 +39,25 @@ class Rows:
             print(f"tests/oracle/search_rows.py: {name}: {said}")
 
     def wrong_properties(self, few):
-        told = properties.read(WRONG)
-        made, records = strategies.made_of(told.made_of, told.shared), search.player(None)
-        looked_at = told.properties[:few]
-        for begun in search.survey(looked_at, made, records, EXAMPLES, SEED):
-            self.wrong_property(begun, made, records)
-        self.is_so("wrong properties", len(told.properties) == 12 and self.found == len(looked_at),
-                   f"{self.found} of {len(looked_at)} found")
+        file = properties.read(WRONG)
+        made, records = strategies.made_of(file.made_of, file.shared), search.player(None)
+        wanted = file.properties[:few]
+        for started in search.survey(wanted, made, records, EXAMPLES, SEED):
+            self.wrong_property(started, made, records)
+        self.is_so("wrong properties", len(file.properties) == 12 and self.found == len(wanted),
+                   f"{self.found} of {len(wanted)} found")
 
-    def wrong_property(self, begun, made, records):
-        """A wrong property is found, made small, and kept as a case that fails of this alone."""
-        name, since = begun.of.note, time.monotonic()
-        if begun.first is None:
+    def wrong_property(self, started, made, records):
+        """A wrong property is found, shrunk, and kept as a case in which only its result fails."""
+        name, since = started.of.note, time.monotonic()
+        if started.first is None:
             return
         self.found += 1
-        found = search.made_small(begun, made, EXAMPLES, SEED)
+        found = search.shrunk(started, made, EXAMPLES, SEED)
         self.is_so(name, found.lives is not None and found.steps < MOST_STEPS, f"{found.steps} steps")
         for less in search.smaller(found.lives):
             try:
-                properties.judge(begun.of, records(less))
+                properties.judge(started.of, records(less))
             except properties.Violated:
                 self.is_so(name, False, f"broken by less: {less}")
         with tempfile.TemporaryDirectory() as room:
@@ -72,30 +70,30 @@ class Rows:
         print(f"tests/oracle/search_rows.py: found, {found.steps} steps, {time.monotonic() - since:.1f} s: {name}")
 
     def laws(self, unit):
-        told = properties.read(LAWS)
-        made, records = strategies.made_of(told.made_of, told.shared), search.player(None)
+        file = properties.read(LAWS)
+        made, records = strategies.made_of(file.made_of, file.shared), search.player(None)
         recorded = []
 
         def player(scenarios):
             recorded.append(records(scenarios))
             return recorded[-1]
 
-        for begun in search.survey(told.properties, made, player, LAW_EXAMPLES, SEED):
-            judged = begun.found.judged
-            self.is_so(begun.of.note, begun.first is None, begun.first)
-            self.is_so(begun.of.note, judged > 0 or begun.of.unjudged is not None, "no record was judged")
+        for started in search.survey(file.properties, made, player, LAW_EXAMPLES, SEED):
+            judged = started.found.judged
+            self.is_so(started.of.note, started.first is None, started.first)
+            self.is_so(started.of.note, judged > 0 or started.of.unjudged is not None, "no record was judged")
         count = sum(map(len, {id(one): one for one in recorded}.values()))
         self.is_so("records", count >= LEAST_RECORDS, f"{count} records")
-        for one in told.properties:
+        for one in file.properties:
             self.alter(one, recorded)
         command = shlex.join([str(TOP / "tests/oracle/wrong.py"), "brake_late", unit])
         late = search.player(search.Other(command, 60.0))
-        late_found = search.survey(told.properties, made, late, 12, SEED)
-        self.is_so("a late brake", any(begun.first is not None for begun in late_found), "no law is broken")
+        late_found = search.survey(file.properties, made, late, 12, SEED)
+        self.is_so("a late brake", any(started.first is not None for started in late_found), "no law is broken")
         return count
 
     def alter(self, one, recorded):
-        """An altered answer breaks the law: of a record that was judged, each value that it asks for."""
+        """An altered answer breaks the law: each value that it tests, in a record that was judged."""
         if one.requires != "always":
             self.altered += self.forgets(one, recorded)
             return
@@ -103,9 +101,9 @@ class Rows:
             chosen = one.chooses.get("where")
             if chosen and name in chosen.tests or name == "mode" and "before" in one.chooses:
                 continue
-            self.is_so(one.note, self.is_told(one, name, recorded) or one.unjudged, f"no altered {name} is told")
+            self.is_so(one.note, self.is_broken(one, name, recorded) or one.unjudged, f"no altered {name} breaks the law")
 
-    def is_told(self, one, name, recorded):
+    def is_broken(self, one, name, recorded):
         for records in recorded:
             for index in properties.chosen(one, case_runner.Played(records, {})):
                 for other in changed(records[index], name):
@@ -118,7 +116,7 @@ class Rows:
         return False
 
     def forgets(self, one, recorded):
-        """Without what has to come before it the record breaks the law."""
+        """A record breaks the law without the one that has to come before it."""
         for records in recorded:
             if any(True for _ in properties.chosen(one, case_runner.Played(records, {}))):
                 others = [copy.deepcopy(record) | {"decoded": {}, "action": None} for record in records]
@@ -144,10 +142,9 @@ def main(etcs, lab, unit, which=""):
     rows = Rows()
     rows.wrong_properties(None if which == "all" else FEW)
     count = rows.laws(str(Path(unit).resolve()))
-    rows.is_so("altered answers", rows.altered >= LEAST_ALTERED, f"{rows.altered} told")
-    print(f"tests/oracle/search_rows.py: {rows.found} wrong properties found, the safety laws hold of {count} records, "
-          f"{rows.altered} altered "
-          f"answers told, {rows.wrong} wrong")
+    rows.is_so("altered answers", rows.altered >= LEAST_ALTERED, f"{rows.altered} found")
+    print(f"tests/oracle/search_rows.py: {rows.found} wrong properties found, the safety laws hold for {count} records, "
+          f"{rows.altered} altered answers found, {rows.wrong} wrong")
     return 1 if rows.wrong else 0
 
 

@@ -1,12 +1,11 @@
 #!/usr/bin/env python3
-"""Another unit along with the proved one: a right one agrees, and each one that is wrong on purpose is found out by what is
-wrong.
+"""Compare other units with the proved one: a right one agrees, and each one that is wrong on purpose is found by its fault.
 
     tests/oracle/unit_rows.py ETCS ETCS_LAB UNIT STANDS
 
-UNIT is examples/oracle/unit.c, compiled, STANDS least.c. They, examples/oracle/unit.py and `./lab serve` are asked
-about the journals of the examples. Each kind of tests/oracle/wrong.py is asked about one of them, in which a train is
-tripped and power is lost, and has to be reported by what stands here. Nothing of any of them may be left.
+UNIT is examples/oracle/unit.c, compiled, STANDS least.c. These, examples/oracle/unit.py and `./lab serve` replay the
+journals of the examples. Each kind of tests/oracle/wrong.py replays one of them, in which a train is tripped and power
+is lost, and has to be reported with the text in FOUND. None of their processes may be left.
 """
 import os
 import shlex
@@ -26,39 +25,39 @@ from gaknifur.units.other_unit import OtherUnit  # noqa: E402
 
 WITHIN_S, HANGS_S, LEAST = 60.0, 8.0, 30
 AT = "event 8: "
-# What is reported of each kind. By hand, from docs/howto/oracle.md and what the example does: it is made ready by event 5, too
-# fast at event 8.
+# The message for each kind. Written by hand, from docs/howto/oracle.md and the example: the train is ready by event 5, and
+# too fast at event 8.
 FOUND = {
     "brake_late": "differs in brake", "other_mode": "differs in mode",
     "limit_by_one": "event 5 differs in limit_m_per_h",
     "level_kept": "event 0 differs in level", "lower_uncertainty": "event 0 differs in uncertainty_cm",
     "indication_less": "differs in indications",
     "missing_answer": f"{AT}no answer within 8 s", "hangs": f"{AT}no answer within 8 s",
-    "garbage": f"{AT}a line that is no JSON: emergency!", "no_object": f"{AT}a line that is no JSON object: [8]",
-    "no_text": f"{AT}a line that is no JSON: ",
+    "garbage": f"{AT}a line that is not JSON: emergency!", "no_object": f"{AT}a line that is not a JSON object: [8]",
+    "no_text": f"{AT}a line that is not JSON: ",
     "crashes": f"{AT}it was ended by signal 11 (SIGSEGV); it said: something is broken",
     "ends": f"{AT}it ended with status 3",
     "half_a_line": f"{AT}a line without its end, and then it ended with status 0",
     "endless_line": f"{AT}a line of more than 65,536 bytes", "closes": f"{AT}it closed its standard output",
-    "other_event": f"{AT}the answer to event 7", "two_answers": "event 9: ",
+    "other_event": f"{AT}an answer to event 7", "two_answers": "event 9: ",
     "member_less": f"{AT}no member \"limit_m_per_h\"",
     "member_more": f"{AT}the member \"limit_mh\", which isn't one of event, mode",
     "member_twice": f"{AT}\"brake\" is given twice",
-    "unknown_word": f"{AT}mode \"XX\", where one of FS, OS",
-    "number_as_text": f"{AT}limit_m_per_h \"0\", where a whole number",
-    "number_with_a_point": f"{AT}limit_m_per_h 0.0, where a whole number",
-    "infinite": f"{AT}limit_m_per_h Infinity, where a whole number",
-    "true_for_a_number": f"{AT}level true, where 0, 1 or null",
+    "unknown_word": f"{AT}mode \"XX\", which isn't one of FS, OS",
+    "number_as_text": f"{AT}limit_m_per_h \"0\", which isn't a whole number",
+    "number_with_a_point": f"{AT}limit_m_per_h 0.0, which isn't a whole number",
+    "infinite": f"{AT}limit_m_per_h Infinity, which isn't a whole number",
+    "true_for_a_number": f"{AT}level true, which isn't 0, 1 or null",
     "other_protocol": "greeting: the protocol 2, and this one is 1",
-    "tells_no_brake": "greeting: \"tells\" without brake",
-    "tells_more": "greeting: as \"tells\" something else than a list of mode",
+    "members_without_brake": "greeting: \"members\" without brake",
+    "unknown_member": "greeting: \"members\" that isn't a list of mode",
     "nameless": "greeting: a unit whose name isn't a text of 1 to 200 characters",
-    "greets_not": "greeting: a line that is no JSON: hello",
-    "silent": "greeting: no answer within 8 s", "goes_on": "end: it goes on for 8 s",
+    "greets_not": "greeting: a line that is not JSON: hello",
+    "silent": "greeting: no answer within 8 s", "keeps_running": "end: it keeps running for 8 s",
     "bad_status": "end: it ended with status 9",
-    "last_word": "end: a line that nobody asked for: bye",
+    "last_word": "end: a line that wasn't requested: bye",
 }
-SLOW = ("missing_answer", "hangs", "silent", "goes_on", "closes")
+SLOW = ("missing_answer", "hangs", "silent", "keeps_running", "closes")
 IN_SANDBOX = FOUND | {"closes": FOUND["hangs"]}
 # (the sandbox's own process holds the unit's standard output)
 STARTED = []
@@ -73,7 +72,7 @@ class Watched(OtherUnit):
 
 
 def journals(room):
-    """The journals of the examples, by their names."""
+    """The journals of the examples, by name."""
     found = {}
     for folder in sorted((TOP / "examples").glob("*/")):
         scenarios = [folder / name for name in ("scenario.json", "restart.json") if (folder / name).exists()]
@@ -85,10 +84,10 @@ def journals(room):
     return found
 
 
-def told(command, records, within_s):
-    """What is reported of a unit, and whether it agrees."""
-    asked = oracle.ask(command, "tried", records, within_s)
-    return "\n".join(line.text for line in oracle.lines(asked)), asked.agrees
+def compared(command, records, within_s):
+    """The output about a unit, and whether it agrees."""
+    comparison = oracle.ask(command, "tried", records, within_s)
+    return "\n".join(line.text for line in oracle.lines(comparison)), comparison.agrees
 
 
 CASE = """\
@@ -99,29 +98,29 @@ rule: b
 starting_conditions: c
 lives: [{steps: [{drive: 1 m at 5 km/h}]}]
 expected:
-  - {note: what it tells, at: end, expect: {mode: SB, brake: emergency}}
-  - {note: what nobody meets, at: end, expect: {mode: FS}}
-  - {note: what it does not tell, at: end, expect: {limit_kmh: 0}}
+  - {note: what it reports, at: end, expect: {mode: SB, brake: emergency}}
+  - {note: what no unit meets, at: end, expect: {mode: FS}}
+  - {note: what it does not report, at: end, expect: {limit_kmh: 0}}
 """
 
 
 def tested(unit):
-    """A case against a unit that says little: what it says is judged, what it doesn't report is skipped and said."""
+    """A case against a unit that reports little: what it reports is judged, and the rest is skipped with a message."""
     with tempfile.TemporaryDirectory() as room:
         (Path(room) / "case.yaml").write_text(CASE)
         done = subprocess.run([TOP / "lab", "test", room, "-rs", "--against", shlex.quote(str(unit))], capture_output=True, text=True)
     said = done.stdout + done.stderr
-    wanted = ("1 failed, 3 passed, 1 skipped", "the unit doesn't tell limit_kmh", "found:    mode SB", "the proved unit misses it too")
+    wanted = ("1 failed, 3 passed, 1 skipped", "the unit doesn't report limit_kmh", "found:    mode SB", "the proved unit misses it too")
     return done.returncode == 4 and all(one in said for one in wanted), said
 
 
 def left():
-    """The groups of processes of which something runs on, a moment later."""
+    """The units that still have running processes, a moment later."""
     for _ in range(50):
-        told = [line.split()
+        lines = [line.split()
                 for line in subprocess.run(["ps", "-eo", "pgid=,stat="], capture_output=True,
                                            text=True).stdout.splitlines()]
-        groups = {group for group, state in told if not state.startswith("Z")}
+        groups = {group for group, state in lines if not state.startswith("Z")}
         found = [pid for pid in STARTED if str(pid) in groups]
         if not found:
             break
@@ -142,19 +141,19 @@ def main(etcs, lab, unit, stands):
     with tempfile.TemporaryDirectory() as room:
         found = journals(room)
         for name, records in found.items():
-            said, agrees = told(shlex.quote(unit), records, WITHIN_S)
+            said, agrees = compared(shlex.quote(unit), records, WITHIN_S)
             is_so(f"unit.c about {name}", agrees and said.endswith("agree\nnothing differs"), said)
         for least in (TOP / "examples/oracle/unit.py", Path(stands).resolve()):
-            said, agrees = told(shlex.quote(str(least)), found["trip"], WITHIN_S)
+            said, agrees = compared(shlex.quote(str(least)), found["trip"], WITHIN_S)
             is_so(least.name, not agrees and "life 1 events 0..4 agree\nlife 1 event 5 differs in mode" in said, said)
         is_so("lab test against unit.py", *tested(TOP / "examples/oracle/unit.py"))
-        said, agrees = told(f"{shlex.quote(str(TOP / 'lab'))} serve", found["power_cut"], WITHIN_S)
+        said, agrees = compared(f"{shlex.quote(str(TOP / 'lab'))} serve", found["power_cut"], WITHIN_S)
         is_so("lab serve", agrees, said)
         proxy = f"{shlex.quote(str(TOP / 'tests/oracle/wrong.py'))} {{}} {shlex.quote(unit)}"
-        is_so("right", told(proxy.format("right"), found["trip"], WITHIN_S)[1])
+        is_so("right", compared(proxy.format("right"), found["trip"], WITHIN_S)[1])
 
         def tried(kind):
-            return kind, told(proxy.format(kind), found["trip"], HANGS_S if kind in SLOW else WITHIN_S)
+            return kind, compared(proxy.format(kind), found["trip"], HANGS_S if kind in SLOW else WITHIN_S)
 
         for where, wanted in ({"": FOUND} | ({"sandbox: ": IN_SANDBOX} if sandbox.bubblewrap() else {})).items():
             os.environ[sandbox.SANDBOX] = "" if where else "none"

@@ -97,7 +97,7 @@ def by_package(journal: reading.Journal, path: Path, drift: int) -> tuple[Any, s
         return None, str(failed).replace(str(path), path.name) + "."
     columns = times.columns(journal)
     utc = [None if one is None else [one, off] for one, off in zip(columns["utc_by_marks"], columns["utc_uncertainty_ms"], strict=True)]
-    return {"utc": utc, "faults": journal.times.faults(), "says": journal.times.says()}, ""
+    return {"utc": utc, "faults": journal.times.faults(), "says": journal.times.note()}, ""
 
 
 def lives_of(dice: random.Random) -> list[Any]:

@@ -229,7 +229,7 @@ def act(one: unit.Unit, step: dict[str, Any]) -> None:
         one.train_data(unit.TrainData(*value[1:]))
     else:
         codes = {4: (unit.Action.CHOOSE_LEVEL_0, unit.Action.CHOOSE_LEVEL_1), 5: driving.CONFIRMS, 10: driving.ACKNOWLEDGES}
-        one.action(codes[value[0]][value[1]] if len(value) > 1 else driving.ALONE[value[0]])
+        one.action(codes[value[0]][value[1]] if len(value) > 1 else driving.WITHOUT_VALUE[value[0]])
 
 
 def by_library(slots: int, lives: list[dict[str, Any]]) -> tuple[bytes, list[Any]]:

@@ -19,11 +19,11 @@ LEAST = 20
 
 STAND_IN = """#!/bin/sh
 word=$1
-LAB "$@" >"$0.told"
+LAB "$@" >"$0.output"
 status=$?
 case $word in
-    WORD) sed 's/WAS/IS/' "$0.told" ;;
-    *) cat "$0.told" ;;
+    WORD) sed 's/WAS/IS/' "$0.output" ;;
+    *) cat "$0.output" ;;
 esac
 exit $status
 """

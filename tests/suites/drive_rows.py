@@ -36,11 +36,11 @@ def with_brakes(brakes):
 
 
 def decides(self, speed, limit, ms):
-    """A driver who only ever pulls."""
+    """A driver who only accelerates."""
     return 1.0, 0.0
 
 
-# A fault: where it is planted, and what stands there.
+# A fault: where it is planted, and the replacement.
 PLANTED = {
     "a train that ignores its brakes": (driving.Motion, "brake", lambda self, wanted, seconds: 0.0),
     "a train whose brakes hold on": (driving.Motion, "due", lambda self, moment: max(DUE(self, moment), self.braking)),
@@ -54,7 +54,7 @@ PLANTED = {
     "a unit without an emergency brake": (Unit, "flush", with_brakes({Brake.EMERGENCY: Brake.NONE})),
     "a service brake in place of each emergency brake": (Unit, "flush", with_brakes({Brake.EMERGENCY: Brake.SERVICE})),
     "an odometer that isn't read": (driving.Loop, "read", lambda self, speed, is_wanted: None),
-    "an odometer that tells half of the speed": (driving.Loop, "read", lambda self, speed, is_wanted: READ(self, speed // 2, is_wanted)),
+    "an odometer that measures half of the speed": (driving.Loop, "read", lambda self, speed, is_wanted: READ(self, speed // 2, is_wanted)),
 }
 
 
@@ -85,7 +85,7 @@ class Driven(Compared):
     def drive(self, path):
         """A drive, its files, and the same events by the program."""
         image, again, scenario, rows, picture = (self.room / f"{path.stem}.{end}" for end in ("image", "again", "json", "csv", "svg"))
-        status, told, said = lab("drive", path, "--image", image, "--scenario", scenario, "--csv", rows, "--picture", picture)
+        status, output, said = lab("drive", path, "--image", image, "--scenario", scenario, "--csv", rows, "--picture", picture)
         self.same(f"{path.name}: status", (status, said), (0, ""))
         program.etcs("format", "--", str(again), str((image.stat().st_size // 512 - 1) // 6))
         status, printed = program.etcs("run", "--", str(scenario), str(again))
@@ -94,10 +94,10 @@ class Driven(Compared):
         table = [line.split(",") for line in rows.read_text().splitlines()]
         outputs = {int(found[1]): found for found in map(case_runner.RELEASED.fullmatch, printed) if found}
         for row in table[1:]:
-            output = outputs[int(row[2])]
-            self.same(f"{path.name}: {row}", (row[5], row[7], row[8]), (output[5], output[4], output[2]))
+            answer = outputs[int(row[2])]
+            self.same(f"{path.name}: {row}", (row[5], row[7], row[8]), (answer[5], answer[4], answer[2]))
         self.same(f"{path.name}: the picture", picture.read_text().count("<svg"), 1)
-        self.same(f"{path.name}: told", len(told.splitlines()) >= 3 and "end of authority is at" in told.splitlines()[-1], True)
+        self.same(f"{path.name}: output", len(output.splitlines()) >= 3 and "end of authority is at" in output.splitlines()[-1], True)
 
     def refusals(self):
         none = self.room / "none.yaml"
@@ -106,7 +106,7 @@ class Driven(Compared):
         for words, status, said in ((["drive", none], 1, "has no `drive`"), (["drive", self.room / "nothing.yaml"], 3, "No such file"),
                                     (["drive", kept, "--picture", self.room / "x.gif"], 2, "--picture: the file name has to end in .svg or .png"),
                                     (["drive", kept, "--build-up", "2 m"], 1, "--build-up: expected a time"),
-                                    (["build", kept], 1, "lab drive has --scenario"),
+                                    (["build", kept], 1, "use lab drive --scenario"),
                                     (["drive", kept, "--image", self.room], 1, "isn't a regular file"),
                                     (["drive", kept, "--image", kept], 1, "is a file that is read here"),
                                     (["drive", kept, "--image", none], 1, "the unit answers 2 OPEN_NOT_FORMATTED"),
@@ -120,8 +120,8 @@ class Driven(Compared):
 
     def table(self):
         """The longer the brakes need, the farther the train runs; by hand half of the build-up time at 140 km/h more."""
-        status, told, _ = lab("drive", DRIVES / "overruns.yaml", "--build-up", "0 s, 1 s, 2 s, 3 s")
-        beyond = [float(line.split()[-1]) for line in told.splitlines()[1:]]
+        status, output, _ = lab("drive", DRIVES / "overruns.yaml", "--build-up", "0 s, 1 s, 2 s, 3 s")
+        beyond = [float(line.split()[-1]) for line in output.splitlines()[1:]]
         self.same("the table", (status, len(beyond)), (0, 4))
         for at in range(3):
             self.same(f"a second more: {beyond}", 18.0 < beyond[at + 1] - beyond[at] < 19.7, True)
@@ -142,9 +142,9 @@ class Driven(Compared):
     def cuts(self, image, listed):
         """Where a life on an image that is there is cut off within a write, all is still there that was."""
         scenario, drive = drives.read(DRIVES / "heeds_the_limit.yaml")
-        begun, write = image.read_bytes(), FileMedium.write
+        before, write = image.read_bytes(), FileMedium.write
         for last in (1, 2, 3, 10, 11, 100):
-            image.write_bytes(begun)
+            image.write_bytes(before)
             done = 0
 
             def cut(medium, sector, data):
@@ -162,9 +162,9 @@ class Driven(Compared):
                     self.same(f"cut at {last}", "a life", "a cut")
                 except program.Failed as failed:
                     self.same(f"cut at {last}", "the power is cut" in str(failed), True)
-            told = subprocess.run([os.environ["GAKNIFUR_ETCS"], "journal", image], capture_output=True, text=True).stdout.splitlines()
-            self.same(f"the events before, cut at {last}", told[:len(listed)], listed)
-        image.write_bytes(begun)
+            events = subprocess.run([os.environ["GAKNIFUR_ETCS"], "journal", image], capture_output=True, text=True).stdout.splitlines()
+            self.same(f"the events before, cut at {last}", events[:len(listed)], listed)
+        image.write_bytes(before)
 
 
 def main(etcs, etcs_lab):
@@ -179,7 +179,7 @@ def main(etcs, etcs_lab):
         with patch.object(owner, attribute, stands):
             if next(missed(found, table), None) is None:
                 left.append(name)
-                print(f"tests/suites/drive_rows.py: not told: {name}")
+                print(f"tests/suites/drive_rows.py: not found: {name}")
     with tempfile.TemporaryDirectory() as folder:
         compared = Driven(Path(folder))
         for path in sorted(DRIVES.glob("*.yaml")):
@@ -188,7 +188,7 @@ def main(etcs, etcs_lab):
         compared.refusals()
         compared.table()
         compared.lives()
-    print(f"tests/suites/drive_rows.py: {len(found)} cases, {len(PLANTED)} planted faults, {len(left)} not told; {compared.count} comparisons, "
+    print(f"tests/suites/drive_rows.py: {len(found)} cases, {len(PLANTED)} planted faults, {len(left)} not found; {compared.count} comparisons, "
           f"{compared.differ} differ")
     return 1 if wrong or left or compared.differ or len(found) < 6 or compared.count < 1_000 else 0
 

@@ -20,10 +20,10 @@ USUAL = ("77 m", "88 km/h", "99 cm/s2", "66 ms", "5")
 NUMBERS = ("7700", "88000", "99", "66", "5")
 
 
-def train(at, *told):
+def train(at, *pairs):
     """A limit of the train data: its place among them, and what is reported at the limit and beyond."""
-    texts = [TRAIN.format(*(one if place == at else usual for place, usual in enumerate(USUAL))) for one in told[::2]]
-    return [part for text, number in zip(texts, told[1::2]) for part in (f"steps: [{{{text}}}]", ", ".join(
+    texts = [TRAIN.format(*(one if place == at else usual for place, usual in enumerate(USUAL))) for one in pairs[::2]]
+    return [part for text, number in zip(texts, pairs[1::2]) for part in (f"steps: [{{{text}}}]", ", ".join(
         number if place == at else usual for place, usual in enumerate(NUMBERS)))]
 
 

@@ -24,7 +24,7 @@ HEAD = """test_case: NAME
 feature: Lint
 sections: [3.13]
 rule: what is weak is found
-starting_conditions: as told
+starting_conditions: as in the steps
 include: common.yaml
 expected: [{note: it was played, at: end, expect: {event: {least: 1}}}]
 lives:
@@ -62,12 +62,12 @@ def loa(lasts, more):
     return full("", 500).replace("V_MAIN 24", f"V_MAIN 24, V_LOA 20, T_LOA {lasts}").replace("V_STATIC 24, Q_FRONT 1", f"V_STATIC 24, Q_FRONT 1{more}")
 
 
-def skipped(number, told, text):
-    """A row of a packet that is skipped, read in Staff Responsible: with what a train of issue 2.3.0 does; none where it does nothing."""
+def skipped(number, packet, text):
+    """The row of a skipped packet that is read in Staff Responsible, with what a train of issue 2.3.0 does; None if it does nothing."""
     where = "/steps/4/telegram"
     found = [("advice", where, [f"packet {number} is skipped"])] + ([(45, where, ["group 1/7", f"packet {number} ", "read in SR", text])] if text else [])
-    name = re.sub("[^a-z0-9]+", "_", f"skipped {told}".lower())
-    return name, found, f'{{steps: [use: staff, {{telegram: "NID_BG 7; {told}"}}]}}', f"; {told}", ""
+    name = re.sub("[^a-z0-9]+", "_", f"skipped {packet}".lower())
+    return name, found, f'{{steps: [use: staff, {{telegram: "NID_BG 7; {packet}"}}]}}', f"; {packet}", ""
 
 
 def drive(train):
@@ -78,10 +78,10 @@ def drive(train):
 # is mended, in place of what.
 ROWS = [
     # Without its second balise the group closes at the first reading that is more than 13 m on: at 14 m.
-    ("timers_start_late", [(1, "/steps/4/telegram", ["closes 14 m behind", "N_PIG 1 "])],
+    ("timers_start_late", [(1, "/steps/4/telegram", ["closes 14 m after", "N_PIG 1 "])],
      "{steps: [use: staff, {telegram: \"NID_BG 7, N_TOTAL 1, M_DUP 1, Q_LINK 0; 12: V_MAIN 24, L_ENDSECTION 300, T_SECTIONTIMER 60, "
      "D_SECTIONTIMERSTOPLOC 100\"}, {drive: 14 m at 10 km/h}]}", "N_TOTAL 1, M_DUP 1, ", ""),
-    ("timer_of_v_loa_starts_late", [(1, "/steps/4/telegram", ["closes 14 m behind"])],
+    ("timer_of_v_loa_starts_late", [(1, "/steps/4/telegram", ["closes 14 m after"])],
      "{steps: [use: staff, {telegram: \"NID_BG 7, N_TOTAL 1, M_DUP 1, Q_LINK 0; 12: V_MAIN 24, V_LOA 4, T_LOA 60, L_ENDSECTION 300\"}, "
      "{drive: 14 m at 10 km/h}]}", "V_LOA 4", "V_LOA 0"),
     ("v_loa_that_never_ends_of_such_a_group", [(44, "/steps/4/telegram", ["V_LOA 20 km/h with T_LOA 1023"])],
@@ -114,7 +114,7 @@ ROWS = [
     ("a_gap_between_areas", [(8, "/steps/0/telegram", ["150 m are left, from 150 m on"])], areas(50, 200), "D_MAMODE 200", "D_MAMODE 50"),
     ("shunting_over_a_restriction", [(8, "/steps/4/telegram", ["restriction 1 of 20 km/h", "30 km/h"])],
      "{steps: [use: shunting, {telegram: \"NID_BG 7; 65: NID_TSR 1, D_TSR 0, L_TSR 50, Q_FRONT 1, V_TSR 4\"}]}", "V_TSR 4", "V_TSR 6"),
-    ("shunting_with_a_slow_train", [(8, "/steps/3/driver", ["a train of 25 km/h", "30 km/h"])],
+    ("shunting_with_a_slow_train", [(8, "/steps/3/driver", ["maximum speed of 25 km/h", "30 km/h"])],
      "{steps: [choose_level: 1, enter_identity: A, enter_train_data: {length: 200 m, maximum: 25 km/h, deceleration: 0.7 m/s2}, choose_shunting]}",
      "25 km/h", "30 km/h"),
     ("an_override_without_end", [(9, "/steps/4/telegram", ["T_NVOVTRP 255 of group 1/7"])],
@@ -130,27 +130,27 @@ ROWS = [
     ("backward_with_speed_0", [(12, "/steps/4/drive", ["1.5 m backward"])],
      "{steps: [use: staff, {drive: -1.5 m at 0 km/h}]}", "at 0 km/h", "at 1 km/h"),
     # (20,000 * 120,000 + 100,000,000) / 181,440 = 13,778.7 cm.
-    ("a_danger_point_within_the_margin", [(14, "/steps/0/telegram", ["lies 137 m behind", "120 km/h with 70 cm/s2", "137.79 m"])],
+    ("a_danger_point_within_the_margin", [(14, "/steps/0/telegram", ["is 137 m beyond", "120 km/h with 70 cm/s2", "137.79 m"])],
      f"{{steps: [{full(', D_DP 137, V_RELEASEDP 126')}]}}", "D_DP 137", "D_DP 138"),
     # 10 per mille downhill take 9.81 cm/s2, rounded up: 2,500,000,000 / (2,592 * 60) = 16,075.1, and in 1 s 10,000 / 36 = 277.8 cm.
-    ("a_margin_on_a_slope", [(14, "/steps/3/telegram", ["lies 163 m behind", "60 cm/s2 and 1000 ms", "163.54 m"])],
+    ("a_margin_on_a_slope", [(14, "/steps/3/telegram", ["is 163 m beyond", "60 cm/s2 and 1000 ms", "163.54 m"])],
      "{steps: [choose_level: 1, enter_identity: A, enter_train_data: {length: 200 m, maximum: 160 km/h, deceleration: 0.7 m/s2, reaction: 1 s}, "
      "{telegram: \"NID_BG 2; 12: V_MAIN 24, L_ENDSECTION 300, D_DP 163, V_RELEASEDP 126; 21: D_GRADIENT 0, Q_GDIR 0, G_A 10; "
      "27: D_STATIC 0, V_STATIC 24, Q_FRONT 1\"}]}", "D_DP 163", "D_DP 164"),
-    ("an_overlap_within_the_margin", [(14, "/steps/0/telegram", ["the overlap", "lies 100 m behind", "137.79 m"])],
+    ("an_overlap_within_the_margin", [(14, "/steps/0/telegram", ["the overlap", "is 100 m beyond", "137.79 m"])],
      f"{{steps: [{full(', D_STARTOL 0, T_OL 60, D_OL 100, V_RELEASEOL 3')}]}}", "D_OL 100", "D_OL 138"),
     ("a_release_speed_above_v_loa", [(15, "/steps/0/telegram", ["danger point of group 1/2 is 40 km/h", "60 s", "V_LOA, 5 km/h"])],
      f"{{steps: [{full(', D_DP 500, V_RELEASEDP 127').replace('V_MAIN 24', 'V_MAIN 24, V_LOA 1, T_LOA 60')}]}}", "V_RELEASEDP 127", "V_RELEASEDP 1"),
-    ("a_danger_point_behind_an_overlap", [(15, "/steps/0/telegram", ["60 s", "150 m at 40 km/h", "200 m at 15 km/h"])],
+    ("a_danger_point_after_an_overlap", [(15, "/steps/0/telegram", ["60 s", "150 m at 40 km/h", "200 m at 15 km/h"])],
      f"{{steps: [{full(', D_DP 150, V_RELEASEDP 8, D_STARTOL 0, T_OL 60, D_OL 200, V_RELEASEOL 3')}]}}", "V_RELEASEDP 8", "V_RELEASEDP 3"),
     ("an_override_that_ends", [(15, "/steps/9/clock", ["from 30 km/h to 40 km/h"])],
      f"{{steps: [{{telegram: \"NID_BG 9; {VALUES}\"}}, telegram: authority, use: level_1, start, {{drive: 0 m at 0 km/h}}, {{clock: 1 s}}, override, "
      "{clock: 61 s}]}", "V_NVSTFF 8", "V_NVSTFF 6"),
     # 500 + 150,000 / 20 = 8,000; twice that and 100,000,000 / 181,440 = 551.1 cm.
-    ("creeping_to_a_danger_point", [(16, "/steps/0/telegram", ["lies 165 m behind", "may be 80 m", "165.52 m"])],
+    ("creeping_to_a_danger_point", [(16, "/steps/0/telegram", ["is 165 m beyond", "may be 80 m", "165.52 m"])],
      f"{{steps: [{full(', D_DP 165, V_RELEASEDP 126', 1500)}]}}", "D_DP 165", "D_DP 166"),
     # A group 100 m before the end, to 5 m: 500 + 500 + 10,000 / 20 = 1,500, and 2 * 1,500 + 552 cm.
-    ("creeping_behind_a_group", [(14, "/steps/0/telegram", ["35 m", "137.79 m"]), (16, "/steps/0/telegram", ["lies 35 m", "may be 15 m", "35.52 m"])],
+    ("creeping_after_a_group", [(14, "/steps/0/telegram", ["35 m", "137.79 m"]), (16, "/steps/0/telegram", ["is 35 m", "may be 15 m", "35.52 m"])],
      f"{{steps: [{full(f', D_DP 35, V_RELEASEDP 126; 5: {link(3, 1400)}', 1500)}]}}", "D_DP 35", "D_DP 138"),
     ("train_data_better_than_the_train", [(27, "/drive", ["70 cm/s2", "brakes with 60"])], drive("service: 0.6 m/s2"), "0.6 m/s2", "0.7 m/s2"),
     ("a_reaction_that_is_not_entered", [(27, "/drive", ["0 ms", "500 ms", "within 1000 ms"])],
@@ -204,7 +204,7 @@ ROWS = [
      "{steps: [use: staff, {telegram: \"NID_BG 7; 65: NID_TSR 1, D_TSR 50, L_TSR 100, Q_FRONT 1, V_TSR 7\"}, {drive: 100 m at 30 km/h}, "
      "{telegram: \"NID_BG 8\"}]}", "L_TSR 100", "L_TSR 10"),
     # After the only group that was announced a group of two balises counts as one that isn't.
-    ("a_group_behind_an_announced_one", [(2, "/groups/1/balises/0", ["group 1/7 of 2 balises"])],
+    ("a_group_after_an_announced_one", [(2, "/groups/1/balises/0", ["group 1/7 of 2 balises"])],
      "{groups: [{at: 100 m, balises: [\"NID_BG 3\"]}, {at: 103 m, spacing: 3 m, balises: [\"NID_BG 7, N_TOTAL 1, Q_LINK 1; 65: NID_TSR 1, D_TSR 0, "
      "L_TSR 50, Q_FRONT 1, V_TSR 8\", \"NID_BG 7, N_PIG 1, N_TOTAL 1, Q_LINK 1\"]}], "
      f"steps: [{full(f'; 5: {link(3, 100)}', 1500)}, {{drive: 110 m at 30 km/h}}]}}", "N_TOTAL 1, Q_LINK 1", "N_TOTAL 1, Q_LINK 0"),
@@ -215,7 +215,7 @@ ROWS = [
     # (20,000 * 60,000 + 100,000,000) / 181,440 = 7,164.9 cm.
     ("a_margin_by_v_main", [(14, "/steps/0/telegram", ["from 60 km/h", "71.65 m"])],
      f"{{steps: [{full(', D_DP 71, V_RELEASEDP 126').replace('V_MAIN 24', 'V_MAIN 12')}]}}", "D_DP 71", "D_DP 72"),
-    ("an_authority_that_is_not_used", [(14, "/steps/4/telegram", ["lies 50 m behind"])],
+    ("an_authority_that_is_not_used", [(14, "/steps/4/telegram", ["is 50 m beyond"])],
      "{steps: [use: staff, {telegram: \"NID_BG 7; 12: V_MAIN 24, L_ENDSECTION 300, D_DP 50, V_RELEASEDP 126\"}]}", "use: staff", "use: shunting"),
     # Where it never ends, no release speed takes its place.
     ("a_v_loa_without_end", [(44, "/steps/0/telegram", ["V_LOA 5 km/h with T_LOA 1023", "300 m ahead"])],
@@ -237,9 +237,9 @@ ROWS = [
      f'{{steps: [use: staff, {{telegram: "91{RESTRICTION}"}}]}}', f"91{RESTRICTION}", f"90{RESTRICTION}"),
     ("version_2_0", [("advice", "/steps/4/telegram", ["5 WrongVersion"]), (40, "/steps/4/telegram", ["M_VERSION 32, version 2.0", "2.3.0 trips"])],
      f'{{steps: [use: staff, {{telegram: "A0{RESTRICTION}"}}]}}', f"A0{RESTRICTION}", f"90{RESTRICTION}"),
-    ("a_group_of_unknown_identity", [(40, "/steps/0/telegram", ["group 1/2", "NID_BG 16383 at 100 m", "Q_LINKREACTION 1 comes"])],
+    ("a_group_of_unknown_identity", [(40, "/steps/0/telegram", ["group 1/2", "NID_BG 16383 at 100 m", "Q_LINKREACTION 1 is applied"])],
      f"{{steps: [{full(f'; 5: {link(16383, 100)}', 1500)}]}}", "NID_BG 16383", "NID_BG 3"),
-    *(skipped(number, told, text) for number, told, text in (
+    *(skipped(number, packet, text) for number, packet, text in (
         (16, "16: L_SECTION 50", "takes L_SECTION from this group on"),
         (46, "46: M_LEVELTR 0", "changes to a level of the list"),
         (49, "49: NID_BG 8, NID_C 2, NID_BG 9", "trips in Shunting at each group that isn't listed"),
@@ -271,23 +271,23 @@ def lab(env, *words, cwd=None):
 
 
 def found_in(env, *words):
-    """What a run finds, by the names of the cases."""
+    """The findings of a run, by case."""
     found = {}
     done = lab(env, *words, "--json")
     for line in done.stdout.splitlines():
-        told = json.loads(line)
-        found.setdefault(told["case"], []).append(told)
+        finding = json.loads(line)
+        found.setdefault(finding["case"], []).append(finding)
     return found, done
 
 
-def is_told(told, wanted):
+def is_wanted(finding, wanted):
     item, pointer, texts = wanted
-    said = json.dumps(told)
-    return told.get("safety", "advice") == item and told["pointer"] == pointer and all(text in said for text in texts)
+    said = json.dumps(finding)
+    return finding.get("safety", "advice") == item and finding["pointer"] == pointer and all(text in said for text in texts)
 
 
 def check_rows(env, wrong):
-    """Each row finds what it has to and nothing else, and nothing once it is mended."""
+    """Each row has exactly its findings, and none once it is mended."""
     with tempfile.TemporaryDirectory() as room:
         shutil.copy(TOP / "suites/common.yaml", room)
         text = []
@@ -302,11 +302,11 @@ def check_rows(env, wrong):
             wrong.append(f"status {done.returncode}: {done.stderr}")
         for name, wanted, *_ in ROWS:
             there = found.get(f"{name}.fault", [])
-            if len(there) != len(wanted) or not all(is_told(one, other) for one, other in zip(there, wanted)):
+            if len(there) != len(wanted) or not all(is_wanted(one, other) for one, other in zip(there, wanted)):
                 wrong.append(f"{name}: wanted {wanted}, found {there}")
             if f"{name}.mended" in found:
                 wrong.append(f"{name}: mended, and there is {found[f'{name}.mended']}")
-            lines = {told["line"] for told in there}
+            lines = {finding["line"] for finding in there}
             at = [number for number, line in enumerate("---\n".join(text).splitlines(), 1) if line == f"test_case: {name}.fault"][0]
             if any(not at < line < at + 30 for line in lines):
                 wrong.append(f"{name}: lines {lines}, and the case begins in {at}")
@@ -328,8 +328,8 @@ EXAMPLES = {
 }
 
 
-def item_and_place(told):
-    return told.get("safety", "advice"), told["pointer"]
+def item_and_place(finding):
+    return finding.get("safety", "advice"), finding["pointer"]
 
 
 def check_words(env, wrong):
@@ -342,9 +342,9 @@ def check_words(env, wrong):
         path = Path(room, "s.json")
         path.write_text(SCENARIO)
         done = lab(env, "s.json", "--json", cwd=room)
-        told = [json.loads(line) for line in done.stdout.splitlines()]
-        wanted("places", [(one.get("safety", "advice"), one["line"], one["column"], one["pointer"]) for one in told] == PLACES
-               and done.returncode == 4 and all(one["file"] == "s.json" and one["case"] is None for one in told), done)
+        findings = [json.loads(line) for line in done.stdout.splitlines()]
+        wanted("places", [(one.get("safety", "advice"), one["line"], one["column"], one["pointer"]) for one in findings] == PLACES
+               and done.returncode == 4 and all(one["file"] == "s.json" and one["case"] is None for one in findings), done)
         done = lab(env, "s.json", cwd=room)
         wanted("lines", re.fullmatch(r"s.json:5:31: /steps/6/driver: the kernel doesn't accept .*\n"
                                      r"s.json:4:13: SAFETY 12: /steps/4/drive: 1.5 m backward are read with speed 0, .*\. Do: .*\n", done.stdout), done)
@@ -365,7 +365,7 @@ def check_words(env, wrong):
         case = Path(room, "x.case.yaml")
         shutil.copy(TOP / "suites/common.yaml", room)
         text = HEAD.replace("NAME", "x") + "  - {steps: [use: staff, {drive: -1.5 m at 0 km/h}]}\n"
-        for shows, status, said in (("", 4, "SAFETY 12: "), ("shows: [12]\n", 0, ""), ("shows: [12, 33]\n", 4, "says that it shows 33, and nothing of it is found"),
+        for shows, status, said in (("", 4, "SAFETY 12: "), ("shows: [12]\n", 0, ""), ("shows: [12, 33]\n", 4, "`shows` lists 33, and it isn't found"),
                                     ("shows: [0]\n", 1, None), ("shows: [all]\n", 1, None)):
             case.write_text(shows + text)
             done = lab(env, case.name, cwd=room)
@@ -377,16 +377,16 @@ def check_words(env, wrong):
 
 
 def check_own(env, wrong):
-    """Nothing in the suites but what their cases say to show; of the examples what is reported above. Those of drives/ take the unit's library: tests/drive.sh
-    looks at them."""
+    """The suites have no findings but those that their cases show; the examples have those in EXAMPLES. The drives/ need the unit's library, so
+    tests/drive.sh checks them."""
     done = lab(env, TOP / "suites")
     if done.returncode or done.stdout:
         wrong.append(f"suites: status {done.returncode}: {done.stdout} {done.stderr}")
     done = lab(env, TOP / "examples", "--json")
     found = {}
     for line in done.stdout.splitlines():
-        told = json.loads(line)
-        found.setdefault(Path(told["file"]).relative_to(TOP / "examples").as_posix(), []).append(item_and_place(told))
+        finding = json.loads(line)
+        found.setdefault(Path(finding["file"]).relative_to(TOP / "examples").as_posix(), []).append(item_and_place(finding))
     if found != EXAMPLES:
         wrong.append(f"examples: {found}")
 

@@ -158,10 +158,10 @@ def records_of(lives, plain):
 
 
 def missed(found, table, folder):
-    """The cases of which a result doesn't come, by the plain kernel of a folder."""
+    """The cases with a missing result, by the plain kernel of a folder."""
     sys.path.insert(0, folder)
     import program as plain
-    told = []
+    faults = []
     for case in found:
         try:
             records = records_of([json.loads(life.scenario.text()) for life in case.lives], plain)
@@ -169,12 +169,12 @@ def missed(found, table, folder):
             for expected in case.expected:
                 case_runner.judge(expected, played, table)
         except Exception as error:  # a change may break the kernel anywhere: then it is reported too
-            told.append(f"{case.name}: {re.sub(chr(10), ' ', str(error))[:150]}")
-    return told
+            faults.append(f"{case.name}: {re.sub(chr(10), ' ', str(error))[:150]}")
+    return faults
 
 
 def first_row(folder):
-    """The first row by hand that the plain kernel of a folder answers otherwise."""
+    """The first hand-written row that the plain kernel of a folder answers differently."""
     sys.path.insert(0, folder)
     import check_rows
     import rows
@@ -189,7 +189,7 @@ def first_row(folder):
 
 
 def in_copy(looks, plant):
-    """What is found in a copy with a planted change, looked for in a process of its own."""
+    """The faults in a copy with a planted change, found in a process of its own."""
     with tempfile.TemporaryDirectory() as room:
         copy = shutil.copytree(TOP / "tests/plain", Path(room) / "tests/plain")
         (Path(room) / "tests/rows").symlink_to(TOP / "tests/rows")
@@ -197,7 +197,7 @@ def in_copy(looks, plant):
             path, old, new = copy / plant[0], plant[1], plant[2]
             text = path.read_text()
             if text.count(old) != 1:
-                return [f"the text stands {text.count(old)} times"], False
+                return [f"the text occurs {text.count(old)} times"], False
             path.write_text(text.replace(old, new))
         answer = Path(room) / "answer"
         if (child := os.fork()) == 0:
@@ -207,17 +207,17 @@ def in_copy(looks, plant):
         return (json.loads(answer.read_text()), True) if answer.exists() else (["it ended"], True)
 
 
-def tells(plant, *looks):
-    """By what a change is reported first, looked for in this order; what is wrong with the change, where it can't be made."""
+def find_change(plant, *looks):
+    """The first report of a change, by the checks in this order; or why the change can't be made."""
     for look in looks:
-        told, was_made = in_copy(look, plant)
-        if told or not was_made:
-            return told[0] if was_made else None, told
+        faults, was_made = in_copy(look, plant)
+        if faults or not was_made:
+            return faults[0] if was_made else None, faults
     return None, []
 
 
 def texts():
-    """Reports of each change whose text doesn't stand once in the plain kernel."""
+    """Reports each change whose text doesn't occur exactly once in the plain kernel."""
     plants = [*PLANTED, *(plant for _, *plant in DEFINITIONS)]
     lost = [(path, old, count) for path, old, _ in plants if (count := (TOP / "tests/plain" / path).read_text().count(old)) != 1]
     for path, old, count in lost:
@@ -232,18 +232,18 @@ def main(etcs, lab, *words):
     def by_cases(folder):
         return missed(found, table, folder)
 
-    untrue, left = [told for look in (by_cases, first_row) for told in in_copy(look, None)[0]], 0
+    untrue, left = [fault for look in (by_cases, first_row) for fault in in_copy(look, None)[0]], 0
     for one in untrue:
         print(f"tests/suites/planted.py: without a change: {one}")
     definitions = [one for one in DEFINITIONS if not words or any(word in one[0] for word in words)]
     planted = [(plant[1].strip(), plant, [by_cases]) for plant in PLANTED if not words]
     planted += [(says, plant, [first_row, by_cases]) for says, *plant in definitions]
     for says, plant, looks in planted:
-        by, wrong = tells(plant, *looks)
+        by, wrong = find_change(plant, *looks)
         left += by is None
         if by is None or words:
-            print(f"tests/suites/planted.py: {'not told' if by is None else by}: {plant[0]}: {says} {'' if by else wrong}")
-    print(f"tests/suites/planted.py: {len(planted)} planted changes, {left} not told; {len(found)} cases")
+            print(f"tests/suites/planted.py: {'not found' if by is None else by}: {plant[0]}: {says} {'' if by else wrong}")
+    print(f"tests/suites/planted.py: {len(planted)} planted changes, {left} not found; {len(found)} cases")
     return 1 if untrue or left or not planted else 0
 
 

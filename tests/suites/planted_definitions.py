@@ -327,7 +327,7 @@ DEFINITIONS = [
     ("the mark doesn't end profiles", 'track.py', '        if place < self.mark:\n            return None\n', ''),
     ('a train of a category has the last difference of it', 'track.py',
      '    for number, steps in static.differences:', '    for number, steps in reversed(static.differences):'),
-    ('an area asks also behind it', 'history.py',
+    ('an area asks also after it', 'history.py',
      'return any(area.kind == kind and is_left(area, here.min_front) and', 'return any(area.kind == kind and'),
     ('level 0 counts only in level 1', 'history.py',
      'announced is not None and announced.level == 0 and announced.place is not None\n',

@@ -1,5 +1,5 @@
 #!/usr/bin/env python3
-"""A search by hypothesis over random lives: of each, all that is reported agrees, and no brake is released too early.
+"""Search random lives with hypothesis: all outputs about each life agree, and no brake is released too early.
 
     tests/suites/search.py ETCS ETCS_LAB [EXAMPLES]
 
@@ -41,7 +41,7 @@ BACKWARD = st.builds(lambda cm: {"drive": [-cm, 1_000]}, st.integers(1, 300))
 ACTION = st.builds(lambda action: {"driver": action}, st.sampled_from(random_lives.ACTIONS))
 HEARD = st.builds(lambda digits: {"telegram": digits}, st.sampled_from(AUTHORITIES + OTHERS))
 WAITS = st.just({"clock": None})
-# Lives in which all steps are as frequent stay near their beginning: forward drives prevail.
+# Forward movements are the most frequent: with equal frequencies a life would stay near its beginning.
 STEP = st.one_of(FORWARD, FORWARD, FORWARD, FORWARD, STANDS, STANDS, BACKWARD, ACTION, ACTION, HEARD, WAITS)
 READY = [{"driver": action} for action in ([1, "IC 704"], [4, 1], [3, 20_000, 160_000, 70, 0, 15], [6])]
 
@@ -58,12 +58,12 @@ def lives(draw):
     return tuple(found)
 
 
-told_of = {}
+played_lives = {}
 
 
 def play(scenarios):
     """The journal of some lives, and the lines that were released. The same lives are played once."""
-    if scenarios not in told_of:
+    if scenarios not in played_lives:
         with tempfile.TemporaryDirectory() as room:
             image, scenario, released = Path(room) / "image", Path(room) / "scenario.json", []
             program.etcs("format", "--", str(image), str(SLOTS))
@@ -72,15 +72,15 @@ def play(scenarios):
                 status, printed = program.etcs("run", "--", str(scenario), str(image))
                 assert status == 0, printed[-1:]
                 released += printed
-            told_of[scenarios] = read(image, replay=True, why=True), released
-    return told_of[scenarios]
+            played_lives[scenarios] = read(image, replay=True, why=True), released
+    return played_lives[scenarios]
 
 
 def check(journal, released, plant):
-    """Raises where what is reported doesn't agree; `plant` alters records and causes before."""
+    """Raises if the outputs don't agree; `plant` alters records and causes before."""
     case_runner.check_image(journal)
     records, whys = plant(journal.records, journal.why)
-    case_runner.check_released(released, records if plant is as_told else journal.records)
+    case_runner.check_released(released, records if plant is unaltered else journal.records)
     for record in records:
         if "not_revalidated" in record["indications"] or "trip" in record["indications"] or record["mode"] == "TR":
             assert record["brake"] == "emergency", f"released too early: {record}"
@@ -96,13 +96,13 @@ def check(journal, released, plant):
     assert set(changed) <= {line["event"] for line in whys}, "a change of the brake has no line"
 
 
-def as_told(records, whys):
-    """Nothing is planted."""
+def unaltered(records, whys):
+    """Plants nothing."""
     return records, whys
 
 
 def planted(of_record=lambda record: record, of_line=lambda line: line):
-    """A planted untruth of each record or line."""
+    """Plants an untruth in each record or line."""
     return lambda records, whys: ([of_record(record) for record in records], [of_line(line) for line in whys])
 
 
@@ -118,13 +118,13 @@ UNTRUTHS = {
         lambda record: {**record, "brake": "none"} if record["kind"] == "driver" and "not_revalidated" in record["indications"] else record),
     "a cause is left out: far too fast": planted(of_line=lambda line: without(without(line, "far_too_fast"), "too_fast")),
     "a cause is left out: rolled too far": planted(of_line=lambda line: without(line, "rolled_too_far")),
-    "a cause holds on behind its brake": planted(of_line=lambda line: {**line, "too_fast": line["event"]} if line["brake"] == "none" else line),
+    "a cause holds on after its brake": planted(of_line=lambda line: {**line, "too_fast": line["event"]} if line["brake"] == "none" else line),
 }
 
 
-def search(examples, plant, made_small):
-    """Raises where a life doesn't meet the property. The lives are the same each time."""
-    phases = (Phase.generate, Phase.target, Phase.shrink) if made_small else (Phase.generate, Phase.target)
+def search(examples, plant, is_shrunk):
+    """Raises if a life doesn't meet the property. The lives are the same each time."""
+    phases = (Phase.generate, Phase.target, Phase.shrink) if is_shrunk else (Phase.generate, Phase.target)
 
     @settings(max_examples=examples, deadline=None, database=None, derandomize=True, phases=phases,
               suppress_health_check=list(HealthCheck), report_multiple_bugs=False)
@@ -141,11 +141,11 @@ def main(etcs, lab, examples=EXAMPLES):
     os.environ |= {"GAKNIFUR_ETCS": str(Path(etcs).resolve()), "GAKNIFUR_ETCS_LAB": str(Path(lab).resolve())}
     wrong = 0
     try:
-        search(int(examples), as_told, True)
+        search(int(examples), unaltered, True)
     except (AssertionError, case_runner.Missed) as found:
         wrong += 1
         print(f"tests/suites/search.py: {found}")
-    played = list(told_of.values())
+    played = list(played_lives.values())
     records = sum(len(journal.records) for journal, _ in played)
     trips = sum(any(record["mode"] == "TR" for record in journal.records) for journal, _ in played)
     for name, plant in UNTRUTHS.items():

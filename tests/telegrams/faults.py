@@ -30,8 +30,8 @@ NONE = object()
 
 def changed(place, value):
     """The good one with a value at a place; it is left out where the value is NONE."""
-    told = copy.deepcopy(GOOD)
-    part = told
+    value_of_good = copy.deepcopy(GOOD)
+    part = value_of_good
     for step in place[:-1]:
         part = part[step]
     if value is NONE:
@@ -40,7 +40,7 @@ def changed(place, value):
         part.append(value)
     else:
         part[place[-1]] = value
-    return told
+    return value_of_good
 
 
 def of_fields(packet, item, value):
@@ -69,9 +69,9 @@ CHANGES = [
     ("a name in the wrong place", of_fields(1, 5, ["D_STATIC", 0]), "packets[1].fields[5]: V_STATIC wanted (/packets/1/fields/5)"),
     ("the first name", of_fields(1, 0, ["Q_DIR", 27]), "packets[1].fields[0]: NID_PACKET wanted (/packets/1/fields/0)"),
     ("one too many", of_fields(0, 13, ["D_DP", 1]), "packets[0].fields[13]: no variable is wanted here (/packets/0/fields/13)"),
-    ("one behind L_PACKET too many", of_fields(2, 3, ["Q_SCALE", 1]), "packets[2].fields[3]: no variable is wanted here (/packets/2/fields/3)"),
+    ("one after L_PACKET too many", of_fields(2, 3, ["Q_SCALE", 1]), "packets[2].fields[3]: no variable is wanted here (/packets/2/fields/3)"),
     ("one too few", of_fields(0, 12, NONE), "packets[0].fields[12]: Q_OVERLAP wanted (/packets/0/fields/12)"),
-    ("a list that is longer than it is told", of_fields(0, 7, ["N_ITER", 1]), "packets[0].fields[8]: L_SECTION wanted (/packets/0/fields/8)"),
+    ("a list that is longer than its counter", of_fields(0, 7, ["N_ITER", 1]), "packets[0].fields[8]: L_SECTION wanted (/packets/0/fields/8)"),
     ("a speed above 600 km/h", of_fields(0, 4, ["V_MAIN", 121]), "packets[0].V_MAIN: 0 to 120 (/packets/0/fields/4)"),
     ("a number beyond 7 bits", of_fields(0, 4, ["V_MAIN", 999]), "packets[0].V_MAIN: 0 to 120 (/packets/0/fields/4)"),
     ("a speed that is spare", of_fields(1, 5, ["V_STATIC", 121]), "packets[1].V_STATIC: 0 to 120, 127 (/packets/1/fields/5)"),
@@ -95,9 +95,9 @@ CHANGES = [
 
 # Texts in which a name comes again: line and column of it and of the first one, counted by hand. The value is the good one or none.
 AGAIN = [
-    ("a name told twice", json.dumps(GOOD).replace('"Q_LINK": 1', '"Q_LINK": 1, "Q_LINK": 1'), "line 1, column 152, first at line 1, column 139 (/header/Q_LINK)"),
-    ("a name told twice, with an escape", '{\n "bits": 1,\n "header": {},\n\t"b\\u0069ts": 2}', "line 4, column 2, first at line 2, column 2 (/bits)"),
-    ("a name told twice that is of no telegram", '{"header": {"a": [{"b/c": 1, "d": 2, "b/c": 1}]}}', "line 1, column 38, first at line 1, column 20 (/header/a/0/b~1c)"),
+    ("a name given twice", json.dumps(GOOD).replace('"Q_LINK": 1', '"Q_LINK": 1, "Q_LINK": 1'), "line 1, column 152, first at line 1, column 139 (/header/Q_LINK)"),
+    ("a name given twice, with an escape", '{\n "bits": 1,\n "header": {},\n\t"b\\u0069ts": 2}', "line 4, column 2, first at line 2, column 2 (/bits)"),
+    ("a name given twice that is of no telegram", '{"header": {"a": [{"b/c": 1, "d": 2, "b/c": 1}]}}', "line 1, column 38, first at line 1, column 20 (/header/a/0/b~1c)"),
     ("the first of two", '{"a": 1, "a": 2, "b": 1, "b": 2}', "line 1, column 10, first at line 1, column 2 (/a)"),
 ]
 

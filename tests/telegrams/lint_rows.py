@@ -96,15 +96,15 @@ def position_in(text, pointer):
 NAMES = {SCENARIO: (), GROUP: ("at", "spacing", "balises"), STEP: ()}
 
 
-def as_told(pointer, wanted):
-    """A pointer that the program reported: of a member that isn't wanted a Key."""
+def as_key(pointer, wanted):
+    """A pointer that the program printed, as a Key if its member isn't wanted."""
     depth, last = pointer.count("/"), pointer.split("/")[-1]
     is_key = wanted in NAMES and depth == {SCENARIO: 1, GROUP: 3, STEP: 3}[wanted] and last not in NAMES[wanted]
     return Key(pointer) if is_key else pointer
 
 
 def in_people(place):
-    """A pointer as it stands within a JSON string, a line's end by its code."""
+    """A pointer as it is written within a JSON string, with the code of a line break."""
     return json.dumps(place)[1:-1].replace("\\n", "\\u000a") or "scenario"
 
 
@@ -112,19 +112,19 @@ def people(found, text):
     lines = []
     for place, what in found:
         line, column = position_in(text, place)
-        told = what if isinstance(what, str) else "refused %d %s" % what[:2]
+        text_of_fault = what if isinstance(what, str) else "refused %d %s" % what[:2]
         wanted = "" if isinstance(what, str) else f"; wanted: {what[2]}"
-        lines.append(f"{in_people(place)}: {told} at line {line}, column {column}{wanted}\n")
+        lines.append(f"{in_people(place)}: {text_of_fault} at line {line}, column {column}{wanted}\n")
     return "".join(lines)
 
 
 def objects(found, text):
-    told = []
+    lines = []
     for place, what in found:
         line, column = position_in(text, place)
         part = {"advice": what} if isinstance(what, str) else {"fault": what[0], "name": what[1], "wanted": what[2]}
-        told.append({"pointer": place} | part | {"line": line, "column": column})
-    return told
+        lines.append({"pointer": place} | part | {"line": line, "column": column})
+    return lines
 
 
 def again_people(faults, names):
@@ -135,8 +135,8 @@ def again_people(faults, names):
 
 
 def again_objects(faults, names):
-    told = [{"pointer": place, "fault": what[0], "name": what[1], "wanted": what[2], "line": at[0], "column": at[1]} for place, what, at in faults]
-    return told + [{"pointer": place, "repeated": True, "first_line": first[0], "first_column": first[1], "line": at[0], "column": at[1]}
+    lines = [{"pointer": place, "fault": what[0], "name": what[1], "wanted": what[2], "line": at[0], "column": at[1]} for place, what, at in faults]
+    return lines + [{"pointer": place, "repeated": True, "first_line": first[0], "first_column": first[1], "line": at[0], "column": at[1]}
                    for place, at, first in names]
 
 
@@ -149,11 +149,11 @@ def of_telegram(place, digits):
     return [(place, f"packet {line.split()[1]} is skipped") for line in lines if line.endswith(" skipped")]
 
 
-def refusals(told):
-    """Of each action that is reached, in its order, the mode in which the plain kernel doesn't accept it; None where it does."""
-    life, moment, found = Life(Kept(), plain_program.WORDS[told.get("cold", 0)]), 0, []
-    for asked in filter(None, plain_program.inputs_of(told)):
-        kind, word, value, _ = plain_program.event_of(*asked)
+def refusals(scenario):
+    """For each action that is reached, in order, the mode in which the plain kernel doesn't accept it; None if it does."""
+    life, moment, found = Life(Kept(), plain_program.WORDS[scenario.get("cold", 0)]), 0, []
+    for given in filter(None, plain_program.inputs_of(scenario)):
+        kind, word, value, _ = plain_program.event_of(*given)
         if word == "clock":
             if int(value) < moment:
                 break
@@ -164,21 +164,21 @@ def refusals(told):
     return found
 
 
-def advice_on(told):
-    """What is to be reported of a scenario that is accepted."""
-    modes = iter(refusals(told))
+def advice_on(scenario):
+    """The advice on a scenario that is accepted."""
+    modes = iter(refusals(scenario))
     front = farthest = 0
-    for step in told["steps"]:
+    for step in scenario["steps"]:
         front += step.get("drive", [0])[0]
         farthest = max(farthest, front)
     found = []
-    for i, laid in enumerate(told["groups"]):
+    for i, laid in enumerate(scenario["groups"]):
         for j, digits in enumerate(laid["balises"]):
             place = f"/groups/{i}/balises/{j}"
             found += of_telegram(place, digits)
             if laid["at"] + j * laid["spacing"] > farthest:
                 found.append((place, "no drive leads over the balise"))
-    for i, step in enumerate(told["steps"]):
+    for i, step in enumerate(scenario["steps"]):
         if "telegram" in step:
             found += of_telegram(f"/steps/{i}/telegram", step["telegram"])
         mode = next(modes, None) if "driver" in step else None
@@ -195,17 +195,17 @@ class Lints(Compared):
     def run(self, words):
         return run(self.lab, words)
 
-    def lint(self, told, found):
+    def lint(self, scenario, found):
         """Both forms, one of a text in one line, and the other of one in many."""
         file = self.room / "scenario.json"
         status = 4 if found else 0
-        text = json.dumps(told)
+        text = json.dumps(scenario)
         file.write_text(text)
-        self.same(f"lint {told}", self.run(["lint", str(file)]), (people(found, text), "", status))
-        text = json.dumps(told, indent=3, separators=(" ,", " :  "))
+        self.same(f"lint {scenario}", self.run(["lint", str(file)]), (people(found, text), "", status))
+        text = json.dumps(scenario, indent=3, separators=(" ,", " :  "))
         file.write_text(text)
         printed, said, ended = self.run(["lint", "--json", str(file)])
-        self.same(f"lint --json {told}", ([loaded(line) for line in printed.splitlines()], said, ended), (objects(found, text), "", status))
+        self.same(f"lint --json {scenario}", ([loaded(line) for line in printed.splitlines()], said, ended), (objects(found, text), "", status))
 
     def changed(self, text):
         """The first fault is that for which the program `etcs run` refuses the scenario."""
@@ -221,13 +221,13 @@ class Lints(Compared):
         if first["name"] != "NotJson":
             self.positions += 1
             for line in map(json.loads, printed.splitlines()):
-                told = line["line"], line["column"]
+                place = line["line"], line["column"]
                 if "wanted" in line:
-                    self.same(f"where {line['pointer']} is in {text}", told, position_in(text, as_told(line["pointer"], line["wanted"])))
+                    self.same(f"where {line['pointer']} is in {text}", place, position_in(text, as_key(line["pointer"], line["wanted"])))
         return True
 
     def again(self, text, faults, names):
-        """Names that come again, in both forms; `etcs run` takes the text where it has no fault."""
+        """Repeated names, in both forms; `etcs run` accepts the text if it has no fault."""
         file = self.room / "again.json"
         file.write_text(text)
         status = 4 if faults or names else 0
@@ -251,8 +251,8 @@ def main(words):
     etcs, lab = words[0], words[1:]
     with tempfile.TemporaryDirectory() as folder:
         compared = Lints(etcs, lab, Path(folder))
-        for told, found in FAULTS + ADVICE:
-            compared.lint(told, found)
+        for scenario, found in FAULTS + ADVICE:
+            compared.lint(scenario, found)
         file = compared.room / "none.json"
         file.write_text('{\n  "groups": groups\n}\n')
         compared.same("no JSON", compared.run(["lint", str(file)]), ("scenario: refused 1 NotJson at line 2, column 13; wanted: JSON (RFC 8259)\n", "", 4))
@@ -261,11 +261,11 @@ def main(words):
         for text, pointer, *at in POSITIONS:
             file.write_text(text, newline="")
             printed = compared.run(["lint", "--json", str(file)])[0]
-            told = json.loads(printed.splitlines()[0])
-            wanted = {"pointer": pointer, "fault": 2, "name": "Shape", "wanted": told["wanted"]} | dict(zip(("line", "column"), at))
-            compared.same(f"where {pointer} is in {text}", told, wanted)
-        for text, told, names in AGAIN:
-            compared.again(text, told, names)
+            first = json.loads(printed.splitlines()[0])
+            wanted = {"pointer": pointer, "fault": 2, "name": "Shape", "wanted": first["wanted"]} | dict(zip(("line", "column"), at))
+            compared.same(f"where {pointer} is in {text}", first, wanted)
+        for text, refused, names in AGAIN:
+            compared.again(text, refused, names)
         for wanted, place, made in TRIED:
             compared.limit(wanted, place, made)
         compared.same("no file", compared.run(["lint", str(compared.room / "nothing")])[::2], ("", 3))
@@ -274,11 +274,11 @@ def main(words):
         compared.same("a full device", status_of_full(lab, ["lint", file]), 1)
         numbers, image, faults, actions = Numbers(SEED), plain_program.Image(64), 0, 0
         for _ in range(RANDOM):
-            told = Made(numbers, image).scenario()
-            found = advice_on(told)
+            scenario = Made(numbers, image).scenario()
+            found = advice_on(scenario)
             actions += sum("accept" in what for _, what in found)
-            compared.lint(told, found)
-            faults += compared.changed(cut_text(json.dumps(told), numbers))
+            compared.lint(scenario, found)
+            faults += compared.changed(cut_text(json.dumps(scenario), numbers))
     print(f"lint: {len(FAULTS) + len(ADVICE) + len(POSITIONS) + len(AGAIN)} by hand, {len(TRIED)} limits, {RANDOM} random ones, {faults} with a fault, {compared.positions} of these in JSON, "
           f"{actions} actions that aren't accepted, {compared.count} comparisons, {compared.differ} differ")
     is_enough = faults >= LEAST_FAULTS and actions >= LEAST_ACTIONS and compared.positions >= LEAST_POSITIONS

@@ -14,11 +14,11 @@ NAMELESS = "01100011 00 0000000010111"
 LISTS = {
     "none": END,
     "one that is skipped, and one that isn't": STOP + REVOCATION + END,
-    "behind infill": REVOCATION + INFILL + REVOCATION + STOP + END,
+    "after infill": REVOCATION + INFILL + REVOCATION + STOP + END,
     "without a name": NAMELESS + STOP + END,
-    "bits behind the last field": "00101100 10 0000000101010 000000001 1010101010" + END,  # 44, 42 bits: NID_XUSER 1, and 10 more
+    "bits after the last field": "00101100 10 0000000101010 000000001 1010101010" + END,  # 44, 42 bits: NID_XUSER 1, and 10 more
     "a field that is cut off": "00101100 10 0000000011001 11" + END,  # 44, 25 bits
-    "a counter that tells too many": "00110001 10 0000000011100 00011" + END,  # 49, 28 bits: N_ITER 3, and none
+    "a counter that announces too many": "00110001 10 0000000011100 00011" + END,  # 49, 28 bits: N_ITER 3, and none
     "bits that are left": "10000111 10 0000000011000 1" + END,  # 135, 24 bits, where its head has 23
     "a spare Q_DIR": STOP + "01000010 11 0000000011111 00000001" + END,  # 66
     "another L_PACKET": "01000010 10 0000000100000 00000001 0" + END,  # 66, 32 bits
@@ -26,7 +26,7 @@ LISTS = {
     "the bits end within the packet": "01000010 10 0000000010111",  # 66, 23 bits, and 7 more are no end mark
     "a head that is cut off": "10001001 10",
     "an L_PACKET below 23": STOP + "10001001 10 0000000000101 0" + END,
-    "more than are told": NAMELESS * 34,
+    "more than are listed": NAMELESS * 34,
 }
 
 

@@ -88,7 +88,7 @@ def compare(program, compared, data, seen):
 def compare_by_hand(program, compared):
     """Whole answers by hand."""
     by_name = dict(packet_lists.telegrams())
-    data = by_name["behind infill"].hex()
+    data = by_name["after infill"].hex()
     lines = """packet 66 Temporary Speed Restriction Revocation at 50, 31 bits
   NID_PACKET=66 Q_DIR=1 L_PACKET=31 NID_TSR=1
 packet 136 Infill location reference at 81, 38 bits, not used: it is a packet 136, or comes after one
@@ -99,7 +99,7 @@ packet 137 Stop if in Staff Responsible at 150, 24 bits, not used: it is a packe
   NID_PACKET=137 Q_DIR=2 L_PACKET=24 Q_SRSTOP=0
 end mark at 174
 """
-    compared.same("behind infill, by hand", run(program, ["packets", data]), (lines, "", 0))
+    compared.same("after infill, by hand", run(program, ["packets", data]), (lines, "", 0))
     data = by_name["a spare Q_DIR"].hex()
     lines = """packet 137 Stop if in Staff Responsible at 50, 24 bits, not used: the telegram is refused
   NID_PACKET=137 Q_DIR=2 L_PACKET=24 Q_SRSTOP=0
@@ -108,10 +108,10 @@ packet 66 Temporary Speed Restriction Revocation at 74, 31 bits, not used: the t
 end mark at 105
 """
     compared.same("a spare Q_DIR, by hand", run(program, ["packets", data]), (lines, "", 4))
-    data = by_name["bits behind the last field"].hex()
+    data = by_name["bits after the last field"].hex()
     text = ('{"packets":[{"packet":44,"name":"Data used by applications outside the ERTMS/ETCS system","bit":50,"bits":42,"why":"not_known",'
             '"fields":[["NID_PACKET",44],["Q_DIR",2],["L_PACKET",42],["NID_XUSER",1]],"rest_bits":10,"fault":null}],"end":"end_mark","end_bit":92}\n')
-    compared.same("bits behind the last field, by hand", run(program, ["packets", "--json", data]), (text, "", 0))
+    compared.same("bits after the last field, by hand", run(program, ["packets", "--json", data]), (text, "", 0))
 
 
 def compare_words(program, compared):

@@ -43,8 +43,8 @@ SAID = {"several": "etcs_lab: HEX: has more than one packet 3 as a track of issu
 LEAST = {"telegrams": 2_500, "refused": 2_500}
 
 
-def told_of(data):
-    """What is to be reported of bytes: the object of the events of an image."""
+def decoded_by_reader(data):
+    """The object that bytes have in the events of an image, by the plain reader."""
     value = dict(told.telegram_told(data))
     if "refused" in value:
         return {"refused": dict(value["refused"])}
@@ -64,7 +64,7 @@ def without_lengths(value):
 
 def one(program, room, number, data):
     """What the program makes of bytes, and of the object that it says, of each tenth also without the lengths; and what is wanted."""
-    wanted = told_of(data)
+    wanted = decoded_by_reader(data)
     printed, said, status = run(program, ["decode", "--json", data.hex()])
     found = [(loaded(printed), printed.count("\n"), said, status)]
     if "refused" in wanted:
@@ -207,7 +207,7 @@ def compare_schema(program, compared):
     compared.same("the schema's variables", pairs, {name: (1 << WIDTH[name]) - 1 for name in WIDTH if name in pairs})
     compared.same("all variables", set(header) | set(pairs), set(WIDTH))
     for data in images.known_telegrams():
-        value = told_of(data)
+        value = decoded_by_reader(data)
         if "refused" not in value:
             compared.same(f"the schema on {data.hex()}", (validator.is_valid(value), validator.is_valid(without_lengths(value))), (True, True))
     for name, text in faults.outside_schema():
@@ -223,7 +223,7 @@ def main(program):
         compare_words(program, room, compared)
         compare_installed(program, compared)
         compare_schema(program, compared)
-    print(f"telegrams in JSON: {carried} told and written again, {refused} refused, {compared.count} comparisons, {compared.differ} differ")
+    print(f"telegrams in JSON: {carried} decoded and written again, {refused} refused, {compared.count} comparisons, {compared.differ} differ")
     return 0 if compared.differ == 0 and carried >= LEAST["telegrams"] and refused >= LEAST["refused"] else 1
 
 

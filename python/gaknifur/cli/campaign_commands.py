@@ -13,7 +13,7 @@ if TYPE_CHECKING:
     from ..journal.reading import Progress
 
 SHOWN = 10
-"""How many rows are shown that aren't sound."""
+"""The number of unsound rows that are printed."""
 
 
 def play_campaign(given: SimpleNamespace, progress: "Progress") -> int:

@@ -14,14 +14,23 @@ import click
 from ..program import version
 
 COMPLETE = "_LAB_COMPLETE"
-"""The variable of the environment by which a shell asks for completions."""
+"""The environment variable by which a shell asks for completions."""
 PATH = click.Path(path_type=Path)
-NATURAL = click.IntRange(0, 999_999_999)
+
+
+class Natural(click.IntRange):
+    """A number from 0 on. The help doesn't show the range."""
+
+    def _describe_range(self) -> str:
+        return ""
+
+
+NATURAL = Natural(0, 999_999_999)
 SECTIONS = {"journal": "Journals", "evidence": "Evidence", "testing": "Testing", "simulation": "Simulation", "units": "Other units"}
 
 
 def loaded(source: str) -> Any:
-    """What a module of the package has under a name: `module:name`."""
+    """The object that `module:name` names, in a module of the package."""
     module, _, names = source.partition(":")
     return attrgetter(names)(import_module(f"..{module}", __package__))
 
@@ -68,7 +77,7 @@ class Lab(click.Group):
     """All commands, listed by section."""
 
     def resolve_command(self, context: click.Context, words: list[str]) -> tuple[str | None, click.Command | None, list[str]]:
-        """The command of this name; the nearest one is offered where there is none."""
+        """The command of this name; if there is none, an error offers the nearest one."""
         if words[0] not in self.commands:
             from difflib import get_close_matches
             near = get_close_matches(words[0], self.commands, 1)
@@ -95,7 +104,7 @@ class Checks(click.Option):
 
 
 class Setting(click.Option):
-    """An option whose default another module has: the module, a colon, and the name."""
+    """An option whose default is in another module; `source` is `module:name`."""
 
     def __init__(self, name: str, help: str, metavar: str, type: Any, source: str) -> None:
         super().__init__([name], help=help, metavar=metavar, type=type, show_default=True)
@@ -126,7 +135,7 @@ def show_version(context: click.Context, parameter: click.Parameter, is_asked: b
 
 
 def folder_and_others(context: click.Context, parameter: click.Parameter, words: tuple[str, ...]) -> None:
-    """The folder of `lab test` is the first argument that is no option; the others go to pytest."""
+    """The folder of `lab test` is the first argument that isn't an option; the others go to pytest."""
     named = [word for word in words if not word.startswith("-")]
     if not named and not context.resilient_parsing:
         raise click.MissingParameter(ctx=context, param=parameter)
@@ -135,7 +144,7 @@ def folder_and_others(context: click.Context, parameter: click.Parameter, words:
 
 
 def folder_and_table(context: click.Context, parameter: click.Parameter, paths: tuple[Path, ...]) -> None:
-    """`lab campaign` may have no folder."""
+    """The folder and the table of `lab campaign`; the folder is optional."""
     if not paths and not context.resilient_parsing:
         raise click.MissingParameter(ctx=context, param=parameter)
     if len(paths) > 2:
@@ -150,7 +159,7 @@ def help_option(*names: str) -> click.Option:
 
 HELP = help_option("-h", "--help")
 VERSION = click.Option(["--version"], is_flag=True, is_eager=True, expose_value=False, callback=show_version, help="print version and commit")
-IMAGE = Argument("image", "IMAGE")
+IMAGE = Argument("image", "IMAGE", "a journal image")
 ALL = option("--all other_blocks", "include readable blocks outside the journal; column `source` marks them")
 FORCE = option("--force", "overwrite files that lab made (no option overwrites others)")
 JSON = option("--json", "print JSON")
@@ -171,10 +180,10 @@ JOURNAL = [
     Command("database", "journal", "cli.journal_commands:write_database", "Add images to an SQLite database",
             "The database is created if it does not exist. An image that it already contains (by SHA-256) stays as it is.",
             "database image journals.db",
-            Argument("images", "IMAGE...", nargs=-1, required=True), Argument("out", "OUT.db"), ALL, *TIMES),
+            Argument("images", "IMAGE...", "journal images", nargs=-1, required=True), Argument("out", "OUT.db", "the database"), ALL, *TIMES),
     Command("report", "journal", "cli.journal_commands:write_report", "Write a report with charts as one HTML file",
             "The page has no script and loads nothing from the network.", "report image report.html",
-            IMAGE, Argument("out", "OUT.html"),
+            IMAGE, Argument("out", "OUT.html", "the page to make"),
             option("--from first", "start at this event (120), place (300m) or moment (20.5s)", "WHERE"),
             option("--to last", "end at this event, place or moment", "WHERE"), option("--life", "report only this power cycle (life)", "N", int),
             FORCE, *TIMES, option("--newest-first", "list the lives from the last to the first")),
@@ -191,18 +200,19 @@ JOURNAL = [
             "Captures have the link type USER0 (147).", "dissector telegrams.lua",
             Argument("out", "[OUT.lua]", "output file (default: standard output)", required=False), FORCE),
     Command("capture", "journal", "cli.journal_commands:write_capture", "Write the telegrams of a journal as a capture for Wireshark",
-            "The link type is USER0 (147).", "capture image telegrams.pcap", IMAGE, Argument("out", "OUT.pcap"), FORCE)]
+            "The link type is USER0 (147).", "capture image telegrams.pcap", IMAGE, Argument("out", "OUT.pcap", "the capture to make"), FORCE)]
 EVIDENCE = [
     Command("seal", "evidence", "cli.evidence_commands:seal_image", "Seal an image with all reports about it in a folder of evidence (BagIt 1.0)",
-            "Reads the image once and never writes to it. FOLDER has to be new. Status 4: the folder is made, and something of the image is lost, "
+            "Reads the image once and never writes to it. FOLDER has to be new. Status 4: the folder is made, and something in the image is lost, "
             "damaged, contradictory or implausible, or the replay differs.", 'seal image evidence --by "J. Smith"',
-            IMAGE, Argument("folder", "FOLDER"), option("--by", "who seals it (default: the user of this machine)", "TEXT"),
+            IMAGE, Argument("folder", "FOLDER", "the folder to make"), option("--by", "who seals it (default: the user of this machine)", "TEXT"),
             option("--medium", "the medium that the image was read from", "TEXT"),
             option("--ssh-key", "sign with this OpenSSH key (ssh-keygen -Y sign)", "FILE"), option("--gpg-key", "sign with this OpenPGP key (gpg)", "NAME"),
             *TIMES),
     Command("verify", "evidence", "cli.evidence_commands:verify_bag", "Verify a folder of evidence, and print what it shows and what was altered",
             "Status 4: a file was altered or is missing, or a signature isn't valid.", "verify evidence",
-            Argument("folder", "FOLDER"), option("--signers", "allowed OpenSSH signers (see ssh-keygen(1)); one of them must have signed", "FILE", PATH),
+            Argument("folder", "FOLDER", "a folder that `lab seal` made"),
+            option("--signers", "allowed OpenSSH signers (see ssh-keygen(1)); one of them must have signed", "FILE", PATH),
             option("--keyring", "OpenPGP public keys, not armored; one of them must have signed", "FILE", PATH),
             option("--authority", "certificates of time stamp authorities; one of them must have stamped it", "FILE", PATH)),
     Command("diff", "evidence", "cli.evidence_commands:show_difference", "Compare two images of one unit",
@@ -210,7 +220,8 @@ EVIDENCE = [
             Argument("a", "A", "the image that was read first"), Argument("b", "B", "the image that was read later"), JSON),
     Command("join", "evidence", "cli.evidence_commands:join_images", "Join images and archives of one unit into one larger image",
             "Where a block differs between sources, the first source wins. Status 4: a block differs or is missing.", "join joined image archive",
-            Argument("out", "OUT", "the image to make"), Argument("sources", "IMAGE|ARCHIVE...", nargs=-1, required=True), JSON),
+            Argument("out", "OUT", "the image to make"),
+            Argument("sources", "IMAGE|ARCHIVE...", "images, and archives of `lab follow --archive`", nargs=-1, required=True), JSON),
     Command("follow", "evidence", "cli.evidence_commands:follow_image", "Print the records of an image while a unit writes them",
             "Takes no lock and never delays the unit. Ends when the unit ends.", "follow image --wait",
             IMAGE, option("--json", "print JSON, as `etcs_lab events` does"), option("--archive", "also append each block to this archive", "FILE", PATH),
@@ -219,7 +230,7 @@ EVIDENCE = [
 TESTING = [
     Command("build", "testing", "cli.testing_commands:write_scenario", "Compile a YAML scenario to the JSON that `etcs run` reads",
             "Errors name the file, line and column.", "build drive.yaml drive.json",
-            Argument("yaml", "FILE.yaml"), Argument("out", "[OUT.json]", "output file (default: standard output)", required=False), FORCE),
+            Argument("yaml", "FILE.yaml", "a scenario"), Argument("out", "[OUT.json]", "output file (default: standard output)", required=False), FORCE),
     Command("test", "testing", "cli.testing_commands:run_tests", "Run the test cases of a folder and check their expected results",
             "Other options go to pytest, such as -k, -x and --lf. Status 4: a test failed.", "test suites --section 3.13",
             Argument("words", "FOLDER", "a folder or a file with test cases", nargs=-1, type=click.UNPROCESSED, callback=folder_and_others, expose_value=False),
@@ -233,7 +244,7 @@ TESTING = [
                    "COMMAND"), WITHIN, context_settings={"ignore_unknown_options": True}),
     Command("coverage", "testing", "cli.testing_commands:show_coverage", "List the sections and transitions that the cases of a folder cover",
             "Status 4: a section or transition of the product has neither a case nor a reason why not.", "coverage suites --measured",
-            Argument("folder", "FOLDER"),
+            Argument("folder", "FOLDER", "a folder or a file with test cases"),
             option("--measured", "run the cases and list what they reach: modes, causes, packets, refusals and others. Status 4: less than the folder's "
                    "measured.yaml asks for"),
             option("--reached", "read this file of `lab test --reached` instead of running the cases", "FILE.json", PATH),
@@ -245,7 +256,7 @@ TESTING = [
             Checks(["--without"], metavar="ITEM", multiple=True)),
     Command("sweep", "testing", "cli.testing_commands:run_sweep", "Run a parametrised case at each of its values and print a table",
             "Status 4: an expected result is missing, or a point couldn't be judged.", "sweep brakes.yaml --html brakes.html",
-            Argument("yaml", "FILE.yaml"), option("--csv", "write the table as CSV", "OUT.csv", PATH),
+            Argument("yaml", "FILE.yaml", "a case with parameters"), option("--csv", "write the table as CSV", "OUT.csv", PATH),
             option("--html", "write a page with heat maps", "OUT.html", PATH),
             option("--workers", "points to run at once (default: the number of processors)", "N", int), FORCE),
     Command("search", "testing", "cli.search_commands:search", "Search random scenarios for one that breaks a property, and shrink it",
@@ -261,7 +272,7 @@ TESTING = [
     Command("sequence", "testing", "cli.testing_commands:sequence", "Convert a table of test steps to test cases",
             "MAPPING.yaml maps the columns and wordings of your table. Status 1: something isn't mapped, and nothing was made. Status 4: made, and "
             "something was left out or isn't mapped (--partly).", "sequence steps.csv mapping.yaml steps.case.yaml",
-            Argument("table", "TABLE.csv|TABLE.xlsx"), Argument("mapping", "MAPPING.yaml"),
+            Argument("table", "TABLE.csv|TABLE.xlsx", "the test steps"), Argument("mapping", "MAPPING.yaml", "the mapping"),
             Argument("out", "[OUT.case.yaml]", "output file (default: standard output)", required=False),
             option("--partly", "make what can be made, even if something isn't mapped"), FORCE)]
 SIMULATION = [
@@ -285,7 +296,7 @@ SIMULATION = [
             option("--force", "overwrite a CSV that lab made (no option overwrites others)")),
     Command("compare", "simulation", "cli.campaign_commands:compare_campaigns", "List the rows that differ between two campaigns",
             "Seconds and workers aren't compared. Status 4: rows differ.", "compare monday.db friday.db",
-            Argument("first", "ONE.db"), Argument("second", "OTHER.db"))]
+            Argument("first", "ONE.db", "a table of `lab campaign`"), Argument("second", "OTHER.db", "the table to compare it with"))]
 UNITS = [
     Command("serve", "units", "cli.unit_commands:serve", "Run the onboard unit as a server on standard input and output",
             "It speaks the protocol of docs/howto/oracle.md. The unit is the library that `tools/library PREFIX` makes; GAKNIFUR_ETCS_UNIT names its .so.", "serve"),
@@ -311,4 +322,4 @@ Completion: eval "$(_LAB_COMPLETE=bash_source lab)", also with zsh_source;
 _LAB_COMPLETE=fish_source lab | source"""
 lab = Lab("lab", [*JOURNAL, *EVIDENCE, *TESTING, *SIMULATION, *UNITS], params=[VERSION, HELP], add_help_option=False,
           no_args_is_help=False, subcommand_metavar="COMMAND [ARGUMENT]...", epilog=EPILOG,
-          help="Tables, databases and reports of the journals of an onboard unit, and suites of test cases.")
+          help="Make tables, databases and reports of an onboard unit's journals, and run test cases.")

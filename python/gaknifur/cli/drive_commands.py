@@ -34,12 +34,12 @@ def metres(cm: int) -> str:
 
 
 def where(row: driving.Row) -> str:
-    """A row, for people."""
+    """The place, time, speed and limit of a row, as text."""
     return f"at {metres(row.place_cm)} m after {row.time_ms / 1000:g} s, speed {km(row.speed_m_per_h)}, limit {km(row.limit_m_per_h)} km/h"
 
 
-def told(driven: driving.Driven) -> list[str]:
-    """What came of a drive, a line for each change of brake or mode."""
+def describe(driven: driving.Driven) -> list[str]:
+    """The course of a drive as text, one line for each change of brake or mode."""
     lines, before = [], None
     for row in driven.rows:
         now = (row.mode, row.brake)
@@ -49,7 +49,7 @@ def told(driven: driving.Driven) -> list[str]:
     last, worst = driven.rows[-1], max(driven.rows, key=lambda row: row.above_m_per_h)
     if worst.above_m_per_h > 0:
         lines.append(f"most above the limit: {km(worst.above_m_per_h)} km/h {where(worst)}")
-    lines.append(f"{'stands' if not last.speed_m_per_h else 'still runs'}: {where(last)}")
+    lines.append(f"{'stopped' if not last.speed_m_per_h else 'still moving'}: {where(last)}")
     found = ends_of(driven)
     if found:
         end, location = found
@@ -69,7 +69,7 @@ def csv_text(driven: driving.Driven) -> str:
 
 
 def scenario_text(scenario: scenarios.Scenario, driven: driving.Driven) -> str:
-    """What the unit was given, as a scenario of its own. Each time step is flushed, as it was."""
+    """The inputs of the unit, as a scenario. Each time step is flushed, as in the drive."""
     return scenarios.Scenario(scenario.cold, [], driven.steps).text()
 
 
@@ -81,11 +81,11 @@ BUILD_UP = """\
 - {name: end_kmh, at: end, value: train_speed_kmh}
 - {name: beyond_m, at: end, value: beyond_location_m}
 """
-"""What is reported of a drive with each build-up time: where each brake came first, and where the train is at the end."""
+"""The columns for each build-up time: where each brake was first commanded, and where the train is at the end."""
 
 
-def tell_build_ups(path: Path, build_ups: list[str], progress: Progress) -> None:
-    """The drive with each of these build-up times, as the sweep that it is."""
+def print_build_ups(path: Path, build_ups: list[str], progress: Progress) -> None:
+    """Prints a sweep of the drive over these build-up times."""
     from ..testing import sweep_tables
     from . import testing_commands
     sweep = sweeps.of_train(path, "build_up", build_ups, BUILD_UP)
@@ -97,8 +97,8 @@ def tell_build_ups(path: Path, build_ups: list[str], progress: Progress) -> None
 # ---- the command
 
 def on_file(path: Path, scenario: scenarios.Scenario, drive: Drive) -> driving.Driven:
-    """A life on the image of a file. One that isn't there is made, with its first life. One that is there goes on under its
-    lock, write by write and sync by sync as the unit asks for them, so that a loss of power takes no event of it away."""
+    """Runs a life on the image of a file. Creates a missing image, with its first life. Continues an existing one under its
+    lock, with each write and sync that the unit requests, so that a loss of power loses no released event."""
     try:
         if not files.is_there(path, [drive.at.path]):
             driven, data = over_image(fresh(scenario, drive), scenario, drive)
@@ -133,7 +133,7 @@ def picture(driven: driving.Driven, name: str, suffix: str) -> bytes:
 
 
 def outs_of(given: SimpleNamespace) -> dict[str, files.Out]:
-    """The files that a drive is to make, by their words; looked at before anything is played."""
+    """The output files of a drive, by their options; checked before the drive begins."""
     kinds = {"csv": files.DRIVE_TABLE, "scenario": scenarios.FILE, "picture": picture_kind(given.picture)}
     outs = {name: files.Out(path, kind, given.force) for name, kind in kinds.items()
             if (path := getattr(given, name)) and kind}
@@ -143,7 +143,7 @@ def outs_of(given: SimpleNamespace) -> dict[str, files.Out]:
 
 
 def build_ups_of(text: str, drive: Drive) -> list[str]:
-    """The build-up times of the word."""
+    """The build-up times of the option."""
     found = [one.strip() for one in text.split(",")]
     try:
         for one in found:
@@ -154,18 +154,18 @@ def build_ups_of(text: str, drive: Drive) -> list[str]:
 
 
 def play_drive(given: SimpleNamespace, progress: Progress) -> None:
-    """Runs `lab drive`. The library is looked for first, since telegrams may take a while where `etcs` isn't built."""
+    """Runs `lab drive`. Looks for the library first, since compiling `etcs` for the telegrams may take a while."""
     check_library()
     scenario, drive = read(given.yaml)
     if drive is None:
         raise Failed(f"{given.yaml}: has no `drive`", REFUSED)
     outs = outs_of(given)
     if given.build_up:
-        return tell_build_ups(given.yaml, build_ups_of(given.build_up, drive), progress)
+        return print_build_ups(given.yaml, build_ups_of(given.build_up, drive), progress)
     driven = on_file(given.image, scenario, drive) if given.image else over_image(fresh(scenario, drive), scenario, drive)[0]
     makers: dict[str, Callable[[], str | bytes]] = {
         "csv": lambda: csv_text(driven), "scenario": lambda: scenario_text(scenario, driven),
         "picture": lambda: picture(driven, shown(given.yaml.stem), given.picture.suffix)}
     for name, out in outs.items():
         files.write(out, makers[name](), [given.yaml])
-    print("\n".join(told(driven)))
+    print("\n".join(describe(driven)))

@@ -13,7 +13,7 @@ def seal_image(given: SimpleNamespace, progress: Progress) -> int:
     """Runs `lab seal`."""
     from ..evidence import seal, signing, times
     keys = [signing.Key(kind, name) for kind, name in (("ssh", given.ssh_key), ("openpgp", given.gpg_key)) if name]
-    how = seal.Sealing(given.by, given.medium, times.beside(given.image, given.times), times.DRIFT_PPM if given.drift is None else given.drift, keys)
+    how = seal.Sealing(given.by, given.medium, times.marks_of(given.image, given.times), times.DRIFT_PPM if given.drift is None else given.drift, keys)
     found, faults = seal.seal(given.image, given.folder, how, progress)
     sys.stdout.write(f"sealed {shown(found['image']['name'])}, {found['image']['bytes']} bytes, by {shown(found['by'])}\n"
                      f"sha256 {found['image']['sha256']}\n")
@@ -45,7 +45,7 @@ def join_images(given: SimpleNamespace, progress: Progress) -> int:
     """Runs `lab join`."""
     from ..evidence import archive
     found = archive.join(given.out, given.sources)
-    sys.stdout.write("".join(json.dumps(line) + "\n" for line in archive.told(found)) if given.json else archive.text(found))
+    sys.stdout.write("".join(json.dumps(line) + "\n" for line in archive.as_json(found)) if given.json else archive.text(found))
     return 0 if found.is_whole else NOT_WHOLE
 
 

@@ -34,7 +34,7 @@ def note(journal: Journal, is_judged: bool = False) -> int:
 def take_times(journal: Journal, given: SimpleNamespace) -> None:
     """Reads the marks of the time of day: the file that is named, or the one next to the image."""
     from ..evidence import times
-    path = times.beside(journal.path, given.times)
+    path = times.marks_of(journal.path, given.times)
     if path is not None:
         journal.times = times.Times.of(journal, path, times.DRIFT_PPM if given.drift is None else given.drift)
 
@@ -71,8 +71,8 @@ def write_table(given: SimpleNamespace, progress: Progress) -> int:
     from ..evidence import timeline
     from ..journal import tables
     table = tables.strays(journal) if given.damaged else tables.frame(journal)
-    says = [f"sha256 {journal.sha256}", f"read by {program.reader()}", *([journal.times.says()] if journal.times else [])]
-    write(out, timeline.workbook(tables.written(table), says) if is_book else tables.csv_parts(table), given.image)
+    notes = [f"sha256 {journal.sha256}", f"read by {program.reader()}", *([journal.times.note()] if journal.times else [])]
+    write(out, timeline.workbook(tables.written(table), notes) if is_book else tables.csv_parts(table), given.image)
     return note(journal)
 
 
@@ -143,7 +143,7 @@ def check_image(given: SimpleNamespace, progress: Progress) -> int:
     for line in run.lines():
         sys.stdout.write(line.removesuffix("\n") + "\n")
     sys.stdout.flush()
-    if run.status not in (WHOLE, NOT_WHOLE) and (run.said or run.status not in (REFUSED, DEVICE)):
+    if run.status not in (WHOLE, NOT_WHOLE) and (run.messages or run.status not in (REFUSED, DEVICE)):
         raise run.failed(given.image)
     if run.status not in (WHOLE, NOT_WHOLE):
         return run.status

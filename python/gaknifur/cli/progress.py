@@ -1,4 +1,4 @@
-"""The progress of a command, on a terminal, where it takes longer than a second."""
+"""Show the progress of a command on a terminal, if it takes longer than a second."""
 import sys
 import time
 from typing import TYPE_CHECKING
@@ -8,16 +8,16 @@ if TYPE_CHECKING:
 
 
 class Terminal:
-    """A bar on standard error, which is removed at the end. Where that is no terminal nothing is shown."""
+    """A bar on standard error, which is removed at the end. Shows nothing if standard error isn't a terminal."""
 
     def __init__(self) -> None:
-        self.begun = self.last = time.monotonic()
+        self.start = self.last = time.monotonic()
         self.bar: Progress | None = None
 
     def __call__(self, what: str, done: int, whole: int) -> None:
         """Shows how much is done, at most ten times a second."""
         now = time.monotonic()
-        if now - self.begun < 1 or now - self.last < 0.1 or not sys.stderr.isatty():
+        if now - self.start < 1 or now - self.last < 0.1 or not sys.stderr.isatty():
             return
         self.last = now
         if self.bar is None:

@@ -12,7 +12,7 @@ from ..escaping import shown
 from ..journal.reading import Json, Progress
 from ..program import DEVICE, FOUND, REFUSED, WRONG_WORDS, Failed
 from ..testing import case_runner, properties
-from ..testing.properties import Property, Told, Violated
+from ..testing.properties import Property, PropertyFile, Violated
 from ..units.other_unit import words_of
 from ..yaml_files import BadFile
 from . import unit_commands
@@ -24,42 +24,42 @@ RECORD = ("event", "life", "kind", "time_ms", "mode", "level", "brake", "indicat
           "limit_m_per_h")
 
 
-# ---- records that are there
+# ---- existing records
 
-def are_values(told: Json) -> bool:
-    """Whether the values of a record are of their kinds: numbers, words, indications, the packets of a telegram."""
-    numbers = [told[name] for name in ("event", "life", "time_ms", *NEEDED[told["kind"]]) if name != "action"]
-    packets = told["decoded"].get("packets", []) if isinstance(told.get("decoded", {}),
-                                                               dict) and "decoded" in told else []
+def are_values(record: Json) -> bool:
+    """Whether the values of a record have the right types: numbers, texts, indications, the packets of a telegram."""
+    numbers = [record[name] for name in ("event", "life", "time_ms", *NEEDED[record["kind"]]) if name != "action"]
+    packets = record["decoded"].get("packets", []) if isinstance(record.get("decoded", {}),
+                                                               dict) and "decoded" in record else []
     return (all(type(value) is int for value in numbers)
-            and all(told[name] is None or type(told[name]) is int
+            and all(record[name] is None or type(record[name]) is int
                     for name in ("place_cm", "uncertainty_cm", "limit_m_per_h"))
-            and isinstance(told["indications"], list) and all(isinstance(one, str) for one in told["indications"])
+            and isinstance(record["indications"], list) and all(isinstance(one, str) for one in record["indications"])
             and isinstance(packets, list)
             and all(isinstance(one, dict) and type(one.get("packet")) is int for one in packets)
-            and isinstance(told.get("decoded", {}), dict))
+            and isinstance(record.get("decoded", {}), dict))
 
 
 def record_of(path: Path, number: int, line: str) -> Json | None:
-    """The record on a line; None of a line that is none."""
-    def fault(said: str) -> BadFile:
-        return BadFile(path, number, 1, said)
+    """The record on a line; None if the line is no record."""
+    def fault(message: str) -> BadFile:
+        return BadFile(path, number, 1, message)
     try:
-        told: Any = json.loads(line)
+        record: Any = json.loads(line)
     except (ValueError, RecursionError):
         raise fault("not JSON") from None
-    if not isinstance(told, dict):
+    if not isinstance(record, dict):
         raise fault("not an object")
-    if "event" not in told:
+    if "event" not in record:
         return None
-    for name in (*RECORD, *NEEDED.get(str(told.get("kind")), ())):
-        if name not in told:
+    for name in (*RECORD, *NEEDED.get(str(record.get("kind")), ())):
+        if name not in record:
             raise fault(f"member {name} is missing (docs/reference/json.md describes records)")
-    if told["kind"] not in NEEDED:
+    if record["kind"] not in NEEDED:
         raise fault(f"kind has to be one of {', '.join(NEEDED)}")
-    if not are_values(told):
+    if not are_values(record):
         raise fault("a value of this record is not one of docs/reference/json.md")
-    return told
+    return record
 
 
 def records_of(path: Path) -> list[Json]:
@@ -76,42 +76,41 @@ def records_of(path: Path) -> list[Json]:
     return properties.derived(case_runner.with_speeds(found))
 
 
-def tell_held(one: Property, judged: int, where: str) -> bool:
-    """Reports of a property that no record breaks; answers whether it was never judged, and doesn't say why that may
-    be."""
+def report_held(one: Property, judged: int, where: str) -> bool:
+    """Reports a property that no record breaks. Returns whether it was never judged although it doesn't say why that may be."""
     why = f"; {one.unjudged}" if one.unjudged and not judged else ""
     print(f"{'holds' if judged else 'unjudged'}: {one.note}: {judged} records judged{where}{why}", flush=True)
     return not judged and one.unjudged is None
 
 
-def judge_records(told: list[Property], records: list[Json]) -> int:
-    """Judges records that are there; answers how many properties aren't met, or were never judged."""
+def judge_records(wanted: list[Property], records: list[Json]) -> int:
+    """Judges existing records. Returns the number of properties that are broken or were never judged."""
     wrong = 0
-    for one in told:
+    for one in wanted:
         try:
             judged = properties.judge(one, records)
         except Violated as violated:
             wrong += 1
             print(f"broken: {one.note}\n{indented(str(violated))}")
             continue
-        wrong += tell_held(one, judged, "")
+        wrong += report_held(one, judged, "")
     return wrong
 
 
 # ---- searching
 
 def indented(text: str) -> str:
-    """A text, two columns to the right."""
+    """A text, indented by two columns."""
     return "\n".join(f"  {line}" for line in text.splitlines())
 
 
 def plain(text: str) -> str:
-    """A name for a file and a case."""
+    """A text as a name for a file and a case."""
     return "_".join("".join(one if one.isalnum() else " " for one in text.lower()).split())[:60].strip("_") or "found"
 
 
 def names_of(notes: Sequence[str]) -> list[str]:
-    """The names of what is kept of properties: those of their notes, with a number after where one has it already."""
+    """The names under which properties are kept: made of their notes, and numbered if two are the same."""
     found: list[str] = []
     for note in notes:
         name, number = plain(note), 1
@@ -122,30 +121,30 @@ def names_of(notes: Sequence[str]) -> list[str]:
 
 
 def keep(folder: Path, name: str, text: str, image: Callable[[Path], None]) -> Path:
-    """Keeps a case, with its image and its report."""
+    """Writes a case, with its image and its report."""
     from ..journal import report
     from ..journal.reading import read
-    room = folder / name
-    room.mkdir(parents=True)
+    own = folder / name
+    own.mkdir(parents=True)
     case = folder / f"{name}.case.yaml"
     case.write_text(text, encoding="utf-8", newline="\n")
-    image(room / "image")
-    (room / "scenario.json").unlink(missing_ok=True)
-    (room / "report.html").write_text(report.page(read(room / "image", replay=True, why=True)), encoding="utf-8",
+    image(own / "image")
+    (own / "scenario.json").unlink(missing_ok=True)
+    (own / "report.html").write_text(report.page(read(own / "image", replay=True, why=True)), encoding="utf-8",
                                       newline="\n")
     return case
 
 
-def chosen(told: Told, only: list[str]) -> list[Property]:
-    """The properties that are looked at."""
-    found = [one for one in told.properties if not only or any(text in one.note for text in only)]
+def chosen(file: PropertyFile, only: list[str]) -> list[Property]:
+    """The properties that are searched for."""
+    found = [one for one in file.properties if not only or any(text in one.note for text in only)]
     if not found:
-        raise Failed(f"{told.path}: no property has a note with this text", REFUSED)
+        raise Failed(f"{file.path}: no property has a note with this text", REFUSED)
     return found
 
 
 def check(given: SimpleNamespace) -> None:
-    """What the words ask can be done."""
+    """Checks the options."""
     if not 1 <= given.examples <= MOST_EXAMPLES:
         raise Failed(f"--examples: has to be 1 to {MOST_EXAMPLES:,}", WRONG_WORDS)
     if given.seed is not None and not 0 <= given.seed < SEEDS:
@@ -162,31 +161,31 @@ def check(given: SimpleNamespace) -> None:
 def search(given: SimpleNamespace, progress: Progress) -> int:
     """Runs `lab search`. (hypothesis takes a while to load.)"""
     check(given)
-    told = properties.read(given.yaml)
-    looked_at = chosen(told, given.only)
+    file = properties.read(given.yaml)
+    wanted = chosen(file, given.only)
     if given.records:
-        return FOUND if judge_records(looked_at, records_of(given.records)) else 0
+        return FOUND if judge_records(wanted, records_of(given.records)) else 0
     try:
         from ..testing import search as searching, strategies
     except ImportError as error:
         raise Failed("hypothesis is missing; tools/python --search installs it by Debian's packages", DEVICE) from error
     seed = secrets.randbelow(SEEDS) if given.seed is None else given.seed
-    made, names = strategies.made_of(told.made_of, told.shared), names_of([one.note for one in looked_at])
+    made, names = strategies.made_of(file.made_of, file.shared), names_of([one.note for one in wanted])
     records = searching.player(searching.Other(given.against, given.answer_within) if given.against else None)
     print(f"seed {seed}, {given.examples} scenarios", flush=True)
     wrong = 0
-    begun_all = searching.survey(looked_at, made, records, given.examples, seed)
-    for one, name, begun in zip(looked_at, names, begun_all, strict=True):
-        if begun.first is None:
-            wrong += tell_held(one, begun.found.judged, f" of {begun.found.scenarios} scenarios")
+    all_started = searching.survey(wanted, made, records, given.examples, seed)
+    for one, name, started in zip(wanted, names, all_started, strict=True):
+        if started.first is None:
+            wrong += report_held(one, started.found.judged, f" of {started.found.scenarios} scenarios")
             continue
         wrong += 1
-        found = searching.made_small(begun, made, given.examples, seed)
+        found = searching.shrunk(started, made, given.examples, seed)
         assert found.lives is not None
         how = (f"Found by ./lab search {shown(given.yaml.name)} --seed {seed} --examples {given.examples}, "
-               "and made small")
-        text = searching.case_text(found, made, f"{plain(told.name)}_{name}", how)
-        print(f"broken: {one.note}: {found.steps} steps, {len(found.lives)} lives\n{indented(found.said)}", flush=True)
+               "and shrunk")
+        text = searching.case_text(found, made, f"{plain(file.name)}_{name}", how)
+        print(f"broken: {one.note}: {found.steps} steps, {len(found.lives)} lives\n{indented(found.message)}", flush=True)
         if given.keep:
             lives = found.lives
             print(f"  kept: {keep(given.keep, name, text, lambda path: searching.image_of(lives, path))}")

@@ -29,15 +29,15 @@ def write_scenario(given: SimpleNamespace, progress: Progress) -> None:
 
 WITHOUT_PYTHON = ("-c", os.devnull, "--noconftest", *(word for name in ("python", "unittest", "nose", "doctest")
                                                       for word in ("-p", f"no:{name}")))
-"""Words of pytest, by which it runs nothing of the folder."""
+"""Options of pytest by which it runs no code of the folder."""
 PLUGIN = ("-p", "no:gaknifur", "-p", "gaknifur.testing.pytest_plugin")
-"""Words of pytest that take the plugin once, also where it is installed and pytest would find it by itself."""
+"""Options of pytest that load the plugin once, also if it is installed and pytest would find it by itself."""
 WRITING = ("--log-file", "--basetemp", "--debug", "--pastebin")
-"""Words of pytest that write where they are reported, or send."""
+"""Options of pytest that write files or send data."""
 
 
-def begun(folder: Path, words: list[str], plugins: list[object]) -> int:
-    """What pytest answers."""
+def run_pytest(folder: Path, words: list[str], plugins: list[object]) -> int:
+    """Runs pytest; returns its status."""
     import pytest
     try:
         return pytest.main(words, plugins)
@@ -46,13 +46,13 @@ def begun(folder: Path, words: list[str], plugins: list[object]) -> int:
 
 
 def results_of(folder: Path) -> Path:
-    """Where pytest notes which tests of a folder failed, for `--lf`: in the user's cache, not in the folder itself."""
+    """Where pytest keeps which tests of a folder failed, for `--lf`: in the user's cache, not in the folder itself."""
     cache = os.environ.get("XDG_CACHE_HOME") or os.path.expanduser("~/.cache")
     return Path(cache).absolute() / "gaknifur" / hashlib.sha256(os.fsencode(folder.resolve())).hexdigest()[:16]
 
 
 def check_options(others: list[str]) -> None:
-    """None of the options that go to pytest is a misspelt one of `lab test`. Its value would be taken for the folder."""
+    """Refuses options for pytest that look like a misspelt option of `lab test`, whose value would be taken for the folder."""
     options = [name for one in lab.commands["test"].params for name in one.opts]
     for word in others:
         name = word.partition("=")[0]
@@ -62,13 +62,13 @@ def check_options(others: list[str]) -> None:
 
 
 def check_folder(folder: Path) -> None:
-    """What is named is a folder, or a file that pytest takes for tests."""
+    """Refuses a path that is neither a folder nor a file with tests."""
     if not folder.exists():
         raise Failed(f"{folder}: no such folder", DEVICE)
     if not folder.is_dir() and not folder.is_file():
         raise Failed(f"{folder}: is neither a folder nor a regular file", DEVICE)
     if folder.is_file() and not folder.name.endswith((".case.yaml", ".py")):
-        raise Failed(f"{folder}: is no test case: its name has to end in .case.yaml", REFUSED)
+        raise Failed(f"{folder}: is not a test case: its name has to end in .case.yaml", REFUSED)
 
 
 def run_tests(given: SimpleNamespace, progress: Progress) -> None:
@@ -92,10 +92,10 @@ def run_tests(given: SimpleNamespace, progress: Progress) -> None:
     selected = [f"--{name}={one}" for name in ("section", "feature") for one in getattr(given, name)]
     selected += [f"--keep={given.keep}"] if given.keep else []
     selected += [f"--against={given.against}", f"--answer-within={given.answer_within}"] if given.against else []
-    for name in ("etcs", "etcs_lab"):  # pytest keeps back what is said on standard error, as that they are unproved
+    for name in ("etcs", "etcs_lab"):  # pytest captures standard error, which says that they are unproved
         program.find(name)
     with results_in_xml(out) as (words, plugins):
-        status = begun(given.folder, [
+        status = run_pytest(given.folder, [
             "-q", "--no-header", *PLUGIN, "-o", f"cache_dir={results_of(root)}", "-W",
             "ignore::pytest.PytestCacheWarning", f"--rootdir={root}", *([] if given.python else WITHOUT_PYTHON), *words,
             str(given.folder), *selected, *given.others], plugins + ([reached_plugin.Reaches(reached)] if reached else []))
@@ -111,17 +111,17 @@ def run_tests(given: SimpleNamespace, progress: Progress) -> None:
 
 
 def check_measured(given: SimpleNamespace) -> None:
-    """Some options need `--measured`."""
+    """Refuses options that need `--measured` without it."""
     for name in ("reached", "cases"):
         if getattr(given, name) and not given.measured:
             raise Failed(f"coverage: --{name} needs --measured", WRONG_WORDS)
 
 
 def show_measured(given: SimpleNamespace, progress: Progress) -> None:
-    """Prints what the cases of a folder reach."""
+    """Prints what the cases of a folder reach, as measured."""
     from ..testing import measured_coverage
     found = measured_coverage.matrix(given.folder, given.reached, progress)
-    sys.stdout.write(measured_coverage.told(found, given.cases))
+    sys.stdout.write(measured_coverage.text(found, given.cases))
     sys.stdout.flush()
     if found.faults:
         raise Failed(f"{given.folder}: the cases reach less than is declared, as the lines above say", FOUND)
@@ -134,14 +134,14 @@ def show_coverage(given: SimpleNamespace, progress: Progress) -> None:
         return show_measured(given, progress)
     from ..testing import coverage
     found = coverage.matrix(given.folder)
-    sys.stdout.write(coverage.told(found))
+    sys.stdout.write(coverage.text(found))
     sys.stdout.flush()
     if found.faults:
         raise Failed(f"{given.folder}: coverage differs from what is declared, as the lines above say", FOUND)
 
 
-def check_points(path: Path, found: Sequence["sweeps.Told"]) -> None:
-    """Each point could be judged, and all that was expected came."""
+def check_points(path: Path, found: Sequence["sweeps.PointResult"]) -> None:
+    """Fails unless each point could be judged and had its expected results."""
     bad = sum(bool(one.missed or one.fault) for one in found)
     if bad:
         raise Failed(f"{path}: {bad} of {len(found)} points failed", FOUND)
@@ -171,7 +171,7 @@ def run_sweep(given: SimpleNamespace, progress: Progress) -> None:
 
 
 def check_cases(text: str, folder: Path) -> None:
-    """The cases can be read, in the folder of their file or of the mapping."""
+    """Checks that the cases can be read, in the folder of their file or of the mapping."""
     from ..testing import cases
     with tempfile.NamedTemporaryFile("w", suffix=".case.yaml", dir=folder, encoding="utf-8") as file:
         file.write(text)

@@ -30,8 +30,8 @@ def against(given: SimpleNamespace, progress: Progress) -> int:
     journal = read(given.image, progress=progress)
     if not journal.is_whole or not journal.records:
         raise Failed(f"{given.image}: the journal is damaged or empty, so the other unit was not started", REFUSED)
-    asked = oracle.ask(given.command, journal.name, list(journal.records), within_s)
-    for line in oracle.lines(asked):
-        sys.stdout.write(line_of(line.told) if given.json else line.text + "\n")
+    comparison = oracle.ask(given.command, journal.name, list(journal.records), within_s)
+    for line in oracle.lines(comparison):
+        sys.stdout.write(line_of(line.members) if given.json else line.text + "\n")
     sys.stdout.flush()
-    return 0 if asked.agrees else NOT_WHOLE
+    return 0 if comparison.agrees else NOT_WHOLE

@@ -1,12 +1,12 @@
-"""A life longer than the ring: blocks that are kept in an archive before their slots are taken again, and images and archives that
-are joined to one image of a larger ring.
+"""Keep a life that is longer than the ring: an archive takes blocks before their slots are reused, and `join` makes one larger image
+of images and archives.
 
     with archive.Archive("unit.archive") as kept:
         ...                                         # at least once in as many flushes as the ring has slots, less two
         kept.keep("unit.image")
 
-An archive is a file of blocks, each as it lies in its slot, after a first sector (docs/reference/format.md). It is appended to alone, and
-synced. What is kept are blocks after their own gates; whether one can be read `etcs_lab` says.
+An archive is a file of blocks, each as it is in its slot, after a first sector (docs/reference/format.md). It is only appended to, and
+synced. A block is kept if its own gate is open; `etcs_lab` says whether it can be read.
 """
 import os
 import stat
@@ -25,7 +25,7 @@ from ..program import DEVICE, REFUSED, Failed
 
 
 AT_ONCE = 4_096
-"""How many numbers of blocks are looked at in one image."""
+"""The greatest range of block numbers that is examined in one image."""
 
 
 class Ring:
@@ -39,7 +39,7 @@ class Ring:
             raise Failed(f"{path}: {error.strerror}", DEVICE) from error
         found, mode = None, os.fstat(self.descriptor).st_mode
         if stat.S_ISREG(mode) or stat.S_ISBLK(mode):
-            found = layout.slots_told(os.pread(self.descriptor, layout.SECTOR, 0))
+            found = layout.slots_of(os.pread(self.descriptor, layout.SECTOR, 0))
         if found is None:
             self.close()
             raise Failed(f"{path}: is not a formatted image", REFUSED)
@@ -56,41 +56,40 @@ class Ring:
         os.close(self.descriptor)
 
     def number(self, slot: int) -> int | None:
-        """The number of a slot's gate, where it is a gate as a unit writes it and the head after it has the same number: a gate with a bit
-        altered names no block."""
+        """The number of a slot's gate, if a unit can have written the gate and the head after it has the same number; a gate with an altered
+        bit names no block."""
         data = os.pread(self.descriptor, 2 * layout.SECTOR, layout.slot_at(slot))
         number = layout.number_of_gate(data)
         return number if number is not None and layout.number_of_head(data) == number else None
 
     def block(self, number: int) -> bytes | None:
-        """The bytes of a block, where its slot holds it. A unit closes the gate before it writes anything else, so what lies
-        between two looks at the same open gate is one block."""
+        """The bytes of a block, if its slot holds it. A unit closes the gate before it writes anything else, so what is read
+        between two reads of the same open gate is one block."""
         at = layout.slot_at(number % self.slots)
         data = os.pread(self.descriptor, layout.SLOT, at)
         return data if layout.block_in(data) == number and self.number(number % self.slots) == number else None
 
-    def numbers(self, behind: int = 0) -> list[int]:
+    def numbers(self, after: int = 0) -> list[int]:
         """The numbers of all blocks after one, in their order."""
         found = ((slot, self.number(slot)) for slot in range(self.slots))
-        return sorted(number for slot, number in found if number is not None and number > behind and number % self.slots == slot)
+        return sorted(number for slot, number in found if number is not None and number > after and number % self.slots == slot)
 
     def has_later(self, number: int) -> bool:
-        """Whether the slot of a number or the next one holds this or a greater number. A commit closes one gate at a time, so
-        where neither does no later block is there."""
+        """Whether the slot of a number or the next slot holds this number or a greater one. A commit closes one gate at a time, so
+        if neither does, there is no later block."""
         return any((self.number(at % self.slots) or 0) >= number for at in (number, number + 1))
 
-    def blocks(self, behind: int) -> Iterator[tuple[int, bytes]]:
-        """The blocks after one, in their order, as far as they are there. Where some were overwritten it goes on after
-        these."""
-        while not behind or self.has_later(behind + 1):
-            data, number = self.block(behind + 1), behind + 1
+    def blocks(self, last: int) -> Iterator[tuple[int, bytes]]:
+        """The blocks after one, in their order. Skips those that were overwritten."""
+        while not last or self.has_later(last + 1):
+            data, number = self.block(last + 1), last + 1
             if data is None:
-                later = self.numbers(behind)
+                later = self.numbers(last)
                 if not later or (data := self.block(later[0])) is None:
                     return
                 number = later[0]
             yield number, data
-            behind = number
+            last = number
 
 
 class Archive(files.Appended):
@@ -99,12 +98,12 @@ class Archive(files.Appended):
     def __init__(self, path: str | Path) -> None:
         super().__init__(Path(path), layout.archive_sector(), "an archive of blocks")
         self.drop(layout.slot_at(self.count))  # a part of a block; its slot still has it
-        self.behind: int | None = None
-        """After which block an image's are new; None until the image was looked at."""
+        self.newest: int | None = None
+        """The newest block that was kept; None until an image was examined."""
 
     @property
     def count(self) -> int:
-        """How many blocks it has."""
+        """The number of its blocks."""
         return (self.size - layout.SECTOR) // layout.SLOT
 
     def entry(self, place: int) -> bytes:
@@ -112,25 +111,25 @@ class Archive(files.Appended):
         return self.read(layout.slot_at(place), layout.SLOT) if 0 <= place < self.count else b""
 
     def keep(self, image: str | Path) -> int:
-        """Appends what an image holds that is newer, and syncs; answers how many blocks that were."""
+        """Appends the newer blocks of an image, and syncs; returns their number."""
         with Ring(image) as ring:
             return self.keep_of(ring)
 
     def keep_of(self, ring: Ring) -> int:
-        """The same of an image that is open. The first time, each block is appended that the end of the archive hasn't just so:
-        a loss of power may have left other bytes there, or an older image have been put back."""
+        """Does the same for an open image. The first time it appends each block that differs from the end of the archive: a loss of
+        power may have left other bytes there, or an older image may have been put back."""
         before = self.count
-        if self.behind is None:
+        if self.newest is None:
             numbers = ring.numbers()
             last = next((number for place in reversed(range(self.count)) if (number := layout.block_in(self.entry(place)))), 0)
             for number in numbers:
                 data = ring.block(number)
                 if data is not None and self.entry(before - 1 - last + number) != data:
                     self.append(data)
-            self.behind = max(numbers, default=0)
-        for number, data in ring.blocks(self.behind):
+            self.newest = max(numbers, default=0)
+        for number, data in ring.blocks(self.newest):
             self.append(data)
-            self.behind = number
+            self.newest = number
         if self.owes_sync:
             self.sync()
         return self.count - before
@@ -140,7 +139,7 @@ class Archive(files.Appended):
 
 @dataclass(frozen=True)
 class Place:
-    """Where a block lies."""
+    """The place of a block."""
 
     path: Path
     byte: int
@@ -153,16 +152,16 @@ class Place:
 
 @dataclass
 class Source:
-    """An image or an archive that is joined: its blocks in their order, each by its number and its place, and what else is reported."""
+    """An image or an archive to join: its blocks in their order, each with its number and its place."""
 
     path: Path
     blocks: list[tuple[int, Place]] = field(default_factory=list)
     unreadable: list[int] = field(default_factory=list)
     """Numbers of blocks that can't be read."""
     odd: int = 0
-    """How many entries of an archive are no block."""
-    behind: int = 0
-    """How many bytes after the last whole block of an archive aren't taken."""
+    """The number of entries of an archive that are no block."""
+    trailing: int = 0
+    """The number of bytes after the last whole block of an archive, which aren't used."""
 
     @property
     def numbers(self) -> set[int]:
@@ -172,25 +171,25 @@ class Source:
 
 @dataclass
 class Joined:
-    """What sources come to that are joined."""
+    """The result of joining sources."""
 
     sources: list[Source]
     chosen: dict[int, Place] = field(default_factory=dict)
-    """Of each block the place that it is taken from."""
+    """The place that each block is taken from."""
     contradictions: dict[int, tuple[Place, Place]] = field(default_factory=dict)
-    """Of blocks that can be read in several places and differ there: the one that is taken, and another one."""
+    """For blocks that can be read in several places and differ: the place that is taken, and another one."""
     unreadable: list[int] = field(default_factory=list)
-    """Blocks that can't be read in the image that is made."""
+    """Blocks that can't be read in the joined image."""
     mended: dict[int, Place] = field(default_factory=dict)
-    """Blocks that can't be read in a source, which is named, and are taken from another one."""
+    """Blocks that can't be read in one source, and are taken from another."""
     breaks: list[Json] = field(default_factory=list)
-    """Blocks of the image that is made that don't follow those before them, as an examination says."""
+    """Blocks of the joined image that don't follow those before them, from its examination."""
     differences: list[Json] = field(default_factory=list)
-    """What a replay of the image that is made finds other than its journal says."""
+    """The differences between the joined image's journal and its replay."""
 
     @property
     def slots(self) -> int:
-        """How many slots the ring needs."""
+        """The number of slots that the ring needs."""
         return max(layout.LEAST_SLOTS, max(self.chosen) - min(self.chosen) + 1)
 
     @property
@@ -200,14 +199,13 @@ class Joined:
 
     @property
     def is_whole(self) -> bool:
-        """Whether nothing is missing, contradicts, or can't be read, in a source or in the image that is made, and its blocks follow one
-        another."""
+        """Whether nothing is missing, contradictory or unreadable, in a source or in the joined image, and its blocks follow one another."""
         is_read = not self.unreadable and not self.mended and not any(one.unreadable for one in self.sources)
         return is_read and not self.missing and not self.contradictions and not self.breaks and not self.differences
 
 
 def source(path: Path) -> Source:
-    """What an image or an archive holds."""
+    """Reads the blocks of an image or an archive."""
     if files.bytes_of(path, len(layout.ARCHIVE_MARK)) != layout.ARCHIVE_MARK:
         slots = examine(path)["slots"]
         blocks = [(slot["block"], Place(path, layout.slot_at(slot["slot"]))) for slot in slots if slot["state"] == "block"]
@@ -224,12 +222,12 @@ def source(path: Path) -> Source:
             else:
                 found.blocks.append((number, Place(path, place)))
             place += layout.SLOT
-        found.behind = len(data)
+        found.trailing = len(data)
     return found
 
 
 def image_of(blocks: dict[int, bytes], path: Path) -> None:
-    """Makes an image of some blocks, in a ring that has a slot for each number between them."""
+    """Makes an image of some blocks, with a slot for each number between them."""
     slots = max(layout.LEAST_SLOTS, max(blocks) - min(blocks) + 1)
     data = bytearray(layout.slot_at(slots))
     data[:layout.SECTOR] = layout.first_sector(slots)
@@ -240,30 +238,30 @@ def image_of(blocks: dict[int, bytes], path: Path) -> None:
 
 
 def readable(blocks: dict[int, list[Place]]) -> set[Place]:
-    """Of the places of some blocks those that can be read, as `etcs_lab` says. The first places of all blocks are in one image,
-    so many numbers in each, then the second ones, and so on."""
+    """The places of blocks that can be read, by `etcs_lab`. It puts the first places of a range of blocks into one image, then the second
+    places, and so on."""
     found, numbers = set[Place](), sorted(blocks)
     while numbers:
         few = [number for number in numbers[:AT_ONCE] if number < numbers[0] + AT_ONCE]
         numbers = numbers[len(few):]
         for place in range(max(len(blocks[number]) for number in few)):
             places = {number: blocks[number][place] for number in few if place < len(blocks[number])}
-            with tempfile.TemporaryDirectory() as room:
-                path = Path(room) / "image"
+            with tempfile.TemporaryDirectory() as folder:
+                path = Path(folder) / "image"
                 image_of({number: one.read() for number, one in places.items()}, path)
                 found |= {places[slot["block"]] for slot in examine(path)["slots"] if slot["state"] == "block"}
     return found
 
 
 def choose(found: Joined, number: int, places: list[Place], can_be_read: set[Place]) -> None:
-    """Takes of a block that differs the first one that can be read, else the last one."""
+    """Chooses the first place of a block that can be read, or else the last place."""
     chosen = places[0]
     for place in places[1:]:
         can_there, can_here = chosen in can_be_read, place in can_be_read
         if can_there and can_here:
             found.contradictions.setdefault(number, (chosen, place))
             continue
-        if can_there != can_here and chosen.path != place.path:  # (what a loss of power left in an archive is in it once more)
+        if can_there != can_here and chosen.path != place.path:  # (a block that a loss of power cut off in an archive is in it again)
             found.mended[number] = place if can_there else chosen
         if not can_there:
             chosen = place
@@ -271,7 +269,7 @@ def choose(found: Joined, number: int, places: list[Place], can_be_read: set[Pla
 
 
 def different(places: list[Place]) -> list[Place]:
-    """Those of a block's places that hold other bytes after the gate than those before them."""
+    """The places of a block without those that repeat the bytes, after the gate, of an earlier place."""
     if len(places) == 1:
         return places
     by_bytes: dict[bytes, Place] = {}
@@ -281,7 +279,7 @@ def different(places: list[Place]) -> list[Place]:
 
 
 def choose_all(found: Joined) -> None:
-    """Takes each block from one of its places."""
+    """Chooses a place for each block."""
     places: dict[int, list[Place]] = {}
     for one in found.sources:
         for number, place in one.blocks:
@@ -293,7 +291,7 @@ def choose_all(found: Joined) -> None:
 
 
 def join(out: Path, paths: list[Path]) -> Joined:
-    """Makes one image of images and archives of one unit."""
+    """Joins images and archives of one unit into one image."""
     found = Joined([source(path) for path in paths])
     choose_all(found)
     if not found.chosen:
@@ -312,19 +310,18 @@ def join(out: Path, paths: list[Path]) -> Joined:
 
 
 def judge(found: Joined, out: Path) -> None:
-    """Takes what an examination and a replay say of the image that is made: blocks of different units don't follow one another, or aren't
-    answered as their journal says."""
+    """Examines and replays the joined image: blocks of different units don't follow one another, or differ from the replay."""
     examination, replay = check(out, silent)
     found.unreadable = [slot["block"] for slot in examination["slots"] if slot["state"] == "unreadable"]
     found.breaks = [one for one in examination["between"] if one["what"] != "lost"]
     found.differences = [line for line in replay if line.get("replay") in ("record_differs", "head_differs")]
 
 
-def told(found: Joined) -> list[Json]:
-    """What sources come to, as JSON says it."""
+def as_json(found: Joined) -> list[Json]:
+    """The result as lines of JSON."""
     from .diff import runs
     lines: list[Json] = [{"source": shown(one.path.name), "blocks": runs(one.numbers), "unreadable": runs(one.unreadable), "odd": one.odd,
-                          "trailing_bytes": one.behind} for one in found.sources]
+                          "trailing_bytes": one.trailing} for one in found.sources]
     lines += [{"contradicts": number, "taken": shown(one.path.name), "other": shown(other.path.name)} for number, (one, other) in found.contradictions.items()]
     lines += [{"mended": number, "unreadable_in": shown(place.path.name)} for number, place in found.mended.items()]
     lines += [{"breaks": one["block"], "what": one["what"]} for one in found.breaks]
@@ -333,18 +330,18 @@ def told(found: Joined) -> list[Json]:
 
 
 def place_of(line: Json) -> str:
-    """Where a replay differs."""
+    """The place at which a replay differs."""
     return f"life {line['life']} event {line['event']}" if line["replay"] == "record_differs" else f"the head of block {line['block']}"
 
 
 def text(found: Joined) -> str:
-    """What sources come to, for people."""
+    """The result as text."""
     from .diff import runs, runs_text
     lines = []
     for one in found.sources:
         more = f", unreadable {runs_text(runs(one.unreadable))}" if one.unreadable else ""
-        more += f", {one.odd} entries are no block" if one.odd else ""
-        more += f", ends within a block: {one.behind} bytes aren't taken" if one.behind else ""
+        more += f", {one.odd} entries are not a block" if one.odd else ""
+        more += f", ends within a block: {one.trailing} bytes aren't used" if one.trailing else ""
         lines.append(f"from {shown(one.path.name)}: blocks {runs_text(runs(one.numbers))}{more}")
     lines += [f"block {number} differs in {shown(one.path.name)} and {shown(other.path.name)}: the first one is taken"
               for number, (one, other) in found.contradictions.items()]

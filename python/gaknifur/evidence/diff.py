@@ -1,8 +1,7 @@
-"""What changed between two images of one unit: which blocks both hold, which one alone, which differ and in what, and whether the
-second continues the first, is older than it, or both went on from the same blocks.
+"""Compare two images of one unit: the blocks in both, the blocks in only one, those that differ and how, and whether the second
+continues the first, is older, or both continue the same blocks in different ways.
 
-Which blocks an image holds `etcs_lab examine` reports, and what their records say `etcs_lab events`. Blocks are compared byte by
-byte.
+`etcs_lab examine` lists the blocks of an image, and `etcs_lab events` their records. Blocks are compared byte by byte.
 """
 import os
 from collections.abc import Iterable
@@ -19,22 +18,22 @@ from ..program import DEVICE, NOT_WHOLE, WHOLE, Failed
 VERDICTS = {
     "same": "both hold the same journal",
     "lost": "a block was erased, or can't be read, in A or in B; what both hold is the same, but nothing shows that it is the same journal",
-    "continues": "B continues A: what both hold is the same, and B goes on after it",
-    "older": "B is older than A: what both hold is the same, and A goes on after it. Where B was read later, an older image was put back",
-    "fork": "both went on from the same block in different ways, or the blocks from there on were altered",
+    "continues": "B continues A: what both hold is the same, and B has more after it",
+    "older": "B is older than A: what both hold is the same, and A has more after it. If B was read later, an older image was put back",
+    "fork": "both continue from the same block in different ways, or the blocks from there on were altered",
     "altered": "a block differs before one that doesn't: it was altered in A or in B",
-    "other": "no block that both hold is the same: they are of different units, or of different lives of one behind an older image",
+    "other": "no block that both hold is the same: they are of different units, or of different lives of one unit after an older image",
     "apart": "no block is in both, so nothing shows whether one continues the other",
     "empty": "A, B or both hold no block"}
-"""Each verdict, and what it says."""
+"""The verdicts, and their texts."""
 FINE = ("same", "continues")
 NOT_COMPARED = ("byte", "source", "decoded", "block")
-"""Members of a record that say where it stands, or come of others."""
+"""Members of a record that give its place, or are computed from others."""
 
 
 @dataclass
 class Side:
-    """One of the images: its blocks, by their numbers, each with its slot."""
+    """One of the images: its blocks, with their slots, by number."""
 
     path: Path
     examination: Json
@@ -42,7 +41,7 @@ class Side:
 
     @property
     def newest(self) -> int:
-        """The greatest number of a block."""
+        """The greatest block number."""
         return max(self.blocks)
 
     def unreadable(self) -> list[int]:
@@ -50,15 +49,15 @@ class Side:
         return [slot["block"] for slot in self.examination["slots"] if slot["state"] == "unreadable"]
 
     def lost(self) -> list[int]:
-        """Numbers of blocks that it has to hold and that can't be read there. The slot of the oldest one may be closed, since the unit
-        closes it before it writes the next block; no other block goes by turning."""
+        """Numbers of blocks that it should hold and that can't be read. The slot of the oldest one may be closed, since the unit closes it
+        before it writes the next block; wrapping around removes no other block."""
         if not self.blocks:
             return []
         first = max(1, self.newest - self.examination["image"]["slots"] + 2)
         return sorted({*range(first, self.newest + 1), *self.unreadable()} - self.blocks.keys())
 
-    def told(self) -> Json:
-        """The image, as JSON says it."""
+    def as_json(self) -> Json:
+        """The image as JSON."""
         image = self.examination["image"]
         return {"name": shown(self.path.name), "sha256": image["sha256"], "slots": image["slots"], "blocks": runs(self.blocks),
                 "unreadable": runs(self.unreadable()), "lost": runs(self.lost())}
@@ -66,24 +65,24 @@ class Side:
 
 @dataclass
 class Difference:
-    """What two images come to."""
+    """The result of a comparison of two images."""
 
     a: Side
     b: Side
     verdict: str
     differ: list[Json]
-    """In what the blocks differ that both hold: block, event and field, and what each image says; or a byte of a head."""
+    """The differences of blocks that both hold: block, event and field, and the value in each image; or a byte of a head."""
     differing: list[int]
-    """Their numbers."""
+    """The numbers of these blocks."""
 
     def numbers(self) -> dict[str, list[list[int]]]:
-        """Which blocks are in both, and which in one alone, as runs of numbers."""
+        """The blocks in both images, and those in only one, as runs of numbers."""
         a, b = set(self.a.blocks), set(self.b.blocks)
         return {"both": runs(a & b), "only_a": runs(a - b), "only_b": runs(b - a), "differing": runs(self.differing)}
 
 
 def runs(numbers: Iterable[int]) -> list[list[int]]:
-    """Runs of numbers without a gap, each by its ends."""
+    """Runs of consecutive numbers, each as its first and last number."""
     found: list[list[int]] = []
     for number in sorted(numbers):
         if found and found[-1][1] == number - 1:
@@ -106,7 +105,7 @@ def bytes_at(file: int, slot: Json) -> bytes:
 
 
 def differing(a: Side, b: Side) -> dict[int, int]:
-    """The blocks that both hold and that differ, each with the first byte after its gate that does."""
+    """The blocks that both hold and that differ, each with the first byte after its gate that differs."""
     found, files = {}, [os.open(one.path, os.O_RDONLY | os.O_CLOEXEC) for one in (a, b)]
     try:
         for number in sorted(set(a.blocks) & set(b.blocks)):
@@ -123,9 +122,9 @@ def records_of(one: Side, numbers: Iterable[int]) -> dict[int, dict[int, Json]]:
     """The records of some blocks, by block and event."""
     found: dict[int, dict[int, Json]] = {number: {} for number in numbers}
 
-    def step(told: Json) -> None:
-        if told.get("block") in found and told.get("source") in ("journal", "after_gap"):
-            found[told["block"]][told["event"]] = told
+    def step(line: Json) -> None:
+        if line.get("block") in found and line.get("source") in ("journal", "after_gap"):
+            found[line["block"]][line["event"]] = line
 
     run = objects(["events", "--all"], one.path, step)
     if run.status not in (WHOLE, NOT_WHOLE):
@@ -134,16 +133,16 @@ def records_of(one: Side, numbers: Iterable[int]) -> dict[int, dict[int, Json]]:
 
 
 def fields(one: Json, other: Json) -> list[str]:
-    """The members in which two records differ; of those of different kinds, that alone."""
+    """The members in which two records differ; only `kind` if their kinds differ."""
     if one["kind"] != other["kind"]:
         return ["kind"]
     return [name for name in [*one, *(name for name in other if name not in one)]
             if name not in NOT_COMPARED and one.get(name) != other.get(name)]
 
 
-def in_what(a: Side, b: Side, found: dict[int, int]) -> list[Json]:
-    """In what blocks differ."""
-    told: list[Json] = []
+def differences_of(a: Side, b: Side, found: dict[int, int]) -> list[Json]:
+    """The differences of blocks."""
+    differences: list[Json] = []
     records: list[dict[int, dict[int, Json]]] = [records_of(one, found) for one in (a, b)] if found else []
     for number, byte in found.items():
         one, other = records[0][number], records[1][number]
@@ -156,12 +155,12 @@ def in_what(a: Side, b: Side, found: dict[int, int]) -> list[Json]:
                 lines.append({"block": number, "event": event, "only": "a" if event in one else "b"})
         if byte < layout.SECTOR:
             lines.insert(0, {"block": number, "head_byte": byte})
-        told += lines
-    return told
+        differences += lines
+    return differences
 
 
 def verdict(a: Side, b: Side, differ: Iterable[int]) -> str:
-    """What the blocks of two images come to, of which some differ."""
+    """The verdict on two images, some of whose blocks differ."""
     if not a.blocks or not b.blocks:
         return "empty"
     both, unlike = set(a.blocks) & set(b.blocks), set(differ)
@@ -178,51 +177,51 @@ def verdict(a: Side, b: Side, differ: Iterable[int]) -> str:
 
 
 def compare(one: Path, other: Path) -> Difference:
-    """What changed from one image to another one."""
+    """Compares two images."""
     a, b = side(one), side(other)
     found = differing(a, b)
-    told = Difference(a, b, verdict(a, b, found), in_what(a, b, found), list(found))
+    result = Difference(a, b, verdict(a, b, found), differences_of(a, b, found), list(found))
     for at in (a, b):
         if digest(at.path) != at.examination["image"]["sha256"]:
             raise Failed(f"{at.path}: the file changed while it was read", DEVICE)
-    return told
+    return result
 
 
-# ---- how it is reported
+# ---- output
 
-def runs_text(told: list[list[int]]) -> str:
-    """Runs of numbers, for people."""
-    return " ".join(str(first) if first == last else f"{first}..{last}" for first, last in told) or "none"
+def runs_text(numbers: list[list[int]]) -> str:
+    """Runs of numbers as text."""
+    return " ".join(str(first) if first == last else f"{first}..{last}" for first, last in numbers) or "none"
 
 
 def line_text(line: Json) -> str:
-    """A line on what differs, for people."""
-    def value(told: Any) -> str:
-        return "nothing" if told is None else " ".join(map(str, told)) or "none" if isinstance(told, list) else shown(told)
+    """A difference as text."""
+    def value(member: Any) -> str:
+        return "nothing" if member is None else " ".join(map(str, member)) or "none" if isinstance(member, list) else shown(member)
 
     at = f"block {line['block']}"
     if "head_byte" in line:
         return f"{at} differs in its head, from byte {line['head_byte']} of it on"
     if "only" in line:
-        return f"{at} has event {line['event']} in {line['only'].upper()} alone"
+        return f"{at} has event {line['event']} only in {line['only'].upper()}"
     return f"{at} event {line['event']} differs in {line['field']}: {value(line['a'])} in A, {value(line['b'])} in B"
 
 
 def text(found: Difference) -> str:
-    """What changed, for people."""
+    """The comparison as text."""
     lines = []
     for name, one in (("A", found.a), ("B", found.b)):
-        told = one.told()
-        bad = "".join(f", {word} {runs_text(told[word])}" for word in ("unreadable", "lost") if told[word])
-        lines.append(f"{name} {told['name']} slots {told['slots']} blocks {runs_text(told['blocks'])}{bad}")
+        image = one.as_json()
+        bad = "".join(f", {word} {runs_text(image[word])}" for word in ("unreadable", "lost") if image[word])
+        lines.append(f"{name} {image['name']} slots {image['slots']} blocks {runs_text(image['blocks'])}{bad}")
     numbers = found.numbers()
-    lines += [f"in both {runs_text(numbers['both'])}", f"in A alone {runs_text(numbers['only_a'])}",
-              f"in B alone {runs_text(numbers['only_b'])}", *map(line_text, found.differ)]
+    lines += [f"in both {runs_text(numbers['both'])}", f"only in A {runs_text(numbers['only_a'])}",
+              f"only in B {runs_text(numbers['only_b'])}", *map(line_text, found.differ)]
     if found.differing:
         lines.append(f"differing {runs_text(numbers['differing'])}")
     return "\n".join([*lines, f"{found.verdict}: {VERDICTS[found.verdict]}", ""])
 
 
 def as_json(found: Difference) -> Json:
-    """What changed, as JSON."""
-    return {"a": found.a.told(), "b": found.b.told(), **found.numbers(), "differences": found.differ, "verdict": found.verdict}
+    """The comparison as JSON."""
+    return {"a": found.a.as_json(), "b": found.b.as_json(), **found.numbers(), "differences": found.differ, "verdict": found.verdict}

@@ -1,8 +1,8 @@
-"""What comes from outside as evidence: the files of bags, archives, marks of the time of day and releases.
+"""Read evidence from outside: the files of bags, archives, marks of the time of day and releases.
 
-A file is opened so that nothing waits: a link, a pipe, a device or a folder is refused by name. It is read up to a bound. What is parsed
-has one closed schema: an unknown member, a value of another type and a number beyond its bound are refused. `Unfit` says what is wrong;
-the caller names the file.
+Opening a file never blocks: a link, a pipe, a device or a folder is refused. A file is read up to a bound. Parsed files have closed
+schemas: an unknown member, a value of another type and a number beyond its bound are refused. `Unfit` says what is wrong; the caller
+adds the name of the file.
 """
 import hashlib
 import json
@@ -24,27 +24,27 @@ STRING = re.compile(r'"(?:[^"\\]|\\.)*"')
 
 
 class Unfit(Exception):
-    """Evidence that isn't as it has to be: what is wrong with it, without the name of the file."""
+    """Evidence doesn't have its form: what is wrong with it, without the name of the file."""
 
 
 # ---- files
 
 def opened(path: Path) -> BinaryIO:
-    """A regular file, opened to be read. No link is followed at its name, and nothing is waited for."""
+    """A regular file, opened for reading. Doesn't follow a link, and doesn't block."""
     try:
         descriptor = os.open(path, os.O_RDONLY | os.O_NOFOLLOW | os.O_NONBLOCK | os.O_CLOEXEC)
     except FileNotFoundError as error:
         raise Unfit("is missing") from error
     except OSError as error:
-        raise Unfit("is no regular file" if is_other(path) else f"can't be read: {error.strerror}") from error
+        raise Unfit("is not a regular file" if is_other(path) else f"can't be read: {error.strerror}") from error
     if not stat.S_ISREG(os.fstat(descriptor).st_mode):
         os.close(descriptor)
-        raise Unfit("is no regular file")
+        raise Unfit("is not a regular file")
     return open(descriptor, "rb")
 
 
 def is_other(path: Path) -> bool:
-    """Whether what has a name is no regular file: a link, a pipe, a device, a folder."""
+    """Whether a name belongs to something else than a regular file: a link, a pipe, a device or a folder."""
     try:
         return not stat.S_ISREG(path.lstat().st_mode)
     except OSError:
@@ -52,7 +52,7 @@ def is_other(path: Path) -> bool:
 
 
 def is_there(path: Path) -> bool:
-    """Whether anything has a name, a link that leads nowhere too."""
+    """Whether a name exists, also as a broken link."""
     return os.path.lexists(path)
 
 
@@ -60,7 +60,7 @@ def check_size(file: BinaryIO, most: int) -> None:
     """Refuses a file that is larger than a bound, before it is read."""
     size = os.fstat(file.fileno()).st_size
     if size > most:
-        raise Unfit(f"has {size} bytes, and {most} are the most")
+        raise Unfit(f"has {size} bytes, and at most {most} are allowed")
 
 
 def data_of(path: Path, most: int = MOST_TEXT) -> bytes:
@@ -85,7 +85,7 @@ def text_of(path: Path, most: int = MOST_TEXT) -> str:
 
 
 def digests(path: Path, algorithms: Sequence[str], most: int) -> dict[str, str]:
-    """The digests of a file of so many bytes at the most, by their algorithms."""
+    """The digests of a file of at most `most` bytes, by algorithm."""
     found, left = {name: hashlib.new(name) for name in algorithms}, most
     with opened(path) as file:
         check_size(file, most)
@@ -102,8 +102,8 @@ def digests(path: Path, algorithms: Sequence[str], most: int) -> dict[str, str]:
 
 
 def names_in(folder: Path) -> tuple[list[str], list[str]]:
-    """The regular files below a folder, and what is neither such a file nor a folder that has some: links, pipes, devices, empty folders.
-    Both are bounded."""
+    """The regular files below a folder, and everything else except folders with content: links, pipes, devices, empty folders. Both
+    lists are bounded."""
     plain, others, count = list[str](), list[str](), 0
     waiting = [(folder, 0)]
     while waiting:
@@ -132,7 +132,7 @@ def names_in(folder: Path) -> tuple[list[str], list[str]]:
 # ---- JSON, and its schemas
 
 def members_of(pairs: list[tuple[str, Any]]) -> dict[str, Any]:
-    """An object of JSON, each of whose members is there once."""
+    """A JSON object. Refuses a member that is given twice."""
     found = dict(pairs)
     if len(found) != len(pairs):
         raise Unfit("has a member twice in one object")
@@ -140,19 +140,19 @@ def members_of(pairs: list[tuple[str, Any]]) -> dict[str, Any]:
 
 
 def number_of(text: str) -> int:
-    """A whole number of few digits."""
+    """A whole number. Refuses one with too many digits."""
     if len(text) > MOST_DIGITS:
         raise Unfit(f"has a number of {len(text)} digits")
     return int(text)
 
 
 def no_number(text: str) -> Any:
-    """NaN, infinity and fractions, which no schema has."""
-    raise Unfit("has a number that is no whole number")
+    """Refuses NaN, infinity and fractions, which no schema has."""
+    raise Unfit("has a number that is not a whole number")
 
 
 def depth_of(text: str) -> int:
-    """How deep objects and lists of a text are nested at the most, before it is parsed."""
+    """How deep the objects and lists of a text are nested; computed before it is parsed."""
     deepest = depth = 0
     for sign in re.findall(r"[\[\]{}]", STRING.sub("", text)):
         depth += 1 if sign in "[{" else -1
@@ -161,13 +161,13 @@ def depth_of(text: str) -> int:
 
 
 def json_of(text: str) -> Any:
-    """The value of a text in JSON: bounded in depth, no member twice, whole numbers only."""
+    """The value of a JSON text. Its depth is bounded, no member is given twice, and all numbers are whole."""
     if depth_of(text) > MOST_NESTED:
         raise Unfit(f"is nested more than {MOST_NESTED} deep")
     try:
         return json.loads(text, object_pairs_hook=members_of, parse_int=number_of, parse_float=no_number, parse_constant=no_number)
     except (ValueError, RecursionError) as error:
-        raise Unfit("is no JSON") from error
+        raise Unfit("is not JSON") from error
 
 
 @dataclass(frozen=True)
@@ -180,12 +180,12 @@ class Number:
     def check(self, value: Any, at: str) -> None:
         """Refuses another value."""
         if type(value) is not int or not self.least <= value <= self.most:
-            raise Unfit(f"{at or 'it'} is no number from {self.least} to {self.most}")
+            raise Unfit(f"{at or 'it'} is not a number from {self.least} to {self.most}")
 
 
 @dataclass(frozen=True)
 class Text:
-    """A text of a form, without characters that UTF-8 has no bytes for."""
+    """A text that matches a pattern, without lone surrogates."""
 
     form: str = r"[^\n\r\0]*"
     most: int = 4_096
@@ -193,9 +193,9 @@ class Text:
     def check(self, value: Any, at: str) -> None:
         """Refuses another value."""
         if not isinstance(value, str) or len(value) > self.most or not re.fullmatch(self.form, value):
-            raise Unfit(f"{at or 'it'} is no text of its form")
+            raise Unfit(f"{at or 'it'} is not a text of its form")
         if any(0xD800 <= ord(sign) <= 0xDFFF for sign in value):
-            raise Unfit(f"{at or 'it'} is no text in UTF-8")
+            raise Unfit(f"{at or 'it'} is not a text in UTF-8")
 
 
 @dataclass(frozen=True)
@@ -224,7 +224,7 @@ class Maybe:
 
 @dataclass(frozen=True)
 class Many:
-    """A list of so many values at the most."""
+    """A list of at most `most` values."""
 
     schema: "Schema"
     most: int
@@ -232,7 +232,7 @@ class Many:
     def check(self, value: Any, at: str) -> None:
         """Refuses another value."""
         if not isinstance(value, list) or len(value) > self.most:
-            raise Unfit(f"{at or 'it'} is no list of {self.most} at the most")
+            raise Unfit(f"{at or 'it'} is not a list of at most {self.most}")
         for number, one in enumerate(value):
             self.schema.check(one, f"{at}[{number}]")
 
@@ -247,7 +247,7 @@ class Members:
     def check(self, value: Any, at: str) -> None:
         """Refuses another value."""
         if not isinstance(value, dict):
-            raise Unfit(f"{at or 'it'} is no object")
+            raise Unfit(f"{at or 'it'} is not an object")
         for name in value:
             if name not in self.needed and name not in self.perhaps:
                 raise Unfit(f"{at or 'it'} has the unknown member {name[:64]!a}")
@@ -260,7 +260,7 @@ class Members:
 
 @dataclass(frozen=True)
 class Table:
-    """An object of members that have names of a form and values of one schema, so many at the most."""
+    """An object of at most `most` members, whose names match a pattern and whose values have one schema."""
 
     names: Text
     schema: "Schema"
@@ -269,7 +269,7 @@ class Table:
     def check(self, value: Any, at: str) -> None:
         """Refuses another value."""
         if not isinstance(value, dict) or len(value) > self.most:
-            raise Unfit(f"{at or 'it'} is no object of {self.most} members at the most")
+            raise Unfit(f"{at or 'it'} is not an object of at most {self.most} members")
         for name, one in value.items():
             self.names.check(name, f"a name in {at or 'it'}")
             self.schema.check(one, f"{at}.{name[:64]!a}")
@@ -280,7 +280,7 @@ SHA256, SHA512 = Text(r"[0-9a-f]{64}"), Text(r"[0-9a-f]{128}")
 
 
 def parsed(path: Path, schema: Schema, most: int = MOST_TEXT) -> Any:
-    """The value of a file in JSON, which has just the schema."""
+    """The value of a JSON file. Refuses one that doesn't match the schema."""
     value = json_of(text_of(path, most))
     schema.check(value, "")
     return value

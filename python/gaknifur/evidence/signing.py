@@ -1,5 +1,5 @@
-"""Signatures and time stamps of bags, by the tools that are there for them: `ssh-keygen` (OpenSSH), `gpg` and `gpgv`
-(OpenPGP), `openssl ts` (RFC 3161). What is signed is `tagmanifest-sha512.txt`, and stamped `manifest-sha512.txt`.
+"""Sign and time-stamp bags with the usual tools: `ssh-keygen` (OpenSSH), `gpg` and `gpgv` (OpenPGP), `openssl ts` (RFC 3161).
+`tagmanifest-sha512.txt` is signed, and `manifest-sha512.txt` is stamped.
 """
 import contextlib
 import re
@@ -14,25 +14,25 @@ from . import bag, formats
 from .formats import Unfit
 
 NAMESPACE = "gaknifur-seal"
-"""What a signature of OpenSSH is for."""
+"""The namespace of OpenSSH signatures."""
 STAMPED = bag.MANIFEST.format("sha512")
 SSH, PGP = f"{bag.SIGNED}.sig", f"{bag.SIGNED}.asc"
 REQUEST, ANSWER = f"{STAMPED}.tsq", f"{STAMPED}.tsr"
 LOOSE = (SSH, PGP, ANSWER)
-"""Files that come later than the digests of a bag."""
+"""Files that are added after the digests of a bag."""
 NAMES = {"ssh": SSH, "openpgp": PGP}
 FINGERPRINT = re.compile(r"SHA256:[A-Za-z0-9+/]+")
 
 
 @dataclass(frozen=True)
 class Key:
-    """A key that signs: the file of one of OpenSSH, or the name of one of OpenPGP."""
+    """A signing key: the file of an OpenSSH key, or the name of an OpenPGP key."""
 
     kind: str
     name: str
 
-    def told(self) -> str:
-        """The key as it is reported: its fingerprint."""
+    def fingerprint(self) -> str:
+        """The fingerprint of the key."""
         if self.kind == "ssh":
             done = tool("ssh-keygen", "-l", "-f", self.name)
             found = FINGERPRINT.search(done.output)
@@ -57,16 +57,16 @@ class Key:
 
 @dataclass(frozen=True)
 class Trust:
-    """Whom a verification trusts: a file of allowed signers of OpenSSH, a keyring of OpenPGP, a file of certificates of
-    authorities of time stamps."""
+    """Whom a verification trusts: a file of allowed OpenSSH signers, an OpenPGP keyring, and a file of certificates of time
+    stamp authorities."""
 
     signers: Path | None = None
     keyring: Path | None = None
     authority: Path | None = None
 
     @property
-    def asks_for_signature(self) -> bool:
-        """Whether a signature has to be there."""
+    def needs_signature(self) -> bool:
+        """Whether a signature is required."""
         return self.signers is not None or self.keyring is not None
 
 
@@ -79,13 +79,13 @@ class Signature:
     key: str | None = None
     signer: str | None = None
     fault: str | None = None
-    told: str = ""
+    text: str = ""
 
 
 @contextlib.contextmanager
 def copies(folder: Path, *names: str) -> Iterator[list[Path]]:
-    """Copies of small files of a bag in a folder of their own, so that a tool reads the bytes that were looked at, and no pipe or device.
-    `Unfit` where one is no such file."""
+    """Copies of small files of a bag in a folder of their own, so that a tool reads the bytes that were checked, and no pipe or device.
+    `Unfit` if one isn't such a file."""
     with tempfile.TemporaryDirectory(prefix="gaknifur-") as at:
         paths = []
         for name in names:
@@ -112,22 +112,22 @@ def ssh_signature(folder: Path, trust: Trust) -> Signature:
 
 
 def check_ssh(found: Signature, path: Path, data: bytes, trust: Trust) -> None:
-    """Takes what ssh-keygen says of a signature of some bytes."""
+    """Adds the result of ssh-keygen for a signature of some bytes."""
     done = tool("ssh-keygen", "-Y", "check-novalidate", "-n", NAMESPACE, "-s", path, given=data)
-    key = FINGERPRINT.search(done.output + done.said)
+    key = FINGERPRINT.search(done.output + done.errors)
     if done.status or not key:
-        found.fault = "is no signature of this bag"
+        found.fault = "is not a signature of this bag"
         return
     found.key = key.group()
     if trust.signers is None:
-        found.told = f"whose key {key.group()} is, by which the bag is signed: no signers are named (--signers)"
+        found.text = f"whose key signed the bag, {key.group()}: no signers are named (--signers)"
         return
-    asked = tool("ssh-keygen", "-Y", "find-principals", "-s", path, "-f", trust.signers)
-    for name in asked.output.splitlines():
+    principals = tool("ssh-keygen", "-Y", "find-principals", "-s", path, "-f", trust.signers)
+    for name in principals.output.splitlines():
         if not tool("ssh-keygen", "-Y", "verify", "-f", trust.signers, "-I", name, "-n", NAMESPACE, "-s", path, given=data).status:
-            found.signer, found.told = name, f"{shown(name)} signed the bag, by the key {key.group()}"
+            found.signer, found.text = name, f"{shown(name)} signed the bag, by the key {key.group()}"
             return
-    found.fault = f"is by the key {key.group()}, which is of none of {shown(trust.signers)}"
+    found.fault = f"is by the key {key.group()}, which isn't in {shown(trust.signers)}"
 
 
 def pgp_signature(folder: Path, trust: Trust) -> Signature:
@@ -136,7 +136,7 @@ def pgp_signature(folder: Path, trust: Trust) -> Signature:
     if not found.is_there:
         return found
     if trust.keyring is None:
-        found.told = "by whom the OpenPGP signature is, and that it is of this bag: no keyring is named (--keyring)"
+        found.text = "who made the OpenPGP signature, and that it is of this bag: no keyring is named (--keyring)"
         return found
     try:
         with copies(folder, PGP, bag.SIGNED) as (path, signed):
@@ -147,16 +147,16 @@ def pgp_signature(folder: Path, trust: Trust) -> Signature:
 
 
 def check_pgp(found: Signature, path: Path, signed: Path, keyring: Path) -> None:
-    """Takes what gpgv says of a signature of a file."""
+    """Adds the result of gpgv for a signature of a file."""
     done = tool("gpgv", "--status-fd", "1", "--keyring", keyring.absolute(), path, signed)
     valid = re.search(r"^\[GNUPG:\] VALIDSIG .*?([0-9A-F]+)$", done.output, re.MULTILINE)
     if done.status or not valid:
-        found.fault = f"is no signature of this bag by a key of {shown(keyring)}"
+        found.fault = f"is not a signature of this bag by a key of {shown(keyring)}"
         return
     found.key = valid.group(1)
     name = re.search(r"^\[GNUPG:\] GOODSIG \S+ (.*)$", done.output, re.MULTILINE)
     found.signer = shown(name.group(1)) if name else valid.group(1)
-    found.told = f"{found.signer} signed the bag, by the OpenPGP key {valid.group(1)}"
+    found.text = f"{found.signer} signed the bag, by the OpenPGP key {valid.group(1)}"
 
 
 def signatures(folder: Path, trust: Trust) -> dict[str, Signature]:
@@ -178,27 +178,27 @@ class Stamp:
     """What a time stamp shows."""
 
     is_shown: bool
-    told: str = ""
+    text: str = ""
     fault: str | None = None
 
 
 def time_of(path: Path) -> str:
-    """The time that the answer of an authority reports."""
-    told = re.search(r"^Time stamp: (.*)$", tool("openssl", "ts", "-reply", "-in", path, "-text").output, re.MULTILINE)
-    return told.group(1) if told else "no time"
+    """The time in the answer of an authority."""
+    found = re.search(r"^Time stamp: (.*)$", tool("openssl", "ts", "-reply", "-in", path, "-text").output, re.MULTILINE)
+    return found.group(1) if found else "no time"
 
 
 def time_stamp(folder: Path, trust: Trust) -> Stamp:
-    """What the answer of an authority of time stamps shows."""
+    """What the answer of a time stamp authority shows."""
     if not formats.is_there(folder / ANSWER):
         if trust.authority is not None:
             return Stamp(False, fault=f"{ANSWER}: is missing")
-        return Stamp(False, f"when it was sealed, but by the clock of the machine that did: no authority answered {REQUEST} "
+        return Stamp(False, f"when it was sealed, except by the clock of the sealing machine: no authority answered {REQUEST} "
                             f"({ANSWER} is missing)")
     try:
         if trust.authority is None:
             with copies(folder, ANSWER) as (path,):
-                return Stamp(False, f"when it was sealed: {ANSWER} tells {time_of(path)}, and no authority is named (--authority)")
+                return Stamp(False, f"when it was sealed: {ANSWER} says {time_of(path)}, and no authority is named (--authority)")
         with copies(folder, ANSWER, STAMPED, REQUEST) as (path, stamped, request):
             return check_stamp(path, stamped, request, trust.authority)
     except Unfit as unfit:
@@ -206,8 +206,8 @@ def time_stamp(folder: Path, trust: Trust) -> Stamp:
 
 
 def check_stamp(path: Path, stamped: Path, request: Path, authority: Path) -> Stamp:
-    """What openssl says of the answer of an authority."""
+    """The result of openssl for the answer of an authority."""
     for option, name in (("-data", stamped), ("-queryfile", request)):
         if tool("openssl", "ts", "-verify", option, name, "-in", path, "-CAfile", authority).status:
-            return Stamp(False, fault=f"{ANSWER}: is no time stamp of this bag by an authority of {shown(authority)}")
-    return Stamp(True, f"the payload was there at {time_of(path)}, by the time stamp")
+            return Stamp(False, fault=f"{ANSWER}: is not a time stamp of this bag by an authority of {shown(authority)}")
+    return Stamp(True, f"the payload existed at {time_of(path)}, by the time stamp")

@@ -1,4 +1,4 @@
-"""Events as other programs read them: a timeline for Timesketch and Plaso (CSV, or JSON Lines), and a table as a workbook (XLSX)."""
+"""Write events for other programs: a timeline for Timesketch and Plaso (CSV, or JSON Lines), and a table as a workbook (XLSX)."""
 import csv
 import io
 import json
@@ -13,38 +13,38 @@ from ..journal.wording import MODES, event_text, kmh
 from . import times
 
 DESCRIPTION = "onboard unit, by marks next to the journal"
-"""What the times of a timeline are, in each of its lines."""
+"""The description of the times, in each line of a timeline."""
 COLUMNS = ("datetime", "timestamp_desc", "message", "timestamp", "uncertainty_ms", "image", "block", "event", "life", "time_ms", "kind", "mode",
            "level", "brake", "limit_m_per_h", "place_cm", "uncertainty_cm")
-"""Those of the CSV: the first three are what Timesketch asks for."""
+"""The columns of the CSV; Timesketch needs the first three."""
 NO_FORMULA = ("=", "+", "-", "@", "\t", "\r")
-"""What a cell may begin with that a spreadsheet takes for a formula."""
+"""The beginnings of cells that a spreadsheet takes for formulas."""
 
 
 def message(record: Json, differs: str | None = None) -> str:
-    """What happened, and what was answered, on a line; and in which field the replay differs from it."""
+    """The event and its answer on one line, and the field in which the replay differs."""
     more = f"; the replay differs in {differs}" if differs else ""
     return (f"life {record['life']} event {record['event']}: {event_text(record)}; {MODES.get(record['mode'], record['mode'])}, "
             f"brake {record['brake']}, limit {kmh(record['limit_m_per_h'])} km/h{more}")
 
 
 def lines(journal: Journal) -> Iterator[Json]:
-    """Each record, with its time of day where marks say one. `datetime` and the two next to it are null elsewhere."""
+    """Each record, with its time of day if marks give one; otherwise `datetime`, `timestamp` and `uncertainty_ms` are null."""
     differs = {(one["block"], one["event"]): one["field"] for one in journal.differences if one["replay"] == "record_differs"}
     for record in journal.records:
-        told = journal.times.utc(record["life"], record["time_ms"]) if journal.times else None
-        yield {"datetime": times.iso(told[0]).replace("Z", "+00:00") if told else None, "timestamp_desc": DESCRIPTION if told else None,
-               "message": message(record, differs.get((record["block"], record["event"]))), "timestamp": told[0] * 1000 if told else None, "uncertainty_ms": told[1] if told else None,
+        time = journal.times.utc(record["life"], record["time_ms"]) if journal.times else None
+        yield {"datetime": times.iso(time[0]).replace("Z", "+00:00") if time else None, "timestamp_desc": DESCRIPTION if time else None,
+               "message": message(record, differs.get((record["block"], record["event"]))), "timestamp": time[0] * 1000 if time else None, "uncertainty_ms": time[1] if time else None,
                "image": journal.name, **record}
 
 
 def as_json(journal: Journal) -> str:
-    """All records, an object on a line."""
+    """All records, one JSON object per line."""
     return "".join(json.dumps(line, ensure_ascii=False) + "\n" for line in lines(journal))
 
 
 def as_csv(journal: Journal) -> tuple[str, int]:
-    """The records that have a time of day, which Timesketch asks for; and how many others were left out."""
+    """The records with a time of day, which Timesketch needs, and the number of others."""
     out, left = io.StringIO(), 0
     writer = csv.writer(out, lineterminator="\n")
     writer.writerow(COLUMNS)
@@ -57,28 +57,28 @@ def as_csv(journal: Journal) -> tuple[str, int]:
 
 
 def workbook(table: pd.DataFrame, notes: list[str]) -> bytes:
-    """A table as a workbook: numbers as numbers, all else as text, so that nothing in it is a formula. A second sheet has notes."""
+    """A table as a workbook: numbers as numbers and everything else as text, so that nothing is a formula. A second sheet has notes."""
     from openpyxl import Workbook
     from openpyxl.cell import WriteOnlyCell
 
     book = Workbook(write_only=True)
     book.properties.creator = MAKER
-    sheet, beside = book.create_sheet("events"), book.create_sheet("notes")
+    sheet, note_sheet = book.create_sheet("events"), book.create_sheet("notes")
 
     def cell(value: Any, at: Any) -> Any:
         if value is None or value is pd.NA or (isinstance(value, float) and value != value):
             return None
         if isinstance(value, str):
-            told = WriteOnlyCell(at, value=value)
-            told.data_type, told.quotePrefix = "s", value.startswith(NO_FORMULA)
-            return told
+            text = WriteOnlyCell(at, value=value)
+            text.data_type, text.quotePrefix = "s", value.startswith(NO_FORMULA)
+            return text
         return value.item() if hasattr(value, "item") else value
 
     sheet.append(list(table))
     for row in table.itertuples(index=False):
         sheet.append([cell(value, sheet) for value in row])
     for note in notes:
-        beside.append([cell(note, beside)])
+        note_sheet.append([cell(note, note_sheet)])
     out = io.BytesIO()
     book.save(out)
     return out.getvalue()

@@ -1,9 +1,9 @@
-"""The time of day of events, by marks along with a journal. A journal has none: a mark says that at a moment of a life, or at an event, a
-clock reported a time of day, right to so many milliseconds. Marks are outside the journal and outside the proof; each output says so.
+"""Compute the time of day of events from marks next to a journal. The journal itself has no time of day. A mark states the time of day
+at a moment of a life, or at an event, with its uncertainty in ms. Marks are outside the journal and outside the proof; each output says so.
 
-Each mark bounds the time of day of every moment of its life, since the unit's clock runs off by no more than a bound (the drift). What is
-reported of a moment is the middle of what all marks of its life allow, and how far off it may be. Where two marks of a life can't both be
-right, both are named, and of that life no time of day is reported.
+The drift of the unit's clock is bounded, so each mark bounds the time of day of every moment of its life. The time of day of a moment is
+the midpoint of the interval that all marks of its life allow, with its half-width. If two marks of a life contradict, both are named, and
+that life has no time of day.
 """
 import csv
 import datetime
@@ -23,17 +23,17 @@ from ..program import REFUSED, Failed
 
 COLUMNS = ("life", "moment_ms", "event", "utc", "uncertainty_ms", "source")
 FIRST = ",".join(COLUMNS)
-"""The first line of marks that somebody writes by hand."""
+"""The first line of marks that are written by hand."""
 CHECKED = f"{FIRST},crc32"
-"""The first line of marks that a unit's host writes: each line ends with the CRC-32 of what is before its last comma."""
+"""The first line of marks that a unit's host writes: each line ends with the CRC-32 of the text before its last comma."""
 CHECKSUM = re.compile("[0-9a-f]{8}")
 ENDING = ".times"
 DRIFT_PPM = 100
-"""By how many millionths the unit's clock runs off at most, where nothing else is said: 360 ms an hour."""
-SAYS = "UTC is by marks next to the journal ({name}), which are outside the journal and outside the proof"
+"""The default of the maximum drift of the unit's clock in ppm: 360 ms per hour."""
+NOTE = "UTC is by marks next to the journal ({name}), which are outside the journal and outside the proof"
 EPOCH = datetime.datetime(1970, 1, 1, tzinfo=datetime.timezone.utc)
 EARLIEST, LATEST = -62_135_596_800_000, 253_402_300_799_999
-"""The times of day that can be written, in ms since 1970 UTC: of the years 1 to 9999."""
+"""The times of day that can be written, in ms since 1970 UTC: those of the years 1 to 9999."""
 WRITTEN = re.compile(r"[0-9]{4}-[0-9]{2}-[0-9]{2}T[0-9]{2}:[0-9]{2}:[0-9]{2}(\.[0-9]+)?Z")
 MILLION = 1_000_000
 GREATEST = 2**40
@@ -43,7 +43,7 @@ WANTED = "life and moment_ms, or event; utc as 2026-03-01T10:02:11.000Z; uncerta
 
 @dataclass(frozen=True)
 class Mark:
-    """A line of a file of marks: at a moment of a life, or at an event, a time of day in ms since 1970 UTC."""
+    """A line of a file of marks: the time of day, in ms since 1970 UTC, at a moment of a life or at an event."""
 
     line: int
     life: int | None
@@ -54,14 +54,14 @@ class Mark:
     source: str
 
     def text(self) -> str:
-        """The mark, as it is named."""
+        """The mark as messages name it."""
         at = f"event {self.event}" if self.event is not None else f"life {self.life}, {self.moment_ms} ms"
         return f"line {self.line} ({at}: {iso(self.utc_ms)}, by {self.source})"
 
 
 @dataclass(frozen=True)
 class Bound:
-    """What a mark says of a moment of a life: the time of day was no earlier and no later."""
+    """The bounds of a mark on the time of day at a moment of a life."""
 
     moment_ms: int
     early_ms: int
@@ -75,15 +75,15 @@ def iso(utc_ms: int) -> str:
 
 
 def utc_of(text: str) -> int:
-    """The time of day of a text of ISO 8601 in UTC: date, T, time with seconds, which may have decimals, and Z."""
+    """The time of day in a text of ISO 8601 in UTC: date, T, time with seconds, perhaps with decimals, and Z."""
     if not WRITTEN.fullmatch(text):
         raise ValueError
-    told = datetime.datetime.fromisoformat(text.removesuffix("Z") + "+00:00")
-    return (told - EPOCH) // datetime.timedelta(milliseconds=1)
+    time = datetime.datetime.fromisoformat(text.removesuffix("Z") + "+00:00")
+    return (time - EPOCH) // datetime.timedelta(milliseconds=1)
 
 
 def number(text: str) -> int | None:
-    """A number of a mark; None where there is none."""
+    """A number of a mark; None if the field is empty."""
     if text and (not text.isascii() or not text.isdigit() or int(text) > GREATEST):
         raise ValueError
     return int(text) if text else None
@@ -95,13 +95,13 @@ def checksum(text: str) -> str:
 
 
 def unchecked(text: str) -> str | None:
-    """A line without its checksum; None where that is wrong."""
-    mark, _, told = text.rpartition(",")
-    return mark if CHECKSUM.fullmatch(told) and told == checksum(mark) else None
+    """A line without its checksum; None if the checksum is wrong."""
+    mark, _, sum_text = text.rpartition(",")
+    return mark if CHECKSUM.fullmatch(sum_text) and sum_text == checksum(mark) else None
 
 
 def mark_of(line: int, text: str) -> Mark:
-    """The mark of a line; ValueError where it is none."""
+    """The mark of a line; ValueError if it isn't one."""
     try:
         row = next(csv.reader([text]))
     except csv.Error as error:
@@ -116,8 +116,8 @@ def mark_of(line: int, text: str) -> Mark:
 
 
 def read_marks(path: Path) -> tuple[list[Mark], list[str], str | None]:
-    """The marks of a file, what is said of lines that are none, and the part of a line that a loss of power left at its end. Where there
-    are no checksums, empty lines and lines that begin with # are passed over. A wrong line loses itself only."""
+    """The marks of a file, the messages about lines that aren't marks, and the part of a line that a loss of power left at the end. Without
+    checksums, empty lines and lines that begin with # are ignored. A wrong line doesn't affect others."""
     text = files.bytes_of(path).decode("utf-8", errors="replace")
     lines = text.split("\n")
     first = lines[0].rstrip("\r")
@@ -139,12 +139,12 @@ def read_marks(path: Path) -> tuple[list[Mark], list[str], str | None]:
 
 
 def greatest(numbers: Iterable[int]) -> list[int]:
-    """Of each number the greatest one up to and with it."""
+    """The greatest number up to each."""
     return list(itertools.accumulate(numbers, lambda one, other: max(one, other)))
 
 
 def least(numbers: Iterable[int]) -> list[int]:
-    """Of each number the least one up to and with it."""
+    """The least number up to each."""
     return list(itertools.accumulate(numbers, lambda one, other: min(one, other)))
 
 
@@ -159,12 +159,12 @@ class Life:
         late = [one.late_ms * MILLION for one in self.bounds]
         self.early_before = greatest(at - moment * self.slow for at, moment in zip(early, self.moments))
         self.late_before = least(at - moment * self.fast for at, moment in zip(late, self.moments))
-        self.early_behind = greatest(at - moment * self.fast for at, moment in zip(early[::-1], self.moments[::-1]))[::-1]
-        self.late_behind = least(at - moment * self.slow for at, moment in zip(late[::-1], self.moments[::-1]))[::-1]
+        self.early_after = greatest(at - moment * self.fast for at, moment in zip(early[::-1], self.moments[::-1]))[::-1]
+        self.late_after = least(at - moment * self.slow for at, moment in zip(late[::-1], self.moments[::-1]))[::-1]
         self.contradictions = list(self.contradicting())
 
     def contradicting(self) -> Iterator[tuple[Mark, Mark]]:
-        """Pairs of marks that can't both be right: of each mark the one before that is farthest from it."""
+        """Pairs of marks that can't both be right: each mark with the earlier one that is farthest from it."""
         first, last = 0, 0
         for at, one in enumerate(self.bounds):
             if self.early_before[at] > self.early_before[first] or not at:
@@ -177,15 +177,15 @@ class Life:
                 yield self.bounds[last].mark, one.mark
 
     def utc(self, moment_ms: int) -> tuple[int, int]:
-        """The time of day of a moment, and how far off it may be, both in ms."""
+        """The time of day of a moment, and its uncertainty, in ms."""
         at = bisect_right(self.moments, moment_ms)
         early, late = [], []
         if at:
             early.append(self.early_before[at - 1] + moment_ms * self.slow)
             late.append(self.late_before[at - 1] + moment_ms * self.fast)
         if at < len(self.moments):
-            early.append(self.early_behind[at] + moment_ms * self.fast)
-            late.append(self.late_behind[at] + moment_ms * self.slow)
+            early.append(self.early_after[at] + moment_ms * self.fast)
+            late.append(self.late_after[at] + moment_ms * self.slow)
         low, high = max(early), min(late)
         middle = (low + high) // (2 * MILLION)
         return middle, -(-max(high - middle * MILLION, middle * MILLION - low) // MILLION)
@@ -196,14 +196,14 @@ class Marks(files.Appended):
 
     def __init__(self, path: str | Path) -> None:
         super().__init__(Path(path), f"{CHECKED}\n".encode(), "a file of marks with checksums")
-        told = self.read(0, self.size)
-        self.drop(told.rfind(b"\n") + 1)
+        data = self.read(0, self.size)
+        self.drop(data.rfind(b"\n") + 1)
 
     def mark(self, life: int, moment_ms: int, utc_ms: int, uncertainty_ms: int, source: str) -> None:
-        """Appends a mark, and syncs. ValueError where these are no mark."""
+        """Appends a mark, and syncs. ValueError if the values are no mark."""
         line = f"{life},{moment_ms},,{iso(utc_ms)},{uncertainty_ms},{source}"
-        told = mark_of(0, line)
-        if (told.life, told.moment_ms, told.utc_ms, told.uncertainty_ms, told.source) != (life, moment_ms, utc_ms, uncertainty_ms, source):
+        mark = mark_of(0, line)
+        if (mark.life, mark.moment_ms, mark.utc_ms, mark.uncertainty_ms, mark.source) != (life, moment_ms, utc_ms, uncertainty_ms, source):
             raise ValueError(line)
         self.append(f"{line},{checksum(line)}\n".encode())
         self.sync()
@@ -218,7 +218,7 @@ class Times:
     marks: list[Mark] = field(default_factory=list)
     lives: dict[int, Life] = field(default_factory=dict)
     left_out: list[str] = field(default_factory=list)
-    """Marks that aren't used, each with the reason."""
+    """The marks that aren't used, each with the reason."""
 
     @classmethod
     def of(cls, journal: Journal, path: Path, drift_ppm: int = DRIFT_PPM) -> Self:
@@ -236,7 +236,7 @@ class Times:
         return found
 
     def bound(self, journal: Journal, mark: Mark) -> tuple[int, Bound | None]:
-        """What a mark says of a moment. An event came at its moment or after it, before the next moment of its life."""
+        """The life and the bounds of a mark. An event came at its moment or after it, and before the next moment of its life."""
         if mark.life is not None and mark.moment_ms is not None:
             return mark.life, Bound(mark.moment_ms, mark.utc_ms - mark.uncertainty_ms, mark.utc_ms + mark.uncertainty_ms, mark)
         at = next((row for row, one in enumerate(journal.records) if one["event"] == mark.event), None)
@@ -244,42 +244,42 @@ class Times:
         if at is None or record is None or record["life"] is None:
             self.left_out.append(f"{mark.text()}: the journal has no such event")
             return 0, None
-        moment, behind = int(record["time_ms"]), 0
+        moment, late = int(record["time_ms"]), 0
         if record["kind"] != "clock":
             later = next((one for one in itertools.islice(journal.records, at, None) if one["life"] == record["life"] and one["time_ms"] > moment), None)
             if later is None:
                 self.left_out.append(f"{mark.text()}: no moment of its life follows, so nothing says how long after its moment it came")
                 return 0, None
-            behind = -(-(int(later["time_ms"]) - moment) * (MILLION + self.drift_ppm) // MILLION)
-        return int(record["life"]), Bound(moment, mark.utc_ms - mark.uncertainty_ms - behind, mark.utc_ms + mark.uncertainty_ms, mark)
+            late = -(-(int(later["time_ms"]) - moment) * (MILLION + self.drift_ppm) // MILLION)
+        return int(record["life"]), Bound(moment, mark.utc_ms - mark.uncertainty_ms - late, mark.utc_ms + mark.uncertainty_ms, mark)
 
     def utc(self, life: int | None, moment_ms: int) -> tuple[int, int] | None:
-        """The time of day of a moment of a life, and how far off it may be, in ms; None where no marks say it, they contradict, or it is of
-        no year that can be written."""
+        """The time of day of a moment of a life, and its uncertainty, in ms; None if there are no marks, they contradict, or the year can't be
+        written."""
         one = self.lives.get(life) if life is not None else None
-        told = None if one is None or one.contradictions else one.utc(moment_ms)
-        return told if told and EARLIEST <= told[0] <= LATEST else None
+        found = None if one is None or one.contradictions else one.utc(moment_ms)
+        return found if found and EARLIEST <= found[0] <= LATEST else None
 
     def faults(self) -> list[str]:
-        """Marks that contradict one another, or aren't used; a sentence each."""
+        """A sentence for each pair of marks that contradict, and for each mark that isn't used."""
         return [f"{one.text()} and {other.text()} contradict, so life {life} has no UTC"
-                for life, told in self.lives.items() for one, other in told.contradictions] + self.left_out
+                for life, marks in self.lives.items() for one, other in marks.contradictions] + self.left_out
 
-    def says(self) -> str:
-        """What each output says."""
-        return f"{SAYS.format(name=shown(self.path.name))}; the unit's clock is taken to run off by {self.drift_ppm} ppm at most"
+    def note(self) -> str:
+        """The note of each output."""
+        return f"{NOTE.format(name=shown(self.path.name))}; the unit's clock is taken to run off by {self.drift_ppm} ppm at most"
 
 
 def columns(journal: Journal) -> Json:
-    """Of each record the time of day by marks, and how far off it may be; None where it isn't known."""
+    """The time of day of each record by marks, and its uncertainty; None if it isn't known."""
     times = journal.times
-    told = [times.utc(one["life"], one["time_ms"]) for one in journal.records] if times else [None] * len(journal.records)
-    return {"utc_by_marks": [iso(one[0]) if one else None for one in told], "utc_uncertainty_ms": [one[1] if one else None for one in told]}
+    known = [times.utc(one["life"], one["time_ms"]) for one in journal.records] if times else [None] * len(journal.records)
+    return {"utc_by_marks": [iso(one[0]) if one else None for one in known], "utc_uncertainty_ms": [one[1] if one else None for one in known]}
 
 
-def beside(image: Path, told: Path | None) -> Path | None:
-    """The file of marks: the one that is named, else that along with the image, where there is one."""
-    if told is not None:
-        return told
+def marks_of(image: Path, named: Path | None) -> Path | None:
+    """The file of marks: the one that is named, or else IMAGE.times, if it exists."""
+    if named is not None:
+        return named
     path = image.with_name(image.name + ENDING)
     return path if path.exists() else None

@@ -1,10 +1,9 @@
-"""Why a brake was commanded, why the train was tripped, and what decided the limit, as `etcs_lab why` says it. Nothing
-here guesses a cause from what a record shows.
+"""Assign to records why a brake was commanded, why the train was tripped, and what decided the limit, from the output of
+`etcs_lab why`. No cause is guessed from what a record shows.
 
-`etcs_lab why` has a line of each event at which brake, limit, a cause or the kind of what decides the limit is another
-one than before in its life, so between two lines the causes are those of the first. What is reported is what the kernel
-answers. So it counts only where the replay says that the journal reports the same; elsewhere the causes aren't known, and
-the reason is reported.
+`etcs_lab why` prints a line for each event that changes the brake, the limit, a cause or the kind of what decides the limit in
+its life, so the causes of a line hold up to the next one. They are those of the kernel's answers, so they count only where the
+replay agrees with the journal; elsewhere the causes aren't known, and the reason is given.
 """
 import bisect
 import re
@@ -29,17 +28,17 @@ CAUSES = {
     "must_stand": ("the train moves where it must stand", "ends when the train stands, or in another mode"),
     "owes_too_long": ("an acknowledgement has been owed for 5000 ms or longer",
                       "ends when the driver acknowledges, a mode deletes it, or a further transition begins it anew")}
-"""Of each cause, in the order of the brake table, what it says and how it ends, in the words of `etcs_lab why`."""
+"""The meaning of each cause and how it ends, in the order of the brake table and the wording of `etcs_lab why`."""
 TRIP_CAUSES = {
     "end_passed": ("the minimum safe front was past the end of authority", "4.6.3"),
     "linking": ("linking or a balise group asked for it", "3.4.4, 3.16.2"),
     "stop": ("an authority with V_MAIN 0 was used", "3.11.6"),
     "staff_distance": ("the path in Staff Responsible was above D_NVSTFF", "4.4"),
     "level": ("the level was 1, and the authority or the track ahead was not known", "5.10")}
-"""Of each cause of a trip what it says, in the words of `etcs_lab why`, and its sections of SUBSET-026."""
+"""The meaning of each cause of a trip, in the wording of `etcs_lab why`, and its sections of SUBSET-026."""
 TRIP_BEFORE = "it was tripped before the power-up, and why isn't known"
 LIMIT_CAUSE = "limit_cause"
-"""The member that says the kind of what decides the limit; others of the same beginning report more of it."""
+"""The member with the kind of what decides the limit; members that begin with it have details."""
 REASONS = {"before_oldest_block": "what was kept before its power-up was overwritten",
            "gap": "blocks or events are missing before",
            "within_block": "no head contains what was kept before its power-up",
@@ -51,12 +50,12 @@ NO_REPLAY = "no replay was made"
 
 
 def held(line: Json) -> dict[str, int]:
-    """The causes of a line of `etcs_lab why` that hold, each with the first event after which it has held."""
+    """The causes of a line of `etcs_lab why` that hold, each with the event since which it has held."""
     return {cause: line[cause] for cause in CAUSES if line.get(cause) is not None}
 
 
 class Reasons:
-    """Of an event of the journal why its causes aren't known; None where the replay agrees."""
+    """Why the causes of events aren't known; None where the replay agrees."""
 
     def __init__(self, journal: Journal) -> None:
         self.without = journal.why_refusal or NO_REPLAY
@@ -72,44 +71,44 @@ class Reasons:
         self.firsts = [run[0] for run in self.runs]
 
     def of(self, event: int) -> str | None:
-        """That of an event."""
+        """The reason for an event."""
         at = bisect.bisect_right(self.firsts, event) - 1
         return self.runs[at][2] if at >= 0 and event <= self.runs[at][1] else self.without
 
 
 @dataclass
 class Known:
-    """What is known of a record's causes."""
+    """What is known about a record's causes."""
 
     reason: str | None
     """Why they aren't known."""
     line: Json | None = None
     """Its line of `etcs_lab why`, if it has one."""
     held: dict[str, int] | None = None
-    """The causes of its brake that hold; None where they aren't reported."""
+    """The causes of its brake that hold; None if they aren't known."""
     limit: str | None = None
-    """The kind of what decides the limit; None where it isn't reported."""
+    """The kind of what decides the limit; None if it isn't known."""
     trip: "Trip | None" = None
-    """The trip that is owed; None where none is, or where it isn't reported."""
+    """The trip that isn't acknowledged; None if there is none, or it isn't known."""
 
 
 @dataclass(frozen=True)
 class Trip:
-    """A trip that is owed: why it was entered, and by which event; None both where it was entered in a life before."""
+    """A trip that isn't acknowledged: why it was entered, and by which event; both None if it was entered in an earlier life."""
 
     cause: str | None
     event: int | None
 
     def text(self) -> str:
-        """Why the train was tripped, for people."""
+        """Why the train was tripped, as text."""
         if self.cause is None:
             return TRIP_BEFORE
-        says, section = TRIP_CAUSES.get(self.cause, (self.cause, "?"))
-        return f"{says} (event {self.event}, {section})"
+        text, section = TRIP_CAUSES.get(self.cause, (self.cause, "?"))
+        return f"{text} (event {self.event}, {section})"
 
 
 def trip_of(line: Json) -> Trip | None:
-    """The trip that is owed after the event of a line."""
+    """The trip that isn't acknowledged after the event of a line."""
     if line.get("owes_trip") is None or "trip_cause" not in line:
         return None
     return Trip(line["trip_cause"], line["trip_cause_event"])
@@ -120,17 +119,17 @@ Row = tuple[int, str, str, str | None]
 
 
 def rows_of(journal: Journal) -> Iterator[Row]:
-    """What of each record its causes are looked up by."""
+    """The values of each record by which its causes are found."""
     return ((one["event"], one["kind"], one["brake"], one.get("source")) for one in journal.records)
 
 
 def known(journal: Journal, records: Iterable[Row]) -> Iterator[Known]:
-    """What is known of each record. All after one line of `etcs_lab why` have the same causes, limit and trip."""
-    told, reasons = {line["event"]: line for line in journal.why}, Reasons(journal)
+    """What is known about each record. Those from one line of `etcs_lab why` to the next have the same causes, limit and trip."""
+    lines, reasons = {line["event"]: line for line in journal.why}, Reasons(journal)
     before, same = None, Known(None)
     for event, kind, brake, source in records:
         reason = OTHER_BLOCK if (source or "journal") != "journal" else reasons.of(event)
-        line = told.get(event) if reason is None else None
+        line = lines.get(event) if reason is None else None
         if line and line["brake"] != brake:
             reason, line = DIFFERS, None
         if reason is not None:
@@ -150,15 +149,15 @@ class Held:
 
     cause: str
     since: int
-    """The first event after which it has held."""
+    """The event since which it has held."""
     last: int
-    """The last event of which it is reported that it holds."""
+    """The last event after which it is known to hold."""
     gone: int | None = None
-    """The first event after that of which it is reported that it doesn't hold."""
+    """The first event after that after which it is known not to hold."""
 
     @property
     def says(self) -> str:
-        """What it says, with speeds in km/h as in the columns of a report."""
+        """Its meaning, with speeds in km/h as in the columns of a report."""
         return re.sub(r"\b(\d+) m/h", lambda found: f"{int(found[1]) / 1000:g} km/h", CAUSES[self.cause][0])
 
     @property
@@ -171,11 +170,10 @@ class Held:
         return f"{self.cause} since {self.since}"
 
 
-def of_run(events: Iterable[int], told: Iterable[dict[str, int] | None]) -> list[Held]:
-    """The causes of a run of events, of some of which those that hold are reported, in the order in which they began to hold.
-    One that ends and begins anew comes twice."""
+def of_run(events: Iterable[int], causes: Iterable[dict[str, int] | None]) -> list[Held]:
+    """The causes of a run of events in the order in which they began to hold. A cause that ends and begins again is listed twice."""
     found: list[Held] = []
-    for event, now in zip(events, told):
+    for event, now in zip(events, causes):
         if now is None:
             continue
         for one in found:
@@ -190,14 +188,13 @@ def of_run(events: Iterable[int], told: Iterable[dict[str, int] | None]) -> list
     return sorted(found, key=lambda one: one.since)
 
 
-def text(told: dict[str, int] | None) -> str | None:
-    """Causes as a column reports them: none is an empty text."""
-    return None if told is None else ", ".join(f"{cause} since {since}" for cause, since in told.items())
+def text(causes: dict[str, int] | None) -> str | None:
+    """The text of a column of causes; an empty text if there are none."""
+    return None if causes is None else ", ".join(f"{cause} since {since}" for cause, since in causes.items())
 
 
 def limit_text(line: Json) -> str:
-    """What decides the limit of a line, for people: its kind, its speed, its place and number where it has them, and its
-    sections."""
+    """What decides the limit of a line, as text: its kind, its speed, its place and number if it has them, and its sections."""
     kind, speed, place, number, section = (
         line.get(f"{LIMIT_CAUSE}{end}") for end in ("", "_speed_m_per_h", "_place_cm", "_number", "_section"))
     if kind is None:
@@ -212,7 +209,7 @@ ROW = ("block", "event", "life", "brake", "cause", "since_event", "says", "ends"
 
 
 def rows(journal: Journal) -> list[Json]:
-    """A row for each cause that holds after an event of which causes are reported, with its words."""
+    """A row for each cause of each event whose causes are known, with its texts."""
     return [{"block": record["block"], "event": record["event"], "life": record["life"], "brake": record["brake"], "cause": cause,
              "since_event": since, "says": CAUSES[cause][0], "ends": CAUSES[cause][1]}
             for record, one in zip(journal.records, known(journal, rows_of(journal))) for cause, since in (one.held or {}).items()]

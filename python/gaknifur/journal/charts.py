@@ -1,9 +1,9 @@
-"""Pictures of a stretch of a life, as SVG text for a page: speed and limit over distance, time or events.
+"""Draw a life, or a part of one, as SVG for a page: speed and limit over distance, time or events.
 
-After speed and limit stand the brake commands, below them a strip of brakes and one of modes, with letters: colour
-alone carries nothing. The colours are those of Okabe and Ito, which colour-blind people report apart; on a dark screen
-`templates/report.css` has others in their place, so a colour that is added here is added there. Marks of single
-events are anchors `pN` that link to the row `rN` of the page. The same table gives the same bytes each time.
+The brake commands are drawn as a background of speed and limit; below them are a strip of brakes and one of modes, with letters, so
+that nothing is shown only by colour. The colours are those of Okabe and Ito, which colour-blind people can distinguish; for dark
+screens `templates/report.css` replaces them, so a colour that is added here has to be added there. Marks of single events are
+anchors `pN` that link to the row `rN` of the page. The same table always gives the same bytes.
 """
 import html
 import io
@@ -32,46 +32,46 @@ AXES = {"distance": ("place from the power-up of the life, m", "place_cm", 100.0
         "time": ("moment of the clock in the life, s", "time_ms", 1000.0), "event": ("event", "event", 1.0)}
 MOST_DRAWN, MOST_MARKS, MOST_LABELS, COLUMNS = 6000, 120, 14, 400
 MOST_SIGNS, BARS = 60, 90
-"""So many telegrams have each a sign of its own; of more the picture says how many there are, in so many parts of the way."""
+"""Up to MOST_SIGNS telegrams have signs of their own; for more, the picture shows their number in each of BARS parts of the way."""
 
 MARK = re.compile(r'(<g id="(?:p|\w+-to)(\d+)">\s*<g[^>]*>\s*<use [^>]*/>\s*</g>\s*</g>)')
-"""A circle, by its id. The lines of this library have no links of their own."""
+"""A circle, by its id. Lines of matplotlib have no links of their own."""
 
 
 @dataclass
 class Picture:
-    """What a picture shows along with its table. Rows are those of the table's index."""
+    """What a picture shows besides its table. Rows are those of the table's index."""
 
     axis: str
     title: str
     prefix: str
-    """Sets the ids of this picture apart from those of others on a page."""
+    """The prefix of the ids of this picture, which are unique on a page."""
     marks: Sequence[int] = ()
     """Rows with a circle that links to the page's row of the event."""
     has_anchors: bool = True
-    """Whether the circles may be linked to: of a page's pictures one has the anchor of an event."""
+    """Whether the circles are anchors: only one picture of a page has the anchor of an event."""
     groups: Sequence[tuple[int, str]] = ()
     """Places of balise groups in cm, with texts."""
     ends: Sequence[tuple[int, str]] = ()
     """Announced ends of authority in cm, with texts."""
     height: float = 4.2
     is_vast: bool = field(default=False)
-    """Whether bands take the place of lines."""
+    """Whether bands are drawn instead of lines."""
 
 
 def numbers(table: pd.DataFrame, name: str) -> Any:
-    """A column as numbers, NaN where something is missing."""
+    """A column as numbers, NaN for missing values."""
     return table[name].astype("Float64").to_numpy(float, na_value=np.nan)
 
 
 def along(table: pd.DataFrame, axis: str) -> Any:
-    """Where each record stands on an axis. A record without a place stands at the one before it."""
+    """The position of each record on an axis. A record without a place has the position of the one before it."""
     _, name, unit = AXES[axis]
     return pd.Series(numbers(table, name) / unit).ffill().fillna(0).to_numpy()
 
 
 def runs(values: Any, x: Any) -> Iterator[tuple[float, float, str]]:
-    """Runs of one value: from, to, value. A run lasts until the next one begins."""
+    """Runs of one value: start, end, value. A run ends where the next one begins."""
     starts = np.flatnonzero(np.concatenate([[True], values[1:] != values[:-1]]))
     ends = np.concatenate([starts[1:], [len(values) - 1]])
     for first, last in zip(starts, ends):
@@ -79,18 +79,18 @@ def runs(values: Any, x: Any) -> Iterator[tuple[float, float, str]]:
 
 
 def binned(values: Any, x: Any, pick: Any) -> Iterator[tuple[float, float, str]]:
-    """The same of many runs: of each column of the picture one value, as `pick` takes it from those that stand there."""
+    """The same for many runs: one value for each column of the picture, which `pick` chooses from the values there."""
     edges = np.linspace(x.min(), x.max(), COLUMNS + 1)
     column = np.clip(np.searchsorted(edges, x, side="right") - 1, 0, COLUMNS - 1)
     found: list[set[str]] = [set() for _ in range(COLUMNS)]
     for at, value in zip(column, values):
         found[at].add(str(value))
-    told, before = np.empty(COLUMNS, object), str(values[0])
+    picked, before = np.empty(COLUMNS, object), str(values[0])
     for at, one in enumerate(found):
-        told[at] = pick(one) if one else before
-        before = told[at]
+        picked[at] = pick(one) if one else before
+        before = picked[at]
     # The last value ends at the last edge.
-    return runs(np.concatenate([told, told[-1:]]), edges)
+    return runs(np.concatenate([picked, picked[-1:]]), edges)
 
 
 def worst(brakes: set[str]) -> str:
@@ -99,7 +99,7 @@ def worst(brakes: set[str]) -> str:
 
 
 def only(modes: set[str]) -> str:
-    """The mode, where there is one alone."""
+    """The mode, if there is only one."""
     return next(iter(modes)) if len(modes) == 1 else MANY
 
 
@@ -113,7 +113,7 @@ def spans(table: pd.DataFrame, x: Any, name: str) -> list[tuple[float, float, st
 
 
 def draw_strips(brakes: Any, modes: Any, main: Any, table: pd.DataFrame, x: Any, width: float, is_vast: bool) -> None:
-    """Draws the two strips, and the brakes after the lines."""
+    """Draws the two strips, and the background of brakes."""
     for first, last, brake in spans(table, x, "brake"):
         if brake == "none":
             continue
@@ -138,8 +138,8 @@ def draw_strips(brakes: Any, modes: Any, main: Any, table: pd.DataFrame, x: Any,
 
 
 def draw_lines(main: Any, x: Any, speed: Any, limit: Any, axis: str) -> None:
-    """A limit and a speed hold from their event on until the next one. Over distance and time a speed is drawn as a
-    slope between two readings, since the train's was one."""
+    """Draws speed and limit, which hold from their event until the next one. Over distance and time the speed is drawn as a slope
+    between two readings, like the train's own speed."""
     main.plot(x, limit, drawstyle="steps-post", color=INK, lw=1.1, label="limit")
     main.plot(x, speed, drawstyle="steps-post" if axis == "event" else "default", color=SPEED, lw=1.6, label="speed",
               marker="." if len(x) <= 150 else None, ms=4)
@@ -149,13 +149,13 @@ def draw_lines(main: Any, x: Any, speed: Any, limit: Any, axis: str) -> None:
 
 
 def extreme(pick: Any, values: Any) -> float:
-    """The least or the greatest of some values; NaN where all are missing."""
+    """The least or the greatest of some values; NaN if all are missing."""
     return float(pick(values)) if not np.isnan(values).all() else float("nan")
 
 
 def draw_bands(main: Any, x: Any, speed: Any, limit: Any) -> None:
-    """Too many readings for a line: of each part of the stretch the band from least to greatest speed, the least limit
-    and the most above the limit."""
+    """Draws bands if there are too many readings for lines: for each part the least to the greatest speed, the least limit and the
+    greatest overspeed."""
     parts = [part for part in np.array_split(np.arange(len(x)), COLUMNS) if len(part)]
     middle = np.array([x[part].mean() for part in parts])
     least, most = (np.array([extreme(pick, speed[part]) for part in parts]) for pick in (np.nanmin, np.nanmax))
@@ -168,12 +168,12 @@ def draw_bands(main: Any, x: Any, speed: Any, limit: Any) -> None:
 
 
 def length_text(metres: float) -> str:
-    """A length: whole metres, and of a short one three digits."""
+    """A length in whole metres, or with three digits if it is short."""
     return f"{metres:,.0f}" if metres >= 100 else f"{metres:.3g}"
 
 
 def draw_many(main: Any, places: list[float], left: float, right: float, top: float) -> None:
-    """Telegrams of which each one's sign would cover the next ones: how many there are in each part of the way."""
+    """Draws the number of telegrams in each part of the way, if their signs would cover one another."""
     count, edges = np.histogram(places, BARS, (left, right))
     part = float(edges[1] - edges[0])
     main.bar(edges[:-1] + part / 2, count / count.max() * top * 0.06, part * 0.6, color=QUIET, lw=0,
@@ -181,7 +181,7 @@ def draw_many(main: Any, places: list[float], left: float, right: float, top: fl
 
 
 def draw_track(main: Any, picture: Picture, left: float, right: float, top: float) -> float:
-    """Balise groups and announced ends; answers how far to the right the picture reaches."""
+    """Draws balise groups and announced ends; returns the right end of the picture."""
     groups = [(place / 100, text) for place, text in picture.groups if left <= place / 100 <= right]
     if len(groups) > MOST_SIGNS:
         draw_many(main, [place for place, _ in groups], left, right, top)
@@ -202,7 +202,7 @@ def draw_track(main: Any, picture: Picture, left: float, right: float, top: floa
 
 
 def draw_marks(main: Any, picture: Picture, table: pd.DataFrame, x: Any, speed: Any) -> None:
-    """A circle at each mark; over distance also where the front may have been."""
+    """Draws a circle at each mark, and over distance also the interval of the front."""
     at = {row: place for place, row in enumerate(table.index)}
     shown = [(row, at[row]) for row in list(picture.marks)[:MOST_MARKS] if row in at]
     label: str | None = "possible front"
@@ -217,7 +217,7 @@ def draw_marks(main: Any, picture: Picture, table: pd.DataFrame, x: Any, speed: 
 
 
 def finish(main: Any, last: Any, picture: Picture, table: pd.DataFrame, reach: tuple[float, float]) -> None:
-    """Title, legend and axes."""
+    """Adds title, legend and axes."""
     left, right = reach
     width = max(right - left, 1e-9)
     main.set_ylabel("km/h")
@@ -235,7 +235,7 @@ def finish(main: Any, last: Any, picture: Picture, table: pd.DataFrame, reach: t
 
 
 def described(table: pd.DataFrame) -> str:
-    """What a picture shows, for who doesn't see it. The table of events reports the same as its circles do."""
+    """The text alternative of a picture. The table of events has the same content as its circles."""
     brake, speed = table["brake"], table["speed_kmh"].dropna()
     fast = f"; speed at most {float(speed.max()):.1f} km/h" if len(speed) else ""
     return (f"Events {table['event'].iat[0]} to {table['event'].iat[-1]}; modes {', '.join(dict.fromkeys(table['mode']))}{fast}; "
@@ -244,8 +244,8 @@ def described(table: pd.DataFrame) -> str:
 
 
 def svg_of(figure: Figure, prefix: str, title: str, description: str) -> str:
-    """The text of a figure, its ids set apart but for the anchors of events. It is one picture with a title and a
-    description: its links, which the table of events has too, are no stops of the keyboard."""
+    """The SVG of a figure, with a prefix for all ids but the anchors of events. It is one image with a title and a description: its
+    links, which the table of events has too, can't be reached by keyboard."""
     text = io.StringIO()
     figure.savefig(text, format="svg", metadata={"Date": None, "Creator": None})
     svg = text.getvalue()

@@ -1,8 +1,7 @@
-"""Cells of CSV that no spreadsheet takes for a formula.
+"""Protect CSV cells from being taken for formulas by a spreadsheet.
 
-A text that begins with `=`, `+`, `-`, `@`, a tab, a carriage return or an apostrophe gets an apostrophe before it, as a
-spreadsheet marks a text. Whoever reads the file takes one apostrophe away from a text that begins with one, and has the
-text as it was. Numbers stay as they are.
+A text that begins with `=`, `+`, `-`, `@`, a tab, a carriage return or an apostrophe gets a leading apostrophe, with which a
+spreadsheet marks a text. A reader of the file removes one leading apostrophe and has the original text. Numbers are unchanged.
 """
 from typing import Any
 

@@ -1,6 +1,6 @@
-"""Journals in an SQLite database (`schema.sql`), which the command `sqlite3` reads. One database holds many images.
+"""Keep journals in an SQLite database (`schema.sql`), which the command `sqlite3` reads. One database holds many images.
 
-An image is added whole or not at all; one that is there already, by its SHA-256, is left as it is.
+An image is added whole or not at all. One that the database already contains, by its SHA-256, is left as it is.
 """
 import json
 import sqlite3
@@ -28,7 +28,7 @@ EVENT = (
 ).split() + list(tables.SHOWS)
 BEFORE = {"mode_before": "mode", "level_before": "level", "brake_before": "brake", "speed_before_m_per_h": "speed_m_per_h"}
 NEXT = {"next_event": "event", "next_ms": "time_ms", "next_cm": "place_cm"}
-"""What of the record before and of the next one of its stretch stands along with a record, so that no view has to look for them."""
+"""Columns with values of the record before and after in the same stretch, so that views needn't join them."""
 SLOT = ("slot state block first_sector last_sector format life first_event last_event gate_is_own in_journal field record "
         "byte").split()
 WHY = ("brake limit_m_per_h speed_m_per_h backward_cm allowed_backward_cm trip_cause trip_cause_event trip_cause_section "
@@ -44,15 +44,15 @@ def schema() -> str:
 
 
 def fill(connection: sqlite3.Connection) -> None:
-    """Makes an empty database: its tables and views, and what causes say."""
+    """Fills a new database with its tables and views, and the texts of causes."""
     connection.executescript(schema())
-    insert(connection, "cause_word", ["cause", "says", "ends"], ([name, *told] for name, told in causes.CAUSES.items()))
+    insert(connection, "cause_word", ["cause", "says", "ends"], ([name, *texts] for name, texts in causes.CAUSES.items()))
     insert(connection, "trip_word", ["trip_cause", "says", "section"],
-           ([name, *told] for name, told in causes.TRIP_CAUSES.items()))
+           ([name, *texts] for name, texts in causes.TRIP_CAUSES.items()))
 
 
 def open_database(path: str | Path, images: Iterable[Path] = ()) -> sqlite3.Connection:
-    """The database in a file, which is none of the images. A new file is made; a database of another kind is refused."""
+    """Opens a database, or creates it. Refuses a file that is one of the images, or a database of another kind."""
     connection = files.open_database(Path(path), files.JOURNALS, fill, images, is_by_hand=True)
     try:
         connection.execute("PRAGMA foreign_keys = ON")
@@ -80,14 +80,13 @@ def plain(column: Any) -> list[Any]:
 
 
 def rows_of(columns: Sequence[Any]) -> Iterator[tuple[Any, ...]]:
-    """The rows of some columns as SQLite takes them, made by so many at once, so that a long journal never stands in memory as
-    objects."""
+    """The rows of some columns as SQLite takes them, made AT_ONCE at a time, so that a long journal is never in memory as objects."""
     for at in range(0, len(columns[0]), tables.AT_ONCE):
         yield from zip(*(plain(column.iloc[at:at + tables.AT_ONCE]) for column in columns))
 
 
 def add(connection: sqlite3.Connection, journal: Journal, table: pd.DataFrame) -> bool:
-    """Adds a journal; answers whether it wasn't there yet."""
+    """Adds a journal; returns False if the database already contains it."""
     try:
         connection.execute("BEGIN IMMEDIATE")  # another program that adds to it waits
         found = connection.execute("SELECT 1 FROM image WHERE sha256 = ?", [journal.sha256]).fetchone()
@@ -104,7 +103,7 @@ def add(connection: sqlite3.Connection, journal: Journal, table: pd.DataFrame) -
 
 
 def add_all(connection: sqlite3.Connection, journal: Journal, table: pd.DataFrame) -> None:
-    """Adds what belongs to a journal, in one transaction."""
+    """Adds all rows of a journal, in one transaction."""
     image = add_image(connection, journal)
     insert(connection, "slot", ["image", *("number" if name == "block" else name for name in SLOT)],
            ([image, *(slot.get(name) for name in SLOT)] for slot in journal.slots))
@@ -123,7 +122,7 @@ def add_all(connection: sqlite3.Connection, journal: Journal, table: pd.DataFram
 
 
 def add_image(connection: sqlite3.Connection, journal: Journal) -> int:
-    """Adds the row of the image, and answers its number."""
+    """Adds the row of the image; returns its number."""
     image, extent, power_up = journal.image, journal.examination["journal"] or {}, journal.examination["power_up"]
     row = {
         "name": journal.name, "sha256": journal.sha256, "bytes": image["bytes"], "sectors": image["sectors"],
@@ -136,12 +135,12 @@ def add_image(connection: sqlite3.Connection, journal: Journal) -> int:
 
 
 def replay_rows(lines: list[Json]) -> Iterator[list[Any]]:
-    """The lines of a replay, the last one as verdict `nothing_differs` or `differs_or_lost`."""
+    """The lines of a replay; the last one has the verdict `nothing_differs` or `differs_or_lost`."""
     for line in lines:
         verdict = line.get("replay", line.get("end"))
-        told = [json.dumps(line[name]) if name in line else None for name in ("journal", "kernel")]
+        records = [json.dumps(line[name]) if name in line else None for name in ("journal", "kernel")]
         line = {"first_event": line.get("event"), "last_event": line.get("event"), **line}
-        yield [verdict, *(line.get(name) for name in REPLAY[1:]), *told]
+        yield [verdict, *(line.get(name) for name in REPLAY[1:]), *records]
 
 
 def block_rows(table: pd.DataFrame) -> Iterator[tuple[int, str, int, int]]:
@@ -154,18 +153,18 @@ def block_rows(table: pd.DataFrame) -> Iterator[tuple[int, str, int, int]]:
 
 
 def add_events(connection: sqlite3.Connection, image: int, table: pd.DataFrame) -> None:
-    """Adds blocks and records, and what their telegrams are."""
+    """Adds blocks and records, with their telegrams."""
     if table.empty:
         return
     insert(connection, "block", ["image", "block", "source", "first_event", "last_event"], ([image, *row] for row in block_rows(table)))
-    beside = {name: tables.before(table, told) for name, told in BEFORE.items()} | {
-        name: tables.behind(table, told) for name, told in NEXT.items()}
+    neighbours = {name: tables.before(table, column) for name, column in BEFORE.items()} | {
+        name: tables.after(table, column) for name, column in NEXT.items()}
     uncertainty = table["uncertainty_cm"]
     columns = [uncertainty.where(uncertainty <= GREATEST) if name == "uncertainty_cm" else table[name] for name in EVENT]
-    insert(connection, "event", ["image", *EVENT, *beside], ([image, *row] for row in rows_of([*columns, *beside.values()])))
+    insert(connection, "event", ["image", *EVENT, *neighbours], ([image, *row] for row in rows_of([*columns, *neighbours.values()])))
     heard = tables.some_of(table, table["kind"] == "telegram", ("block", "event", "telegram", "decoded", "unused"))
     at = list(zip(plain(heard["block"]), plain(heard["event"])))
-    rows = [(*one, *told) for one, told in zip(at, zip(heard["telegram"], heard["decoded"]))]
+    rows = [(*one, *telegram) for one, telegram in zip(at, zip(heard["telegram"], heard["decoded"]))]
     insert(connection, "telegram", ["image", "block", "event", "digits", "fault", *map(str.lower, HEADER)],
            ([image, *row] for row in map(telegram_row, rows)))
     insert(connection, "packet", ["image", "block", "event", "packet", "nid_packet", "skipped_bits"],
@@ -176,11 +175,11 @@ def add_events(connection: sqlite3.Connection, image: int, table: pd.DataFrame) 
             for block, event, place, packet in packets_in(rows) for index, pair in enumerate(packet["fields"])))
     insert(connection, "unused", ["image", "block", "event", "unused", "nid_packet", *UNUSED],
            ([image, *one, place, packet["packet"], *map(packet.get, UNUSED)]
-            for one, told in zip(at, heard["unused"]) for place, packet in enumerate(told or ())))
+            for one, unused in zip(at, heard["unused"]) for place, packet in enumerate(unused or ())))
 
 
 def add_marks(connection: sqlite3.Connection, image: int, journal: Journal) -> None:
-    """Adds the marks of the time of day, and whether another one contradicts each."""
+    """Adds the marks of the time of day, and whether another mark contradicts each."""
     if journal.times is None:
         return
     bad = {mark.line for life in journal.times.lives.values() for pair in life.contradictions for mark in pair}
@@ -205,10 +204,10 @@ def packets_in(rows: list[tuple[int, int, str, Json]]) -> Iterator[tuple[int, in
 
 
 def add_causes(connection: sqlite3.Connection, image: int, table: pd.DataFrame) -> None:
-    """Adds what is reported of events, and the causes of their brakes."""
+    """Adds the lines of `etcs_lab why`, and the causes of brakes."""
     for name in ("why", "held"):
-        told = tables.some_of(table, table[name].notna(), ("block", "event", name))
-        rows = zip(plain(told["block"]), plain(told["event"]), told[name])
+        some = tables.some_of(table, table[name].notna(), ("block", "event", name))
+        rows = zip(plain(some["block"]), plain(some["event"]), some[name])
         if name == "why":
             insert(connection, "why", ["image", "block", "event", *WHY],
                    ([image, block, event, *map(line.get, WHY)] for block, event, line in rows))

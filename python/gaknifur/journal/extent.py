@@ -17,11 +17,11 @@ class Bound:
 
     column: str
     value: int
-    said: str
+    text: str
 
 
 def bound(text: str) -> Bound:
-    """The bound that a text reports: `120` is an event, `300m` a place, `20.5s` a moment."""
+    """The bound in a text: `120` is an event, `300m` a place, `20.5s` a moment."""
     found = FORM.fullmatch(text)
     if not found or (found[2] is None and "." in found[1]):
         raise Failed(f"{text}: not an event (120), a place (300m) or a moment (20.5s)", WRONG_WORDS)
@@ -31,7 +31,7 @@ def bound(text: str) -> Bound:
 
 @dataclass(frozen=True)
 class Extent:
-    """Which records are looked at."""
+    """The records of a report."""
 
     first: Bound | None = None
     last: Bound | None = None
@@ -43,13 +43,13 @@ class Extent:
         return self.first is None and self.last is None and self.life is None
 
     def text(self) -> str:
-        """As it is reported on a page."""
-        told = [f"from {self.first.said}"] if self.first else []
-        told += [f"to {self.last.said}"] if self.last else []
-        return " ".join(told + ([f"of life {self.life}"] if self.life is not None else []))
+        """The text on a page."""
+        parts = [f"from {self.first.text}"] if self.first else []
+        parts += [f"to {self.last.text}"] if self.last else []
+        return " ".join(parts + ([f"of life {self.life}"] if self.life is not None else []))
 
     def take(self, table: pd.DataFrame) -> pd.DataFrame:
-        """The records within; their rows keep their numbers."""
+        """The records of the part; rows keep their numbers."""
         if self.is_all:
             return table
         kept: Any = pd.Series(True, index=table.index)

@@ -1,5 +1,5 @@
-"""A journal that is read as it grows. No lock is taken and nothing is written, so the unit never waits: each slot is read between two
-looks at its gate (`archive.Ring`), and `etcs_lab` says what is in it."""
+"""Read a journal as it grows. This takes no lock and writes nothing, so the unit never waits: each slot is read between two reads of
+its gate (`archive.Ring`), and `etcs_lab` decodes it."""
 import contextlib
 import os
 import tempfile
@@ -14,14 +14,14 @@ from .reading import Json, objects
 from .wording import MODES, event_text, exact, kmh
 
 MOST_BLOCKS = 256
-"""So many blocks are reported at once."""
+"""The greatest number of blocks that are decoded at once."""
 POLL_SECONDS = 0.1
 PROC = Path("/proc")
 
 
 def device_of(descriptor: int) -> str:
-    """The device of an open file as the system's list of locks names it, which is that of its file system. On some file
-    systems, as Btrfs, `stat` names another one."""
+    """The device of an open file as the system's list of locks names it: that of its file system. On some file systems, such as
+    Btrfs, `stat` names another one."""
     with contextlib.suppress(OSError, IndexError, ValueError):
         opened = dict(line.split(":", 1) for line in (PROC / "self/fdinfo" / str(descriptor)).read_text().splitlines() if ":" in line)
         for mount in (PROC / "self/mountinfo").read_text().splitlines():
@@ -34,7 +34,7 @@ def device_of(descriptor: int) -> str:
 
 
 def is_held(ring: Ring) -> bool:
-    """Whether a program holds the image as a unit does, by the system's list of locks. Where there is no such list, one may."""
+    """Whether a program locks the image as a unit does, by the system's list of locks; True if there is no such list."""
     try:
         lines = (PROC / "locks").read_text().splitlines()
     except OSError:
@@ -44,18 +44,18 @@ def is_held(ring: Ring) -> bool:
 
 
 def records(ring: Ring, blocks: dict[int, bytes]) -> list[Json]:
-    """The records of some blocks, as `etcs_lab events` reports them of the image."""
+    """The records of some blocks, as `etcs_lab events` prints them for the image."""
     found: list[Json] = []
 
-    def step(told: Json) -> None:
-        if "event" in told and told["block"] in blocks:
-            beside = (told["byte"] - layout.SECTOR) % layout.SLOT
-            found.append({**told, "byte": layout.slot_at(told["block"] % ring.slots) + beside})
-        elif "unreadable" in told:
-            found.append(told)
+    def step(line: Json) -> None:
+        if "event" in line and line["block"] in blocks:
+            offset = (line["byte"] - layout.SECTOR) % layout.SLOT
+            found.append({**line, "byte": layout.slot_at(line["block"] % ring.slots) + offset})
+        elif "unreadable" in line:
+            found.append(line)
 
-    with tempfile.TemporaryDirectory() as room:
-        path = Path(room) / "image"
+    with tempfile.TemporaryDirectory() as folder:
+        path = Path(folder) / "image"
         image_of(blocks, path)
         run = objects(["events"], path, step)
         if run.status not in (WHOLE, NOT_WHOLE):
@@ -63,50 +63,50 @@ def records(ring: Ring, blocks: dict[int, bytes]) -> list[Json]:
     return found
 
 
-def tell_new(ring: Ring, behind: int, step: Callable[[Json], None]) -> int:
-    """Hands on the records of the blocks after one; answers the last block that was reported. Blocks that were overwritten before
-    they were read are reported by their numbers."""
+def report_new(ring: Ring, last: int, step: Callable[[Json], None]) -> int:
+    """Calls `step` with the records of the blocks after `last`, and with the numbers of blocks that were overwritten before they were
+    read. Returns the last block."""
     run: dict[int, bytes] = {}
 
-    def tell() -> None:
+    def report() -> None:
         for line in records(ring, run) if run else []:
             step(line)
         run.clear()
 
-    for number, data in ring.blocks(behind):
-        if behind and number > behind + 1:
-            tell()
-            step({"overwritten": {"first_block": behind + 1, "last_block": number - 1}})
+    for number, data in ring.blocks(last):
+        if last and number > last + 1:
+            report()
+            step({"overwritten": {"first_block": last + 1, "last_block": number - 1}})
         elif len(run) >= MOST_BLOCKS:
-            tell()
-        run[number], behind = data, number
-    tell()
-    return behind
+            report()
+        run[number], last = data, number
+    report()
+    return last
 
 
 def follow(image: Path, step: Callable[[Json], None], archive: Path | None = None, seconds: float | None = None,
            waits: bool = False) -> None:
-    """Hands on the records of an image, the oldest first, and then what comes, until no program holds it any more, or for so
-    many seconds. Each block is appended to an archive too, where one is named."""
-    with contextlib.ExitStack() as held:
-        ring = held.enter_context(Ring(image))
-        kept = held.enter_context(Archive(archive)) if archive is not None else None
-        end, behind = None if seconds is None else time.monotonic() + seconds, 0
+    """Calls `step` with the records of an image, the oldest first, and then with new ones, until no program holds the image any more or
+    `seconds` have passed. Also appends each block to an archive, if one is named."""
+    with contextlib.ExitStack() as stack:
+        ring = stack.enter_context(Ring(image))
+        kept = stack.enter_context(Archive(archive)) if archive is not None else None
+        end, last = None if seconds is None else time.monotonic() + seconds, 0
         while True:
             goes_on = waits or is_held(ring)  # asked first, so that what a unit wrote last is still read
             if kept is not None:
                 kept.keep_of(ring)
-            behind = tell_new(ring, behind, step)
+            last = report_new(ring, last, step)
             if not goes_on or (end is not None and time.monotonic() >= end):
                 return
             time.sleep(POLL_SECONDS)
 
 
 def text(line: Json) -> str:
-    """A line for people."""
+    """A line as text."""
     if "overwritten" in line:
-        told = line["overwritten"]
-        return f"blocks {told['first_block']} to {told['last_block']} were overwritten before they were read"
+        lost = line["overwritten"]
+        return f"blocks {lost['first_block']} to {lost['last_block']} were overwritten before they were read"
     if "unreadable" in line:
         return f"block {line['unreadable']['block']} can't be read"
     place = "?" if line["place_cm"] is None else f"{exact(line['place_cm'], 100)} m"

@@ -1,4 +1,4 @@
-"""matplotlib as it comes, whatever file `matplotlibrc` the current folder, the environment or the user has.
+"""Load matplotlib with its own defaults, whatever file `matplotlibrc` the current folder, the environment or the user has.
 
 matplotlib reads such a file while it is imported, from the current folder first. So it is imported in a folder of this
 package, and a picture is drawn by its own defaults.
@@ -12,7 +12,7 @@ from typing import Any
 
 @contextlib.contextmanager
 def elsewhere() -> Iterator[None]:
-    """The folder of this package is the current one."""
+    """Makes the folder of this package the current one inside the block."""
     here = os.open(".", os.O_PATH | os.O_DIRECTORY | os.O_CLOEXEC)
     try:
         os.chdir(Path(__file__).parent)
@@ -33,7 +33,7 @@ __all__ = ["Figure", "FigureCanvasAgg", "FigureCanvasSVG", "plain"]
 
 @contextlib.contextmanager
 def plain(style: Mapping[str, Any]) -> Iterator[None]:
-    """What is drawn here in a style looks the same for everybody."""
+    """Draws inside the block with matplotlib's defaults and a style, whatever the user's settings are."""
     with matplotlib.rc_context():
         matplotlib.rcdefaults()
         matplotlib.rcParams.update(style)

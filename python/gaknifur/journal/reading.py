@@ -1,4 +1,4 @@
-"""A journal as `etcs_lab` says it: the examination of its image, its records and their replay."""
+"""Read a journal with `etcs_lab`: the examination of its image, its records and their replay."""
 import contextlib
 import gc
 import itertools
@@ -19,21 +19,21 @@ if TYPE_CHECKING:
 
 Json = dict[str, Any]
 Progress = Callable[[str, int, int], None]
-"""What is reported while it goes on: what is done, how much of it, and of how much (0 where that isn't known)."""
+"""A callback for progress: what is being done, how much is done, and the total (0 if it isn't known)."""
 
 
 AT_ONCE, PACK, MOST_UNPACKED, MOST_SMALL = 512, 512, 1 << 15, 1 << 20
-"""How many lines are read at once; how many records are packed together; up to how many aren't packed: a multiple of that; and the
-bytes of an image at the most of which all lines are taken at once."""
+"""The number of lines that are read at once, the number of records in a pack, the greatest number of records that aren't packed (a
+multiple of PACK), and the greatest size of an image whose lines are all read at once."""
 
 
 def silent(what: str, done: int, whole: int) -> None:
-    """Reports nothing."""
+    """Does nothing."""
 
 
 class Records(Sequence[Json]):
-    """Records in the order in which they were reported. Of a long journal they are kept packed, by so many at once: a tenth of the
-    room, and a few microseconds for each one that is looked at. What is changed in one that was read is not kept."""
+    """A list of records. Those of a long journal are kept compressed, PACK at a time: this needs a tenth of the memory, and a few
+    microseconds for each record that is read. Changes to a record that was read are not kept."""
 
     def __init__(self) -> None:
         self.packs: list[bytes] = []
@@ -42,7 +42,7 @@ class Records(Sequence[Json]):
         self.unpacked: tuple[int, list[Json]] = -1, []
 
     def append(self, record: Json) -> None:
-        """Adds one."""
+        """Adds a record."""
         self.last.append(record)
         if len(self.last) >= (PACK if self.is_long else MOST_UNPACKED):
             self.is_long = True
@@ -51,7 +51,7 @@ class Records(Sequence[Json]):
             self.last = []
 
     def pack(self, number: int) -> list[Json]:
-        """The records of a pack; of the last ones that aren't packed."""
+        """The records of a pack, or the last ones, which aren't packed."""
         if number >= len(self.packs):
             return self.last
         if self.unpacked[0] != number:
@@ -80,7 +80,7 @@ class Records(Sequence[Json]):
 
 @dataclass
 class Journal:
-    """What an image holds. The members of the objects are those of `etcs_lab`."""
+    """The content of an image. The members of the objects are those of `etcs_lab`."""
 
     path: Path
     examination: Json
@@ -88,22 +88,22 @@ class Journal:
     unreadable: list[int] = field(default_factory=list)
     """Numbers of blocks of the journal that can't be read."""
     replay: list[Json] = field(default_factory=list)
-    """The lines of a replay; none where it was refused or not asked for."""
+    """The lines of a replay; empty if it was refused or not requested."""
     why: list[Json] = field(default_factory=list)
-    """What `etcs_lab why` says about events, with the causes of their brakes; none where it was refused or not asked for."""
+    """The lines of `etcs_lab why` about events, with the causes of their brakes; empty if it was refused or not requested."""
     why_refusal: str | None = None
-    """Why it says nothing."""
+    """Why `etcs_lab why` was refused."""
     refusal: str | None = None
-    """Why no record can be reported, although the image was examined."""
+    """Why no record can be listed, although the image was examined."""
     strays: list[Json] = field(default_factory=list)
-    """Records of blocks in a wrong slot and of damaged ones, where they were asked for. They are in no other list: an event
-    may stand twice there, and of a damaged block the life isn't known."""
+    """Records of damaged blocks and of blocks in a wrong slot, if requested. They are in no other list: an event may occur
+    twice here, and the life of a damaged block isn't known."""
     times: "Times | None" = None
-    """The marks of the time of day next to it, where there are any. No part of the journal, and of nothing that `etcs_lab` reports."""
+    """The marks of the time of day next to the image, if there are any. They belong neither to the journal nor to the output of `etcs_lab`."""
 
     @property
     def name(self) -> str:
-        """The name of the file, without its folders, as it is shown."""
+        """The name of the file, without its folders, with invisible characters escaped."""
         return shown(self.path.name)
 
     @property
@@ -125,7 +125,7 @@ class Journal:
 
     @property
     def is_whole(self) -> bool:
-        """Whether nothing of the image is lost, damaged or contradicts."""
+        """Whether nothing in the image is lost, damaged or contradictory."""
         return bool(self.examination["whole"])
 
     @property
@@ -140,7 +140,7 @@ class Journal:
 
     @property
     def differences(self) -> list[Json]:
-        """What the replay found otherwise than the journal says it."""
+        """The differences between the journal and its replay."""
         return [line for line in self.replay if line.get("replay") in ("record_differs", "head_differs")]
 
     @property
@@ -152,44 +152,44 @@ class Journal:
 def parsed(line: str, what: str) -> Json:
     """The object on a line."""
     try:
-        told = json.loads(line)
+        value = json.loads(line)
     except ValueError as error:
         raise Failed(f"etcs_lab {what} printed a line that isn't JSON", REFUSED) from error
-    if not isinstance(told, dict):
+    if not isinstance(value, dict):
         raise Failed(f"etcs_lab {what} printed a line that isn't an object", REFUSED)
-    return told
+    return value
 
 
 def parsed_all(lines: Sequence[str], what: str) -> list[Json]:
-    """The objects on some lines. They are read as one list, which takes half of the time; where that isn't a list of so many
-    objects, line by line, so that what is wrong is reported."""
+    """The objects on some lines. They are parsed as one list, which takes half the time; if that isn't a list of one object per
+    line, they are parsed line by line, so that the error is reported."""
     try:
-        told = json.loads(f"[{','.join(lines)}]")
+        found = json.loads(f"[{','.join(lines)}]")
     except ValueError:
-        told = []
-    if len(told) == len(lines) and set(map(type, told)) <= {dict}:
-        return list(told)
+        found = []
+    if len(found) == len(lines) and set(map(type, found)) <= {dict}:
+        return list(found)
     return [parsed(line, what) for line in lines]
 
 
 def objects(words: list[str], path: Path, step: Callable[[Json], None]) -> Run:
-    """Hands the object of each line of a run to `step`. Those of a small image are taken all at once, at the end of the run."""
+    """Calls `step` with the object on each line of a run. For a small image all lines are read at the end of the run."""
     run = Run(words, path)
     if is_small(path):
-        for told in parsed_all(run.all_lines(), words[0]):
-            step(told)
+        for line in parsed_all(run.all_lines(), words[0]):
+            step(line)
         return run
     lines = run.lines()
     with contextlib.closing(lines), without_collecting():
         while some := list(itertools.islice(lines, AT_ONCE)):
-            for told in parsed_all(some, words[0]):
-                step(told)
+            for line in parsed_all(some, words[0]):
+                step(line)
     return run
 
 
 @contextlib.contextmanager
 def without_collecting() -> Iterator[None]:
-    """Python looks for no cycles meanwhile: what is read of a long journal has none, and each look goes through all of it."""
+    """Disables Python's garbage collector: the records of a long journal have no cycles, and each collection would visit all of them."""
     if not gc.isenabled():
         yield
         return
@@ -201,7 +201,7 @@ def without_collecting() -> Iterator[None]:
 
 
 def is_small(path: Path) -> bool:
-    """Whether a file is there that is an image of few slots."""
+    """Whether the file exists and is small."""
     try:
         return path.stat().st_size <= MOST_SMALL
     except OSError:
@@ -209,29 +209,29 @@ def is_small(path: Path) -> bool:
 
 
 def examine(path: Path) -> Json:
-    """What `etcs_lab examine` reports."""
-    told: list[Json] = []
-    run = objects(["examine", "--json"], path, told.append)
-    if run.status not in (WHOLE, NOT_WHOLE) or len(told) != 1:
+    """The output of `etcs_lab examine`."""
+    found: list[Json] = []
+    run = objects(["examine", "--json"], path, found.append)
+    if run.status not in (WHOLE, NOT_WHOLE) or len(found) != 1:
         raise run.failed(path)
-    return told[0]
+    return found[0]
 
 
 def check(path: Path, progress: Progress) -> tuple[Json, list[Json]]:
-    """What `etcs_lab check` reports: the examination, and the lines of the replay; none where that was refused."""
-    told: list[Json] = []
+    """The output of `etcs_lab check`: the examination, and the lines of the replay; no lines if it was refused."""
+    found: list[Json] = []
 
     def step(line: Json) -> None:
-        if len(told) == 1:
+        if len(found) == 1:
             progress("replay", 0, 0)
-        told.append(line)
+        found.append(line)
 
     run = objects(["check", "--json"], path, step)
     if run.status not in (WHOLE, NOT_WHOLE):
         raise run.failed(path)
-    if len(told) < 2 or "check" not in told[-1]:
+    if len(found) < 2 or "check" not in found[-1]:
         raise Failed(f"{path}: the check was cut off", REFUSED)
-    examination, *replay, _ = told
+    examination, *replay, _ = found
     return examination, replay
 
 
@@ -240,72 +240,72 @@ STRAY = ("misplaced", "damaged")
 
 
 def listing(other_blocks: bool, strays: bool) -> list[str]:
-    """The words by which `etcs_lab` reports the records that are asked for, and perhaps more."""
+    """The arguments of `etcs_lab` that list the requested records, and perhaps more."""
     return ["events", *(["--all"] if other_blocks or strays else [])]
 
 
-def tell_events(journal: Journal, other_blocks: bool, strays: bool, progress: Progress) -> None:
-    """Takes what `etcs_lab events` reports."""
+def read_events(journal: Journal, other_blocks: bool, strays: bool, progress: Progress) -> None:
+    """Adds the records that `etcs_lab events` prints."""
     extent = journal.examination["journal"] or {}
     last, first = extent.get("last_event"), extent.get("first_event")
     whole = 0 if last is None or first is None else last - first + 1
     ended, count, records = False, 0, Records()
     journal.records = records
 
-    def step(told: Json) -> None:
+    def step(line: Json) -> None:
         nonlocal ended, count
-        if told.get("source") in STRAY:
-            journal.strays += [told] if strays else []
-        elif not other_blocks and told.pop("source", "journal") != "journal":
+        if line.get("source") in STRAY:
+            journal.strays += [line] if strays else []
+        elif not other_blocks and line.pop("source", "journal") != "journal":
             return
-        elif "event" in told:
-            records.append(told)
+        elif "event" in line:
+            records.append(line)
             count += 1
             if count % 1000 == 0:
                 progress("events", count, whole)
-        elif "unreadable" in told:
-            journal.unreadable.append(told["unreadable"]["block"])
-        elif "end" in told:
+        elif "unreadable" in line:
+            journal.unreadable.append(line["unreadable"]["block"])
+        elif "end" in line:
             ended = True
 
     run = objects(listing(other_blocks, strays), journal.path, step)
     if run.status == REFUSED and not journal.records:
-        journal.refusal = run.last_said()
+        journal.refusal = run.last_message()
     elif run.status not in (WHOLE, NOT_WHOLE):
         raise run.failed(journal.path)
     elif not ended:
         raise Failed(f"{journal.path}: the listing was cut off", REFUSED)
 
 
-def tell_why(journal: Journal, progress: Progress) -> None:
-    """Takes what `etcs_lab why` says about changes. What it leaves out the replay reports too."""
+def read_why(journal: Journal, progress: Progress) -> None:
+    """Adds the lines of `etcs_lab why` about changes. The replay reports what it leaves out."""
     progress("causes", 0, 0)
 
-    def step(told: Json) -> None:
-        if "event" in told:
-            journal.why.append(told)
+    def step(line: Json) -> None:
+        if "event" in line:
+            journal.why.append(line)
 
     run = objects(["why", "--json"], journal.path, step)
     if run.status == REFUSED and not journal.why:
-        journal.why_refusal = run.last_said()
+        journal.why_refusal = run.last_message()
     elif run.status not in (WHOLE, NOT_WHOLE):
         raise run.failed(journal.path)
 
 
 def read(path: str | Path, other_blocks: bool = False, replay: bool = False, why: bool = False,
          progress: Progress = silent, strays: bool = False, is_own: bool = False) -> Journal:
-    """The journal in a file. An image that isn't formatted is an error; of one that is damaged all is reported that can be.
-    Causes are known only with a replay. Where the file `is_own`, nothing else writes to it, so that isn't looked at."""
+    """The journal in a file. Fails if the image isn't formatted; reads everything readable of a damaged one. Causes are known only
+    with a replay. If the file `is_own`, nothing else writes to it, so it isn't checked for changes."""
     path = Path(path)
     if not path.exists():
         raise Failed(f"{path}: no such file", DEVICE)
     progress("examination", 0, 0)
     examination, replayed = check(path, progress) if replay else (examine(path), [])
     journal = Journal(path, examination)
-    tell_events(journal, other_blocks, strays, progress)
+    read_events(journal, other_blocks, strays, progress)
     journal.replay = replayed if journal.refusal is None else []
     if why and journal.refusal is None:
-        tell_why(journal, progress)
+        read_why(journal, progress)
     if not is_own and digest(path) != journal.sha256:
         raise Failed(f"{path}: the file changed while it was read", DEVICE)
     return journal

@@ -1,13 +1,14 @@
-"""Which of the driver's actions can't have been accepted, by what the records show.
+"""Find actions of the driver that can't have been accepted, by what the records show.
 
-The kernel accepts an action in some modes alone, and most of them at standstill (`crates/driver`, "which actions are
-accepted"; this project's profile). A record shows mode and speed before the action, and what followed from it:
+The kernel accepts an action only in some modes, and most actions only at standstill (`crates/driver`, "which actions are
+accepted"; this project's profile). A record shows mode and speed before the action, and its effect. An action can't have been
+accepted
 
-- `excluded`: in this mode, or while moving, the action isn't accepted.
-- `without_effect`: an accepted action of this kind always shows in its own record, and nothing shows.
+- if it isn't accepted in this mode, or while moving;
+- if an accepted action of this kind always shows in its own record, and nothing shows.
 
-Of the others a record can't report: what was entered, chosen or confirmed shows nowhere. Then `refused` is missing, as
-it is where the record before isn't there. Once `etcs_lab` says which actions were accepted, this module gives way.
+For other actions the records don't show it: what was entered, chosen or confirmed appears nowhere. Then `refused` is missing, and
+also if there is no record before the action. This module isn't needed any more once `etcs_lab` says which actions were accepted.
 """
 from typing import Any
 
@@ -19,18 +20,18 @@ STANDING = {
     "confirm": {"SB"}, "start": {"SB", "PT"}, "choose_shunting": {"SB", "FS", "OS", "SR", "UN", "PT"},
     "leave_shunting": {"SH"}, "close_desk": {"FS", "OS", "SR", "SH", "UN", "PT"},
 }
-"""The modes in which an action is accepted, at standstill alone."""
+"""The modes in which an action is accepted, only at standstill."""
 MOVING = {"override": {"FS", "OS", "SR", "PT"}}
-"""The same of an action that doesn't ask for a standstill."""
+"""The modes in which an action is accepted that doesn't need a standstill."""
 TRIP_MODES = {"TR", "SB"}
-"""Where a trip is acknowledged, at standstill."""
+"""The modes in which a trip is acknowledged, at standstill."""
 SHOWN = {"on_sight": "shows_on_sight", "shunting": "shows_shunting", "level_0": "shows_level_0"}
 CHANGE_MODE = ("start", "choose_shunting", "leave_shunting", "close_desk")
-"""Accepted, they lead into another mode in the same event."""
+"""Actions that change the mode in the same event if they are accepted."""
 
 
 def is_refused(action: str, subject: str | None, was: dict[str, Any], now: dict[str, Any]) -> bool | None:
-    """Whether an action can't have been accepted, by the records before and after it; None where they don't report."""
+    """Whether an action can't have been accepted, by the records before and after it; None if they don't show it."""
     moves = was["speed_m_per_h"] is not pd.NA and was["speed_m_per_h"] != 0
     if action in STANDING and (was["mode"] not in STANDING[action] or moves):
         return True
@@ -52,7 +53,7 @@ NEEDED = ("mode", "speed_m_per_h", "shows_trip", "shows_on_sight", "shows_shunti
 
 
 def refused(table: pd.DataFrame) -> Any:
-    """Of each row whether it is an action that can't have been accepted; missing where that isn't reported."""
+    """Whether each row is an action that can't have been accepted; missing if the records don't show it."""
     answers: list[bool | None] = [None] * len(table)
     stretch = table["stretch"].to_numpy()
     for row in np.flatnonzero(table["kind"].to_numpy(object) == "driver"):

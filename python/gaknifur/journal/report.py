@@ -1,4 +1,4 @@
-"""The page of one journal: one HTML file that asks nothing of the network, has no script, and reads the same on paper."""
+"""Make the report of one journal: one HTML file without scripts that loads nothing from the network, and reads the same on paper."""
 import functools
 from collections.abc import Iterator
 from dataclasses import dataclass, field
@@ -15,14 +15,14 @@ from .charts import Picture
 from .extent import Extent
 from .reading import Journal, Json, Progress, silent
 
-MOST_ROWS, MOST_WINDOWS, MOST_LIVES, MOST_TOLD, AROUND, SHORT = 1500, 12, 12, 400, 25, 400
+MOST_ROWS, MOST_WINDOWS, MOST_LIVES, MOST_LISTED, AROUND, SHORT = 1500, 12, 12, 400, 25, 400
 MOST_STRAYS = 800
-FIRST_TOLD = 20
+FIRST_LISTED = 20
 
 
 @dataclass
 class Life:
-    """What the page says about a life."""
+    """A life on the page."""
 
     life: int
     table: pd.DataFrame
@@ -39,7 +39,7 @@ class Life:
 
 
 def lives_of(table: pd.DataFrame) -> list[Life]:
-    """The lives of a table, from the first one on. Where all records of each are along with one another, no column is copied."""
+    """The lives of a table, in order. If the records of each life are contiguous, no column is copied."""
     life = table["life"].to_numpy()
     firsts = np.flatnonzero(np.diff(life, prepend=-1))
     if len(firsts) != len(np.unique(life)):
@@ -49,14 +49,14 @@ def lives_of(table: pd.DataFrame) -> list[Life]:
 
 
 def groups_of(part: pd.DataFrame) -> list[tuple[int, str]]:
-    """Where telegrams were read, and of which group."""
+    """The places of telegrams, and their groups."""
     heard = tables.some_of(part, (part["kind"] == "telegram") & part["place_cm"].notna(), ("place_cm", "nid_c", "nid_bg"))
     return [(int(place), f"{country}/{group}" if group is not pd.NA else "not decoded")
             for place, country, group in zip(heard["place_cm"], heard["nid_c"], heard["nid_bg"])]
 
 
 def ends_of(part: pd.DataFrame) -> list[tuple[int, str]]:
-    """Where authorities end, as their telegrams announce it. Whether one came into force `etcs_lab` doesn't report yet."""
+    """The ends of authorities, as their telegrams announce them. `etcs_lab` doesn't report yet whether one came into force."""
     heard = tables.some_of(part, (part["kind"] == "telegram") & part["place_cm"].notna(), ("event", "place_cm", "decoded"))
     found = []
     for event, place, decoded in zip(heard["event"], heard["place_cm"], heard["decoded"]):
@@ -67,7 +67,7 @@ def ends_of(part: pd.DataFrame) -> list[tuple[int, str]]:
 
 
 def marks_of(part: pd.DataFrame, shown: set[int]) -> list[int]:
-    """Rows with a circle: all that the page lists, or where these are too many the changes of mode and brake."""
+    """The rows with a circle: all that the page lists, or only the changes of mode and brake if these are too many."""
     notable = [row for row in part.index[tables.is_notable(part)] if row in shown]
     if len(notable) <= charts.MOST_MARKS:
         return notable
@@ -76,7 +76,7 @@ def marks_of(part: pd.DataFrame, shown: set[int]) -> list[int]:
 
 
 def draw_life(life: Life, shown: set[int], anchors: set[int]) -> None:
-    """The pictures of a life: over distance and over time, or over events where neither reports anything."""
+    """Draws the pictures of a life: over distance and over time, or over events if neither shows anything."""
     part = life.table
     if len(part) < 2:
         return
@@ -98,14 +98,14 @@ def draw_life(life: Life, shown: set[int], anchors: set[int]) -> None:
 
 
 def farthest(found: pd.DataFrame) -> pd.DataFrame:
-    """The interventions that get a window: those farthest above the limit, in their order; a power-up's brake isn't one."""
+    """The interventions that get a picture: those farthest above the limit, in their order, without those of power-ups."""
     chosen = found[found["kind"] != "powerup"]
     over = pd.to_numeric(chosen["most_over_kmh"]).fillna(-1e9).astype(float)
     return chosen.loc[sorted(over.nlargest(MOST_WINDOWS).index)]
 
 
 def windows(table: pd.DataFrame, found: pd.DataFrame) -> Iterator[str]:
-    """A picture around the beginning of each of some interventions."""
+    """A picture of the beginning of each of these interventions."""
     stretch = table["stretch"].to_numpy()
     for _, one in found.iterrows():
         at = int(table.index.get_indexer([one["first_row"]])[0])
@@ -117,8 +117,8 @@ def windows(table: pd.DataFrame, found: pd.DataFrame) -> Iterator[str]:
 
 
 def listed(table: pd.DataFrame, linked: set[int]) -> pd.DataFrame:
-    """The rows that the page lists, with their lives: what is linked to, changes of mode and brake, and then what else is notable, as
-    long as there is room."""
+    """The rows that the page lists, with their lives: first those that are linked to, then changes of mode and brake, and then other
+    notable rows, up to MOST_ROWS."""
     notable = tables.is_notable(table)
     changed = ((table["brake"] != table["brake"].shift()) | (table["mode"] != table["mode"].shift())).to_numpy()
     rank = np.where(changed, 1, np.where(notable, 2, 3))
@@ -135,14 +135,14 @@ def row_of(record: Json, row: int, mode_before: Any, refused: Any) -> Json:
             "refused": refused is not pd.NA and bool(refused)}
 
 
-def told_rows(journal: Journal, table: pd.DataFrame, shown: pd.DataFrame) -> list[Json]:
-    """The rows of the page's events, with the speed that held."""
+def event_rows(journal: Journal, table: pd.DataFrame, shown: pd.DataFrame) -> list[Json]:
+    """The rows of the page's events, with their speeds."""
     mode_before, refused, speed = tables.before(table, "mode"), table["refused"], table["speed_kmh"]
     rows = []
     for row in shown.index:
-        told = row_of(journal.records[row], row, mode_before.at[row], refused.at[row])
-        told |= {"speed_kmh": speed.at[row], "begins": pd.isna(mode_before.at[row])}
-        rows.append(told)
+        members = row_of(journal.records[row], row, mode_before.at[row], refused.at[row])
+        members |= {"speed_kmh": speed.at[row], "begins": pd.isna(mode_before.at[row])}
+        rows.append(members)
     return rows
 
 
@@ -154,7 +154,7 @@ def stray_rows(journal: Journal) -> list[Json]:
 
 
 def top_of(table: pd.DataFrame, name: str) -> Json | None:
-    """The greatest of a column, and its row."""
+    """The greatest value of a column, and its row."""
     values = table[name].astype("Float64").to_numpy(float, na_value=np.nan)
     if np.isnan(values).all():
         return None
@@ -163,37 +163,37 @@ def top_of(table: pd.DataFrame, name: str) -> Json | None:
 
 
 def limit_text(table: pd.DataFrame, row: Any) -> str:
-    """What decides the limit at a row, where it is reported."""
+    """What decides the limit at a row; empty if it isn't known."""
     line = table["why"].at[row]
     return causes.limit_text(line) if line else ""
 
 
 def utc_texts(table: pd.DataFrame) -> Json:
-    """Of each row its time of day by marks, and how far off it may be; nothing where it isn't known."""
-    return {row: f"{told.replace('T', ' ').replace('Z', ' UTC')} ±{off} ms"
-            for row, told, off in zip(table.index, table["utc_by_marks"], table["utc_uncertainty_ms"]) if told is not None}
+    """The time of day of each row by marks, with its uncertainty, if it is known."""
+    return {row: f"{utc.replace('T', ' ').replace('Z', ' UTC')} ±{uncertainty} ms"
+            for row, utc, uncertainty in zip(table.index, table["utc_by_marks"], table["utc_uncertainty_ms"]) if utc is not None}
 
 
 @functools.cache
 def environment() -> jinja2.Environment:
-    """Templates that escape each text."""
+    """The environment of the templates, which escapes all texts."""
     return jinja2.Environment(loader=jinja2.PackageLoader("gaknifur.journal"), autoescape=True, trim_blocks=True,
                               lstrip_blocks=True, undefined=jinja2.StrictUndefined)
 
 
 def is_usual(one: Any) -> bool:
-    """Whether an intervention is that of each power-up, which lasts until the driver has revalidated."""
+    """Whether an intervention is the one that follows every power-up until the driver has revalidated."""
     causes_held = {held.cause for held in one["causes"]}
     return bool(one["kind"] == "powerup" and causes_held == {"not_revalidated"})
 
 
 def in_order(rows: pd.DataFrame, is_newest_first: bool) -> pd.DataFrame:
-    """Rows of lives as they are asked for: from the first life to the last one, or from the last to the first."""
+    """The rows in the requested order: from the first life to the last, or from the last to the first."""
     return rows.sort_values("life", ascending=False, kind="stable") if is_newest_first else rows
 
 
 def interventions(table: pd.DataFrame, is_newest_first: bool) -> tuple[pd.DataFrame, pd.DataFrame]:
-    """The interventions of a part of a journal, by rows of its records; and those apart that each power-up brings."""
+    """The interventions of a part of a journal, by rows of its records, and separately those that every power-up brings."""
     found = tables.interventions(table)
     for name in ("first_row", "last_row", "most_over_row"):
         found[name] = [None if pd.isna(at) else int(table.index[int(at)]) for at in found[name]]
@@ -201,16 +201,16 @@ def interventions(table: pd.DataFrame, is_newest_first: bool) -> tuple[pd.DataFr
     return in_order(found[~usual], is_newest_first), in_order(found[usual], is_newest_first)
 
 
-def led_to(told: pd.DataFrame) -> set[int]:
-    """The rows to which interventions lead: their first ones, and those of their causes."""
-    found = {int(row) for row in told["first_row"]}
-    return found | {int(one["first_row"]) + number - int(one["first_event"]) for _, one in told.iterrows()
+def led_to(listed: pd.DataFrame) -> set[int]:
+    """The rows to which interventions link: their first ones, and those of their causes."""
+    found = {int(row) for row in listed["first_row"]}
+    return found | {int(one["first_row"]) + number - int(one["first_event"]) for _, one in listed.iterrows()
                     for cause in one["causes"] for number in (cause.since, cause.last, cause.gone) if number is not None}
 
 
 def pictures_of(table: pd.DataFrame, drawn: list[Life], chosen: pd.DataFrame, rows: set[int],
                 progress: Progress) -> tuple[list[str], set[int]]:
-    """Draws the lives, and pictures of some interventions; answers these, and which rows have an anchor in a picture."""
+    """Draws the lives and some interventions; returns the pictures of interventions, and the rows with an anchor in a picture."""
     anchors, pictures, whole = set[int](), list[str](), len(drawn) + len(chosen)
     for number, life in enumerate(drawn):
         progress("charts", number, whole)
@@ -222,7 +222,7 @@ def pictures_of(table: pd.DataFrame, drawn: list[Life], chosen: pd.DataFrame, ro
 
 
 def extent_of(records: pd.DataFrame) -> str:
-    """Which events and lives some records are of."""
+    """The events and lives of some records, as text."""
     if records.empty:
         return "none that can be read"
     (first, last), lives = records["event"].agg(["min", "max"]), list(dict.fromkeys(records["life"]))
@@ -239,11 +239,11 @@ def page(journal: Journal, extent: Extent = Extent(), progress: Progress = silen
     found, usual = interventions(table, is_newest_first)
     readings = tables.some_of(table, table["kind"] == "odometer", ("event", "speed_kmh"))
     fastest, over = top_of(readings, "speed_kmh"), top_of(table, "over_limit_kmh")
-    told = found.head(MOST_TOLD)
+    most = found.head(MOST_LISTED)
     chosen = in_order(farthest(found), is_newest_first) if len(table) > SHORT else found.head(0)
-    told = told.assign(limit_text=[limit_text(table, row) for row in told["first_row"]])
+    most = most.assign(limit_text=[limit_text(table, row) for row in most["first_row"]])
     linked = {int(row) for row in chosen["first_row"]} | {top["row"] for top in (fastest, over) if top}
-    linked |= led_to(told) | at_top.rows
+    linked |= led_to(most) | at_top.rows
     shown = in_order(listed(table, linked), is_newest_first)
     lives = lives_of(table)
     drawn = [life for life in lives if len(life.table) > 1][-MOST_LIVES:]
@@ -252,12 +252,12 @@ def page(journal: Journal, extent: Extent = Extent(), progress: Progress = silen
     rows, notable = set(shown.index), tables.is_notable(table)
     pictures, anchors = pictures_of(table, drawn, chosen, rows, progress)
     return environment().get_template("report.html.j2").render(
-        journal=journal, extent=extent, brief=at_top, events=len(table), lives=[life.summary() for life in lives[:MOST_TOLD]],
-        more_lives=max(len(lives) - MOST_TOLD, 0), drawn=[life for life in drawn if life.pictures],
-        undrawn=len(lives) - len(drawn), found=told.to_dict("records"), more_found=len(found) - len(told),
-        usual=usual.head(MOST_TOLD).to_dict("records"), usual_count=len(usual),
-        first_told=FIRST_TOLD, windows=pictures, all_windows=len(found[found["kind"] != "powerup"]),
-        rows=told_rows(journal, table, shown), row_set=rows, anchors=anchors,
+        journal=journal, extent=extent, brief=at_top, events=len(table), lives=[life.summary() for life in lives[:MOST_LISTED]],
+        more_lives=max(len(lives) - MOST_LISTED, 0), drawn=[life for life in drawn if life.pictures],
+        undrawn=len(lives) - len(drawn), found=most.to_dict("records"), more_found=len(found) - len(most),
+        usual=usual.head(MOST_LISTED).to_dict("records"), usual_count=len(usual),
+        first_listed=FIRST_LISTED, windows=pictures, all_windows=len(found[found["kind"] != "powerup"]),
+        rows=event_rows(journal, table, shown), row_set=rows, anchors=anchors,
         quiet=int((~notable).sum()), left_out=int(notable.sum()) - len(shown),
         fastest=fastest, over=over if over and over["value"] > 0 else None,
         strays=stray_rows(journal), more_strays=max(len(journal.strays) - MOST_STRAYS, 0),

@@ -1,5 +1,5 @@
--- What images of journals hold. Units stand in the names: cm, ms, m_per_h (1 km/h is 1,000 m_per_h), kmh. NULL is what
--- isn't known. `user_version` is the version of this schema.
+-- The content of journal images. Names end in their units: cm, ms, m_per_h (1 km/h is 1,000 m_per_h), kmh. NULL is an
+-- unknown value. `user_version` is the version of this schema.
 CREATE TABLE image (
     image INTEGER PRIMARY KEY,
     name TEXT NOT NULL,
@@ -58,7 +58,7 @@ CREATE TABLE contradiction (
     PRIMARY KEY (image, block, what)
 ) STRICT, WITHOUT ROWID;
 
--- What physics finds implausible, as `lab check` says it by its usual thresholds; says is its sentence.
+-- Implausible values, as `lab check` prints them with its default thresholds; `says` is the text.
 CREATE TABLE implausible (
     image INTEGER NOT NULL REFERENCES image ON DELETE CASCADE,
     finding INTEGER NOT NULL,
@@ -86,7 +86,7 @@ CREATE TABLE replay (
     PRIMARY KEY (image, line)
 ) STRICT, WITHOUT ROWID;
 
--- each readable block whose records are here; `source` tells whether it is of the journal
+-- each readable block whose records are here; `source` says whether it belongs to the journal
 CREATE TABLE block (
     image INTEGER NOT NULL REFERENCES image ON DELETE CASCADE,
     block INTEGER NOT NULL,
@@ -96,7 +96,7 @@ CREATE TABLE block (
     PRIMARY KEY (image, block)
 ) STRICT, WITHOUT ROWID;
 
--- what the cause of a trip says, and its sections of SUBSET-026
+-- the text of each cause of a trip, and its sections of SUBSET-026
 CREATE TABLE trip_word (
     trip_cause TEXT PRIMARY KEY,
     says TEXT NOT NULL,
@@ -104,11 +104,11 @@ CREATE TABLE trip_word (
 ) STRICT, WITHOUT ROWID;
 
 -- Each record. Those of one stretch are of one life, and follow one another without a gap. speed_m_per_h is that of the
--- last reading of the stretch, 0 from a power-up on. An uncertainty beyond 2^62 cm is NULL. causes_not_known tells why
--- the causes of its brake can't be told; NULL where the replay agrees. trip_cause tells why the trip was entered that is
--- owed, trip_cause_event by which event. limit_cause is the kind of what decides the limit. utc_by_marks is the time of
--- day of time_ms by the marks next to the journal, outside the journal and the proof. Behind them stands what the record
--- before it in its stretch told (NULL at the beginning of a stretch), and when and where the next one of it came.
+-- last reading of the stretch, 0 from a power-up on. An uncertainty beyond 2^62 cm is NULL. causes_not_known is the reason
+-- why the causes of its brake aren't known; NULL where the replay agrees. trip_cause is why the trip that isn't acknowledged
+-- was entered, trip_cause_event by which event. limit_cause is the kind of what decides the limit. utc_by_marks is the time
+-- of day of time_ms by the marks next to the journal, outside the journal and the proof. The last columns have values of the
+-- record before it in its stretch (NULL at the beginning of a stretch), and the event, moment and place of the next one.
 CREATE TABLE event (
     image INTEGER NOT NULL,
     block INTEGER NOT NULL,
@@ -166,8 +166,8 @@ CREATE TABLE event (
     FOREIGN KEY (image, block) REFERENCES block ON DELETE CASCADE
 ) STRICT, WITHOUT ROWID;
 
--- The marks of the time of day beside the journal: at a moment of a life, or at an event, a clock told this time. They are
--- outside the journal and outside the proof. drift_ppm is by how much the unit's clock is taken to run off at most.
+-- The marks of the time of day next to the journal: the time of a clock at a moment of a life, or at an event. They are
+-- outside the journal and outside the proof. drift_ppm is the assumed maximum drift of the unit's clock.
 CREATE TABLE mark (
     image INTEGER NOT NULL REFERENCES image ON DELETE CASCADE,
     line INTEGER NOT NULL,
@@ -182,8 +182,8 @@ CREATE TABLE mark (
     PRIMARY KEY (image, line)
 ) STRICT, WITHOUT ROWID;
 
--- The lines of `etcs_lab why`, of events of which the replay agrees: those at which brake, limit, a cause or the kind of
--- what decides the limit is another one than before in their life. limit_cause_section has sections of SUBSET-026.
+-- The lines of `etcs_lab why`, for events whose replay agrees: those that change the brake, the limit, a cause or the kind
+-- of what decides the limit in their life. limit_cause_section has sections of SUBSET-026.
 CREATE TABLE why (
     image INTEGER NOT NULL,
     block INTEGER NOT NULL,
@@ -205,14 +205,14 @@ CREATE TABLE why (
     FOREIGN KEY (image, block, event) REFERENCES event ON DELETE CASCADE
 ) STRICT, WITHOUT ROWID;
 
--- what a cause says, and how it ends
+-- the text of each cause, and how it ends
 CREATE TABLE cause_word (
     cause TEXT PRIMARY KEY,
     says TEXT NOT NULL,
     ends TEXT NOT NULL
 ) STRICT, WITHOUT ROWID;
 
--- the causes of the brake that hold behind an event, and the first event behind which each has held
+-- the causes of the brake that hold after an event, and the event since which each has held
 CREATE TABLE cause (
     image INTEGER NOT NULL,
     block INTEGER NOT NULL,
@@ -257,8 +257,8 @@ CREATE TABLE packet (
 ) STRICT, WITHOUT ROWID;
 
 -- The packets of a telegram that the unit uses in no mode and in no direction, numbered from 0 in their order. `bit` is the
--- place of its first bit in the telegram, `bits` its length. `why`: the kernel doesn't know it; it is a packet 136, or stands
--- behind one; or its telegram is refused.
+-- place of its first bit in the telegram, `bits` its length. `why`: the kernel doesn't know it; it is a packet 136, or comes
+-- after one; or its telegram is refused.
 CREATE TABLE unused (
     image INTEGER NOT NULL,
     block INTEGER NOT NULL,
@@ -307,15 +307,15 @@ SELECT image, block, event, life, time_ms, place_cm, min_safe_front_cm, max_safe
     (reading_m_per_h - limit_m_per_h) / 1000.0 AS over_limit_kmh
 FROM step WHERE kind = 'odometer';
 
--- what the driver did; `refused` is 1 where the action can't have been accepted, NULL where the records don't tell
+-- each action of the driver; `refused` is 1 if it can't have been accepted, NULL if the records don't show it
 CREATE VIEW driver_action AS
 SELECT image, block, event, life, time_ms, place_cm, action, acknowledged, confirmed, chosen_level, identity,
     running_number, mode_before, mode, speed_before_m_per_h / 1000.0 AS speed_before_kmh, brake, refused
 FROM step WHERE kind = 'driver';
 
--- Each run of records that commands a brake: its first and its last one, and what the first one shows. `is_power_up`
--- tells that it began with a power-up, as each life does. `causes` has all causes that are told within it, each with the
--- event since which it holds, or why they aren't known.
+-- Each run of records that commands a brake: its first and its last one, and the values of the first one. `is_power_up`
+-- says that it began with a power-up, as each life does. `causes` lists all known causes within it, each with the event
+-- since which it holds, or why they aren't known.
 CREATE VIEW brake_intervention AS
 WITH
     numbered AS (
@@ -342,7 +342,7 @@ FROM extent
 JOIN step AS first ON (first.image, first.block, first.event) = (extent.image, extent.first_block, extent.first_event)
 JOIN step AS last ON (last.image, last.block, last.event) = (extent.image, extent.last_block, extent.last_event);
 
--- Each cause of an intervention: since which event it holds, and the last event of which it is told that it holds.
+-- Each cause of an intervention: the event since which it holds, and the last event after which it is known to hold.
 CREATE VIEW intervention_cause AS
 SELECT run.image, intervention, run.life, first_event, last_event, cause, since_event, MAX(cause.event) AS held_until_event,
     says, ends
@@ -352,8 +352,8 @@ JOIN cause ON cause.image = run.image AND cause.block BETWEEN first_block AND la
 JOIN cause_word USING (cause)
 GROUP BY run.image, intervention, cause, since_event;
 
--- Each run of records of a stretch whose speed is above the limit: from the first one to the record behind the last one
--- (`until`, NULL where there is none).
+-- Each run of records of a stretch whose speed is above the limit: from the first one to the record after the last one
+-- (`until`, NULL if there is none).
 CREATE VIEW above_limit AS
 WITH
     numbered AS (

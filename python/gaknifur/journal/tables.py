@@ -1,28 +1,28 @@
-"""Records as pandas tables. A column's name ends in its unit; what isn't known is missing, and never 0.
+"""Make pandas tables of records. A column's name ends in its unit; an unknown value is missing, and never 0.
 
 Columns of `frame`, in their order:
 
-- `block`, `event`, `life`, `stretch`, `kind`, `time_ms`, `mode`, `level`, `brake`, and `source` where other blocks were
-  asked for. Records of one `stretch` are of one life and follow one another without a gap.
+- `block`, `event`, `life`, `stretch`, `kind`, `time_ms`, `mode`, `level`, `brake`, and `source` if other blocks are
+  included. Records of one `stretch` are of one life and follow one another without a gap.
 - `shows_on_sight` and so on: each indication to the driver.
 - `place_cm`, `uncertainty_cm`, `min_safe_front_cm`, `max_safe_front_cm`, `limit_m_per_h`, `limit_kmh`.
-- `movement_cm`, `reading_m_per_h`: of a reading of the odometer.
+- `movement_cm`, `reading_m_per_h`: the values of a reading of the odometer.
 - `speed_m_per_h`, `speed_kmh`, `over_limit_kmh`: the speed of the last reading, which holds until the next one of its
-  stretch (0 from a power-up on), and by how much it is above the limit after the event.
+  stretch (0 from a power-up on), and how far it is above the limit after the event.
 - `word`, `now_ms`, `action` and the driver's entries; `refused`: whether the action can't have been accepted.
 - `nid_c`, `nid_bg`, `n_pig`, `n_total`, `m_dup`, `m_mcount`, `q_link`, `packets`, `fault`, `telegram`, `decoded`;
-  `not_obeyed`: those of its packets that the unit uses in no mode and in no direction, each with why (module `unused_packets`);
-  `unused`: the same as the record says them.
+  `not_obeyed`: its packets that the unit uses in no mode and in no direction, each with the reason (module `unused_packets`);
+  `unused`: the same as in the record.
 - `causes`: the causes of its brake, and the event since which each holds; `causes_not_known`: why they aren't known;
-  `trip_cause`, `trip_cause_event`: while a trip is owed, why it was entered and by which event; `limit_cause`: the kind of
-  what decides the limit; `held`: the causes as a dictionary; `trip`: the trip that is owed; `why`: the line of `etcs_lab
-  why` (module `causes`). They are missing where they aren't reported.
-- `utc_by_marks`, `utc_uncertainty_ms`: the time of day of `time_ms`, and how far off it may be, by marks along with the journal
-  (module `evidence.times`). They are outside the journal and outside the proof, and missing where there are no marks.
+  `trip_cause`, `trip_cause_event`: while a trip isn't acknowledged, why it was entered and by which event; `limit_cause`: the
+  kind of what decides the limit; `held`: the causes as a dictionary; `trip`: the trip that isn't acknowledged; `why`: the line
+  of `etcs_lab why` (module `causes`). They are missing if they aren't known.
+- `utc_by_marks`, `utc_uncertainty_ms`: the time of day of `time_ms`, and its uncertainty, by marks next to the journal
+  (module `evidence.times`). They are outside the journal and outside the proof, and missing if there are no marks.
 
-Columns of `strays`, the records of blocks in a wrong slot and of damaged ones: `source`, `slot` and `byte`, where a record
-stands in the image, and of those above what it says by itself. Of a damaged block the life is missing, and the block where
-its head says none.
+Columns of `strays`, the records of damaged blocks and of blocks in a wrong slot: `source`; `slot` and `byte`, the place of a
+record in the image; and the columns above that the record itself contains. For a damaged block the life is missing, and so is
+the block if its head has no number.
 """
 import itertools
 from collections.abc import Callable, Iterable, Iterator, Sequence
@@ -40,7 +40,7 @@ from .wording import INDICATIONS
 
 OF_ALL = ("block", "event", "life", "kind", "time_ms", "mode", "level", "brake", "indications", "place_cm",
           "uncertainty_cm", "min_safe_front_cm", "max_safe_front_cm", "limit_m_per_h")
-"""The members that each record has."""
+"""The members of every record."""
 NUMBERS = ("now_ms", "running_number", "chosen_level", "length_cm", "maximum_m_per_h", "category",
            "deceleration_cm_per_s2", "reaction_ms")
 TEXTS = ("word", "action", "identity", "confirmed", "acknowledged", "telegram")
@@ -49,10 +49,10 @@ OF_KIND = {
     "clock": ("now_ms",),
     "driver": ("action", "identity", "running_number", "chosen_level", "confirmed", "acknowledged", "length_cm",
                "maximum_m_per_h", "category", "deceleration_cm_per_s2", "reaction_ms")}
-"""Those of one kind of event."""
+"""The members of records of one kind."""
 HEADER = ("NID_C", "NID_BG", "N_PIG", "N_TOTAL", "M_DUP", "M_MCOUNT", "Q_LINK")
 AT_ONCE = 8192
-"""How many records are taken at once."""
+"""The number of records that are converted at once."""
 SHOWS = tuple(f"shows_{name}" for name in INDICATIONS)
 
 
@@ -63,7 +63,7 @@ def numbers(values: Sequence[int | None], kind: Any = np.int64) -> Any:
 
 
 def stretches(event: Sequence[int], life: Sequence[int], source: Sequence[str | None]) -> Any:
-    """The number of each record's stretch, from 0 on: it ends where the next record is of another life or source, or
+    """The number of each record's stretch, from 0 on. A stretch ends before a record of another life or source, or one that
     isn't the next event."""
     events, lives = np.asarray(event, np.int64), np.asarray(life, np.int64)
     sources = np.asarray(source, object)
@@ -81,19 +81,19 @@ def held_speed(kind: Sequence[str], reading: Any, stretch: Any) -> Any:
 
 
 def decoded_columns(decoded: Sequence[Json | None]) -> dict[str, Any]:
-    """What the telegrams are: header, packets and fault."""
-    heads = [told["header"] if told and "header" in told else {} for told in decoded]
+    """Header, packets and fault of the telegrams."""
+    heads = [telegram["header"] if telegram and "header" in telegram else {} for telegram in decoded]
     columns: dict[str, Any] = {name.lower(): numbers([head.get(name) for head in heads]) for name in HEADER}
     columns["packets"] = [
-        " ".join(str(packet["packet"]) for packet in told["packets"]) if told and "packets" in told else None
-        for told in decoded]
-    columns["fault"] = [told["refused"]["name"] if told and "refused" in told else None for told in decoded]
+        " ".join(str(packet["packet"]) for packet in telegram["packets"]) if telegram and "packets" in telegram else None
+        for telegram in decoded]
+    columns["fault"] = [telegram["refused"]["name"] if telegram and "refused" in telegram else None for telegram in decoded]
     return columns
 
 
 def cause_columns(journal: Journal, records: Iterable[causes.Row]) -> dict[str, Any]:
-    """The causes of each record's brake, why they aren't known, the trip that is owed, what decides its limit, and the line that
-    reports them."""
+    """For each record the causes of its brake, why they aren't known, the trip that isn't acknowledged, what decides its limit, and
+    its line of `etcs_lab why`."""
     found: dict[str, list[Any]] = {name: [] for name in ("causes_not_known", "limit_cause", "held", "trip", "why")}
     for one in causes.known(journal, records):
         for name, value in zip(found, (one.reason, one.limit, one.held, one.trip, one.line)):
@@ -107,7 +107,7 @@ def cause_columns(journal: Journal, records: Iterable[causes.Row]) -> dict[str, 
 
 
 def by_kind(records: Sequence[Json]) -> dict[str, list[Any]]:
-    """The members that records of one kind alone have; None in all others."""
+    """The members that only records of one kind have; None in all others."""
     columns: dict[str, list[Any]] = {name: [None] * len(records) for names in OF_KIND.values() for name in names}
     for row, record in enumerate(records):
         for name in OF_KIND.get(record["kind"], ()):
@@ -116,14 +116,14 @@ def by_kind(records: Sequence[Json]) -> dict[str, list[Any]]:
 
 
 def shown_columns(indications: Sequence[Sequence[str]]) -> dict[str, Any]:
-    """Of each indication whether it is shown. There are few different lists of them."""
+    """Whether each indication is shown. There are few different lists of indications, so each is looked up once."""
     lists: dict[tuple[str, ...], int] = {}
     which = np.array([lists.setdefault(tuple(shown), len(lists)) for shown in indications], np.int64)
     return {f"shows_{name}": np.array([name in shown for shown in lists], bool)[which] for name in INDICATIONS}
 
 
 class Texts:
-    """Makes columns of texts, or of other things, of which equal texts are one."""
+    """Makes columns of objects in which equal texts are the same object."""
 
     def __init__(self) -> None:
         self.known: dict[str, str] = {}
@@ -136,17 +136,17 @@ class Texts:
         return column
 
 
-def told_columns(records: Sequence[Json], texts: Texts) -> dict[str, Any]:
+def columns_of(records: Sequence[Json], texts: Texts) -> dict[str, Any]:
     """The members of some records, as columns."""
     rows = list(map(itemgetter(*OF_ALL), records))
-    told: dict[str, Any] = dict(zip(OF_ALL, zip(*rows) if rows else [()] * len(OF_ALL)))
+    members: dict[str, Any] = dict(zip(OF_ALL, zip(*rows) if rows else [()] * len(OF_ALL)))
     some = by_kind(records)
-    columns: dict[str, Any] = {name: np.asarray(told[name], np.int64) for name in ("block", "event", "life", "time_ms")}
-    columns |= {name: texts.column(told[name]) for name in ("kind", "mode", "brake")}
+    columns: dict[str, Any] = {name: np.asarray(members[name], np.int64) for name in ("block", "event", "life", "time_ms")}
+    columns |= {name: texts.column(members[name]) for name in ("kind", "mode", "brake")}
     columns["source"] = texts.column(record.get("source") for record in records)
-    columns |= shown_columns(told["indications"])
-    columns |= {name: numbers(told[name]) for name in ("level", "place_cm", "min_safe_front_cm", "max_safe_front_cm", "limit_m_per_h")}
-    columns |= {"uncertainty_cm": numbers(told["uncertainty_cm"], np.uint64)}
+    columns |= shown_columns(members["indications"])
+    columns |= {name: numbers(members[name]) for name in ("level", "place_cm", "min_safe_front_cm", "max_safe_front_cm", "limit_m_per_h")}
+    columns |= {"uncertainty_cm": numbers(members["uncertainty_cm"], np.uint64)}
     columns |= {"movement_cm": numbers(some["movement_cm"]), "reading_m_per_h": numbers(some["speed_m_per_h"])}
     columns |= {name: numbers(some[name]) for name in NUMBERS}
     columns |= {name: texts.column(some[name]) for name in (*TEXTS, "decoded", "unused")}
@@ -155,15 +155,15 @@ def told_columns(records: Sequence[Json], texts: Texts) -> dict[str, Any]:
     return columns | {name: texts.column(one) if isinstance(one, list) else one for name, one in heads.items()}
 
 
-def room_like(part: Any, count: int) -> Any:
-    """A column for so many values like those of a part. Of whole numbers all are missing at first, and take no memory."""
+def empty_like(part: Any, count: int) -> Any:
+    """An empty column of `count` values of the type of a part. Whole numbers are all missing at first, and need no memory."""
     if isinstance(part, pd.arrays.IntegerArray):
         return pd.arrays.IntegerArray(np.zeros(count, part._data.dtype), np.ones(count, bool))
     return np.empty(count, part.dtype)
 
 
 def put(column: Any, at: int, part: Any) -> None:
-    """Puts a part into its place in a column."""
+    """Copies a part to its place in a column."""
     if not isinstance(part, pd.arrays.IntegerArray):
         column[at:at + len(part)] = part
     elif not part._mask.all():
@@ -172,13 +172,13 @@ def put(column: Any, at: int, part: Any) -> None:
 
 
 def all_columns(records: Sequence[Json]) -> dict[str, Any]:
-    """The members of all records, as columns. They are taken by so many at once, so that a long journal never stands in memory as
-    objects, and each column is made once, at its whole length."""
+    """The members of all records, as columns. Only AT_ONCE records are converted at a time, so that a long journal is never in memory
+    as objects, and each column is allocated once, at its full length."""
     texts, left, found = Texts(), iter(records), dict[str, Any]()
     for at in range(0, max(len(records), 1), AT_ONCE):
-        for name, part in told_columns(list(itertools.islice(left, AT_ONCE)), texts).items():
+        for name, part in columns_of(list(itertools.islice(left, AT_ONCE)), texts).items():
             if name not in found:
-                found[name] = room_like(part, len(records))
+                found[name] = empty_like(part, len(records))
             put(found[name], at, part)
     return found
 
@@ -187,21 +187,21 @@ ORDER = ("block", "event", "life", "stretch", "kind", "time_ms", "mode", "level"
          "min_safe_front_cm", "max_safe_front_cm", "limit_m_per_h", "limit_kmh", "movement_cm", "reading_m_per_h", "speed_m_per_h",
          "speed_kmh", "over_limit_kmh", *NUMBERS, *TEXTS, *(name.lower() for name in HEADER), "packets", "fault", "not_obeyed", "decoded",
          "unused")
-"""The columns up to those of causes."""
+"""The columns before those of causes."""
 
 
 def frame(journal: Journal) -> pd.DataFrame:
-    """One row a record, in the order in which `etcs_lab events` reports them."""
-    told = all_columns(journal.records)
-    told["stretch"] = stretches(told["event"], told["life"], told["source"])
-    told["limit_kmh"] = told["limit_m_per_h"].astype("Float64") / 1000
-    told["speed_m_per_h"] = held_speed(told["kind"], told["reading_m_per_h"], told["stretch"])
-    told["speed_kmh"] = told["speed_m_per_h"].astype("Float64") / 1000
-    told["over_limit_kmh"] = (told["speed_m_per_h"] - told["limit_m_per_h"]).astype("Float64") / 1000
-    by_cause = cause_columns(journal, zip(told["event"].tolist(), told["kind"], told["brake"], told["source"]))
-    if not any(told["source"]):
-        del told["source"]
-    columns: dict[str, Any] = {name: told.pop(name) for name in ORDER if name in told}
+    """One row for each record, in the order of `etcs_lab events`."""
+    found = all_columns(journal.records)
+    found["stretch"] = stretches(found["event"], found["life"], found["source"])
+    found["limit_kmh"] = found["limit_m_per_h"].astype("Float64") / 1000
+    found["speed_m_per_h"] = held_speed(found["kind"], found["reading_m_per_h"], found["stretch"])
+    found["speed_kmh"] = found["speed_m_per_h"].astype("Float64") / 1000
+    found["over_limit_kmh"] = (found["speed_m_per_h"] - found["limit_m_per_h"]).astype("Float64") / 1000
+    by_cause = cause_columns(journal, zip(found["event"].tolist(), found["kind"], found["brake"], found["source"]))
+    if not any(found["source"]):
+        del found["source"]
+    columns: dict[str, Any] = {name: found.pop(name) for name in ORDER if name in found}
     by_marks = times.columns(journal)
     columns |= by_cause | {"utc_by_marks": by_marks["utc_by_marks"], "utc_uncertainty_ms": numbers(by_marks["utc_uncertainty_ms"])}
     table = pd.DataFrame(columns, copy=False)  # (each column was made for it)
@@ -214,7 +214,7 @@ def before(table: pd.DataFrame, name: str) -> Any:
     return table[name].shift().where(table["stretch"] == table["stretch"].shift())
 
 
-def behind(table: pd.DataFrame, name: str) -> Any:
+def after(table: pd.DataFrame, name: str) -> Any:
     """A column of whole numbers one record later; missing at the end of a stretch."""
     return table[name].astype("Int64").shift(-1).where(table["stretch"] == table["stretch"].shift(-1))
 
@@ -222,9 +222,9 @@ def behind(table: pd.DataFrame, name: str) -> Any:
 def interventions(table: pd.DataFrame) -> pd.DataFrame:
     """One row for each run of records of a stretch that command a brake, in their order.
 
-    `first_row` and `last_row` are rows of the table. `steps` are the commands in their order, as "service emergency".
-    `goes_on` says that the last record reported of its stretch still commands it. `causes` is a list of `causes.Held`, `trips`
-    one of `causes.Trip`.
+    `first_row` and `last_row` are rows of the table. `steps` are the commands in their order, such as "service emergency".
+    `goes_on` says that the last record of its stretch still commands it. `causes` is a list of `causes.Held`, `trips` one of
+    `causes.Trip`.
     """
     brake, stretch = table["brake"].to_numpy(object), table["stretch"].to_numpy()
     commanded = brake != "none"
@@ -275,8 +275,8 @@ def trips(table: pd.DataFrame) -> Any:
 
 
 def some_of(table: pd.DataFrame, chosen: Any, names: Sequence[str]) -> pd.DataFrame:
-    """Some columns of some rows, a row for each True. (Rows that are taken of the whole table copy all of it first: pandas puts columns
-    of one type together.)"""
+    """Some columns of the rows with True. (Selecting rows of the whole table would copy all of it first, since pandas keeps columns of
+    one type together.)"""
     return pd.DataFrame({name: table[name][chosen] for name in names})
 
 
@@ -291,13 +291,12 @@ def is_notable(table: pd.DataFrame) -> Any:
 
 
 def slot_of(record: Json) -> int:
-    """The slot in which a record stands, by its byte (docs/reference/format.md)."""
+    """The slot of a record, by its byte (docs/reference/format.md)."""
     return int(record["byte"] // SECTOR - 1) // SLOT_SECTORS
 
 
 def strays(journal: Journal) -> pd.DataFrame:
-    """One row for each record of a block in a wrong slot or of a damaged one, in the order in which `etcs_lab events` reports
-    them."""
+    """One row for each record of a damaged block or of a block in a wrong slot, in the order of `etcs_lab events`."""
     records = journal.strays
     some = by_kind(records)
     columns: dict[str, Any] = {"source": [one["source"] for one in records], "slot": [slot_of(one) for one in records]}
@@ -309,24 +308,24 @@ def strays(journal: Journal) -> pd.DataFrame:
 
 
 def written(table: pd.DataFrame) -> pd.DataFrame:
-    """The table as it is written, without the columns `decoded`, `unused`, `held`, `trip` and `why`."""
+    """The table for output, without the columns `decoded`, `unused`, `held`, `trip` and `why`."""
     return table.drop(columns=["decoded", "unused", "held", "trip", "why"], errors="ignore")
 
 
 def guarded_table(table: pd.DataFrame) -> pd.DataFrame:
-    """A table whose texts no spreadsheet takes for formulas (module `csv_cells`). Few columns have any such text."""
+    """The table with texts that no spreadsheet takes for formulas (module `csv_cells`). Few columns have such texts."""
     texts = [name for name in table if table[name].dtype == object and any(isinstance(one, str) and one.startswith(csv_cells.FORMULA)
                                                                            for one in set(table[name].dropna()))]
     return table.assign(**{name: table[name].map(csv_cells.guarded) for name in texts}) if texts else table
 
 
 def csv_parts(table: pd.DataFrame) -> Iterator[str]:
-    """The table as comma-separated values, so many rows at once; nothing stands where nothing is known."""
-    told = written(table)
-    for at in range(0, max(len(told), 1), AT_ONCE):
-        yield guarded_table(told.iloc[at:at + AT_ONCE]).to_csv(index=False, header=at == 0, lineterminator="\n")
+    """The table as CSV, AT_ONCE rows at a time; unknown values are empty."""
+    output = written(table)
+    for at in range(0, max(len(output), 1), AT_ONCE):
+        yield guarded_table(output.iloc[at:at + AT_ONCE]).to_csv(index=False, header=at == 0, lineterminator="\n")
 
 
 def csv_text(table: pd.DataFrame) -> str:
-    """The same as one text."""
+    """The table as CSV, in one text."""
     return "".join(csv_parts(table))

@@ -1,4 +1,4 @@
-"""The words of `etcs_lab` as people say them (docs/reference/glossary.md), and texts of events, telegrams and actions."""
+"""Texts for the keywords of `etcs_lab` (docs/reference/glossary.md), and for events, telegrams and actions."""
 from decimal import Decimal
 from typing import Any
 
@@ -17,21 +17,21 @@ PLAIN_ACTIONS = {"start": "starts", "choose_shunting": "chooses Shunting", "leav
                  "override": "overrides the trip", "close_desk": "closes the desk"}
 NO_CATEGORY = 15
 SCALES_CM = {0: 10, 1: 100, 2: 1000}
-"""Q_SCALE of SUBSET-026, 7.5.1: what one unit of a distance is."""
+"""Q_SCALE of SUBSET-026, 7.5.1: one unit of distance in cm."""
 
 
 def kmh(metres_per_hour: float | None) -> str:
-    """A speed in km/h; a question mark where it isn't known."""
+    """A speed in km/h; a question mark if it isn't known."""
     return "?" if metres_per_hour is None else f"{metres_per_hour / 1000:g}"
 
 
 def exact(value: int, unit: int) -> str:
-    """A whole number in a unit so many times as great, with all of its digits."""
+    """A whole number divided by a unit, with all of its digits."""
     return f"{Decimal(value) / unit:f}"
 
 
 def action_text(record: Json) -> str:
-    """What the driver did."""
+    """An action of the driver as text."""
     action = record["action"]
     if action == "enter_identity":
         return f"enters the identity \"{record['identity']}\""
@@ -49,24 +49,24 @@ def action_text(record: Json) -> str:
 
 
 def train_text(train: Json) -> str:
-    """Train data: of an action, or as they are kept."""
+    """Train data as text, of an action or as they are kept."""
     category = "no category" if train["category"] == NO_CATEGORY else f"category {train['category']}"
     return (f"{train['length_cm'] / 100:g} m, up to {kmh(train['maximum_m_per_h'])} km/h, {category}, brakes at "
             f"{train['deceleration_cm_per_s2'] / 100:g} m/s² after {train['reaction_ms'] / 1000:g} s")
 
 
 def telegram_text(decoded: Json) -> str:
-    """What a telegram is."""
+    """A telegram as text."""
     if "refused" in decoded:
         return f"telegram that can't be decoded: {decoded['refused']['number']} {decoded['refused']['name']}"
     header, packets = decoded["header"], [str(packet["packet"]) for packet in decoded["packets"]]
-    told = f"packet{'s' if len(packets) > 1 else ''} {', '.join(packets)}" if packets else "no packet"
+    sent = f"packet{'s' if len(packets) > 1 else ''} {', '.join(packets)}" if packets else "no packet"
     return (f"telegram of group {header['NID_C']}/{header['NID_BG']}, balise {header['N_PIG'] + 1} of "
-            f"{header['N_TOTAL'] + 1}, {told}")
+            f"{header['N_TOTAL'] + 1}, {sent}")
 
 
 def event_text(record: Json) -> str:
-    """What happened."""
+    """An event as text."""
     kind = record["kind"]
     if kind == "telegram":
         unused = unused_packets.text(record.get("unused") or ())
@@ -81,7 +81,7 @@ def event_text(record: Json) -> str:
 
 
 def announced_end_cm(decoded: Json) -> int | None:
-    """How far ahead of its group a telegram's authority (packet 12) ends, as it is announced."""
+    """The distance from its group to the end of a telegram's authority (packet 12), as it is announced."""
     for packet in decoded.get("packets", ()):
         if packet["packet"] != 12 or "skipped_bits" in packet:
             continue
@@ -93,7 +93,7 @@ def announced_end_cm(decoded: Json) -> int | None:
 
 
 def lost_text(lost: Json) -> str:
-    """Blocks and events that no readable block holds."""
+    """Blocks and events that no readable block holds, as text."""
     def run(first: Any, last: Any, word: str) -> str:
         if first is None and last is None:
             return f"an unknown number of {word}s"

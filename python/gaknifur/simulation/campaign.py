@@ -1,8 +1,8 @@
-"""Campaigns: many scenarios, case files or random lives, played by many processors, and one table of what came of them.
+"""Run campaigns: many scenarios, case files or random lives on many processors, with one table of results.
 
-A job is data alone: the bytes of its files. Who plays it needs this package and the two programs, and no common folder.
-A job whose worker is lost is played again, and what is in the table already isn't: a campaign that was interrupted
-goes on where it was. A row reports the same whoever plays it, but for `seconds` and `worker`.
+A job is only data: the bytes of its files. A worker needs this package and the two programs, and no common folder. A job whose
+worker is lost runs again, and a job that is in the table already doesn't, so an interrupted campaign continues. A row is the same
+on every worker, except for `seconds` and `worker`.
 """
 import gc
 import hashlib
@@ -21,31 +21,31 @@ from ..testing import case_files
 
 Row = dict[str, Any]
 Take = Callable[[list[Row]], None]
-"""What takes the rows of jobs that were played together."""
+"""Receives the rows of jobs that ran together."""
 
 COLUMNS = ("name", "job_sha256", "kind", "ended", "image_sha256", "events", "lives", "mode", "brake", "limit_m_per_h",
            "place_cm", "emergencies", "trips", "tests", "missed", "first_missed", "sound", "seconds", "worker")
 NOT_COMPARED = ("seconds", "worker")
 MOST_LOSSES = 3
 MOST_SECONDS, LEAST_SECONDS, MOST_AT_ONCE, SHARES, AHEAD = 0.5, 0.03, 128, 2, 2
-"""How long scenarios take that are handed out at once, at the most and at the least, and how many these are at the most; into how many
-parts for each player what is left is cut at the least; and how many parts each player has, with the one that it plays."""
+"""The greatest and the least duration of the scenarios in a batch, and their greatest number; the least number of batches for each
+player into which the remaining jobs are split; and the number of batches that each player has, with the one that it runs."""
 
 
 @dataclass(frozen=True)
 class Job:
-    """What is to be played: a scenario, or a case file with the files that it names."""
+    """A scenario, or a case file with the files that it names."""
 
     name: str
     kind: str
     """`scenario` or `case`."""
     files: tuple[tuple[str, bytes], ...]
-    """Paths within the job, and their bytes; the first one is played."""
+    """Paths within the job, and their bytes; the first one is run."""
     slots: int
 
     @property
     def sha256(self) -> str:
-        """The SHA-256 of all that is played."""
+        """The SHA-256 of everything that is run."""
         parts = [self.kind, str(self.slots), *(part for name, data in self.files for part in (name, hashlib.sha256(data).hexdigest()))]
         return hashlib.sha256("\n".join(parts).encode()).hexdigest()
 
@@ -53,14 +53,14 @@ class Job:
 # ---- the jobs
 
 class Folder:
-    """A job for each case file and each scenario below a folder, but for those that a case names. How many there are is known at
-    once; a file is read when its job is asked for."""
+    """A job for each case file and each scenario below a folder, except those that a case names. Their number is known at once; a
+    file is read when its job is needed."""
 
     def __init__(self, folder: Path, slots: int) -> None:
         self.folder, self.slots = folder, slots
         self.case_files, self.scenarios = case_files.below(folder)
         if self.case_files:
-            from ..testing import case_runner  # noqa: F401 (what plays them is loaded once, before there are processes that play)
+            from ..testing import case_runner  # noqa: F401 (loaded once, before processes are forked)
 
     def __len__(self) -> int:
         return len(self.case_files) + len(self.scenarios)
@@ -75,20 +75,20 @@ class Folder:
 
 
 def at_random(count: int, seed: int, slots: int) -> Iterator[Job]:
-    """Random lives: the same ones for the same seed."""
+    """Random lives. The same seed gives the same lives."""
     from . import random_lives
     for number in range(count):
         yield Job(f"random/{seed}/{number:07}", "scenario",
                   (("scenario.json", random_lives.scenario(random.Random(f"{seed}/{number}"))),), slots)
 
 
-# ---- how they are handed out
+# ---- handing out jobs
 
 class Batches:
-    """The jobs as they are handed out, since handing out one costs as much as a program does: the first ones alone, so that each
-    player has one soon; then as many scenarios at once as take `MOST_SECONDS`; and ever fewer towards the end of so many jobs, down to
-    what takes `LEAST_SECONDS`, so that all players end at about the same time. A case file is by itself, and so is what was handed
-    out with a lost player."""
+    """Makes batches of jobs, since to hand out a job costs as much as to run it. The first jobs are single, so that each player has one
+    soon; then a batch has as many scenarios as take `MOST_SECONDS`; towards the end fewer and fewer, down to those that take
+    `LEAST_SECONDS`, so that all players end at about the same time. A case file is a batch of its own, and so is each job of a lost
+    player."""
 
     def __init__(self, jobs: Iterable[Job], count: int, players: int) -> None:
         self.jobs, self.count, self.players = iter(jobs), count, players
@@ -97,12 +97,12 @@ class Batches:
         self.kept: Job | None = None
 
     def learn(self, rows: list[Row]) -> None:
-        """How long jobs took."""
+        """Takes the duration of jobs into account."""
         self.known += len(rows)
         self.seconds += sum(row["seconds"] or 0.0 for row in rows)
 
     def size(self) -> int:
-        """How many scenarios are handed out next."""
+        """The number of scenarios of the next batch."""
         if not self.seconds:
             return 1
         least, most = (int(seconds * self.known / self.seconds) for seconds in (LEAST_SECONDS, MOST_SECONDS))
@@ -115,7 +115,7 @@ class Batches:
         return found
 
     def next(self) -> list[Job]:
-        """The next ones; none where there are no more."""
+        """The next batch; empty if there are no more jobs."""
         if self.again:
             return [self.again.pop()]
         batch: list[Job] = []
@@ -131,21 +131,21 @@ class Batches:
         return batch
 
 
-# ---- who plays them
+# ---- running jobs
 
 def row_without(job: Job, ended: str) -> Row:
-    """The row of a job that wasn't played to its end."""
+    """The row of a job that didn't run to its end."""
     return {**dict.fromkeys(COLUMNS), "name": job.name, "job_sha256": job.sha256, "kind": job.kind, "sound": 0, "ended": ended}
 
 
 def lost(job: Job) -> Row:
-    """The row of a job whose workers were lost again and again."""
+    """The row of a job whose workers were lost repeatedly."""
     return row_without(job, f"failed: its worker was lost {MOST_LOSSES} times")
 
 
 def here(jobs: Iterable[Job], count: int, workers: int, take: Take) -> None:
-    """Plays so many jobs by processes of this machine."""
-    from . import campaign_jobs  # noqa: F401 (what plays them is loaded once, before there are processes that play)
+    """Runs `count` jobs in processes of this machine."""
+    from . import campaign_jobs  # noqa: F401 (loaded once, before processes are forked)
     left, losses, running = Batches(jobs, count, workers), Counter[str](), dict[Future[list[Row]], list[Job]]()
     pool = ProcessPoolExecutor(workers, initializer=gc.freeze)
     try:
@@ -173,7 +173,7 @@ def here(jobs: Iterable[Job], count: int, workers: int, take: Take) -> None:
 
 
 def hand_out(left: Batches, running: dict[Future[list[Row]], list[Job]], pool: ProcessPoolExecutor, workers: int) -> bool:
-    """Hands jobs to the processes; whether none of these was lost meanwhile."""
+    """Hands jobs to the processes; returns False if one of them was lost meanwhile."""
     from .campaign_jobs import play_all
     while len(running) < (1 if left.again else AHEAD * workers) and (batch := left.next()):
         try:
@@ -185,8 +185,8 @@ def hand_out(left: Batches, running: dict[Future[list[Row]], list[Job]], pool: P
 
 
 def again(jobs: list[Job], left: Batches, losses: Counter[str], take: Take) -> None:
-    """Jobs that were handed out when a process was lost are played again, one at a time, so that the one that ends it shows. It is
-    given up in the end."""
+    """Runs the jobs of a lost process again, one at a time, to find the one that ends its process. That one is given up after
+    MOST_LOSSES losses."""
     for job in jobs:
         losses[job.name] += 1
         if losses[job.name] >= MOST_LOSSES:

@@ -1,4 +1,4 @@
-"""The table of a campaign, in SQLite: its rows as they come, those of it that aren't sound, all of it as CSV, and two of them compared."""
+"""Keep the table of a campaign in SQLite: add its rows, list those that aren't sound, write it as CSV, and compare two tables."""
 import csv
 import io
 import sqlite3
@@ -26,8 +26,8 @@ CREATE TABLE result (
 
 
 class Table:
-    """The results, in SQLite. A table is of one pair of programs, and one campaign at a time writes to it: it has a transaction
-    open from its beginning to its end. Others may read it."""
+    """The results, in SQLite. A table belongs to one pair of programs, and only one campaign at a time writes to it: it keeps a
+    transaction open from its beginning to its end. Others may read it."""
 
     def __init__(self, path: Path, settings: dict[str, str]) -> None:
         def fill(connection: sqlite3.Connection) -> None:
@@ -48,7 +48,7 @@ class Table:
                 raise Failed(f"{path}: was made with {name} {found.get(name)}, and this program is {value}; name a new file", REFUSED)
 
     def take_alone(self) -> None:
-        """Begins the first transaction; refused at once where another program has one."""
+        """Begins the first transaction; fails at once if another program has one."""
         try:
             self.connection.execute("PRAGMA busy_timeout = 0")
             self.connection.execute("BEGIN IMMEDIATE")
@@ -56,20 +56,20 @@ class Table:
         except sqlite3.Error as error:
             self.connection.close()
             is_busy = error.sqlite_errorcode == sqlite3.SQLITE_BUSY
-            said = "another program is writing to it; wait for its end, or name another file" if is_busy else error
-            raise Failed(f"{self.path}: {said}", DEVICE) from error
+            reason = "another program is writing to it; wait for its end, or name another file" if is_busy else error
+            raise Failed(f"{self.path}: {reason}", DEVICE) from error
 
     def has_rows(self) -> bool:
-        """Whether any job was played already."""
+        """Whether any job was run already."""
         return self.connection.execute("SELECT 1 FROM result LIMIT 1").fetchone() is not None
 
     def is_there(self, job: Job) -> bool:
-        """Whether the table has the row of just this job."""
+        """Whether the table has the row of exactly this job."""
         found = self.connection.execute("SELECT job_sha256, ended FROM result WHERE name = ?", (job.name,)).fetchone()
         return found is not None and found[0] == job.sha256 and not found[1].startswith("failed")
 
     def take(self, rows: list[Row]) -> None:
-        """Adds rows, each in the place of the one with its name, where there is one. They are on the disk within a second."""
+        """Adds rows; each replaces a row with the same name. They are on the disk within a second."""
         try:
             self.connection.executemany(INSERT, map(itemgetter(*COLUMNS), rows))
             if time.monotonic() - self.written > COMMIT_SECONDS:
@@ -80,7 +80,7 @@ class Table:
             raise Failed(f"{self.path}: {error}", DEVICE) from error
 
     def close(self) -> None:
-        """All rows are on the disk, also where `take` was interrupted."""
+        """Commits all rows, also if `take` was interrupted."""
         if self.connection.in_transaction:
             self.connection.execute("COMMIT")
         self.connection.close()
@@ -96,7 +96,7 @@ def settings_of() -> dict[str, str]:
 
 
 def rows_of(path: Path) -> dict[str, Row]:
-    """The rows of a table by their names, as they are compared."""
+    """The rows of a table by name, with the columns that are compared."""
     connection = files.read_database(path, files.CAMPAIGN)
     try:
         kept = [name for name in COLUMNS if name not in NOT_COMPARED]
@@ -108,7 +108,7 @@ def rows_of(path: Path) -> dict[str, Row]:
 
 
 def unsound(path: Path, most: int) -> tuple[int, int, list[Row]]:
-    """How many rows a table has, how many of them aren't sound, and the first ones of these."""
+    """The number of rows of a table, the number of those that aren't sound, and the first of these."""
     connection = files.read_database(path, files.CAMPAIGN)
     try:
         count, bad = connection.execute("SELECT count(*), count(*) FILTER (WHERE NOT sound) FROM result").fetchone()
@@ -133,13 +133,13 @@ def write_csv(path: Path, out: files.Out) -> None:
 
 
 def differences(one: Path, other: Path) -> Iterator[str]:
-    """What two campaigns report otherwise, a line for each row."""
+    """The differences between two campaigns, one line for each row."""
     first, second = rows_of(one), rows_of(other)
     for name in sorted(first.keys() | second.keys()):
         if name not in second or name not in first:
             yield f"{name}: only in {one if name in first else other}"
             continue
-        told = [f"{column} {first[name][column]} and {second[name][column]}" for column in first[name]
+        changes = [f"{column} {first[name][column]} and {second[name][column]}" for column in first[name]
                 if first[name][column] != second[name][column]]
-        if told:
-            yield f"{name}: {'; '.join(told)}"
+        if changes:
+            yield f"{name}: {'; '.join(changes)}"

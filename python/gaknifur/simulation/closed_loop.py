@@ -1,4 +1,4 @@
-"""A drive over the onboard unit itself: the library that `tools/library` makes, on an image in memory."""
+"""Run a drive with the onboard unit: the library that `tools/library` makes, on an image in memory."""
 import functools
 import re
 from pathlib import Path
@@ -14,17 +14,17 @@ from .drives import Drive, slots_for
 
 
 UNPROVED = re.compile(rb"Gaknifur [^\0]{1,200}, unproved\0")
-"""What the file of a library has that tools/library --unproved made."""
+"""The text in a library that tools/library --unproved made."""
 
 
 @functools.cache
 def check_library() -> None:
-    """The unit's library is there, and of the interface of this package. One that is unproved is named on standard error, once."""
+    """Fails unless the unit's library exists and has the interface of this package. Says on standard error, once, if it is unproved."""
     try:
         found = library()
     except OSError as error:
-        raise Failed(f"can't load the library of the onboard unit ({error}). Make it by `tools/library --unproved PREFIX` (two to three "
-                     "minutes, without proof) or `tools/library PREFIX`, and name it by GAKNIFUR_ETCS_UNIT=PREFIX/lib/libetcs_unit.so",
+        raise Failed(f"can't load the library of the onboard unit ({error}). Make it with `tools/library --unproved PREFIX` (two to three "
+                     "minutes, without proof) or `tools/library PREFIX`, and set GAKNIFUR_ETCS_UNIT=PREFIX/lib/libetcs_unit.so",
                      DEVICE) from error
     except (Refused, AttributeError) as error:
         raise Failed(f"the library of the onboard unit has another interface: {error}", DEVICE) from error
@@ -34,14 +34,14 @@ def check_library() -> None:
 
 
 def over_image(data: bytes, scenario: scenarios.Scenario, drive: Drive) -> tuple[driving.Driven, bytes]:
-    """A life on an image: what came of the drive, and the image after it."""
+    """Runs a life on an image; returns the drive and the image after it."""
     medium = MemoryMedium(data)
     driven = on_medium(medium, scenario, drive)
     return driven, medium.read()
 
 
 def on_medium(medium: Medium, scenario: scenarios.Scenario, drive: Drive) -> driving.Driven:
-    """A life on a medium: each write and sync in the order in which the unit asks for them, and outputs after them."""
+    """Runs a life on a medium: writes and syncs in the order of the unit's requests, and outputs after them."""
     check_library()
     try:
         with Unit(medium, Cold(scenario.cold)) as unit:
@@ -57,8 +57,8 @@ def fresh(scenario: scenarios.Scenario, drive: Drive) -> bytes:
 
 
 def ends_of(driven: driving.Driven) -> tuple[int, int] | None:
-    """Where the authority that was heard last ends, and its supervised location, in cm of the train's way, as packet 12 announced
-    them; None where none was heard."""
+    """The end of the last authority and its supervised location, as packet 12 announced them, in cm from the start of the drive;
+    None without an authority."""
     for origin, digits in reversed(driven.heard):
         for line in program.decode(digits):
             if not line.startswith("packet 12 "):
@@ -66,6 +66,6 @@ def ends_of(driven: driving.Driven) -> tuple[int, int] | None:
             fields = [(name, int(number)) for name, _, number in (word.partition("=") for word in line.split()[2:])]
             scale = SCALES_CM.get(dict(fields)["Q_SCALE"], 100)
             end = round(origin) + scale * sum(number for name, number in fields if name in ("L_SECTION", "L_ENDSECTION"))
-            behind = dict(fields).get("D_OL", dict(fields).get("D_DP", 0))
-            return end, end + scale * behind
+            beyond = dict(fields).get("D_OL", dict(fields).get("D_DP", 0))
+            return end, end + scale * beyond
     return None

@@ -1,7 +1,7 @@
-"""Plays the jobs of a campaign by the workers of a scheduler of Dask.
+"""Run the jobs of a campaign on the workers of a Dask scheduler.
 
-A life takes milliseconds, so what Dask does next to it is kept small: its client loads nothing that a campaign doesn't
-need, and jobs and rows go as bytes, since Dask looks through each part of a list by itself.
+A life takes milliseconds, so Dask's overhead is kept small: its client loads nothing that a campaign doesn't need, and jobs and rows
+are sent as bytes, since Dask would inspect each element of a list.
 """
 import gc
 import os
@@ -18,29 +18,28 @@ from . import campaign
 from .campaign import AHEAD, Batches, Job, Row, Take
 
 LEAST_PLAYERS, PATIENCE = 4, "30s"
-"""For how many workers jobs are handed out at the least; and how long a scheduler may take to answer."""
+"""The least number of workers for which jobs are handed out, and the time limit for a scheduler to answer."""
 UNUSED: dict[str, ModuleType | None] = {"jinja2": None, "numpy": None, "distributed.comm.ucx": None,
                                         "distributed.comm.ws": ModuleType("distributed.comm.ws")}
-"""What Dask loads where it is there, for its pages, for large arrays, and for networks of InfiniBand; and what it always loads, for
-connections by WebSocket."""
-TOLD = ("numpy", "pandas")
+"""Modules that Dask loads if they are installed, for its pages, for large arrays and for InfiniBand networks; and one that it always
+loads, for WebSocket connections."""
+VERSIONED = ("numpy", "pandas")
 """The packages that a client loads to report their versions."""
 NO_CERTIFICATES = {"SSL_CERT_FILE": os.devnull, "SSL_CERT_DIR": os.devnull}
-"""Those of the system are read for connections to web servers, of which there are none."""
+"""Keeps Python from reading the system's certificates, since there are no connections to web servers."""
 SETTINGS = {"distributed.diagnostics.computations.ignore-modules": ["."], "distributed.comm.tcp.backend": "asyncio"}
-"""Of no module the scheduler is sent the source, since Python would look it up for each handing out; and connections are those of
-`dask.yaml`."""
+"""Sends the scheduler no source of modules, since Python would look it up for each batch; and uses the connections of `dask.yaml`."""
 
 
 def played(packed: bytes) -> bytes:
-    """Plays jobs in turn, and answers their rows; both are packed."""
-    from . import campaign_jobs  # (a worker plays, and a client only hands out)
+    """Runs jobs in turn, and returns their rows; both are packed."""
+    from . import campaign_jobs  # (only workers need it)
     return pickle.dumps(campaign_jobs.play_all(pickle.loads(packed)))
 
 
 @contextmanager
 def instead(others: Mapping[str, ModuleType | None]) -> Iterator[None]:
-    """While this lasts, other modules stand for some that aren't loaded yet; None says that there is no such module."""
+    """Replaces modules that aren't loaded yet by others inside the block; None means that there is no such module."""
     loaded: dict[str, Any] = modules
     put = {name: module for name, module in others.items() if name not in loaded}
     loaded.update(put)
@@ -52,10 +51,10 @@ def instead(others: Mapping[str, ModuleType | None]) -> Iterator[None]:
 
 
 @contextmanager
-def environment(told: Mapping[str, str]) -> Iterator[None]:
-    """While this lasts, the environment has these values."""
-    before = {name: os.environ.get(name) for name in told}
-    os.environ.update(told)
+def environment(values: Mapping[str, str]) -> Iterator[None]:
+    """Sets environment variables inside the block."""
+    before = {name: os.environ.get(name) for name in values}
+    os.environ.update(values)
     try:
         yield
     finally:
@@ -67,8 +66,8 @@ def environment(told: Mapping[str, str]) -> Iterator[None]:
 
 
 @contextmanager
-def nothing_given_back() -> Iterator[None]:
-    """While this lasts, nobody looks for what can be given back, nor afterwards through what was loaded."""
+def without_collecting() -> Iterator[None]:
+    """Disables garbage collection inside the block, and excludes what was loaded in it from later collections."""
     gc.disable()
     try:
         yield
@@ -79,7 +78,7 @@ def nothing_given_back() -> Iterator[None]:
 
 @contextmanager
 def libyaml() -> Iterator[None]:
-    """While this lasts, YAML is read by libyaml, where Python has it: Dask reads its settings, which takes a tenth of the time then."""
+    """Reads YAML with libyaml inside the block, if Python has it: Dask then reads its settings in a tenth of the time."""
     import yaml
     loader = "SafeLoader"
     before = getattr(yaml, loader)
@@ -90,8 +89,8 @@ def libyaml() -> Iterator[None]:
         setattr(yaml, loader, before)
 
 
-def version_alone(name: str) -> ModuleType | None:
-    """A module that says the version of a package, and nothing else; None where there is none."""
+def version_only(name: str) -> ModuleType | None:
+    """A module that has only the version of a package; None if the package isn't installed."""
     module = ModuleType(name)
     try:
         module.__dict__["__version__"] = metadata.version(name)
@@ -101,8 +100,8 @@ def version_alone(name: str) -> ModuleType | None:
 
 
 def connected(scheduler: str) -> tuple[Any, Any]:
-    """A client of a scheduler, and what answers its futures as they end."""
-    with nothing_given_back():
+    """A client of a scheduler, and an iterator over its futures as they complete."""
+    with without_collecting():
         try:
             with instead(UNUSED), environment(NO_CERTIFICATES), libyaml():
                 from dask import config
@@ -112,7 +111,7 @@ def connected(scheduler: str) -> tuple[Any, Any]:
             raise Failed("python3-distributed is missing; tools/python --campaigns installs it by Debian's packages",
                          DEVICE) from error
         try:
-            with instead({name: version_alone(name) for name in TOLD}):
+            with instead({name: version_only(name) for name in VERSIONED}):
                 client = Client(scheduler, set_as_default=False, timeout=PATIENCE)
         except OSError as error:
             raise Failed(f"{scheduler}: no scheduler answers at this address", DEVICE) from error
@@ -120,7 +119,7 @@ def connected(scheduler: str) -> tuple[Any, Any]:
 
 
 def by_scheduler(jobs: Iterable[Job], count: int, scheduler: str, take: Take) -> None:
-    """Plays so many jobs by the workers of a scheduler of Dask. One that is lost hands its jobs on to the others."""
+    """Runs `count` jobs on the workers of a Dask scheduler. The jobs of a lost worker go to the others."""
     client, running = connected(scheduler)
     with client:
         known = dict[str, list[Job]]()
@@ -137,12 +136,12 @@ def by_scheduler(jobs: Iterable[Job], count: int, scheduler: str, take: Take) ->
         hand_out()
         for future in running:
             if future.status in ("pending", "lost"):
-                running.add(future)  # its worker was lost before the rows were handed over: they are played again
+                running.add(future)  # its worker was lost before it sent the rows, so the jobs run again
                 continue
             batch = known.pop(future.key)
             try:
                 left.learn(rows := pickle.loads(future.result()))
-            except Exception:  # the scheduler gave the jobs up: it may be one of them that ends its workers
+            except Exception:  # the scheduler gave the jobs up, since one of them may end its workers
                 rows = [campaign.lost(job) for job in batch] if len(batch) == 1 else []
                 left.again += batch if len(batch) > 1 else []
             future.release()

@@ -1,4 +1,4 @@
-"""The picture of a drive: speed and limit over the train's place, the brakes after them, and where it has to stand."""
+"""Draw a drive: speed and limit over the train's place, with the brakes as background, and where the train has to stop."""
 import io
 from typing import Any
 
@@ -13,7 +13,7 @@ METADATA: dict[str, dict[str, str | None]] = {
 
 
 def shade(axes: Any, driven: Driven) -> None:
-    """The stretches on which a brake was commanded. Each has a hatch too, so that colour alone carries nothing."""
+    """Draws the stretches on which a brake was commanded. Each has a hatch too, so that nothing is shown only by colour."""
     rows, named = driven.rows, set()
     for first, last in runs(driven):
         brake = rows[first].brake
@@ -26,21 +26,21 @@ def shade(axes: Any, driven: Driven) -> None:
 
 
 def runs(driven: Driven) -> list[tuple[int, int]]:
-    """First row and the row after the last one of each run of one command."""
+    """The first row, and the row after the last one, of each run of one command."""
     brakes = [row.brake for row in driven.rows]
     starts = [at for at, brake in enumerate(brakes) if not at or brake != brakes[at - 1]]
     return list(zip(starts, [*starts[1:], len(brakes) - 1]))
 
 
 def mark(axes: Any, place_cm: int, text: str) -> None:
-    """A place where the train has to stand."""
+    """Draws a place where the train has to stop."""
     axes.axvline(place_cm / 100, color=END, lw=1, ls=(0, (4, 3)))
     axes.annotate(text, (place_cm / 100, 1), xycoords=("data", "axes fraction"), xytext=(-3, -2), textcoords="offset points",
                   rotation=90, ha="right", va="top", fontsize=8, color=END)
 
 
 def draw(axes: Any, driven: Driven, ends: tuple[int, int] | None) -> None:
-    """Lines, brakes and places."""
+    """Draws lines, brakes and places."""
     places = [row.place_cm / 100 for row in driven.rows]
     axes.step(places, [row.limit_m_per_h / 1000 for row in driven.rows], where="post", color=INK, lw=1, label="limit")
     axes.plot(places, [row.speed_m_per_h / 1000 for row in driven.rows], color=SPEED, lw=1.6, label="speed")
@@ -56,7 +56,7 @@ def draw(axes: Any, driven: Driven, ends: tuple[int, int] | None) -> None:
 
 
 def drawn(driven: Driven, ends: tuple[int, int] | None, title: str, suffix: str) -> bytes:
-    """The picture as a file of this suffix. The same drive gives the same bytes each time."""
+    """The picture as a file with this suffix. The same drive always gives the same bytes."""
     form, canvas = CANVASES[suffix]
     with plain(STYLE):
         figure = Figure(figsize=(9, 3.8), layout="constrained")

@@ -1,6 +1,6 @@
-"""What a drive in a closed loop is: a train, its driver, a time step, in YAML. docs/reference/drives.md has its keys.
+"""Read a drive in a closed loop from YAML: a train, its driver and a time step. docs/reference/drives.md describes the keys.
 
-It stands along with the steps of a life, which are played before the train moves. `driving` plays it.
+A drive follows the steps of a life, which are played before the train moves. `driving` plays it.
 """
 import re
 from dataclasses import dataclass, field
@@ -20,7 +20,7 @@ DRIVE = ("train", "driver", "time_step", "lasts")
 MOST_ACCELERATION, MOST_DELAY_MS, MOST_STEP_MS, MOST_LASTS_MS = 1_000, 60_000, 10_000, 86_400_000
 MOST_CYCLES = 1_000_000
 MOST_SLOTS = 65_536
-"""Of an image of a drive: 201 MB. A longer drive writes over its oldest blocks."""
+"""The most slots of an image of a drive: 201 MB. A longer drive overwrites its oldest blocks."""
 PERCENT = re.compile(r"([0-9]+(?:\.[0-9]+)?) ?%")
 UP_TO, STRETCH = re.compile(r"(.+?) up to (.+)"), re.compile(r"(.+?) from (.+?) to (.+)")
 Rates = tuple[tuple[int, int], ...]
@@ -30,27 +30,27 @@ MOST_ERROR_CM, MOST_ANTENNA_CM = 1_000, 10_000
 
 @dataclass(frozen=True)
 class Train:
-    """How a train moves, in cm/s2 and ms. Commands reach its brakes after the reaction time; from there the brakes come, and
-    let go, evenly within the build-up time."""
+    """How a train moves, in cm/s2 and ms. Commands reach its brakes after the reaction time; then the brakes build up, and
+    release, evenly within the build-up time."""
 
     acceleration: int
     service: int
     emergency: int
-    """The least of each, where it depends on the speed."""
+    """Each is the least value if it depends on the speed."""
     reaction_ms: int = 0
     build_up_ms: int = 0
     odometer: Decimal = Decimal(1)
-    """What its odometer says about its way."""
+    """The factor by which its odometer measures distances."""
     speedometer: Decimal = Decimal(1)
-    """What it says about its speed."""
+    """The factor by which it measures the speed."""
     reading_error_cm: int = 0
-    """By how much a reading's place is off, ahead in one time step and after in the next; it doesn't add up."""
+    """The error of a reading's place, forward in one time step and backward in the next; it doesn't add up."""
     antenna_cm: int = 0
-    """How far its antenna lies beyond its front."""
+    """The distance of its antenna from its front, towards the rear."""
     rates: tuple[tuple[str, Rates], ...] = ()
-    """Acceleration, service and emergency, by their names, where they depend on the speed."""
+    """Acceleration, service and emergency, by their names, if they depend on the speed."""
     adhesion: tuple[tuple[Decimal, int, int | None], ...] = ()
-    """How much of pulling and braking reaches the rails, from one place to another, or from there on; elsewhere all."""
+    """The share of traction and braking that reaches the rails, from one place to another or from a place on; elsewhere all of it."""
 
     def rate(self, name: str, m_per_h: float) -> int:
         """Acceleration, service or emergency at a speed."""
@@ -62,17 +62,18 @@ class Train:
     @property
     def strongest(self) -> int:
         """The greatest deceleration of both brakes at any speed."""
-        told = [rate for name, rates in self.rates if name != "acceleration" for _, rate in rates]
-        return max(self.service, self.emergency, *told)
+        rates_of_brakes = [rate for name, rates in self.rates if name != "acceleration" for _, rate in rates]
+        return max(self.service, self.emergency, *rates_of_brakes)
 
     def grip(self, place_cm: float) -> float:
-        """How much of pulling and braking reaches the rails at a place."""
+        """The share of traction and braking that reaches the rails at a place."""
         return next((float(share) for share, start, end in self.adhesion if start <= place_cm and (end is None or place_cm < end)), 1.0)
 
 
 @dataclass(frozen=True)
 class When:
-    """What has to be so at once: the train's place and the moment at least, mode and indication as they were reported last."""
+    """A condition, all parts of which have to hold at once: the place and the moment are reached, and the last output has this mode
+    and indication."""
 
     place_cm: int | None = None
     time_ms: int | None = None
@@ -83,26 +84,26 @@ class When:
 
 @dataclass(frozen=True)
 class Act:
-    """What a driver does, once: so many ms after the first moment at which all is so."""
+    """What a driver does, once: `after_ms` after the first moment at which the condition holds."""
 
     when: When
     after_ms: int
     action: list[Any] | None
-    """As in a scenario; None where he changes what he heeds."""
+    """As in a scenario; None if the driver changes what he heeds."""
     heeds: str | None = None
 
 
 @dataclass(frozen=True)
 class Driver:
-    """Who drives: what he heeds, how far below the limit he stays (above it where it is less than 0), and what else he does."""
+    """A driver: what he heeds, how far he stays below the limit (above it if negative), and his actions."""
 
     heeds: str
     below: int
     acts: list[Act] = field(default_factory=list)
     late_ms: int = 0
-    """How long ago it was what he goes by."""
+    """The age of what he acts on."""
     acknowledges_ms: int | None = None
-    """How long after what is shown he acknowledges it; never where it isn't reported."""
+    """The delay after which he acknowledges an indication; None if he never does."""
 
 
 @dataclass(frozen=True)
@@ -118,22 +119,22 @@ class Drive:
 
     @property
     def cycles(self) -> int:
-        """How many time steps it has at the most."""
+        """The greatest number of its time steps."""
         return -(-self.lasts_ms // self.step_ms)
 
 
 def percent(at: Value, text: str, least: int, most: int) -> Decimal:
-    """A number of per cent."""
+    """A percentage, as a share of 1."""
     found = PERCENT.fullmatch(text.strip())
     if not found or not least <= at.decimal(found[1]) <= most:
-        raise at.fault(f"expected a number from {least} to {most} with %, found {at.told_by()}")
+        raise at.fault(f"expected a number from {least} to {most} with %, found {at.describe()}")
     return scenarios.EXACT.divide(at.decimal(found[1]), Decimal(100))
 
 
 def rates_of(at: Value, least: int) -> Rates:
-    """A rate; or a list of them, each but the last one up to a speed."""
+    """A rate, or a list of rates; each but the last one applies up to a speed."""
     if not at.is_list():
-        return ((scenarios.MOST_SPEED, scenarios.told_quantity(at, "acceleration", least, MOST_ACCELERATION)),)
+        return ((scenarios.MOST_SPEED, scenarios.quantity_of(at, "acceleration", least, MOST_ACCELERATION)),)
     found: list[tuple[int, int]] = []
     elements = at.elements()
     for number, one in enumerate(elements):
@@ -150,7 +151,7 @@ def rates_of(at: Value, least: int) -> Rates:
 
 
 def adhesion_of(at: Value) -> tuple[tuple[Decimal, int, int | None], ...]:
-    """How much reaches the rails: everywhere, or on stretches of the way."""
+    """The share that reaches the rails: everywhere, or on stretches of the track."""
     if not at.is_list():
         return ((percent(at, at.text(), 1, 100), 0, None),)
     found: list[tuple[Decimal, int, int | None]] = []
@@ -170,78 +171,78 @@ OF_TRAIN = ("emergency", "reaction", "build_up", "odometer", "speedometer", "rea
 
 def train_of(at: Value) -> Train:
     """A train."""
-    told = at.members(("acceleration", "service"), OF_TRAIN)
+    members = at.members(("acceleration", "service"), OF_TRAIN)
 
     def delay(name: str) -> int:
-        return scenarios.told_quantity(told[name], "time", 0, MOST_DELAY_MS) if name in told else 0
+        return scenarios.quantity_of(members[name], "time", 0, MOST_DELAY_MS) if name in members else 0
 
     def share(name: str) -> Decimal:
-        return percent(told[name], told[name].text(), 50, 150) if name in told else Decimal(1)
+        return percent(members[name], members[name].text(), 50, 150) if name in members else Decimal(1)
 
     def distance(name: str, most: int) -> int:
-        return scenarios.told_quantity(told[name], "distance", 0, most) if name in told else 0
+        return scenarios.quantity_of(members[name], "distance", 0, most) if name in members else 0
 
-    rates = {name: rates_of(told[name], least) for name, least in (("acceleration", 1), ("service", 0), ("emergency", 1)) if name in told}
+    rates = {name: rates_of(members[name], least) for name, least in (("acceleration", 1), ("service", 0), ("emergency", 1)) if name in members}
     least = {name: min(rate for _, rate in found) for name, found in rates.items()}
-    if "emergency" not in told:
+    if "emergency" not in members:
         if not least["service"]:
             raise at.fault("emergency is missing: a train whose service brake has no effect has another brake")
         rates["emergency"], least["emergency"] = rates["service"], least["service"]
     return Train(least["acceleration"], least["service"], least["emergency"], delay("reaction"), delay("build_up"), share("odometer"),
                  share("speedometer"), distance("reading_error", MOST_ERROR_CM), distance("antenna", MOST_ANTENNA_CM),
                  tuple((name, found) for name, found in rates.items() if len(found) > 1),
-                 adhesion_of(told["adhesion"]) if "adhesion" in told else ())
+                 adhesion_of(members["adhesion"]) if "adhesion" in members else ())
 
 
 def when_of(at: Value) -> When:
-    """When a driver does something."""
-    told = at.members((), WHEN)
-    if not told:
+    """The condition of an action."""
+    members = at.members((), WHEN)
+    if not members:
         raise at.fault(f"expected one of {', '.join(WHEN)}")
-    return When(scenarios.told_quantity(told["place"], "distance", 0, scenarios.MOST_PLACE_CM) if "place" in told else None,
-                scenarios.told_quantity(told["time"], "time", 0, scenarios.MOST_MOMENT) if "time" in told else None,
-                told["mode"].one_of(MODES) if "mode" in told else None,
-                told["shows"].one_of(INDICATIONS) if "shows" in told else None,
-                told["stands"].truth() if "stands" in told else None)
+    return When(scenarios.quantity_of(members["place"], "distance", 0, scenarios.MOST_PLACE_CM) if "place" in members else None,
+                scenarios.quantity_of(members["time"], "time", 0, scenarios.MOST_MOMENT) if "time" in members else None,
+                members["mode"].one_of(MODES) if "mode" in members else None,
+                members["shows"].one_of(INDICATIONS) if "shows" in members else None,
+                members["stands"].truth() if "stands" in members else None)
 
 
 def act_of(at: Value) -> Act:
-    """Something that a driver does."""
-    told = at.members(("when",), ("after", "do", "heeds", *WITH_VALUE))
-    what = [name for name in told if name not in ("when", "after")]
+    """An action of a driver."""
+    members = at.members(("when",), ("after", "do", "heeds", *WITH_VALUE))
+    what = [name for name in members if name not in ("when", "after")]
     if len(what) != 1:
         raise at.fault(f"`when` needs one of do, heeds, {', '.join(WITH_VALUE)}")
-    word, value = what[0], told[what[0]]
-    when = when_of(told["when"])
-    after = scenarios.told_quantity(told["after"], "time", 0, MOST_LASTS_MS) if "after" in told else 0
+    word, value = what[0], members[what[0]]
+    when = when_of(members["when"])
+    after = scenarios.quantity_of(members["after"], "time", 0, MOST_LASTS_MS) if "after" in members else 0
     if word == "heeds":
         return Act(when, after, None, value.one_of(HEEDS))
-    return Act(when, after, scenarios.action_of(value.one_of(scenarios.ALONE) if word == "do" else word, value))
+    return Act(when, after, scenarios.action_of(value.one_of(scenarios.WITHOUT_VALUE) if word == "do" else word, value))
 
 
 def driver_of(at: Value) -> Driver:
     """A driver."""
-    told = at.members(("heeds",), ("below", "acts", "late", "acknowledges"))
-    below = scenarios.told_quantity(told["below"], "speed", -scenarios.MOST_SPEED, scenarios.MOST_SPEED) if "below" in told else 4_000
-    return Driver(told["heeds"].one_of(HEEDS), below, [act_of(one) for one in told["acts"].elements()] if "acts" in told else [],
-                  scenarios.told_quantity(told["late"], "time", 0, MOST_DELAY_MS) if "late" in told else 0,
-                  scenarios.told_quantity(told["acknowledges"], "time", 0, MOST_DELAY_MS) if "acknowledges" in told else None)
+    members = at.members(("heeds",), ("below", "acts", "late", "acknowledges"))
+    below = scenarios.quantity_of(members["below"], "speed", -scenarios.MOST_SPEED, scenarios.MOST_SPEED) if "below" in members else 4_000
+    return Driver(members["heeds"].one_of(HEEDS), below, [act_of(one) for one in members["acts"].elements()] if "acts" in members else [],
+                  scenarios.quantity_of(members["late"], "time", 0, MOST_DELAY_MS) if "late" in members else 0,
+                  scenarios.quantity_of(members["acknowledges"], "time", 0, MOST_DELAY_MS) if "acknowledges" in members else None)
 
 
 def drive_of(at: Value) -> Drive:
     """A drive."""
-    told = at.members(DRIVE, ("until",))
-    drive = Drive(at, train_of(told["train"]), driver_of(told["driver"]),
-                  scenarios.told_quantity(told["time_step"], "time", 10, MOST_STEP_MS),
-                  scenarios.told_quantity(told["lasts"], "time", 10, MOST_LASTS_MS),
-                  "until" in told and told["until"].one_of([STANDSTILL]) == STANDSTILL)
+    members = at.members(DRIVE, ("until",))
+    drive = Drive(at, train_of(members["train"]), driver_of(members["driver"]),
+                  scenarios.quantity_of(members["time_step"], "time", 10, MOST_STEP_MS),
+                  scenarios.quantity_of(members["lasts"], "time", 10, MOST_LASTS_MS),
+                  "until" in members and members["until"].one_of([STANDSTILL]) == STANDSTILL)
     if drive.cycles > MOST_CYCLES:
-        raise told["lasts"].fault(f"{drive.cycles:,} time steps are more than {MOST_CYCLES:,}")
+        raise members["lasts"].fault(f"{drive.cycles:,} time steps are more than {MOST_CYCLES:,}")
     return drive
 
 
 def read(path: Path) -> tuple[scenarios.Scenario, Drive | None]:
-    """The scenario of a YAML file, and the drive that it has."""
+    """The scenario of a YAML file, and its drive, if it has one."""
     at = document(path)
     members = at.members(("steps",), (*scenarios.LIFE, "drive", *scenarios.SHARED))
     built = scenarios.build(members, scenarios.shared_of(members, path))
@@ -249,7 +250,7 @@ def read(path: Path) -> tuple[scenarios.Scenario, Drive | None]:
 
 
 def slots_for(scenario: scenarios.Scenario, drive: Drive) -> int:
-    """How many blocks a life of this drive may have at the most: one for each time step, and more where balises are many. Of a
-    longer drive the newest blocks alone are kept."""
+    """The slots that a life of this drive needs: one for each time step, and more if there are many balises. A longer drive keeps
+    only its newest blocks."""
     balises = sum(len(group["balises"]) for group in scenario.groups)
     return min(8 + drive.cycles + scenario.events + 2 * balises + len(drive.driver.acts), MOST_SLOTS)

@@ -1,9 +1,8 @@
-"""A train in a closed loop with an onboard unit: the train moves, the unit is given, its commands move the train.
+"""Run a train in a closed loop with an onboard unit: the unit gets the train's movement, and its commands move the train.
 
-In each time step the driver decides by what he was shown last, the train moves by his and the unit's commands, and the
-unit is given the moment, the odometer and each balise that was passed; then the driver does what else he does. The train
-is a point that moves on level track, whose antenna may lie beyond it: what it does between two steps is worked out, and
-nothing of it is proved. The unit is anything with the calls of `unit.Unit`.
+In each time step the driver decides by what he was shown last, the train moves by his commands and the unit's, and the unit gets
+the moment, the odometer readings and each balise that was passed; then the driver acts. The train is a point that moves on level
+track; its antenna may be at a distance from its front. This model is not proved. The unit is anything with the calls of `unit.Unit`.
 """
 from collections.abc import Iterable
 from dataclasses import dataclass, field
@@ -16,71 +15,72 @@ from .drives import Act, Drive, Driver, Train, When
 MODES = {Mode.FULL_SUPERVISION: "FS", Mode.ON_SIGHT: "OS", Mode.STAFF_RESPONSIBLE: "SR", Mode.SHUNTING: "SH",
          Mode.UNFITTED: "UN", Mode.STAND_BY: "SB", Mode.TRIP: "TR", Mode.POST_TRIP: "PT", Mode.SYSTEM_FAILURE: "SF"}
 BEFORE = Output(0, Mode.STAND_BY, Level.INVALID, Brake.EMERGENCY, 0, Indication.NOT_REVALIDATED)
-"""What holds until the first output: the power-up's is never released."""
+"""The output until the first one is released: that of the power-up never is."""
 BRAKES = {brake: brake.name.lower() for brake in Brake}
 CM_PER_S = 36
-"""One cm/s is so many m/h."""
+"""1 cm/s in m/h."""
 CONFIRMS = {1: Action.CONFIRM_IDENTITY, 2: Action.CONFIRM_RUNNING_NUMBER, 3: Action.CONFIRM_TRAIN_DATA, 4: Action.CONFIRM_LEVEL}
 ACKNOWLEDGES = {1: Action.ACKNOWLEDGE_TRIP, 2: Action.ACKNOWLEDGE_ON_SIGHT, 3: Action.ACKNOWLEDGE_SHUNTING,
                 4: Action.ACKNOWLEDGE_LEVEL_0}
-ALONE = {6: Action.START, 7: Action.CHOOSE_SHUNTING, 8: Action.LEAVE_SHUNTING, 9: Action.OVERRIDE, 11: Action.CLOSE_DESK}
+WITHOUT_VALUE = {6: Action.START, 7: Action.CHOOSE_SHUNTING, 8: Action.LEAVE_SHUNTING, 9: Action.OVERRIDE, 11: Action.CLOSE_DESK}
 LOOKS_AHEAD_S, BAND, LEAST = 3, 5_000, 0.2
-"""A driver who heeds the limit looks so many seconds ahead, brakes fully so many m/h above his aim, and never less than so."""
+"""A driver who heeds the limit looks LOOKS_AHEAD_S seconds ahead and brakes fully at BAND m/h above his aim; LEAST is the least part
+of the service brake that he uses."""
 
 
 class Drivable(Protocol):
-    """The calls of a unit that a loop makes."""
+    """The calls of a unit that the loop uses."""
 
     def telegram(self, data: bytes) -> None:
-        """A balise sent these bytes."""
+        """Takes the bytes that a balise sent."""
 
     def odometer(self, movement_cm: int, speed_m_per_h: int) -> None:
-        """A reading."""
+        """Takes a reading."""
 
     def clock(self, moment_ms: int) -> None:
-        """A moment."""
+        """Takes a moment."""
 
     def action(self, action: Action) -> None:
-        """An action of the driver."""
+        """Takes an action of the driver."""
 
     def identity(self, text: str) -> None:
-        """He enters an identity."""
+        """The driver enters an identity."""
 
     def running_number(self, number: int) -> None:
-        """He enters a running number."""
+        """The driver enters a running number."""
 
     def train_data(self, data: TrainData) -> None:
-        """He enters train data."""
+        """The driver enters train data."""
 
     def flush(self) -> list[Output]:
-        """Records what is pending, and answers its outputs."""
+        """Records pending events, and returns their outputs."""
 
 
 # ---- the train
 
 class Motion:
-    """Where a train is, in cm, and how fast, in cm/s; how hard its brakes act, in cm/s2."""
+    """The place of a train in cm, its speed in cm/s, and the effect of its brakes in cm/s2."""
 
     def __init__(self, train: Train, place_cm: float = 0.0) -> None:
         self.train, self.place, self.speed, self.braking = train, place_cm, 0.0, 0.0
-        self.asked: list[tuple[int, float]] = [(0, 0.0)]
-        """What was asked of the brakes, each from some moment on."""
+        self.commands: list[tuple[int, float]] = [(0, 0.0)]
+        """The commands to the brakes, each from a moment on."""
         self.stands = True
-        """Whether it hasn't moved in the last time step: then the unit was given so."""
+        """Whether it didn't move in the last time step; the unit then got a standstill."""
 
-    def ask(self, moment: int, braking: float) -> None:
-        """From this moment on the brakes are asked for so much."""
-        if self.asked[-1][1] != braking:
-            self.asked.append((moment, braking))
+    def command(self, moment: int, braking: float) -> None:
+        """Commands the brakes from this moment on."""
+        if self.commands[-1][1] != braking:
+            self.commands.append((moment, braking))
 
     def due(self, moment: int) -> float:
-        """What reaches the brakes at a moment."""
-        while len(self.asked) > 1 and self.asked[1][0] + self.train.reaction_ms <= moment:
-            self.asked.pop(0)
-        return self.asked[0][1]
+        """The command that reaches the brakes at a moment."""
+        while len(self.commands) > 1 and self.commands[1][0] + self.train.reaction_ms <= moment:
+            self.commands.pop(0)
+        return self.commands[0][1]
 
     def brake(self, wanted: float, seconds: float) -> float:
-        """The brakes go towards what is wanted; their mean within the time."""
+        """Moves the brakes towards what is wanted; returns their mean effect over the time."""
         if not self.train.build_up_ms:
             self.braking = wanted
             return wanted
@@ -91,7 +91,7 @@ class Motion:
         return (part * (before + self.braking) / 2 + (seconds - part) * self.braking) / seconds
 
     def move(self, moment: int, ms: int, power: float) -> None:
-        """Moves for some ms from a moment on."""
+        """Moves for `ms` from a moment on."""
         seconds = ms / 1000
         braking, grip = self.brake(self.due(moment), seconds), self.train.grip(self.place)
         change = grip * (power * self.train.rate("acceleration", self.m_per_h) - braking)
@@ -112,7 +112,7 @@ class Motion:
 # ---- the driver
 
 class Driving:
-    """A driver at work."""
+    """The state of a driver."""
 
     def __init__(self, driver: Driver) -> None:
         self.driver, self.heeds = driver, driver.heeds
@@ -120,13 +120,13 @@ class Driving:
         self.limits: list[int] = []
         """The limits that he was shown, as far back as he is late."""
         self.shown: dict[str, int] = {}
-        """Since when he is shown what he is to acknowledge."""
+        """Since when each indication that he has to acknowledge is shown."""
         self.fall = 0.0
         self.left: list[tuple[Act, int | None]] = [(act, None) for act in driver.acts]
-        """What he hasn't done yet, and since when it is to be done."""
+        """The actions that he hasn't done yet, and since when their conditions hold."""
 
     def decide(self, speed: float, limit: int, ms: int) -> tuple[float, float]:
-        """How much of its power the train pulls with, and of its service brake it brakes with."""
+        """The shares of the train's power and of its service brake that he uses."""
         self.limits = [*self.limits, limit][-1 - -(-self.driver.late_ms // ms):]
         limit = self.limits[0]
         self.fall = max(0.0, ((self.limit or limit) - limit) / ms * 1000)
@@ -139,11 +139,11 @@ class Driving:
         return (1.0, 0.0) if speed < aim - BAND / 2 else (0.0, 0.0)
 
     def acts(self, moment: int, motion: Motion, output: Output) -> Iterable[list[Any]]:
-        """The actions that are due, each once; and what he acknowledges."""
+        """The actions that are due, each once, and the acknowledgements."""
         yield from self.acknowledgements(moment, motion, output)
         left = []
         for act, since in self.left:
-            if since is None and is_so(act.when, moment, motion, output):
+            if since is None and holds(act.when, moment, motion, output):
                 since = moment
             if since is None or since + act.after_ms > moment:
                 left.append((act, since))
@@ -154,7 +154,7 @@ class Driving:
         self.left = left
 
     def acknowledgements(self, moment: int, motion: Motion, output: Output) -> Iterable[list[Any]]:
-        """What he acknowledges: what has been shown for so long; a trip at standstill alone."""
+        """The acknowledgements that are due: of what has been shown long enough, and of a trip only at standstill."""
         if self.driver.acknowledges_ms is None:
             return
         for word, code in ACKNOWLEDGED.items():
@@ -165,8 +165,8 @@ class Driving:
                 yield [10, code]
 
 
-def is_so(when: When, moment: int, motion: Motion, output: Output) -> bool:
-    """Whether all is so."""
+def holds(when: When, moment: int, motion: Motion, output: Output) -> bool:
+    """Whether all parts of a condition hold."""
     return ((when.place_cm is None or motion.place >= when.place_cm) and (when.time_ms is None or moment >= when.time_ms)
             and (when.mode is None or MODES[output.mode] == when.mode)
             and (when.shows is None or Indication[when.shows.upper()] in output.indications)
@@ -177,7 +177,7 @@ def is_so(when: When, moment: int, motion: Motion, output: Output) -> bool:
 
 @dataclass(frozen=True)
 class Row:
-    """The end of a time step: the last event of it, what the train did, and what the unit said."""
+    """The end of a time step: its events, the train's state and the unit's output."""
 
     time_ms: int
     first_event: int
@@ -191,20 +191,20 @@ class Row:
 
     @property
     def above_m_per_h(self) -> int:
-        """How far the speed is above the limit; below 0 where it is below."""
+        """How far the speed is above the limit; negative if it is below."""
         return self.speed_m_per_h - self.limit_m_per_h
 
 
 @dataclass
 class Driven:
-    """What came of a drive."""
+    """The course of a drive."""
 
     rows: list[Row] = field(default_factory=list)
     outputs: list[Output] = field(default_factory=list)
     steps: list[dict[str, Any]] = field(default_factory=list)
-    """What the unit was given, as steps of a scenario."""
+    """The inputs of the unit, as steps of a scenario."""
     heard: list[tuple[float, str]] = field(default_factory=list)
-    """Each telegram, and from where its distances count."""
+    """Each telegram, and the place from which its distances count."""
 
     def lines(self) -> list[str]:
         """The outputs as `etcs run` prints them."""
@@ -221,18 +221,18 @@ class Loop:
         self.balises: list[tuple[int, int, str]] = [
             (group["at"] + number * group["spacing"] + drive.train.antenna_cm, group["at"], digits)
             for group in scenario.groups for number, digits in enumerate(group["balises"])]
-        """Where the front is when each balise is read, where its group begins, and what it sends, in that order."""
+        """For each balise the place of the front when it is read, the place where its group begins, and its telegram."""
         self.balises.sort(key=lambda balise: balise[0])
         self.motion = Motion(drive.train)
-        self.told_cm, self.share = 0, 1.0
+        self.reported_cm, self.share = 0, 1.0
         self.base: tuple[float, int] = 0.0, 0
-        """From where on the odometer says that share of the way, and what it had reported then."""
+        """The place from which the odometer reports that share of the distance, and what it had reported there."""
         self.error_cm = 0
-        """By how much the readings of a time step are off."""
+        """The error of the readings of a time step."""
 
     def accept(self, step: dict[str, Any], origin_cm: float | None = None) -> None:
-        """Hands the unit one event, reported as the step of a scenario; of a telegram it may be reported where its group begins. Where
-        no more may be pending, what is pending is recorded first."""
+        """Gives the unit one event, written as the step of a scenario; `origin_cm` is where the group of a telegram begins. If no more
+        events may be pending, they are recorded first."""
         if self.pending == OUTPUTS:
             self.flush()
         (word, value), = step.items()
@@ -250,9 +250,9 @@ class Loop:
         self.pending += 1
         self.driven.steps.append(step)
 
-    def act(self, told: list[Any]) -> None:
-        """Hands the unit an action, by the code and values of a scenario."""
-        code, *values = told
+    def act(self, action: list[Any]) -> None:
+        """Gives the unit an action, by the code and values of a scenario."""
+        code, *values = action
         if code == 1:
             self.unit.identity(values[0])
         elif code == 2:
@@ -262,10 +262,10 @@ class Loop:
         elif code == 4:
             self.unit.action(Action.CHOOSE_LEVEL_1 if values[0] else Action.CHOOSE_LEVEL_0)
         else:
-            self.unit.action({5: CONFIRMS, 10: ACKNOWLEDGES}[code][values[0]] if values else ALONE[code])
+            self.unit.action({5: CONFIRMS, 10: ACKNOWLEDGES}[code][values[0]] if values else WITHOUT_VALUE[code])
 
     def flush(self) -> None:
-        """What is pending is recorded, and its outputs hold."""
+        """Records pending events, and takes their outputs."""
         outputs = self.unit.flush()
         if outputs:
             self.driven.steps.append({"flush": True})
@@ -274,37 +274,37 @@ class Loop:
         self.pending = 0
 
     def pass_to(self, end_cm: float, speed: int) -> None:
-        """The unit is given of a way up to a place, and of the balises on it."""
-        begun, is_told = self.motion.place, False
+        """Gives the unit the movement up to a place, and the balises that are passed."""
+        start, is_read = self.motion.place, False
         for place, origin, digits in self.balises:
-            if begun < place <= end_cm:
+            if start < place <= end_cm:
                 self.motion.place = place
-                self.read(speed, self.told_here() != self.told_cm)
+                self.read(speed, self.measured() != self.reported_cm)
                 self.accept({"telegram": digits}, origin)
-                is_told = True
+                is_read = True
         self.motion.place = end_cm
-        self.read(speed, not is_told or self.told_here() != self.told_cm)
+        self.read(speed, not is_read or self.measured() != self.reported_cm)
 
-    def told_here(self) -> int:
-        """What the odometer says about the whole way up to where the train is. With an error it neither goes back, nor on while
-        the train stands."""
-        place, told = self.base
-        here = told + round((self.motion.place - place) * self.share)
+    def measured(self) -> int:
+        """The distance up to the train's place as the odometer measures it. With an error it doesn't decrease, and doesn't change at
+        standstill."""
+        place, reported = self.base
+        here = reported + round((self.motion.place - place) * self.share)
         if not self.error_cm:
             return here
-        return self.told_cm if self.motion.stands else max(self.told_cm, here + self.error_cm)
+        return self.reported_cm if self.motion.stands else max(self.reported_cm, here + self.error_cm)
 
     def read(self, speed: int, is_wanted: bool) -> None:
-        """Readings of the odometer up to where the train is, each of at most 100 m, the longest ones first."""
-        told = self.told_here()
+        """Gives the unit readings of the odometer up to the train's place, each of at most 100 m, the longest ones first."""
+        end = self.measured()
         while is_wanted:
-            way = max(-LONGEST_CM, min(LONGEST_CM, told - self.told_cm))
+            way = max(-LONGEST_CM, min(LONGEST_CM, end - self.reported_cm))
             self.accept({"drive": [way, speed]})
-            self.told_cm += way
-            is_wanted = self.told_cm != told
+            self.reported_cm += way
+            is_wanted = self.reported_cm != end
 
     def begin(self) -> None:
-        """Plays the steps that stand before the drive. What they drive is reported as it is."""
+        """Plays the steps before the drive. The odometer measures their movements exactly."""
         for step in self.scenario.steps:
             if "drive" in step:
                 way, speed = step["drive"]
@@ -314,21 +314,21 @@ class Loop:
             else:
                 self.accept(step)
         self.flush()
-        self.base, self.share = (self.motion.place, self.told_cm), float(self.drive.train.odometer)
+        self.base, self.share = (self.motion.place, self.reported_cm), float(self.drive.train.odometer)
 
     def cycle(self, driving: Driving) -> None:
         """One time step."""
-        motion, step_ms, begun = self.motion, self.drive.step_ms, self.moment
+        motion, step_ms, start = self.motion, self.drive.step_ms, self.moment
         power, own = driving.decide(motion.m_per_h, self.output.limit_m_per_h, step_ms)
         service, emergency = (self.drive.train.rate(name, motion.m_per_h) for name in ("service", "emergency"))
         commanded = {Brake.NONE: 0, Brake.SERVICE: service, Brake.EMERGENCY: emergency}
-        motion.ask(begun, max(own * service, commanded[self.output.brake]))
+        motion.command(start, max(own * service, commanded[self.output.brake]))
         before, known = motion.place, len(self.driven.outputs)
-        motion.move(begun, step_ms, 0.0 if own or self.output.brake != Brake.NONE else power)
+        motion.move(start, step_ms, 0.0 if own or self.output.brake != Brake.NONE else power)
         end, motion.place = motion.place, before
         speed = round(motion.m_per_h * float(self.drive.train.speedometer))
         self.error_cm = -self.error_cm if self.error_cm else self.drive.train.reading_error_cm
-        self.accept({"clock": begun + step_ms})
+        self.accept({"clock": start + step_ms})
         self.pass_to(end, 0 if motion.stands else max(1, speed))
         for action in driving.acts(self.moment, motion, self.output):
             self.accept({"driver": action})

@@ -1,5 +1,5 @@
-"""Random lives for campaigns: scenarios that a unit accepts, of a train that mostly drives forward and heeds most of what
-it is reported. The same numbers give the same life.
+"""Make random lives for campaigns: scenarios that a unit accepts, with a train that mostly drives forward. The same numbers give the
+same life.
 """
 import functools
 import json
@@ -16,18 +16,18 @@ SPEEDS = (5_000, 20_000, 40_000, 80_000, 120_000, 160_000)
 
 @functools.lru_cache(maxsize=None)
 def digits(text: str) -> str:
-    """A telegram's digits."""
+    """The digits of a telegram."""
     return telegrams.telegram(text).digits
 
 
 def authority(numbers: random.Random, group: int) -> str:
-    """A group with an authority, and mostly with its track."""
+    """A group with an authority, and mostly with gradients and speeds."""
     way = numbers.choice((200, 500, 1_000, 2_000, 5_000))
-    told = f"NID_BG {group}; 12: V_MAIN {numbers.choice((8, 16, 24, 32))}, L_ENDSECTION {way}"
+    text = f"NID_BG {group}; 12: V_MAIN {numbers.choice((8, 16, 24, 32))}, L_ENDSECTION {way}"
     if numbers.random() < 0.9:
-        told += (f"; 21: D_GRADIENT 0, Q_GDIR {numbers.randrange(2)}, G_A {numbers.choice((0, 0, 5, 20))}"
+        text += (f"; 21: D_GRADIENT 0, Q_GDIR {numbers.randrange(2)}, G_A {numbers.choice((0, 0, 5, 20))}"
                  f"; 27: D_STATIC 0, V_STATIC {numbers.choice((12, 20, 28))}, Q_FRONT {numbers.randrange(2)}, N_ITER 0")
-    return digits(told)
+    return digits(text)
 
 
 def restriction(numbers: random.Random, group: int) -> str:
@@ -48,7 +48,7 @@ def groups(numbers: random.Random) -> list[dict[str, Any]]:
 
 
 def step(numbers: random.Random, moment: int) -> dict[str, Any]:
-    """A further step."""
+    """A random step."""
     chance = numbers.random()
     if chance < 0.55:
         return {"drive": [numbers.choice((100, 1_000, 5_000, 20_000)), numbers.choice(SPEEDS)]}
@@ -64,7 +64,7 @@ def step(numbers: random.Random, moment: int) -> dict[str, Any]:
 
 
 def scenario(numbers: random.Random) -> bytes:
-    """The bytes of a random scenario: in most of them the train is made ready first."""
+    """The bytes of a random scenario; most of them first make the train ready."""
     steps: list[dict[str, Any]] = []
     if numbers.random() < 0.9:
         steps.append({"telegram": authority(numbers, 2)})
@@ -75,5 +75,5 @@ def scenario(numbers: random.Random) -> bytes:
     for _ in range(numbers.randrange(MOST_STEPS)):
         moment += numbers.choice((500, 1_000, 5_000))
         steps.append(step(numbers, moment))
-    told = {"groups": groups(numbers), "steps": steps, "cold": numbers.randrange(3)}
-    return json.dumps(told, separators=(",", ":")).encode()
+    members = {"groups": groups(numbers), "steps": steps, "cold": numbers.randrange(3)}
+    return json.dumps(members, separators=(",", ":")).encode()

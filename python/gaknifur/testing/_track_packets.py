@@ -311,7 +311,7 @@ LAYOUTS: dict[int, str] = {
     141: "Q_GDIR G_TSR",
     254: "",
 }
-"""What follows L_PACKET in a packet that is skipped, and in packet 3 as a track sends it."""
+"""The part after L_PACKET of a skipped packet, and of packet 3 as a track sends it."""
 
 NOT_OBEYED = (16, 39, 42, 44, 45, 46, 49, 51, 67, 68, 70, 71, 72, 76, 79, 90, 131, 132, 133, 134, 135, 136, 137, 138, 139, 141, 254)
 """Packets that a balise may send in issue 2.3.0 and the kernel skips."""

@@ -1,4 +1,4 @@
-"""The files of test cases below a folder, and what they name."""
+"""Find the files of test cases below a folder, and the files that they name."""
 import contextlib
 import os
 from pathlib import Path
@@ -9,15 +9,15 @@ SUFFIXES = (".yaml", ".yml", ".json")
 
 
 def files_of(path: Path) -> list[Path]:
-    """A file, and all files that it and these name as `include` or `scenario`, each once; one that is no YAML names none."""
+    """A file, and all files that it and these name as `include` or `scenario`, each once. A file that isn't YAML names none."""
     from ..yaml_files import documents  # (YAML takes a while to load, and a folder of scenarios has none)
     found = [path.resolve()]
     for one in found:
         try:
-            told = documents(one) if one.suffix in (".yaml", ".yml") else []
+            found_documents = documents(one) if one.suffix in (".yaml", ".yml") else []
         except Failed:
             continue
-        for name in (name for document in told for name in document.below(("include", "scenario"))):
+        for name in (name for document in found_documents for name in document.below(("include", "scenario"))):
             try:
                 other = name.file().resolve()
             except Failed:
@@ -33,8 +33,7 @@ def is_case_file(name: str) -> bool:
 
 
 def names_below(folder: Path) -> list[str]:
-    """The names, as they are below a folder, of the files that may have a case or a scenario, in their order. A folder that may not
-    be looked into has none."""
+    """The names, relative to a folder, of the files that may have a case or a scenario, in order. A folder that can't be read has none."""
     found, within = list[str](), [""]
     for at in within:
         with contextlib.suppress(OSError), os.scandir(folder / at) as entries:
@@ -47,7 +46,7 @@ def names_below(folder: Path) -> list[str]:
 
 
 def below(folder: Path) -> tuple[list[str], list[str]]:
-    """The files of cases below a folder, and the scenarios in JSON that none of them names, by their names there."""
+    """The names of the case files below a folder, and of the JSON scenarios that none of them names."""
     if not folder.is_dir():
         raise Failed(f"{folder}: no such folder", DEVICE)
     names = names_below(folder)

@@ -1,7 +1,7 @@
-"""Plays a test case on the programs, and judges its expected results by the records that `etcs_lab events` reports.
+"""Run a test case on the programs, and judge its expected results by the records that `etcs_lab events` prints.
 
-A journal is judged only where each life ended as reported, each output that was released is that of its record, the image
-is whole, and a replay by the kernel agrees with all of it.
+A journal is judged only if each life ended as expected, each released output is that of its record, the image is whole, and a
+replay by the kernel agrees with all of it.
 """
 from collections.abc import Callable, Sequence
 from dataclasses import dataclass
@@ -21,24 +21,24 @@ from .soundness import check_image as check_image
 from .soundness import check_released as check_released
 
 Keep = Callable[[bytes], None]
-"""What takes the image of a case."""
+"""Receives the image of a case."""
 
 
 @dataclass
 class Played:
-    """The records of a case, with the speeds that hold and the marks."""
+    """The records of a case, with their speeds, and the marks."""
 
     records: list[Json]
     marks: dict[str, int]
-    """Of each mark the index of its record."""
+    """The index of each mark's record."""
     journal: Journal | None = None
-    """The journal that they are of, as `etcs_lab` reported it."""
+    """Their journal, as `etcs_lab` read it."""
 
 
 # ---- playing
 
 def run_life(case: Case, life: Life, image: Path, folder: Path) -> list[str]:
-    """Runs a life, and answers the lines that it printed. It has to end as reported."""
+    """Runs a life, and returns the outputs that it printed. It has to end as expected."""
     scenario = life.path
     if life.scenario:
         scenario = folder / "scenario.json"
@@ -55,7 +55,7 @@ def run_life(case: Case, life: Life, image: Path, folder: Path) -> list[str]:
 
 
 def place_of(life: Life, ended: str) -> str:
-    """Where the steps of a life stand that was refused."""
+    """The lines of the steps of a life that was refused or stopped."""
     if life.scenario and life.scenario.places and ended.startswith(("refused", "stopped")):
         first, last = life.scenario.places[0].line, life.scenario.places[-1].line
         return f" (steps of lines {first} to {last})"
@@ -63,10 +63,10 @@ def place_of(life: Life, ended: str) -> str:
 
 
 def play(case: Case, keep: Keep | None = None, why: bool = False) -> Played:
-    """Plays the lives of a case in turn on one image, and reads what was recorded, with `why` the causes of brakes and limits too.
-    The image is handed to `keep`, also where the lives didn't end as reported."""
-    with program.room(case.slots) as room:
-        folder, image = Path(room), Path(room) / "image"
+    """Runs the lives of a case in turn on one image, and reads the records; with `why` also the causes of brakes and limits. `keep`
+    receives the image, also if the lives didn't end as expected."""
+    with program.temporary_folder(case.slots) as name:
+        folder, image = Path(name), Path(name) / "image"
         program.format_image(image, case.slots)
         released: list[str] = []
         driven: list[Driven | None] = []
@@ -86,7 +86,7 @@ def play(case: Case, keep: Keep | None = None, why: bool = False) -> Played:
 
 
 def drive(life: Life, image: Path) -> Driven | None:
-    """Plays a life that is a drive; None of one that isn't."""
+    """Runs a life that is a drive; None for any other life."""
     if not life.drive or not life.scenario:
         return None
     driven, data = closed_loop.over_image(image.read_bytes(), life.scenario, life.drive)
@@ -95,7 +95,7 @@ def drive(life: Life, image: Path) -> Driven | None:
 
 
 def with_trains(records: list[Json], driven: list[Driven | None]) -> list[Json]:
-    """The records with the train itself, where there is one."""
+    """The records, with the values of the train itself in a drive."""
     rows = {event: (row, location) for one in driven if one for location in (location_of(one),) for row in one.rows
             for event in range(row.first_event, row.event + 1)}
     found = []
@@ -106,14 +106,14 @@ def with_trains(records: list[Json], driven: list[Driven | None]) -> list[Json]:
 
 
 def location_of(driven: Driven) -> int | None:
-    """The supervised location of the authority that was heard last in a drive."""
+    """The supervised location of the last authority of a drive."""
     ends = closed_loop.ends_of(driven)
     return ends[1] if ends else None
 
 
 def with_speeds(records: Sequence[Json]) -> list[Json]:
-    """The records with the speed that holds after each: that of the life's last reading, 0 before the first one; unknown
-    where the beginning of the life was written over."""
+    """The records with the speed after each: that of the life's last reading, 0 before the first one, and unknown if the beginning of
+    the life was overwritten."""
     found: list[Json] = []
     speed: int | None = None
     for record in records:
@@ -125,7 +125,7 @@ def with_speeds(records: Sequence[Json]) -> list[Json]:
 
 
 def marked(case: Case, records: list[Json], driven: list[Driven | None] | None = None) -> dict[str, int]:
-    """The index of the record of each mark. Each life has just the events that its scenario, or its drive, comes to."""
+    """The index of each mark's record. Fails if a life has another number of events than its scenario or its drive."""
     begins = {record["life"]: index for index, record in enumerate(records) if record["kind"] == "powerup"}
     lives = [(life, one) for life, one in zip(case.lives, driven or [None] * len(case.lives))
              if not (life.ends or "").startswith("refused")]
@@ -147,7 +147,7 @@ def marked(case: Case, records: list[Json], driven: list[Driven | None] | None =
 # ---- judging
 
 def is_met(condition: Condition, played: Played, index: int) -> bool:
-    """Whether a record is as a condition asks."""
+    """Whether a record meets a condition."""
     if condition.is_end:
         return index == len(played.records) - 1
     if condition.mark is not None and played.marks.get(condition.mark) != index:
@@ -157,15 +157,15 @@ def is_met(condition: Condition, played: Played, index: int) -> bool:
 
 
 def first_met(condition: Condition, played: Played, start: int = 0) -> int:
-    """The index of the first record from one on that is as a condition asks."""
+    """The index of the first record, from `start` on, that meets a condition."""
     for index in range(start, len(played.records)):
         if is_met(condition, played, index):
             return index
-    raise Missed(f"a record with {condition.text}", f"none of {len(played.records)} records is so")
+    raise Missed(f"a record with {condition.text}", f"none among {len(played.records)} records")
 
 
 def check(condition: Condition, record: Json) -> None:
-    """The record is as the condition asks; else the first name that isn't is reported."""
+    """Fails at the first value of the record that the condition excludes."""
     for name, test in condition.tests.items():
         found = record.get(name)
         if not test.holds(found):
@@ -174,7 +174,7 @@ def check(condition: Condition, record: Json) -> None:
 
 
 def check_row(row: Row, table: Table, played: Played, index: int) -> None:
-    """The record changes the mode as a row of the mode table does."""
+    """Fails unless the record changes the mode as a row of the mode table does."""
     sources, target = table[row.number]
     record, before = played.records[index], played.records[index - 1] if index else None
     sources = [row.source] if row.source else sources
@@ -185,48 +185,48 @@ def check_row(row: Row, table: Table, played: Played, index: int) -> None:
 
 
 def judge_stretch(expected: Expected, played: Played) -> None:
-    """`always` or `never`, over the records of a stretch. Where no record is there to be judged, neither holds."""
-    told = expected.conditions
-    first = first_met(told["from"], played) if "from" in told else 0
-    last = first_met(told["until"], played, first) if "until" in told else len(played.records) - 1
-    asked = told["always"] if "always" in told else told["never"]
-    needed = [name for name in DRIVEN if name in asked.tests]
+    """Judges `always` or `never` over the records of a stretch. Without a record to judge, neither holds."""
+    conditions = expected.conditions
+    first = first_met(conditions["from"], played) if "from" in conditions else 0
+    last = first_met(conditions["until"], played, first) if "until" in conditions else len(played.records) - 1
+    condition = conditions["always"] if "always" in conditions else conditions["never"]
+    needed = [name for name in DRIVEN if name in condition.tests]
     judged = [index for index in range(first, last + 1) if all(name in played.records[index] for name in needed)
-              and ("where" not in told or is_met(told["where"], played, index))]
+              and ("where" not in conditions or is_met(conditions["where"], played, index))]
     if not judged:
-        which = (" of a drive" if needed else "") + (f" with {told['where'].text}" if "where" in told else "")
+        which = (" of a drive" if needed else "") + (f" with {conditions['where'].text}" if "where" in conditions else "")
         raise Missed("records to be judged", f"there is none{which}")
     for index in judged:
-        if "always" in told:
-            check(told["always"], played.records[index])
-        elif is_met(told["never"], played, index):
-            raise Missed(f"never {told['never'].text}", "it is so", played.records[index])
+        if "always" in conditions:
+            check(conditions["always"], played.records[index])
+        elif is_met(conditions["never"], played, index):
+            raise Missed(f"never {conditions['never'].text}", "this record has it", played.records[index])
 
 
 def judge_within(expected: Expected, played: Played) -> None:
-    """`after`: the condition is met within so many events, ms or cm, in the same life."""
-    told, ((word, most),) = expected.conditions, expected.within.items()
-    start = first_met(told["after"], played)
+    """Judges `after`: the condition is met within a number of events, ms or cm, in the same life."""
+    conditions, ((word, most),) = expected.conditions, expected.within.items()
+    start = first_met(conditions["after"], played)
     first, name = played.records[start], WITHIN[word]
     for index in range(start, len(played.records)):
         record = played.records[index]
         if record["life"] != first["life"] or abs(record[name] - first[name]) > most:
             break
-        if is_met(told["expect"], played, index):
+        if is_met(conditions["expect"], played, index):
             return
-    raise Missed(f"{told['expect'].text} within {most} {word.removeprefix('within_')}", "it didn't come", first)
+    raise Missed(f"{conditions['expect'].text} within {most} {word.removeprefix('within_')}", "no such record", first)
 
 
 def judge(expected: Expected, played: Played, table: Table) -> None:
-    """Raises where an expected result didn't come."""
-    told = expected.conditions
-    if "at" in told:
-        index = first_met(told["at"], played)
+    """Raises `Missed` if an expected result didn't come."""
+    conditions = expected.conditions
+    if "at" in conditions:
+        index = first_met(conditions["at"], played)
         if expected.row:
             check_row(expected.row, table, played, index)
-        if "expect" in told:
-            check(told["expect"], played.records[index])
-    elif "after" in told:
+        if "expect" in conditions:
+            check(conditions["expect"], played.records[index])
+    elif "after" in conditions:
         judge_within(expected, played)
     else:
         judge_stretch(expected, played)

@@ -1,7 +1,7 @@
-"""Test cases in the words of SUBSET-076: what a case tests, how it starts, its lives, and the results that it expects.
+"""Read test cases, with the terms of SUBSET-076: what a case tests, how it starts, its lives, and the results that it expects.
 
-docs/reference/test-cases.md has each key. A word that isn't there is a fault with its file, line and column, and so is a
-key reported twice; nothing is left out in silence.
+docs/reference/test-cases.md describes each key. An unknown key is an error with its file, line and column, and so is a key
+that is given twice; nothing is ignored silently.
 """
 import re
 from collections import Counter
@@ -30,13 +30,13 @@ UNKNOWN = "unknown"
 CONDITION = (*NUMBERS, *WORDS, *SHOWS, "indications")
 DRIVEN = ("train_place_cm", "train_place_m", "train_speed_m_per_h", "train_speed_kmh", "above_limit_m_per_h", "above_limit_kmh",
           "beyond_location_cm", "beyond_location_m")
-"""What is known of the train itself, where a life is a drive in a closed loop."""
+"""Values of the train itself, which a drive in a closed loop has."""
 WITHIN = {"within_events": "event", "within_ms": "time_ms", "within_cm": "place_cm"}
 EXPECTED = ("note", "sections", "rule", "at", "expect", "row", "from", "until", "where", "always", "never", "after", *WITHIN)
 CASE = ("test_case", "feature", "sections", "rule", "starting_conditions", "lives")
 MORE = ("slots", "expected", "include", "telegrams", "parts", "shows")
 ADVICE, MOST_ITEM = "advice", 999
-"""What a case may say to show, along with items of docs/explain/safety.md: what `etcs_lab lint` advises."""
+"""What a case may list under `shows` besides the items of docs/explain/safety.md: the advice of `etcs_lab lint`."""
 END = "end"
 ROW = re.compile(r"([0-9]{1,4})(?: from ([A-Z]{2}))?")
 MOST_SLOTS, USUAL_SLOTS = 4096, 64
@@ -45,7 +45,7 @@ LEVELS = (0, 1)
 
 @dataclass(frozen=True)
 class Test:
-    """Whether a value of a record is as a condition asks, and how that is said."""
+    """The test of a value of a record, and its text."""
 
     holds: Callable[[Any], bool]
     text: str
@@ -53,7 +53,7 @@ class Test:
 
 @dataclass(frozen=True)
 class Condition:
-    """What a record has to be: the tests by the names of its values; perhaps the record of a mark, or the last one."""
+    """The tests of a record, by the names of its values; it may also have to be the record of a mark, or the last one."""
 
     at: Value
     tests: dict[str, Test]
@@ -62,22 +62,22 @@ class Condition:
 
     @property
     def text(self) -> str:
-        """The condition, for people."""
-        told = [f"mark {self.mark}"] if self.mark else []
-        told += [f"{name} {test.text}" for name, test in self.tests.items()]
-        return "the last record" if self.is_end else ", ".join(told) or "any record"
+        """The condition as text."""
+        parts = [f"mark {self.mark}"] if self.mark else []
+        parts += [f"{name} {test.text}" for name, test in self.tests.items()]
+        return "the last record" if self.is_end else ", ".join(parts) or "any record"
 
 
 @dataclass(frozen=True)
 class Row:
-    """A row of the mode table (`tools/tables`), and the mode from which it leads, where it has several."""
+    """A row of the mode table (`tools/tables`), and the mode from which it leads, if it has several."""
 
     number: int
     source: str | None
 
     @property
     def text(self) -> str:
-        """The row, for people."""
+        """The row as text."""
         return f"{self.number}{f' from {self.source}' if self.source else ''}"
 
 
@@ -95,21 +95,21 @@ class Expected:
 
     @property
     def names(self) -> set[str]:
-        """The names of the values that it asks for."""
+        """The names of the values that it tests."""
         return {name for condition in self.conditions.values() for name in condition.tests} | {WITHIN[name] for name in self.within} | (
             {"mode"} if self.row else set())
 
 
 @dataclass(frozen=True)
 class Life:
-    """A life: its scenario, of this file or of another one, and how it ends where it isn't carried out."""
+    """A power cycle (life): its scenario, of this file or another one, and how it ends if it isn't carried out."""
 
     at: Value
     scenario: scenarios.Scenario | None
     path: Path | None
     ends: str | None
     drive: drives.Drive | None = None
-    """How it goes on in a closed loop after its steps."""
+    """The drive in a closed loop after its steps."""
 
 
 @dataclass(frozen=True)
@@ -126,15 +126,15 @@ class Case:
     lives: list[Life]
     expected: list[Expected] = field(default_factory=list)
     shows: list[Value] = field(default_factory=list)
-    """The items of docs/explain/safety.md that it is there to show, so that `lab lint` doesn't report them."""
+    """The items of docs/explain/safety.md that it is meant to show, so that `lab lint` doesn't report them."""
 
     @property
     def path(self) -> Path:
-        """The file where it stands."""
+        """The file that contains it."""
         return self.at.path
 
     def marks(self) -> dict[str, tuple[int, int]]:
-        """Of each mark its life, from 1 on, and how many events of that come before it."""
+        """The life of each mark, from 1 on, and the number of the life's events before it."""
         return {name: (number, events) for number, life in enumerate(self.lives, 1) if life.scenario
                 for name, events in life.scenario.marks.items()}
 
@@ -144,26 +144,26 @@ class Case:
 def decimal_test(at: Value, name: str) -> Test:
     """A number, or one within limits."""
     if at.is_mapping():
-        told = {key: told_number(one, name) for key, one in at.members((), ("least", "most")).items()}
-        if not told:
+        limits = {key: number_of(one, name) for key, one in at.members((), ("least", "most")).items()}
+        if not limits:
             raise at.fault(f"{name} needs `least` or `most`")
-        least, most = told.get("least"), told.get("most")
+        least, most = limits.get("least"), limits.get("most")
         if least is not None and most is not None and least > most:
-            raise at.fault(f"no number is both {least} at least and {most} at most")
-        text = " and ".join(f"{key} {number}" for key, number in told.items())
+            raise at.fault(f"no number is at least {least} and at most {most}")
+        text = " and ".join(f"{key} {number}" for key, number in limits.items())
         return Test(lambda found: found is not None and (least is None or found >= least) and (most is None or found <= most),
                     text)
     if at.is_text() and at.text() == UNKNOWN and name not in ("event", "life", "block", "time_ms"):
         return Test(lambda found: found is None, UNKNOWN)
-    number = told_number(at, name)
+    number = number_of(at, name)
     return Test(lambda found: found is not None and found == number, str(number))
 
 
-def told_number(at: Value, name: str) -> Decimal:
+def number_of(at: Value, name: str) -> Decimal:
     """A number that a value of this name may have."""
     number = at.number()
     if name == "level" and number not in LEVELS:
-        raise at.fault(f"expected level 0, 1 or {UNKNOWN}, found {at.told_by()}")
+        raise at.fault(f"expected level 0, 1 or {UNKNOWN}, found {at.describe()}")
     return number
 
 
@@ -195,14 +195,15 @@ def test_of(name: str, at: Value) -> Test:
 
 
 def condition(at: Value, marks: Iterable[str], is_when: bool, is_driven: bool = False) -> Condition:
-    """A condition. A WHEN may name a mark, or the last record; where a life is a drive, all may ask for the train itself."""
+    """A condition. `at`, `from`, `until` and `after` may name a mark, or the last record; if a life is a drive, conditions may also test
+    values of the train itself."""
     if is_when and at.is_text() and at.text() == END:
         return Condition(at, {}, is_end=True)
-    told = at.members((), (*CONDITION, *(DRIVEN if is_driven else ()), *(["mark"] if is_when else [])))
-    if not told:
+    members = at.members((), (*CONDITION, *(DRIVEN if is_driven else ()), *(["mark"] if is_when else [])))
+    if not members:
         raise at.fault("a condition needs at least one name")
-    mark = told["mark"].one_of(marks) if "mark" in told else None
-    return Condition(at, {name: test_of(name, value) for name, value in told.items() if name != "mark"}, mark)
+    mark = members["mark"].one_of(marks) if "mark" in members else None
+    return Condition(at, {name: test_of(name, value) for name, value in members.items() if name != "mark"}, mark)
 
 
 # ---- an expected result
@@ -212,9 +213,9 @@ FORMS = (({"at"}, {"expect", "row"}), ({"always"}, {"from", "until", "where"}), 
 WHENS = ("at", "from", "until", "after")
 
 
-def check_form(at: Value, told: dict[str, Value]) -> None:
-    """Which words stand together."""
-    found = set(told) - {"note", "sections", "rule"}
+def check_form(at: Value, members: dict[str, Value]) -> None:
+    """Refuses keys that can't be combined."""
+    found = set(members) - {"note", "sections", "rule"}
     form = next((form for form in FORMS if form[0] <= found <= form[0] | form[1]), None)
     if form is None:
         raise at.fault("an expected result is one of: at with expect or row; always or never, perhaps with from, until, where; "
@@ -241,14 +242,14 @@ def row_of(at: Value) -> Row:
 
 def expected_of(at: Value, sections: list[str], rule: str, marks: Iterable[str], is_driven: bool = False) -> Expected:
     """An expected result of a case."""
-    told = at.members(("note",), EXPECTED)
-    check_form(at, told)
-    conditions = {name: condition(told[name], marks, name in WHENS, is_driven)
-                  for name in (*WHENS, "expect", "where", "always", "never") if name in told}
-    return Expected(at, told["note"].text(), sections_of(told["sections"]) if "sections" in told else sections,
-                    told["rule"].text() if "rule" in told else rule, conditions,
-                    {name: told[name].integer(0, 1 << 40) for name in WITHIN if name in told},
-                    row_of(told["row"]) if "row" in told else None)
+    members = at.members(("note",), EXPECTED)
+    check_form(at, members)
+    conditions = {name: condition(members[name], marks, name in WHENS, is_driven)
+                  for name in (*WHENS, "expect", "where", "always", "never") if name in members}
+    return Expected(at, members["note"].text(), sections_of(members["sections"]) if "sections" in members else sections,
+                    members["rule"].text() if "rule" in members else rule, conditions,
+                    {name: members[name].integer(0, 1 << 40) for name in WITHIN if name in members},
+                    row_of(members["row"]) if "row" in members else None)
 
 
 # ---- a case
@@ -258,38 +259,38 @@ SECTION = re.compile(r"[3-8](\.[0-9]+)*( packet [0-9]+)?")
 
 def sections_of(at: Value) -> list[str]:
     """Sections of SUBSET-026."""
-    told = at.elements() if at.is_list() else [at]
-    for one in told:
+    values = at.elements() if at.is_list() else [at]
+    for one in values:
         if not SECTION.fullmatch(one.text()):
             raise one.fault(f"\"{shortened(one.text())}\" is not a section of SUBSET-026, such as 3.8.1 or 7.4.2 packet 12")
-    if not told:
+    if not values:
         raise at.fault("a section is missing")
-    return [one.text() for one in told]
+    return [one.text() for one in values]
 
 
 def life_of(at: Value, shared: scenarios.Shared) -> Life:
     """A life of a case."""
-    told = at.members((), (*scenarios.LIFE, "drive", "scenario", "ends"))
-    ends = told["ends"].text() if "ends" in told else None
-    if "drive" in told and ends:
-        raise told["ends"].fault("a drive is always carried out; how it ends is an expected result")
-    if "scenario" not in told:
-        if "steps" not in told:
+    members = at.members((), (*scenarios.LIFE, "drive", "scenario", "ends"))
+    ends = members["ends"].text() if "ends" in members else None
+    if "drive" in members and ends:
+        raise members["ends"].fault("a drive is always carried out; how it ends is an expected result")
+    if "scenario" not in members:
+        if "steps" not in members:
             raise at.fault("a life needs steps, or a scenario of another file")
-        return Life(at, scenarios.build(told, shared), None, ends, drives.drive_of(told["drive"]) if "drive" in told else None)
-    if set(told) - {"scenario", "ends"}:
+        return Life(at, scenarios.build(members, shared), None, ends, drives.drive_of(members["drive"]) if "drive" in members else None)
+    if set(members) - {"scenario", "ends"}:
         raise at.fault("a life has steps, or a scenario of another file, and not both")
-    path = told["scenario"].file()
+    path = members["scenario"].file()
     if path.suffix in (".yaml", ".yml"):
         scenario, drive = drives.read(path)
         if drive and ends:
-            raise told["ends"].fault("a drive is always carried out; how it ends is an expected result")
+            raise members["ends"].fault("a drive is always carried out; how it ends is an expected result")
         return Life(at, scenario, None, ends, drive)
     return Life(at, None, path, ends)
 
 
 def slots_of(lives: list[Life]) -> int:
-    """How many slots an image has where none are reported: drives need one for each time step."""
+    """The number of slots of an image if none is given: drives need one for each time step."""
     needed = sum(drives.slots_for(life.scenario, life.drive) for life in lives if life.scenario and life.drive)
     for life in lives:
         if needed >= drives.MOST_SLOTS and life.drive:
@@ -308,7 +309,7 @@ def shows_of(at: Value) -> list[Value]:
 
 
 def marks_of(at: Value, lives: list[Life]) -> Counter[str]:
-    """The marks of lives, each of which marks one event."""
+    """The marks of lives. Refuses a name that marks several events."""
     marks = Counter(name for life in lives if life.scenario for name in life.scenario.marks)
     for name, times in marks.items():
         if times > 1:
@@ -318,19 +319,19 @@ def marks_of(at: Value, lives: list[Life]) -> Counter[str]:
 
 def case_of(at: Value) -> Case:
     """The case of a document."""
-    told = at.members(CASE, MORE)
-    shared = scenarios.shared_of({name: told[name] for name in scenarios.SHARED if name in told}, at.path)
-    lives = [life_of(one, shared) for one in told["lives"].elements()]
+    members = at.members(CASE, MORE)
+    shared = scenarios.shared_of({name: members[name] for name in scenarios.SHARED if name in members}, at.path)
+    lives = [life_of(one, shared) for one in members["lives"].elements()]
     if not lives:
-        raise told["lives"].fault("a case needs at least one life")
-    case = Case(at, told["test_case"].text(), told["feature"].text(), sections_of(told["sections"]), told["rule"].text(),
-                told["starting_conditions"].text(), told["slots"].integer(2, MOST_SLOTS) if "slots" in told else slots_of(lives), lives,
-                shows=shows_of(told["shows"]) if "shows" in told else [])
-    marks = marks_of(told["lives"], lives)
-    for one in told["expected"].elements() if "expected" in told else []:
+        raise members["lives"].fault("a case needs at least one life")
+    case = Case(at, members["test_case"].text(), members["feature"].text(), sections_of(members["sections"]), members["rule"].text(),
+                members["starting_conditions"].text(), members["slots"].integer(2, MOST_SLOTS) if "slots" in members else slots_of(lives), lives,
+                shows=shows_of(members["shows"]) if "shows" in members else [])
+    marks = marks_of(members["lives"], lives)
+    for one in members["expected"].elements() if "expected" in members else []:
         case.expected.append(expected_of(one, case.sections, case.rule, marks, any(life.drive for life in lives)))
     if not case.expected and not any(life.ends for life in lives):
-        raise at.fault("nothing is expected: a case has expected results, or a life that ends as told")
+        raise at.fault("nothing is expected: a case needs expected results, or a life with `ends`")
     return case
 
 
@@ -345,7 +346,7 @@ def read(path: Path) -> list[Case]:
 
 
 def derived(record: dict[str, Any]) -> dict[str, Any]:
-    """A record with the values that follow from those that are reported."""
+    """A record with the values that are computed from its own."""
     found = dict(record)
     for name, source, part in (("place_m", "place_cm", 100), ("limit_kmh", "limit_m_per_h", 1000),
                                ("speed_kmh", "speed_m_per_h", 1000)):
@@ -356,7 +357,7 @@ def derived(record: dict[str, Any]) -> dict[str, Any]:
 
 
 def with_train(record: dict[str, Any], place_cm: int, speed_m_per_h: int, location_cm: int | None = None) -> dict[str, Any]:
-    """A record with the train itself as it was at the end of the time step, and how far beyond the supervised location."""
+    """A record with the values of the train itself at the end of the time step."""
     above = speed_m_per_h - record["limit_m_per_h"]
     beyond = None if location_cm is None else place_cm - location_cm
     return record | {"train_place_cm": place_cm, "train_place_m": Decimal(place_cm) / 100, "train_speed_m_per_h": speed_m_per_h,

@@ -1,8 +1,8 @@
-"""The course of a scenario: each event of its lives with its record, the place in the scenario that asks for it, and where
-the front really is on the track.
+"""Run a scenario and follow its course: each event of its lives with its record, its place in the scenario, and the real place
+of the front on the track.
 
-The lives are played on an image of their own, and `etcs_lab events` reports their records; so modes, fronts and limits are
-the kernel's own.
+The lives run on an image of their own, and `etcs_lab events` prints their records, so modes, fronts and limits are the kernel's
+own.
 """
 import json
 from bisect import bisect_right
@@ -21,12 +21,12 @@ from .scenarios import LONGEST_CM, Scenario
 
 MOST_SLOTS = 1_048_576
 DRIVE = "/drive"
-"""Where a closed loop asks for an event."""
+"""The pointer of the events of a closed loop."""
 
 
 @dataclass(frozen=True)
 class Life:
-    """A life of a case or of a scenario: its steps, of YAML or in a file of JSON, and the drive after them."""
+    """A life of a case or of a scenario: its steps, from YAML or from a JSON file, and the drive after them."""
 
     at: Value | None
     scenario: Scenario | None
@@ -42,7 +42,7 @@ def of_case(life: cases.Life) -> Life:
 
 @dataclass(frozen=True)
 class Event:
-    """An event of a life: the JSON pointer of what asks for it, where the front really is after it, and its record."""
+    """An event of a life: the JSON pointer of its step, the real place of the front after it, and its record."""
 
     pointer: str
     place_cm: int
@@ -50,12 +50,12 @@ class Event:
 
 
 def scenario_of(life: Life) -> Scenario:
-    """The scenario of a life, also of one that stands in a file of JSON."""
+    """The scenario of a life, also if it is in a JSON file."""
     if life.scenario:
         return life.scenario
     assert life.path is not None
-    told = json.loads(life.path.read_bytes())
-    return Scenario(told.get("cold", 0), told["groups"], told["steps"])
+    members = json.loads(life.path.read_bytes())
+    return Scenario(members.get("cold", 0), members["groups"], members["steps"])
 
 
 def balises_of(scenario: Scenario) -> list[tuple[int, str, str]]:
@@ -65,8 +65,8 @@ def balises_of(scenario: Scenario) -> list[tuple[int, str, str]]:
     return sorted(found, key=lambda balise: balise[0])
 
 
-def asked(scenario: Scenario) -> Iterator[tuple[str, int]]:
-    """What asks for each event of a scenario, and where the front is after it."""
+def planned(scenario: Scenario) -> Iterator[tuple[str, int]]:
+    """The pointer of each event of a scenario, and the place of the front after it."""
     balises, front = balises_of(scenario), 0
     places = [place for place, _, _ in balises]
     for number, step in enumerate(scenario.steps):
@@ -85,14 +85,14 @@ def asked(scenario: Scenario) -> Iterator[tuple[str, int]]:
 
 
 def readings(front: int, end: int) -> Iterator[int]:
-    """Where the front is after each reading of a way forward."""
+    """The place of the front after each reading of a forward movement."""
     while front < end:
         front = min(front + LONGEST_CM, end)
         yield front
 
 
 def driven(scenario: Scenario, front: int, records: Sequence[Json]) -> Iterator[Event]:
-    """The events of a closed loop, whose telegrams are found on the track by what they send."""
+    """The events of a closed loop. Their balises are found on the track by their telegrams."""
     balises = [balise for balise in balises_of(scenario) if balise[0] > front]
     for record in records:
         front += record.get("movement_cm", 0)
@@ -106,27 +106,27 @@ def driven(scenario: Scenario, front: int, records: Sequence[Json]) -> Iterator[
 
 
 def events_of(life: Life, records: Sequence[Json]) -> list[Event]:
-    """The events of a life that has these records, the power-up's not among them."""
+    """The events of a life with these records, without the power-up."""
     scenario = scenario_of(life)
-    found = [Event(pointer, place, record) for (pointer, place), record in zip(asked(scenario), records)]
+    found = [Event(pointer, place, record) for (pointer, place), record in zip(planned(scenario), records)]
     if life.drive:
         found += driven(scenario, found[-1].place_cm if found else 0, records[len(found):])
     return found
 
 
 def slots_for(lives: Sequence[Life]) -> int:
-    """How many slots hold all blocks of some lives."""
+    """The number of slots that hold all blocks of some lives."""
     slots = 4
     for life in lives:
         scenario = scenario_of(life)
         flushes = sum("flush" in step for step in scenario.steps)
-        events = sum(1 for _ in asked(scenario))
+        events = sum(1 for _ in planned(scenario))
         slots += drives.slots_for(scenario, life.drive) if life.drive else 3 + flushes + events // 8
     return min(slots, MOST_SLOTS)
 
 
 def is_refused(life: Life, image: Path, folder: Path) -> bool:
-    """Plays a life; answers whether its scenario is refused, so that nothing was added."""
+    """Runs a life; returns whether its scenario is refused, so that nothing was added."""
     scenario = scenario_of(life)
     if life.drive:
         image.write_bytes(closed_loop.over_image(image.read_bytes(), scenario, life.drive)[1])
@@ -139,10 +139,10 @@ def is_refused(life: Life, image: Path, folder: Path) -> bool:
 
 
 def played(lives: Sequence[Life]) -> list[list[Event]]:
-    """The events of each life, played in turn on one image; none of a life that is refused."""
+    """The events of each life, run in turn on one image; none for a life that is refused."""
     slots = slots_for(lives)
-    with program.room(slots) as room:
-        folder, image = Path(room), Path(room) / "image"
+    with program.temporary_folder(slots) as name:
+        folder, image = Path(name), Path(name) / "image"
         program.format_image(image, slots)
         refused = [is_refused(life, image, folder) for life in lives]
         journal = read(image, is_own=True)

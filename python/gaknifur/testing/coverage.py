@@ -1,8 +1,8 @@
-"""Which sections of SUBSET-026 and which rows of the mode table the cases of a folder are about.
+"""List the sections of SUBSET-026 and the rows of the mode table that the cases of a folder cover.
 
-The sections that the product covers are read from the tables of docs/explain/conformance.md, the rows from the page of tables. A
-section or a row without a case is reported with its reason, from `without_cases.yaml` of the folder; one without a case
-and without a reason is a fault, and so is a reason that is no longer needed.
+The sections that the product covers come from the tables of docs/explain/conformance.md, and the rows from the page of tables. A
+section or a row without a case is listed with its reason, from `without_cases.yaml` of the folder. One without a case and without
+a reason is a fault, and so is a reason that is no longer needed.
 """
 import re
 from collections.abc import Iterable
@@ -20,7 +20,7 @@ REASONS = "without_cases.yaml"
 
 @dataclass
 class Section:
-    """A section of the page: what it is about, what the product does of it, and its cases."""
+    """A section of the page: its subject, what the product implements, and its cases."""
 
     name: str
     subject: str
@@ -29,12 +29,12 @@ class Section:
 
     @property
     def is_left_out(self) -> bool:
-        """Whether the product has nothing of it."""
+        """Whether the product implements nothing of it."""
         return self.here.startswith("left out") and "but for" not in self.here
 
 
 def span(first: str, last: str) -> list[str]:
-    """The sections from one to another, which differ in their last number."""
+    """The sections from one to another; they differ only in their last number."""
     *head, start = first.split(".")
     *other, end = last.split(".")
     if head != other:
@@ -43,7 +43,7 @@ def span(first: str, last: str) -> list[str]:
 
 
 def names_of(cell: str) -> list[str]:
-    """The sections of a cell: `3.8.1, 3.8.3 to 3.8.5`, or `7.4.2, packets 3, 5`."""
+    """The sections of a cell, such as `3.8.1, 3.8.3 to 3.8.5`, or `7.4.2, packets 3, 5`."""
     found: list[str] = []
     section = ""
     for part in cell.split(", "):
@@ -75,7 +75,7 @@ def sections() -> list[Section]:
 
 
 def files(folder: Path) -> list[Path]:
-    """The files of a folder that have test cases."""
+    """The case files of a folder."""
     if folder.is_file():
         return [folder]
     if not folder.is_dir():
@@ -87,7 +87,7 @@ def files(folder: Path) -> list[Path]:
 
 
 def all_cases(folder: Path) -> list[Case]:
-    """The cases of a folder, no name twice."""
+    """The cases of a folder. Refuses a name that is used twice."""
     found: dict[str, Case] = {}
     for path in files(folder):
         for case in cases.read(path):
@@ -104,7 +104,7 @@ def named_by(case: Case) -> set[str]:
 
 @dataclass
 class Matrix:
-    """Sections and transitions with their cases, the reasons why some have none, and what is wrong."""
+    """Sections and transitions with their cases, the reasons why some have none, and the faults."""
 
     sections: list[Section]
     transitions: dict[str, list[str]]
@@ -118,12 +118,12 @@ def reasons_of(folder: Path) -> dict[str, str]:
     path = folder / REASONS
     if not path.exists():
         return {}
-    told = document(path).members((), ("sections", "transitions"))
-    return {name: why.text() for part in told.values() for name, why in part.entries().items()}
+    members = document(path).members((), ("sections", "transitions"))
+    return {name: why.text() for part in members.values() for name, why in part.entries().items()}
 
 
 def find_section(name: str, known: dict[str, Section]) -> Section | None:
-    """The section of the page that a name belongs to: its own, or the one that it is a part of."""
+    """The section of the page that a name belongs to: its own, or one that contains it."""
     while name:
         if name in known:
             return known[name]
@@ -134,14 +134,14 @@ def find_section(name: str, known: dict[str, Section]) -> Section | None:
 
 
 def fill(matrix: Matrix, found: Iterable[Case], table: Table) -> None:
-    """Enters the cases."""
+    """Adds the cases to the matrix."""
     known = {section.name: section for section in matrix.sections}
     for case in found:
         matrix.count += 1
         for name in sorted(named_by(case)):
             section = find_section(name, known)
             if section is None:
-                matrix.faults.append(f"{case.path}:{case.at.line}: {name} is no section of docs/explain/conformance.md")
+                matrix.faults.append(f"{case.path}:{case.at.line}: {name} is not a section of docs/explain/conformance.md")
             elif section.is_left_out:
                 matrix.faults.append(f"{case.path}:{case.at.line}: {name} is left out by the product")
             elif case.name not in section.cases:
@@ -171,14 +171,14 @@ def matrix(folder: Path) -> Matrix:
     return found
 
 
-def told(found: Matrix) -> str:
-    """The matrix, for people."""
+def text(found: Matrix) -> str:
+    """The matrix as text."""
     lines = ["Sections of SUBSET-026"]
     for section in found.sections:
         lines.append(f"  {section.name:<22} {len(section.cases):>3}  {section.subject}{why_none(section, found)}")
     lines.append("Rows of the mode table")
     for name, named in found.transitions.items():
-        lines.append(f"  {name:<22} {len(named):>3}" + ("" if named else f"  none: {found.reasons.get(name, 'no reason is told')}"))
+        lines.append(f"  {name:<22} {len(named):>3}" + ("" if named else f"  none: {found.reasons.get(name, 'without a reason')}"))
     wanted = [section for section in found.sections if not section.is_left_out]
     lines.append(f"{found.count} cases. {sum(bool(one.cases) for one in wanted)} of {len(wanted)} sections have a case, "
                  f"{len(found.sections) - len(wanted)} are left out by the product; "
@@ -187,7 +187,7 @@ def told(found: Matrix) -> str:
 
 
 def why_none(section: Section, found: Matrix) -> str:
-    """Why a section has no case."""
+    """The text about a section without a case."""
     if section.cases:
         return ""
-    return " (left out)" if section.is_left_out else f"; none: {found.reasons.get(section.name, 'no reason is told')}"
+    return " (left out)" if section.is_left_out else f"; none: {found.reasons.get(section.name, 'without a reason')}"

@@ -1,8 +1,8 @@
-"""What may be reached by a suite: the sets that `lab coverage --measured` counts, and the names of their members.
+"""The sets that `lab coverage --measured` counts, and the names of their members.
 
-No list stands here: the members are read from the page of tables, which `tools/tables` makes of the definitions, from the
-numbers of `include/` (`_header`), and from the words of `etcs_lab why` (`causes`). A row of a table that nothing here
-recognises is a fault, so that a further row is counted, or reported.
+This module contains no list of members. It reads them from the page of tables, which `tools/tables` makes from the definitions, from
+the numbers of `include/` (`_header`), and from the texts of `etcs_lab why` (`causes`). A row of a table that it doesn't recognise is a
+fault, so that a new row is either counted or reported.
 """
 import enum
 import functools
@@ -17,7 +17,7 @@ from .mode_table import mode_table, table_rows, tables, transitions
 
 EVERY_MODE = "all"
 IN_ANOTHER_MODE, NOT_STANDING = "in another mode", "not at standstill"
-"""Why an action is refused, along with what it needs."""
+"""Why an action is refused, besides what it needs."""
 Q_DIR, REACTIONS = (0, 1, 2), (0, 1, 2)
 """Reverse, nominal, both; trip, service brake, none (SUBSET-026, 7.5.1)."""
 BOTH = 2
@@ -28,28 +28,28 @@ ACTIONS = {
     "leave Shunting": ("leave_shunting", None), "Override": ("override", None), "acknowledge a trip": ("acknowledge", "trip"),
     "acknowledge On Sight": ("acknowledge", "on_sight"), "acknowledge Shunting": ("acknowledge", "shunting"),
     "acknowledge level 0": ("acknowledge", "level_0"), "close the desk": ("close_desk", None)}
-"""The actions of the table by the words of a record: what the driver did, and what he acknowledged."""
+"""The actions of the table, as a record has them: the action, and what was acknowledged."""
 PLACES = ("Item", "Packet", "Place", "Group")
-"""What may end a fact of the track."""
+"""The columns of what ends a fact of the track."""
 ITEM = PLACES[0]
 FREE, REACTION, SECOND = "the track is free", "Q_LINKREACTION", "the second miss in turn"
-"""What the table of balise groups says about a row along with its group."""
+"""Texts of the table of balise groups."""
 
 
 def known(name: str, names: Iterable[str], where: str) -> str:
-    """A name of a table that has to be one that is recognised here."""
+    """A name of a table. Refuses one that isn't recognised."""
     if name not in names:
         raise Failed(f"tables: {where}: \"{name}\" isn't recognised by what measures a suite", REFUSED)
     return name
 
 
 def words_of(numbers: type[enum.IntEnum]) -> list[str]:
-    """The words that `etcs_lab` has for numbers of a header."""
+    """The names that `etcs_lab` prints for numbers of a header."""
     return [one.name.lower() for one in numbers]
 
 
 def fault_names() -> list[str]:
-    """The names of what refuses a telegram."""
+    """The names of the faults for which a telegram is refused."""
     return ["".join(part.capitalize() for part in one.name.split("_")) for one in Fault if one is not Fault.OK]
 
 
@@ -72,15 +72,15 @@ def modes() -> tuple[str, ...]:
 
 @functools.cache
 def used() -> dict[int, tuple[str, ...]]:
-    """Of each packet the modes that use it."""
+    """The modes that use each packet."""
     head, *rows = table("Packets that a mode uses")
     return {int(row[0]): tuple(mode for mode, cell in zip(head[1:], row[1:]) if cell == "used") for row in rows}
 
 
 @dataclass(frozen=True)
 class Action:
-    """An action of the driver: the modes in which it is accepted, whether at standstill alone, what else it needs, and the rows
-    of the mode table that it leads to."""
+    """An action of the driver: the modes in which it is accepted, whether only at standstill, what else it needs, and its rows in
+    the mode table."""
 
     modes: tuple[str, ...]
     stands: bool
@@ -92,35 +92,35 @@ class Action:
 def actions() -> dict[str, Action]:
     """The driver's actions."""
     found: dict[str, Action] = {}
-    for name, told, stands, needs, does in table("What the driver does")[1:]:
+    for name, accepted_in, stands, needs, does in table("What the driver does")[1:]:
         rows = re.search(r"rows? ([0-9, ]+) of the modes", does)
         found[known(name, ACTIONS, "What the driver does")] = Action(
-            modes() if told == EVERY_MODE else tuple(told.split()), stands == "yes",
+            modes() if accepted_in == EVERY_MODE else tuple(accepted_in.split()), stands == "yes",
             tuple(needs.split(", ")) if needs else (), tuple(map(int, rows[1].split(", "))) if rows else ())
     return found
 
 
 @functools.cache
 def conditions() -> dict[int, tuple[str, ...]]:
-    """Of each row of the mode table its conditions."""
+    """The conditions of each row of the mode table."""
     return {int(row[0]): tuple(row[3].split(", ")) for row in table("Modes (")[1:]}
 
 
 @functools.cache
 def statuses() -> dict[str, dict[str, str]]:
-    """Of each item what becomes of it when a mode is entered, and at a power-up."""
+    """The status of each item when a mode is entered, and at a power-up."""
     head, *rows = table("What becomes of each item")
     return {row[0]: dict(zip(head[1:], row[1:])) for row in rows}
 
 
 def deletes(item: str, mode: str) -> bool:
-    """Whether a mode deletes an item where it is entered."""
+    """Whether entering a mode deletes an item."""
     return statuses()[item][mode] == "deleted"
 
 
 @functools.cache
 def facts() -> dict[str, dict[str, str]]:
-    """Of each fact of the track what ends it, by the columns; a mode is named where one deletes its item."""
+    """What ends each fact of the track, by column; a mode is listed if it deletes the fact's item."""
     head, *rows = table("What ends a fact")
     columns = [head.index(one) for one in PLACES]
     found: dict[str, dict[str, str]] = {}
@@ -134,21 +134,21 @@ def facts() -> dict[str, dict[str, str]]:
 
 @functools.cache
 def cells() -> dict[str, dict[str, str]]:
-    """What becomes of an acknowledgement: by what happens, and what it was before."""
+    """The state of an acknowledgement after an event, by what happens and the state before."""
     head, *rows = table("Acknowledgements")
     return {row[0]: dict(zip(head[1:], row[1:])) for row in rows}
 
 
 @functools.cache
 def verdicts() -> tuple[tuple[str, str, str], ...]:
-    """What becomes of a balise group: the group, its verdict, and what linking asks for."""
+    """The verdicts on balise groups: the group, its verdict, and what linking requests."""
     return tuple((row[0], row[1], row[2]) for row in table("What becomes of a balise group")[1:])
 
 
 # ---- the members
 
 def ways(cause: str) -> list[str]:
-    """How a cause of the brake may end, by the words of `etcs_lab why`."""
+    """How a cause of the brake may end, in the wording of `etcs_lab why`."""
     return re.split(r", (?:or )?", CAUSES[cause][1].removeprefix("ends ").removeprefix("when "))
 
 
@@ -173,12 +173,12 @@ def action_name(action: str, mode: str, is_accepted: bool) -> str:
 
 
 def refusal_name(action: str, why: str) -> str:
-    """An action that is refused for one reason alone."""
+    """An action that is refused for only one reason."""
     return f"{action}: {why}" if why in (IN_ANOTHER_MODE, NOT_STANDING) else f"{action}: needs {why}"
 
 
 def cell_name(kind: str, happening: str, before: str) -> str:
-    """A cell of the table of acknowledgements, of one kind of them."""
+    """A cell of the table of acknowledgements, for one kind."""
     return f"{kind}: {before}, then {happening}"
 
 
@@ -189,8 +189,8 @@ def fact_name(fact: str, place: str) -> str:
 
 
 def group_names() -> Iterable[str]:
-    """The rows of the table of balise groups; where a row says that a fix depends on the track, or that linking asks for what was
-    announced, each of these ways."""
+    """The rows of the table of balise groups. A row whose fix depends on the track, or for which linking requests the announced
+    reaction, has a member for each case."""
     for group, verdict, asks in verdicts():
         if FREE in verdict:
             yield from (group_name(group, free) for free in (True, False))
@@ -203,7 +203,7 @@ def group_names() -> Iterable[str]:
 
 
 def group_name(group: str, way: bool | int) -> str:
-    """A row of that table with one of its ways."""
+    """A row of that table in one of its cases."""
     if isinstance(way, bool):
         return f"{group}: the track is {'' if way else 'not '}free"
     return f"{group}: {REACTION} {way}"

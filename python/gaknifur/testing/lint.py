@@ -1,4 +1,4 @@
-"""The command `lint`: faults and weak points of a track and of the steps on it, by `etcs_lab lint` and by the items of docs/explain/safety.md."""
+"""The command `lint`: list faults and weak points of a track and of the steps on it, by `etcs_lab lint` and the items of docs/explain/safety.md."""
 import functools
 import json
 import sys
@@ -23,65 +23,65 @@ from .track_messages import Known, walk
 
 @dataclass(frozen=True)
 class Subject:
-    """What is judged: the lives of a case, or the one of a scenario; and what it says to show."""
+    """What is judged: the lives of a case, or the life of a scenario; and the items under `shows`."""
 
     path: Path
     lives: list[Life]
     case: str | None = None
     shows: tuple[Value, ...] = ()
 
-    def has_word(self, item: str) -> bool:
-        """Whether it says to show an item."""
+    def is_meant(self, item: str) -> bool:
+        """Whether it is meant to show an item."""
         return any(one.text() == item for one in self.shows)
 
 
 @dataclass(frozen=True)
 class Line:
-    """What is reported: where, and what."""
+    """A line of the output: its place and its text."""
 
     subject: Subject
     life: int | None
     pointer: str
     at: Value | None
-    said: Json
+    members: Json
     text: str
 
     @property
     def item(self) -> str:
-        """The item that a case would say to show."""
-        return str(self.said["safety"]) if "safety" in self.said else cases.ADVICE
+        """The item that a case can list under `shows`."""
+        return str(self.members["safety"]) if "safety" in self.members else cases.ADVICE
 
     @property
     def place(self) -> Json:
         """File, line and column."""
         if self.at:
             return {"file": str(self.at.path), "line": self.at.line, "column": self.at.column}
-        return {"file": str(self.subject.path), "line": self.said.get("line"), "column": self.said.get("column")}
+        return {"file": str(self.subject.path), "line": self.members.get("line"), "column": self.members.get("column")}
 
-    def for_people(self) -> str:
-        """A line for people."""
+    def as_text(self) -> str:
+        """The line as text."""
         place = ":".join(str(one) for one in self.place.values() if one is not None)
         of_case = f"{self.subject.case}: " if self.subject.case else ""
         return f"{shown(place)}: {of_case}{shown(self.text)}"
 
     def as_json(self) -> str:
-        """An object on a line."""
-        told = self.place | {"case": self.subject.case, "life": self.life, "pointer": self.pointer}
-        return json.dumps(told | {name: value for name, value in self.said.items() if name not in told}, ensure_ascii=False)
+        """The line as a JSON object."""
+        place = self.place | {"case": self.subject.case, "life": self.life, "pointer": self.pointer}
+        return json.dumps(place | {name: value for name, value in self.members.items() if name not in place}, ensure_ascii=False)
 
 
 # ---- where
 
-def located(life: Life, pointer: str, is_told: bool = False) -> Value | None:
-    """Where a pointer of a life leads: in the YAML, else in the JSON; None where that can't be read so, or `etcs_lab lint` reported
-    line and column."""
+def located(life: Life, pointer: str, has_place: bool = False) -> Value | None:
+    """The value at a pointer of a life, in the YAML or else in the JSON. None if the JSON can't be read as YAML, or `etcs_lab lint`
+    printed line and column."""
     if life.scenario is None:
-        if is_told:
+        if has_place:
             return None
         assert life.path is not None
         try:
             return document(life.path).inner(pointer)
-        except Failed:  # YAML doesn't read each JSON, as one with tabs
+        except Failed:  # not every JSON is YAML, such as one with tabs
             return None
     words = pointer.split("/")[1:]
     if pointer == DRIVE and life.drive:
@@ -96,12 +96,12 @@ def located(life: Life, pointer: str, is_told: bool = False) -> Value | None:
 # ---- etcs_lab lint
 
 def advice(life: Life) -> list[Json]:
-    """What `etcs_lab lint` says about a scenario."""
+    """The lines of `etcs_lab lint` about a scenario."""
     found: list[Json] = []
-    with tempfile.TemporaryDirectory(prefix="gaknifur-") as room:
+    with tempfile.TemporaryDirectory(prefix="gaknifur-") as folder:
         path = life.path
         if path is None:
-            path = Path(room) / "scenario.json"
+            path = Path(folder) / "scenario.json"
             path.write_text(scenario_of(life).text(), encoding="utf-8")
         run = Run(["lint", "--json"], path)
         for line in run.lines():
@@ -111,53 +111,53 @@ def advice(life: Life) -> list[Json]:
     return found
 
 
-def advice_text(told: Json) -> str:
-    """Such a line, for people."""
-    pointer = told["pointer"] or "scenario"
-    if "fault" in told:
-        return f"{pointer}: refused {told['fault']} {told['name']}; wanted: {told['wanted']}"
-    if "repeated" in told:
-        return f"{pointer}: repeated, first at line {told['first_line']}, column {told['first_column']}; the last one counts"
-    return f"{pointer}: {told['advice']}"
+def advice_text(line: Json) -> str:
+    """A line of `etcs_lab lint` as text."""
+    pointer = line["pointer"] or "scenario"
+    if "fault" in line:
+        return f"{pointer}: refused {line['fault']} {line['name']}; wanted: {line['wanted']}"
+    if "repeated" in line:
+        return f"{pointer}: repeated, first at line {line['first_line']}, column {line['first_column']}; the last one counts"
+    return f"{pointer}: {line['advice']}"
 
 
 def finding_text(found: Finding) -> str:
-    """A finding, for people."""
+    """A finding as text."""
     return f"SAFETY {found.safety}: {found.pointer}: {found.found}. Do: {found.do}"
 
 
 UNACCEPTED, UNREACHED = "the kernel doesn't accept the action", "no drive leads over"
 
 
-def is_of_a_fresh_life(told: Json, life: Life, number: int) -> bool:
-    """Whether advice may be wrong here: it is of a life alone that nothing was kept for, and that ends with its steps."""
-    said = str(told.get("advice", ""))
-    return number > 1 and said.startswith(UNACCEPTED) or life.drive is not None and said.startswith(UNREACHED)
+def is_of_a_fresh_life(line: Json, life: Life, number: int) -> bool:
+    """Whether advice may be wrong here: it holds only for a first life that ends with its steps."""
+    text = str(line.get("advice", ""))
+    return number > 1 and text.startswith(UNACCEPTED) or life.drive is not None and text.startswith(UNREACHED)
 
 
 # ---- judging
 
 def lines_of(subject: Subject) -> Iterator[Line]:
-    """All that is reported of a subject. A scenario with faults isn't judged further."""
+    """All lines about a subject. A scenario with faults isn't judged further."""
     lives = [life for life in subject.lives if not (life.ends or "").startswith("refused")]
     is_faulty = False
     for number, life in enumerate(lives, 1):
-        for told in advice(life):
-            is_faulty = is_faulty or "fault" in told
-            if not is_of_a_fresh_life(told, life, number):
-                yield Line(subject, number if subject.case else None, told["pointer"], located(life, told["pointer"], True),
-                           told, advice_text(told))
+        for line in advice(life):
+            is_faulty = is_faulty or "fault" in line
+            if not is_of_a_fresh_life(line, life, number):
+                yield Line(subject, number if subject.case else None, line["pointer"], located(life, line["pointer"], True),
+                           line, advice_text(line))
     if not is_faulty:
         yield from safety_of(subject, lives)
 
 
 @functools.cache
 def has_loop() -> bool:
-    """Whether the library of the unit is there, over which a closed loop is played; said once where it isn't."""
+    """Whether the unit's library, which a closed loop needs, is available; says so once if it isn't."""
     try:
         closed_loop.check_library()
     except Failed as failed:
-        say(f"{failed}; of drives in a closed loop the steps before them are judged alone")
+        say(f"{failed}; for drives in a closed loop only the steps before them are judged")
         return False
     return True
 
@@ -174,19 +174,19 @@ def safety_of(subject: Subject, lives: list[Life]) -> Iterator[Line]:
         walked = walk(events, kept)
         kept = walked.known[-1] if walked.known else kept
         for found in track_checks.findings(Judged(walked, life.drive)):
-            said = {"safety": found.safety, "found": found.found, "do": found.do}
-            yield Line(subject, number if subject.case else None, found.pointer, located(life, found.pointer), said,
+            members = {"safety": found.safety, "found": found.found, "do": found.do}
+            yield Line(subject, number if subject.case else None, found.pointer, located(life, found.pointer), members,
                        finding_text(found))
 
 
 def kept_lines(subject: Subject, lines: list[Line]) -> Iterator[Line]:
-    """The lines but for those of items that the subject says to show; and each such item that nothing shows."""
+    """The lines without those of items that the subject is meant to show; and a line for each such item that wasn't found."""
     there = {line.item for line in lines}
-    yield from (line for line in lines if not subject.has_word(line.item))
+    yield from (line for line in lines if not subject.is_meant(line.item))
     for one in subject.shows:
         if one.text() not in there:
-            said = f"says that it shows {one.text()}, and nothing of it is found"
-            yield Line(subject, None, "", one, {"shows": one.text(), "found": said, "do": "take the word out"}, said)
+            text = f"`shows` lists {one.text()}, and it isn't found"
+            yield Line(subject, None, "", one, {"shows": one.text(), "found": text, "do": "remove the item"}, text)
 
 
 # ---- subjects
@@ -211,7 +211,7 @@ def of_file(path: Path) -> Iterator[Subject]:
 
 
 def paths_of(path: Path) -> list[Path]:
-    """A file; of a folder all files of cases, and the scenarios in JSON that none of them names."""
+    """A file; or all case files of a folder, and the scenarios in JSON that none of them names."""
     if not path.is_dir():
         if not path.exists():
             raise Failed(f"{path}: no such file", DEVICE)
@@ -225,7 +225,7 @@ def paths_of(path: Path) -> list[Path]:
 # ---- the command
 
 def check_items(items: list[str]) -> None:
-    """The items of a word are those that have a check."""
+    """Refuses items without a check."""
     known = {cases.ADVICE, *map(str, track_checks.ITEMS)}
     for one in items:
         if one not in known:
@@ -244,7 +244,7 @@ def lint(given: SimpleNamespace, progress: Progress) -> int:
                 for line in kept_lines(subject, list(lines_of(subject))):
                     if line.item not in given.without:
                         found = True
-                        sys.stdout.write((line.as_json() if given.json else line.for_people()) + "\n")
+                        sys.stdout.write((line.as_json() if given.json else line.as_text()) + "\n")
         except Failed as failed:
             if failed.status != REFUSED:
                 raise

@@ -1,8 +1,8 @@
-"""Coverage that is measured: which members of the sets of `coverage_sets` the cases of a folder reach when they are played.
+"""Measure coverage: which members of the sets of `coverage_sets` the cases of a folder reach when they run.
 
-`measured.yaml` of the folder names floors and reasons. `floors` has of a set how many of its members have to be reached,
-or `all`: each one but for those with a reason. `out_of_reach` has of a set members that no case can reach, and why; `*`
-stands for any text. A member that is reached and has a reason is a fault too.
+`measured.yaml` of the folder has floors and reasons. `floors` gives for a set the number of members that have to be reached, or
+`all`: each member without a reason. `out_of_reach` lists for a set the members that no case can reach, and why; `*` is any text.
+A member that is reached although it has a reason is a fault too.
 """
 import json
 import os
@@ -26,13 +26,13 @@ ALL = "all"
 HEAD = b'{"reached_by": '
 FILE = files.beginning("what cases reach", HEAD)
 Sets = dict[str, list[str]]
-"""Of each set the members that a case reaches."""
+"""The members that a case reaches, by set."""
 ByCase = dict[str, Sets]
 
 
 @dataclass
 class Measured:
-    """The sets with their members, and the cases that reach each; floors and reasons of the folder, and what is wrong."""
+    """The sets with their members, the cases that reach each, the floors and reasons of the folder, and the faults."""
 
     cases: int
     members: dict[str, dict[str, list[str]]]
@@ -45,14 +45,14 @@ class Measured:
         return [member for member, by in self.members[name].items() if not by]
 
     def reached(self, name: str) -> int:
-        """How many members of a set are reached."""
+        """The number of members of a set that are reached."""
         return len(self.members[name]) - len(self.missing(name))
 
 
 # ---- what a case reaches
 
 def reached_by(played: case_runner.Played) -> Sets:
-    """What a case reaches that was played, in the order of the sets."""
+    """What a case reached, in the order of the sets."""
     assert played.journal is not None
     found = measure(played.journal).sets
     return {name: [member for member in members if member in found[name]]
@@ -60,7 +60,7 @@ def reached_by(played: case_runner.Played) -> Sets:
 
 
 def play_all(cases: list[Case], progress: Progress = silent) -> ByCase:
-    """Plays cases side by side; answers what each reaches. One that can't be judged is a fault."""
+    """Runs cases in parallel; returns what each reaches. Fails if one can't be judged."""
     def one(case: Case) -> Sets:
         try:
             return reached_by(case_runner.play(case, why=True))
@@ -78,17 +78,17 @@ def play_all(cases: list[Case], progress: Progress = silent) -> ByCase:
 # ---- a file of what cases reach
 
 def text_of(found: ByCase) -> str:
-    """The file."""
+    """The text of the file."""
     return HEAD.decode() + json.dumps(found, ensure_ascii=False, indent=1) + "}\n"
 
 
 def read(path: Path) -> ByCase:
-    """What cases reach, by a file that `lab test --reached` made."""
+    """What cases reach, from a file that `lab test --reached` made."""
     try:
         with files.opened(path) as file:
-            told = json.loads(file.read().decode("utf-8"))["reached_by"]
+            reached = json.loads(file.read().decode("utf-8"))["reached_by"]
         return {str(case): {str(name): [str(one) for one in members] for name, members in sets.items()}
-                for case, sets in told.items()}
+                for case, sets in reached.items()}
     except OSError as error:
         raise Failed(f"{path}: {error.strerror}", DEVICE) from error
     except (ValueError, KeyError, TypeError, AttributeError) as error:
@@ -98,21 +98,21 @@ def read(path: Path) -> ByCase:
 # ---- floors
 
 def floor_of(at: Value, most: int) -> int | str:
-    """A floor: a number of members, or all that have no reason."""
+    """A floor: a number of members, or all without a reason."""
     return ALL if at.is_text() and at.text() == ALL else at.integer(0, most)
 
 
 def add_floors(found: Measured, folder: Path) -> None:
-    """Takes the floors and reasons of a folder."""
+    """Adds the floors and reasons of a folder."""
     path = folder / FLOORS
     if not path.exists():
         return
-    told = document(path).members((), ("floors", "out_of_reach"))
-    if "floors" in told:
-        for name, at in told["floors"].members((), found.members).items():
+    members = document(path).members((), ("floors", "out_of_reach"))
+    if "floors" in members:
+        for name, at in members["floors"].members((), found.members).items():
             found.floors[name] = floor_of(at, len(found.members[name]))
-    if "out_of_reach" in told:
-        for name, at in told["out_of_reach"].members((), found.members).items():
+    if "out_of_reach" in members:
+        for name, at in members["out_of_reach"].members((), found.members).items():
             found.reasons[name] = reasons_of(at, found.members[name])
 
 
@@ -122,13 +122,13 @@ def reasons_of(at: Value, members: Iterable[str]) -> dict[str, str]:
     for pattern, why in at.entries().items():
         meant = [member for member in members if fnmatchcase(member, pattern)]
         if not meant:
-            raise why.fault(f"\"{shortened(pattern)}\" names nothing that is counted; {guess(pattern, members)}")
+            raise why.fault(f"\"{shortened(pattern)}\" matches no member; {guess(pattern, members)}")
         found |= dict.fromkeys(meant, why.text())
     return found
 
 
 def check_floors(found: Measured) -> None:
-    """Reports what is below a floor, and which reasons aren't needed."""
+    """Adds a fault for each set below its floor, and for each reason that isn't needed."""
     for name, floor in found.floors.items():
         if floor == ALL:
             found.faults += [f"{name}: {member}: no case reaches it, and there is no reason why" for member in found.missing(name)
@@ -143,20 +143,20 @@ def check_floors(found: Measured) -> None:
 # ---- all of it
 
 def check_cases(found: Measured, names: list[str], by_case: ByCase) -> None:
-    """What was played is just the cases of the folder."""
-    found.faults += [f"{name} is a case of the folder, and wasn't played" for name in names if name not in by_case]
-    found.faults += [f"{name} was played, and is no case of the folder" for name in by_case if name not in names]
+    """Adds a fault for each difference between the cases that ran and those of the folder."""
+    found.faults += [f"{name} is a case of the folder, and wasn't run" for name in names if name not in by_case]
+    found.faults += [f"{name} was run, and is not a case of the folder" for name in by_case if name not in names]
 
 
 def judged(names: list[str], by_case: ByCase, folder: Path) -> Measured:
-    """What cases reach, by the floors of a folder that has cases of these names."""
+    """What cases reach, judged by the floors of a folder whose cases have these names."""
     found = Measured(len(names), {name: {member: [] for member in members} for name, members in coverage_sets.members().items()})
     for case, sets in by_case.items():
         for name, members in sets.items():
             for member in members:
                 if member not in found.members.get(name, {}):
                     what = f"\"{shortened(member)}\" of \"{shortened(name)}\""
-                    raise Failed(f"{shortened(case)} reaches {what}, which isn't there", REFUSED)
+                    raise Failed(f"{shortened(case)} reaches {what}, which doesn't exist", REFUSED)
                 found.members[name][member].append(case)
     check_cases(found, names, by_case)
     add_floors(found, folder)
@@ -165,25 +165,25 @@ def judged(names: list[str], by_case: ByCase, folder: Path) -> Measured:
 
 
 def matrix(folder: Path, path: Path | None = None, progress: Progress = silent) -> Measured:
-    """What the cases of a folder reach: played now, or by a file of a run of `lab test`."""
+    """What the cases of a folder reach: run now, or from a file of `lab test --reached`."""
     cases = coverage.all_cases(folder)
     return judged([case.name for case in cases], read(path) if path else play_all(cases, progress), folder)
 
 
 def by_text(by: list[str]) -> str:
-    """Which cases reach a member, for people."""
+    """The cases that reach a member, as text."""
     more = f" and {len(by) - 1} more" if len(by) > 1 else ""
     return shown(by[0]) + more
 
 
-def told(found: Measured, with_cases: bool) -> str:
-    """The sets, for people: how many of how many, which are missing, and perhaps which case reaches each."""
+def text(found: Measured, with_cases: bool) -> str:
+    """The sets as text: the number of reached members, those that are missing, and perhaps the case that reaches each."""
     lines: list[str] = []
     for name, members in found.members.items():
         floor = f", floor {found.floors[name]}" if name in found.floors else ""
         lines.append(f"{name}: {found.reached(name)} of {len(members)}{floor}")
         reasons = found.reasons.get(name, {})
-        lines += [f"  missing: {member}; {reasons.get(member, 'no reason is told')}" for member in found.missing(name)]
+        lines += [f"  missing: {member}; {reasons.get(member, 'without a reason')}" for member in found.missing(name)]
         lines += [f"  {member}: {by_text(by)}" for member, by in members.items() if by] if with_cases else []
     reached, whole = sum(map(found.reached, found.members)), sum(map(len, found.members.values()))
     lines.append(f"{found.cases} cases reach {reached} of {whole}.")

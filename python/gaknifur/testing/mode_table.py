@@ -1,4 +1,4 @@
-"""The pages of the documentation, and the rows of the mode table as the page of tables has them."""
+"""Read pages of the documentation, and the mode table from the page of tables."""
 import functools
 import subprocess
 import sys
@@ -7,7 +7,7 @@ from ..program import DEVICE, REFUSED, TOP, Failed
 
 DOCS = TOP / "docs"
 Table = dict[int, tuple[list[str], str]]
-"""The rows of the mode table: from which modes each leads, and where to."""
+"""The rows of the mode table: the modes from which each leads, and its target."""
 
 
 def page(name: str) -> str:
@@ -20,7 +20,7 @@ def page(name: str) -> str:
 
 @functools.cache
 def tables() -> str:
-    """The page of tables: that of an installed product, else what tools/tables reads from the definitions."""
+    """The page of tables: that of an installed product, or else the output of tools/tables."""
     if (DOCS / "tables.md").is_file():
         return page("tables.md")
     done = subprocess.run([sys.executable, "-I", "-B", "-X", "utf8", TOP / "tools/tables", "--print"], stdin=subprocess.DEVNULL,
@@ -32,17 +32,17 @@ def tables() -> str:
 
 def table_rows(text: str, heading: str) -> list[list[str]]:
     """The cells of the tables below a heading."""
-    _, found, behind = text.partition(f"\n## {heading}")
+    _, found, rest = text.partition(f"\n## {heading}")
     if not found:
         raise Failed(f"docs: there is no heading \"{heading}\"", REFUSED)
-    lines = behind.split("\n## ", 1)[0].splitlines()
+    lines = rest.split("\n## ", 1)[0].splitlines()
     rows = [[cell.strip() for cell in line.strip().strip("|").split("|")] for line in lines if line.startswith("|")]
     return [row for row in rows[2:] if not set(row[0]) <= set("-")]
 
 
 @functools.cache
 def mode_table() -> Table:
-    """The rows of the mode table: the modes from which each leads, and where to."""
+    """The rows of the mode table: the modes from which each leads, and its target."""
     found: Table = {}
     for number, sources, target, _ in table_rows(tables(), "Modes"):
         found[int(number)] = sources.split(), target
@@ -55,7 +55,7 @@ def transitions(table: Table) -> list[str]:
 
 
 def row_name(number: int, source: str | None, table: Table) -> str | None:
-    """The transition of a row; None where there is none, or where a row of several modes says no mode."""
+    """The transition of a row; None if there is none, or if the mode of a row with several modes is missing."""
     if number not in table:
         return None
     sources, _ = table[number]

@@ -1,8 +1,8 @@
-"""pytest over test cases: each `case.yaml` and `*.case.yaml` is collected, and each expected result is a test of its own.
+"""Run test cases with pytest: it collects each `case.yaml` and `*.case.yaml`, and each expected result is a test of its own.
 
-`lab test FOLDER` is pytest with this plugin. A test stands below its case, and is named by its sections, its case and its
-note. `--section` and `--feature` select; `--keep FOLDER` keeps the image and the report of each case of which a test failed;
-`--against COMMAND` puts each case to another unit too (docs/howto/oracle.md), and judges its answers; `-k`, `-x`, `--lf`,
+`lab test FOLDER` is pytest with this plugin. A test belongs to its case, and is named by its sections, its case and its note.
+`--section` and `--feature` select tests; `--keep FOLDER` keeps the image and the report of each case with a failed test;
+`--against COMMAND` also runs each case on another unit (docs/howto/oracle.md), and judges its answers; `-k`, `-x`, `--lf`,
 `--junitxml=FILE` and the others are pytest's own. In the JUnit XML the class of a test is its case, after its file, and each
 test has the properties `case`, `feature` and `sections`.
 """
@@ -20,23 +20,23 @@ from ..units import oracle, other_unit
 from . import case_files, case_runner, cases, mode_table
 from .reached_plugin import REACHES, Reaches
 
-AGREES = "another unit answers to each event as the proved one does"
-FIRST = "each life ends as told; the records are released, whole and replayed"
+AGREES = "another unit answers each event like the proved one"
+FIRST = "each life ends as expected; the records are released, whole and replayed"
 
 
 def pytest_addoption(parser: pytest.Parser) -> None:
-    """The words that select."""
+    """The options of the plugin."""
     group = parser.getgroup("gaknifur", "test cases of Gaknifur")
     group.addoption("--section", action="append", default=[], metavar="SECTION",
-                    help="only results that are about this section of SUBSET-026, or a part of it; may be told more than once")
+                    help="only results about this section of SUBSET-026 or its subsections; can be repeated")
     group.addoption("--feature", action="append", default=[], metavar="FEATURE", help="only cases of this feature")
-    group.addoption("--keep", metavar="FOLDER", help="keep the image and the report of each case that failed in this new folder")
-    group.addoption("--against", metavar="COMMAND", help="another unit, whose answers are compared and judged (docs/howto/oracle.md)")
-    group.addoption("--answer-within", metavar="SECONDS", type=float, default=other_unit.WITHIN_S, help="how long it has for each answer")
+    group.addoption("--keep", metavar="FOLDER", help="keep the image and report of each failed case in this new folder")
+    group.addoption("--against", metavar="COMMAND", help="also run another unit, and compare and judge its answers (docs/howto/oracle.md)")
+    group.addoption("--answer-within", metavar="SECONDS", type=float, default=other_unit.WITHIN_S, help="time limit for each answer of the other unit")
 
 
 def pytest_configure(config: pytest.Config) -> None:
-    """Where cases are kept nothing may be there yet, so that nothing is written over."""
+    """Checks the options. The folder for failed cases must be new, so that nothing is overwritten."""
     try:
         unit_commands.within_of(config.getoption("--answer-within"))
         other_unit.words_of(config.getoption("--against") or "none")
@@ -44,17 +44,17 @@ def pytest_configure(config: pytest.Config) -> None:
         raise pytest.UsageError(str(failed)) from None
     folder = folder_of(config)
     if folder and folder.exists() and (not folder.is_dir() or any(folder.iterdir())):
-        raise pytest.UsageError(f"--keep {folder}: is there already, and isn't an empty folder")
+        raise pytest.UsageError(f"--keep {folder}: already exists and isn't an empty folder")
 
 
 def folder_of(config: pytest.Config) -> Path | None:
-    """The folder where cases are kept that failed."""
-    told = config.getoption("--keep")
-    return config.invocation_params.dir / told if told else None
+    """The folder in which failed cases are kept."""
+    name = config.getoption("--keep")
+    return config.invocation_params.dir / name if name else None
 
 
 def pytest_collect_file(file_path: Path, parent: pytest.Collector) -> "CaseFile | None":
-    """The files of test cases."""
+    """Collects the files of test cases."""
     return CaseFile.from_parent(parent, path=file_path) if case_files.is_case_file(file_path.name) else None
 
 
@@ -79,7 +79,7 @@ class CaseTests(pytest.Collector):
         self.case, self.table = case, table
 
     def collect(self) -> Iterator[pytest.Item]:
-        """An item for each expected result, after one that the case can be judged at all, and one for another unit."""
+        """An item for whether the case can be judged at all, perhaps one for another unit, and one for each expected result."""
         player = Player(self.case, folder_of(self.config), self.config.stash.get(REACHES, None),
                         self.config.getoption("--against"), self.config.getoption("--answer-within"))
         yield Item.from_parent(self, name=name_of(self.case, FIRST), player=player, expected=None, table=self.table)
@@ -95,25 +95,25 @@ def one_line(text: str) -> str:
 
 
 def name_of(case: cases.Case, expected: cases.Expected | str) -> str:
-    """How a test is named: by its sections, its case and its note."""
+    """The name of a test: its sections, its case and its note."""
     sections, note = (case.sections, expected) if isinstance(expected, str) else (expected.sections, expected.note)
     return one_line(f"[{', '.join(sections)}] {case.name}: {note}")
 
 
 class Player:
-    """Plays a case once for all its tests, and asks another unit once, where there is one."""
+    """Runs a case once for all its tests, and another unit once, if there is one."""
 
     def __init__(self, case: cases.Case, folder: Path | None, reaches: Reaches | None = None, against: str | None = None,
                  within_s: float = other_unit.WITHIN_S) -> None:
         self.case, self.folder, self.reaches = case, folder, reaches
         self.against, self.within_s = against, within_s
-        self.asked: oracle.Asked | None = None
+        self.comparison: oracle.Comparison | None = None
         self.played: case_runner.Played | None = None
         self.failed: Exception | None = None
         self.image: bytes | None = None
 
     def play(self) -> case_runner.Played:
-        """The records; the same failure each time where there are none to be judged."""
+        """The records. Raises the same failure each time if there are none to judge."""
         if self.failed is not None:
             raise self.failed
         if self.played is None:
@@ -126,26 +126,26 @@ class Player:
                 self.reaches.take(self.case, self.played)
         return self.played
 
-    def ask(self, command: str) -> oracle.Asked:
-        """What another unit answers to the events of the case."""
-        if self.asked is None:
-            self.asked = oracle.ask(command, self.case.name, self.play().records, self.within_s)
-        return self.asked
+    def compare(self, command: str) -> oracle.Comparison:
+        """The answers of another unit to the events of the case."""
+        if self.comparison is None:
+            self.comparison = oracle.ask(command, self.case.name, self.play().records, self.within_s)
+        return self.comparison
 
     def judge(self, expected: cases.Expected, table: mode_table.Table) -> None:
-        """Judges an expected result: by the records, or by another unit's answers in their place."""
+        """Judges an expected result by the records, or by another unit's answers."""
         played = self.play()
         if not self.against:
             case_runner.judge(expected, played, table)
             return
-        asked = self.ask(self.against)
-        if asked.broken:
-            raise case_runner.Missed("answers to all events", str(asked.broken))
-        untold = oracle.untold(expected.names, asked.tells)
-        if untold:
-            pytest.skip(f"the unit doesn't tell {', '.join(untold)}")
+        comparison = self.compare(self.against)
+        if comparison.broken:
+            raise case_runner.Missed("answers to all events", str(comparison.broken))
+        missing = oracle.not_reported(expected.names, comparison.members)
+        if missing:
+            pytest.skip(f"the unit doesn't report {', '.join(missing)}")
         try:
-            case_runner.judge(expected, case_runner.Played(oracle.answered(asked), played.marks), table)
+            case_runner.judge(expected, case_runner.Played(oracle.answered(comparison), played.marks), table)
         except case_runner.Missed as missed:
             proved = "meets it" if case_runner.comes(expected, played, table) else "misses it too"
             raise case_runner.Missed.of(f"{missed}\nthe proved unit {proved}") from None
@@ -155,7 +155,7 @@ class Player:
         self.image = image
 
     def keep(self) -> None:
-        """Keeps image and report in a folder of the case's own, once."""
+        """Keeps image and report once, in a folder of the case's own."""
         if self.folder is None or self.image is None:
             return
         from ..journal import report
@@ -194,7 +194,7 @@ class Item(pytest.Item):
             section.replace(" packet ", "/") for section in self.sections)), ("programs", program.PROOF[program.reader_is_proved()])]
 
     def runtest(self) -> None:
-        """Judges it."""
+        """Judges the expected result."""
         try:
             self.player.play()
             if self.expected:
@@ -204,7 +204,7 @@ class Item(pytest.Item):
             raise
 
     def repr_failure(self, excinfo: Any, style: Any = None) -> Any:
-        """What was expected and found, and where it stands."""
+        """The place in the file, and what was expected and found."""
         if not isinstance(excinfo.value, (case_runner.Missed, Failed)):
             return super().repr_failure(excinfo, style)
         case = self.player.case
@@ -212,29 +212,29 @@ class Item(pytest.Item):
         return f"{at.path.name}:{at.line}: {case.name}\nrule:     {' '.join(rule.split())}\n{excinfo.value}"
 
     def reportinfo(self) -> tuple[Path, int, str]:
-        """Where it stands, from line 0 on."""
+        """The place in the file, from line 0 on."""
         at = self.expected.at if self.expected else self.player.case.at
         return self.path, at.line - 1, self.name
 
 
 class AgainstItem(Item):
-    """Whether another unit answers to each event of a case as the proved one does."""
+    """Whether another unit answers each event of a case like the proved one."""
 
     def runtest(self) -> None:
-        """Compares."""
+        """Compares the answers."""
         assert self.player.against
-        asked = self.player.ask(self.player.against)
-        if not asked.agrees:
-            raise case_runner.Missed("the answers of the proved unit", "\n".join(line.text for line in oracle.lines(asked)))
+        comparison = self.player.compare(self.player.against)
+        if not comparison.agrees:
+            raise case_runner.Missed("the answers of the proved unit", "\n".join(line.text for line in oracle.lines(comparison)))
 
 
 def is_within(section: str, wanted: str) -> bool:
-    """Whether a section is one that is wanted, or a part of it."""
+    """Whether a section is the wanted one, or a part of it."""
     return section == wanted or section.startswith((f"{wanted}.", f"{wanted} "))
 
 
 def pytest_collection_modifyitems(config: pytest.Config, items: list[pytest.Item]) -> None:
-    """Keeps what is selected."""
+    """Keeps the selected tests."""
     sections, features = config.getoption("--section"), config.getoption("--feature")
     kept: list[pytest.Item] = []
     left: list[pytest.Item] = []

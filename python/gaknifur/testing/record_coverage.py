@@ -1,8 +1,8 @@
-"""What the records of a journal reach of the sets of `coverage_sets`: rows, causes, packets, refusals, acknowledgements, facts, groups.
+"""Measure what the records of a journal reach of the sets of `coverage_sets`: rows, causes, packets, refusals, acknowledgements, facts, groups.
 
-Modes, brakes, limits, places and causes are the kernel's own, as `etcs_lab events` and `etcs_lab why` report them. Which
-messages were used, which facts of the track they ended, and which actions were accepted no record says; that is
-followed along the records (`messages`, and the page of tables). Only journals count whose replay agrees.
+Modes, brakes, limits, places and causes are the kernel's own, as `etcs_lab events` and `etcs_lab why` print them. No record
+contains which messages were used, which facts of the track they ended, and which actions were accepted; that is followed along
+the records (`track_messages`, and the page of tables). Only journals whose replay agrees count.
 """
 from collections.abc import Callable, Iterator, Sequence
 from dataclasses import dataclass, field
@@ -22,25 +22,25 @@ WAITING = ("asked", "owed")
 MODE_OF = {"on_sight": "OS", "shunting": "SH"}
 AREA_OF = {"on_sight": 0, "shunting": 1}
 AREAS = {"on_sight": "on sight area", "shunting": "shunting area"}
-"""The condition of the mode table by which the mode of a kind is entered because of an area."""
+"""The condition of the mode table by which an area leads to the mode of its kind."""
 STAFF_DISTANCE = ("beyond staff distance", "staff_distance")
-"""The condition of a row, and the cause of a trip that it is."""
+"""A condition of a row, and the cause of a trip that it means."""
 
 
 @dataclass
 class Reached:
-    """What was reached, by the sets."""
+    """The members that were reached, by set."""
 
     sets: dict[str, set[str]] = field(default_factory=dict)
 
     def add(self, name: str, member: str) -> None:
-        """A member of a set was reached."""
+        """Notes that a member of a set was reached."""
         self.sets.setdefault(name, set()).add(member)
 
 
 @dataclass
 class Driver:
-    """What the unit knows of the driver's items, over the lives of an image."""
+    """The driver's items that the unit knows, over the lives of an image."""
 
     known: set[str] = field(default_factory=set)
     valid: set[str] = field(default_factory=set)
@@ -48,7 +48,7 @@ class Driver:
 
 @dataclass(frozen=True)
 class Level:
-    """A level that is announced: its place, none where it holds at once, and from how far before it is asked about."""
+    """An announced level: its place (None if it holds at once), and the distance before it at which it has to be acknowledged."""
 
     level: int
     place_cm: int | None
@@ -60,7 +60,7 @@ ITEMS = {"enter_identity": "identity", "enter_running_number": "running_number",
 
 
 def is_shown(record: Json, indication: str) -> bool:
-    """Whether a record shows something."""
+    """Whether a record shows an indication."""
     return indication in record["indications"]
 
 
@@ -77,17 +77,17 @@ NEEDS: dict[str, Need] = {
     "a speed of at most V_NVALLOWOVTRP": lambda walk, was, now: walk.speed <= walk.known.national.allowed,
     "that it is asked for or owed": lambda walk, was, now: is_shown(was, now["acknowledged"]),
 }
-"""What an action needs, by the words of the table: the walk, the record before, and its own."""
+"""The conditions of an action, by the wording of the table; arguments are the walk, the record before, and its own."""
 
 
 def name_of_action(record: Json) -> str:
-    """The action of a record, by the words of the table."""
-    told = record["action"], record.get("acknowledged")
-    return next(name for name, words in ACTIONS.items() if words == told)
+    """The action of a record, as the table names it."""
+    action = record["action"], record.get("acknowledged")
+    return next(name for name, one in ACTIONS.items() if one == action)
 
 
 def failing(action: Action, walk: "Follow", was: Json, now: Json) -> list[str]:
-    """Why an action isn't accepted; nothing where it is."""
+    """Why an action isn't accepted; empty if it is."""
     found = [] if was["mode"] in action.modes else [IN_ANOTHER_MODE]
     if action.stands and walk.speed:
         found.append(NOT_STANDING)
@@ -98,7 +98,7 @@ def failing(action: Action, walk: "Follow", was: Json, now: Json) -> list[str]:
 # ---- a life
 
 class Follow(Walk):
-    """Goes along the events of a life, and notes what they reach."""
+    """Follows the events of a life, and notes what they reach."""
 
     def __init__(self, power_up: Json, events: list[Event], kept: Known, driver: Driver, notes: Reached) -> None:
         super().__init__(events, kept)
@@ -109,12 +109,12 @@ class Follow(Walk):
         self.level: Level | None = None
         self.profiles: set[int] = set()
         self.trip_cause: str | None = None
-        """Why the train is tripped in this event, where it is."""
+        """Why the train is tripped in this event, if it is."""
         self.row_taken: int | None = None
         self.states: dict[str, str | None] = dict.fromkeys(ACKNOWLEDGED, "nothing")
 
     def event(self, number: int, event: Event) -> None:
-        """One event: the action before it has an effect, the rest after it."""
+        """Follows one event: first the action, before it has an effect, and then the rest."""
         record, self.accepted = event.record, ""
         if record["kind"] == "driver":
             self.act(record)
@@ -129,7 +129,7 @@ class Follow(Walk):
     # ---- the driver
 
     def act(self, record: Json) -> None:
-        """An action, by what is known before it."""
+        """Judges an action by what is known before it."""
         name, mode = name_of_action(record), self.was["mode"]
         why = failing(coverage_sets.actions()[name], self, self.was, record)
         self.notes.add("actions by mode", coverage_sets.action_name(name, mode, not why))
@@ -146,7 +146,7 @@ class Follow(Walk):
     # ---- balise groups
 
     def group(self, group: str, way: int | bool | None = None, is_second: bool = False) -> None:
-        """What became of a group, by the row of its table that begins so."""
+        """Notes the verdict on a group, by the row of its table that begins with `group`."""
         row = next((one for one, _, _ in coverage_sets.verdicts() if one.startswith(group)), None)
         name = coverage_sets.known(row or group, [one for one, _, _ in coverage_sets.verdicts()], "What becomes of a balise group")
         self.notes.add("linking verdicts", name if way is None else coverage_sets.group_name(name, way))
@@ -154,13 +154,13 @@ class Follow(Walk):
             self.notes.add("linking verdicts", f"{name}: {SECOND}")
 
     def lost(self, links: Sequence[Link]) -> bool:
-        """Announced groups are missed; whether that makes two in turn."""
+        """Whether the missed groups make two in a row."""
         is_second = len(links) + self.has_missed > 1
         self.has_missed = self.has_missed or bool(links)
         return is_second
 
     def miss(self, number: int, closed: Sequence[Message]) -> None:
-        """Announcements that the minimum safe front has left."""
+        """Removes announcements that the minimum safe front has passed."""
         before = self.known.links
         super().miss(number, closed)
         missed = [link for link in before if link not in self.known.links]
@@ -170,7 +170,7 @@ class Follow(Walk):
             self.group("announced, and the minimum safe front of a reading", link.reaction, is_second)
 
     def judge(self, message: Message, mode: str) -> None:
-        """What becomes of a closed group."""
+        """Decides whether a closed group is used."""
         before = self.known
         super().judge(message, mode)
         found = self.walked.messages[-1]
@@ -179,7 +179,7 @@ class Follow(Walk):
             self.packet(packet, found, mode)
 
     def verdict(self, message: Message, before: Known) -> None:
-        """The row of its table that a group is judged by."""
+        """Notes the row of the table that decides on a group."""
         link = message.link
         if link and (message.is_used or not message.is_broken):
             self.end("link", "Group")
@@ -205,7 +205,7 @@ class Follow(Walk):
             self.take_link(before.links[:before.links.index(link)])
 
     def take_link(self, missed: Sequence[Link]) -> None:
-        """An announced group is accepted; those that are announced before it are missed."""
+        """Accepts an announced group; those that are announced before it are missed."""
         if self.has_missed:
             self.end("miss", "Group")
         is_second = self.lost(missed)
@@ -214,10 +214,10 @@ class Follow(Walk):
             self.group("announced, and none of these", link.reaction, is_second)
 
     def packet(self, packet: Packet, message: Message, mode: str) -> None:
-        """A packet of a group that isn't broken, in the mode before the event."""
+        """Notes a packet of a group that isn't broken, in the mode before the event."""
         if packet.number not in coverage_sets.used() or not message.is_used:
             return
-        is_used, direction = mode in coverage_sets.used()[packet.number], packet.told("Q_DIR")
+        is_used, direction = mode in coverage_sets.used()[packet.number], packet.value("Q_DIR")
         if packet in message.packets or not is_used:
             self.notes.add("packets by mode", coverage_sets.packet_name(packet.number, mode))
         if is_used and (packet in message.packets or direction != BOTH):
@@ -226,11 +226,11 @@ class Follow(Walk):
     # ---- facts of the track
 
     def end(self, fact: str, place: str) -> None:
-        """A fact ends."""
+        """Notes how a fact ends."""
         self.notes.add("ends of track facts", coverage_sets.fact_name(fact, place))
 
     def use(self, message: Message, packet: Packet) -> None:
-        """What a packet ends, before what it brings."""
+        """Applies a packet: first what it ends, and then what it adds."""
         known, level = self.known, level_of(packet, message) if packet.number == 41 else None
         ended = {
             3: ["values"] if known.waiting else [], 5: ["link"] if known.links else [],
@@ -238,8 +238,8 @@ class Follow(Walk):
             80: ["areas"] if known.areas else [], 41: ["level"] if self.level and level else []}
         for fact in ended.get(packet.number, ()):
             self.end(fact, "Packet")
-        if packet.number in (65, 66) and packet.told("NID_TSR") != ALWAYS and any(
-                one.number == packet.told("NID_TSR") for one in known.restrictions):
+        if packet.number in (65, 66) and packet.value("NID_TSR") != ALWAYS and any(
+                one.number == packet.value("NID_TSR") for one in known.restrictions):
             self.end("restricted", "Packet")
         if packet.number in (21, 27):
             self.profiles.add(packet.number)
@@ -247,7 +247,7 @@ class Follow(Walk):
         super().use(message, packet)
 
     def there(self) -> Iterator[str]:
-        """The facts that count."""
+        """The facts that hold."""
         known = self.known
         facts = {"values": known.waiting, "link": known.links, "miss": self.has_missed, "authority": known.authority,
                  "look": known.authority, "gradients": 21 in self.profiles, "speeds": 27 in self.profiles, "level": self.level,
@@ -255,7 +255,7 @@ class Follow(Walk):
         return (name for name in coverage_sets.facts() if facts[coverage_sets.known(name, facts, "What ends a fact")])
 
     def settle(self, record: Json, closed: Sequence[Message], mode: str) -> None:
-        """What follows each event's own effect: values and levels that come into force, the mode, acknowledgements."""
+        """Follows what comes after the effect of an event: values and levels that come into force, the mode, acknowledgements."""
         waiting = self.known.waiting
         entered = record["mode"] if record["mode"] != mode else None
         came_in = self.come_in(record)
@@ -279,7 +279,7 @@ class Follow(Walk):
     # ---- modes
 
     def row(self, record: Json, mode: str, entered: str) -> int | None:
-        """The row of the mode table that was taken; None where that can't be reported."""
+        """The row of the mode table that was taken; None if that is ambiguous."""
         rows = {row for row, (sources, target) in mode_table().items() if mode in sources and target == entered}
         by_action = set(coverage_sets.actions()[self.accepted].rows) if self.accepted else set()
         rows = rows & by_action or rows - {row for action in coverage_sets.actions().values() for row in action.rows}
@@ -289,7 +289,7 @@ class Follow(Walk):
         return rows.pop() if len(rows) == 1 else None
 
     def enter(self, record: Json, mode: str, entered: str) -> None:
-        """Another mode is entered: by which row, and what it deletes."""
+        """Notes the row by which another mode is entered, and what the mode deletes."""
         self.row_taken = self.row(record, mode, entered)
         if self.row_taken is not None:
             self.notes.add("mode rows", f"{self.row_taken} from {mode}")
@@ -307,7 +307,7 @@ class Follow(Walk):
     # ---- acknowledgements
 
     def asks(self, kind: str, record: Json) -> bool:
-        """Whether the train is where an area or an announcement asks for an acknowledgement."""
+        """Whether the train is where an area or an announcement requests an acknowledgement."""
         front = record["max_safe_front_cm"]
         if kind not in AREA_OF:
             level = self.level
@@ -323,7 +323,7 @@ class Follow(Walk):
                    for area in self.known.areas)
 
     def happenings(self, kind: str, record: Json, entered: str | None, came_in: int | None, asks: bool) -> Iterator[str]:
-        """What happens to an acknowledgement in an event, in its order."""
+        """What happens to an acknowledgement in an event, in order."""
         if ACTIONS.get(self.accepted) == ("acknowledge", kind):
             yield "acknowledged"
         row = self.row_taken if entered else None
@@ -338,7 +338,7 @@ class Follow(Walk):
             yield "settled"
 
     def acknowledge(self, record: Json, entered: str | None, came_in: int | None, asking: dict[str, bool]) -> None:
-        """What becomes of each acknowledgement. One that the record contradicts isn't followed further in this life."""
+        """Follows each acknowledgement. One that the record contradicts isn't followed further in this life."""
         for kind in ACKNOWLEDGED:
             state = self.states[kind]
             if state is None:
@@ -352,10 +352,10 @@ class Follow(Walk):
 
 def level_of(packet: Packet, message: Message) -> Level | None:
     """The level that a packet 41 announces: the first that the train can run in."""
-    start = packet.told("D_LEVELTR")
+    start = packet.value("D_LEVELTR")
     place = None if start == NOW else message.place_cm + packet.cm(start)
-    return next((Level(LEVEL_OF[told["M_LEVELTR"]], place, packet.cm(told["L_ACKLEVELTR"]))
-                 for told in packet.elements("M_LEVELTR") if told["M_LEVELTR"] in LEVEL_OF), None)
+    return next((Level(LEVEL_OF[element["M_LEVELTR"]], place, packet.cm(element["L_ACKLEVELTR"]))
+                 for element in packet.elements("M_LEVELTR") if element["M_LEVELTR"] in LEVEL_OF), None)
 
 
 # ---- causes
@@ -364,7 +364,7 @@ Way = Callable[[Json, Json], bool]
 
 
 def is_action(action: str, acknowledged: tuple[str, ...] = ()) -> Way:
-    """Whether the driver did something."""
+    """Whether the driver did an action."""
     return lambda was, now: bool(now.get("action") == action and (not acknowledged or now["acknowledged"] in acknowledged))
 
 
@@ -395,46 +395,46 @@ WAYS: dict[str, Way] = {
     "a mode deletes it": lambda was, now: is_deleted(was, now),
     "a further transition begins it anew": lambda was, now: now["kind"] != "driver" and not is_deleted(was, now),
 }
-"""How a cause of the brake may end, by the words of `etcs_lab why`: whether the record before and that of the end say it."""
+"""How a cause of the brake may end, by the wording of `etcs_lab why`: whether the record before and the record of the end show it."""
 
 
 def ways_of(cause: str, was: Json, now: Json) -> Iterator[str]:
-    """How a cause ended, by the records before and of the event at which it did."""
+    """How a cause ended, by the record before and the record of the event at which it did."""
     for way in coverage_sets.ways(cause):
         if WAYS[coverage_sets.known(way, WAYS, "the words of etcs_lab why")](was, now):
             yield coverage_sets.end_name(cause, way)
 
 
-def measure_causes(records: Sequence[Json], told: Sequence[Causes], reached: Reached) -> None:
-    """The causes of brakes, of trips and of limits, and how those of brakes ended."""
-    for one in told:
+def measure_causes(records: Sequence[Json], causes: Sequence[Causes], reached: Reached) -> None:
+    """Notes the causes of brakes, of trips and of limits, and how those of brakes ended."""
+    for one in causes:
         for cause in one.held or ():
             reached.add("brake causes", cause)
         if one.limit:
             reached.add("limit kinds", one.limit)
         if one.trip:
             reached.add("trip causes", one.trip.cause or "unknown")
-    for (was, before), (now, behind) in pairwise(zip(records, told)):
-        for cause in before.held or () if behind.held is not None else ():
-            if cause not in (behind.held or ()) and (was["life"] == now["life"] or now["kind"] == "powerup"):
+    for (was, before), (now, after) in pairwise(zip(records, causes)):
+        for cause in before.held or () if after.held is not None else ():
+            if cause not in (after.held or ()) and (was["life"] == now["life"] or now["kind"] == "powerup"):
                 for name in ways_of(cause, was, now) if was["life"] == now["life"] else power_up_ways(cause, was, now):
                     reached.add("ends of brake causes", name)
 
 
 def power_up_ways(cause: str, was: Json, now: Json) -> Iterator[str]:
-    """How a cause ended at a power-up, where its words have that; others are no end, since nothing of them is kept."""
+    """How a cause ended at a power-up, if it can; for other causes that is no end, since they aren't kept."""
     return (name for name in ways_of(cause, was, now) if name.endswith("at a power-up alone"))
 
 
 # ---- a journal
 
 def measure(journal: Journal) -> Reached:
-    """What the lives of a journal reach, each that is there from its power-up on."""
+    """What the lives of a journal reach that are complete from their power-up on."""
     reached, driver, kept = Reached(), Driver(), Known()
-    told = list(causes_of(journal, rows_of(journal)))
-    measure_causes(journal.records, told, reached)
+    causes = list(causes_of(journal, rows_of(journal)))
+    measure_causes(journal.records, causes, reached)
     lives: dict[int, list[tuple[Json, Causes]]] = {}
-    for record, one in zip(journal.records, told):
+    for record, one in zip(journal.records, causes):
         lives.setdefault(record["life"], []).append((record, one))
     for number, life in lives.items():
         (power_up, _), *others = life
@@ -447,7 +447,7 @@ def measure(journal: Journal) -> Reached:
 
 
 def follow(power_up: Json, others: Sequence[tuple[Json, Causes]], kept: Known, driver: Driver, reached: Reached) -> Known:
-    """Follows a life; answers what is known at its end."""
+    """Follows a life; returns what is known at its end."""
     walk = Follow(power_up, [Event("", record["place_cm"], record) for record, _ in others],
                   Known(national=kept.national, train=kept.train), driver, reached)
     for number, (event, (_, causes)) in enumerate(zip(walk.walked.events, others)):

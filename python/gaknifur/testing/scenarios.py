@@ -1,7 +1,7 @@
-"""A scenario in YAML, and the JSON that `etcs run` reads. docs/reference/test-cases.md has its keys.
+"""Compile a YAML scenario to the JSON that `etcs run` reads. docs/reference/test-cases.md describes the keys.
 
-Faults are reported by their place in the YAML. The limits are those of `crates/simulator/README.md`; `etcs run` looks at
-them again. Each telegram that is reported by its variables is compared with what `etcs decode` finds in its bytes.
+Errors name their place in the YAML. The limits are those of `crates/simulator/README.md`; `etcs run` checks them again. Each
+telegram that is written with its variables is compare with what `etcs decode` finds in its bytes.
 """
 import json
 import re
@@ -18,11 +18,11 @@ from . import telegrams
 COLD = {"unknown": 0, "moved": 1, "not_moved": 2}
 CONFIRMED = {"identity": 1, "running_number": 2, "train_data": 3, "level": 4}
 ACKNOWLEDGED = {"trip": 1, "on_sight": 2, "shunting": 3, "level_0": 4}
-ALONE = {"start": 6, "choose_shunting": 7, "leave_shunting": 8, "override": 9, "close_desk": 11}
+WITHOUT_VALUE = {"start": 6, "choose_shunting": 7, "leave_shunting": 8, "override": 9, "close_desk": 11}
 TRAIN = {"length": 409_500, "maximum": 600_000, "deceleration": 300, "reaction": 10_000, "category": 15}
 WITH_VALUE = ("telegram", "drive", "clock", "enter_identity", "enter_running_number", "enter_train_data", "choose_level",
               "confirm", "acknowledge", "use", "mark")
-STEPS = (*WITH_VALUE, *ALONE, "flush")
+STEPS = (*WITH_VALUE, *WITHOUT_VALUE, "flush")
 SHARED = ("telegrams", "parts", "include")
 LIFE = ("cold", "groups", "steps")
 LONGEST_CM, MOST_DRIVE_CM, MOST_PLACE_CM, MOST_SPACING_CM = 10_000, 1_000_000, 100_000_000, 1_200
@@ -35,25 +35,25 @@ UNITS: dict[str, dict[str, Decimal]] = {
     "acceleration": {"cm/s2": Decimal(1), "m/s2": Decimal(100)},
 }
 EXACT = Context(prec=2 * MOST_DIGITS)
-"""Reckons with numbers of that many digits without rounding."""
+"""Calculates with the longest numbers without rounding."""
 QUANTITY = re.compile(r"(-?[0-9][0-9_]*(?:\.[0-9]+)?)\s*([a-z][a-z0-9/]*)")
 DEPTH, MOST_STEPS = 16, 100_000
-"""How deep parts use one another, and files include one another; how many steps a life has, with each `use` and mark."""
+"""How deep parts use one another and files include one another; the most steps of a life, with each `use` and mark."""
 
 
 @dataclass
 class Scenario:
-    """What a scenario in YAML comes to."""
+    """A compiled scenario."""
 
     cold: int = 0
     groups: list[dict[str, Any]] = field(default_factory=list)
     steps: list[dict[str, Any]] = field(default_factory=list)
     places: list[Value] = field(default_factory=list)
-    """Where each step stands in the YAML."""
+    """The place of each step in the YAML."""
     group_places: list[Value] = field(default_factory=list)
-    """Where each group stands in the YAML."""
+    """The place of each group in the YAML."""
     marks: dict[str, int] = field(default_factory=dict)
-    """Of each mark how many events of the life come before it, the power-up not counted."""
+    """For each mark the number of events of the life before it, without the power-up."""
     marked: dict[str, Value] = field(default_factory=dict)
     events: int = 0
     front_cm: int = 0
@@ -67,10 +67,10 @@ class Scenario:
 
 
 def is_built(data: bytes) -> bool:
-    """Whether bytes are a scenario as `text` lays it out."""
+    """Whether bytes are a scenario that `text` wrote."""
     try:
-        told = json.loads(data)
-        return Scenario(told.get("cold", 0), told["groups"], told["steps"]).text().encode() == data
+        members = json.loads(data)
+        return Scenario(members.get("cold", 0), members["groups"], members["steps"]).text().encode() == data
     except (ValueError, TypeError, KeyError, AttributeError, RecursionError):
         return False
 
@@ -80,7 +80,7 @@ FILE = files.Kind("a scenario", is_built, is_whole=True)
 
 @dataclass
 class Shared:
-    """Telegrams and parts by their names, of the file and of those that it includes."""
+    """Telegrams and parts by their names, of a file and of the files that it includes."""
 
     telegrams: dict[str, Value] = field(default_factory=dict)
     parts: dict[str, Value] = field(default_factory=dict)
@@ -102,14 +102,14 @@ def quantity(text: str, at: Value, kind: str, least: int, most: int) -> int:
     return int(number)
 
 
-def told_quantity(at: Value, kind: str, least: int, most: int) -> int:
+def quantity_of(at: Value, kind: str, least: int, most: int) -> int:
     """The quantity of a value."""
     return quantity(at.text(), at, kind, least, most)
 
 
 def shared_of(members: dict[str, Value], path: Path, within: tuple[Path, ...] = (),
               known: dict[Path, Shared] | None = None) -> Shared:
-    """The telegrams and parts of a file, after those that it includes; `known` has those of files that were read before."""
+    """The telegrams and parts of a file and of the files that it includes; `known` has those of files that were read before."""
     found, read_before = Shared(), {} if known is None else known
     if "include" in members:
         for name in [members["include"]] if members["include"].is_text() else members["include"].elements():
@@ -119,8 +119,8 @@ def shared_of(members: dict[str, Value], path: Path, within: tuple[Path, ...] = 
             if len(within) == DEPTH:
                 raise name.fault(f"files include one another more than {DEPTH} deep")
             if other not in read_before:
-                told = document(other).members((), SHARED)
-                read_before[other] = shared_of(told, other, (*within, path.resolve()), read_before)
+                included = document(other).members((), SHARED)
+                read_before[other] = shared_of(included, other, (*within, path.resolve()), read_before)
             inner = read_before[other]
             found.telegrams |= inner.telegrams
             found.parts |= inner.parts
@@ -133,19 +133,19 @@ def shared_of(members: dict[str, Value], path: Path, within: tuple[Path, ...] = 
 
 
 def is_hex(text: str) -> bool:
-    """Whether these are digits of bytes."""
+    """Whether a text is bytes in hex."""
     return bool(re.fullmatch(r"([0-9A-Fa-f]{2})+", text))
 
 
 def digits_of(at: Value, shared: Shared) -> str:
-    """The digits of a telegram: by its name, by its variables, in hex, or as one that is to be refused."""
+    """The hex digits of a telegram, which is given by its name, by its variables, in hex, or as one that has to be refused."""
     if at.is_text():
         text = at.text()
         if text in shared.telegrams:
-            told = shared.telegrams[text]
-            if told.is_text() and told.text() in shared.telegrams:
-                raise told.fault("a telegram can\'t be defined by another one\'s name")
-            return digits_of(told, Shared())
+            named = shared.telegrams[text]
+            if named.is_text() and named.text() in shared.telegrams:
+                raise named.fault("a telegram can\'t be defined by another one\'s name")
+            return digits_of(named, Shared())
         if is_hex(text):
             return checked_size(text.upper(), at)
         if "NID_BG" not in text:
@@ -161,24 +161,24 @@ def digits_of(at: Value, shared: Shared) -> str:
 
 
 def of_track(at: Value, members: dict[str, Value]) -> str:
-    """The digits of what a unit is handed in place of a telegram of an installed track, which is reported by its variables or in hex."""
+    """The digits of the telegram that a unit gets in place of one of an installed track, which is given by its variables or in hex."""
     if len(members) > 1:
         raise at.fault("nothing else is allowed next to `installed`")
-    told = members["installed"]
-    text = told.text()
+    installed = members["installed"]
+    text = installed.text()
     if is_hex(text):
-        return adapted(checked_size(text.upper(), told), told)
+        return adapted(checked_size(text.upper(), installed), installed)
     try:
         sent = telegrams.telegram(text, of_track=True)
-        digits = adapted(sent.digits, told)
+        digits = adapted(sent.digits, installed)
     except telegrams.Wrong as wrong:
-        raise told.fault(str(wrong)) from wrong
-    compared(sent.adapted(), program.decode(digits), told)
+        raise installed.fault(str(wrong)) from wrong
+    compare(sent.adapted(), program.decode(digits), installed)
     return digits
 
 
 def adapted(digits: str, at: Value) -> str:
-    """What `etcs_lab telegram --installed` makes of a telegram."""
+    """The telegram that `etcs_lab telegram --installed` converts a telegram to."""
     try:
         return program.adapted(digits)
     except program.Failed as failed:
@@ -186,17 +186,18 @@ def adapted(digits: str, at: Value) -> str:
 
 
 def checked_size(digits: str, at: Value) -> str:
-    """The digits of a telegram that is no longer than the longest one."""
+    """The digits of a telegram. Refuses more than the longest one has."""
     if len(digits) > 2 * telegrams.MOST_BYTES:
         raise at.fault(f"a telegram has at most {telegrams.MOST_BYTES} bytes, and this one has {len(digits) // 2}")
     return digits
 
 
 def written(text: str, at: Value, refused: str | None) -> str:
-    """The digits of a telegram by its variables, which `etcs decode` has to find in them, or to refuse as it is reported."""
+    """The digits of a telegram that is given by its variables. `etcs decode` has to find the same variables, or to refuse it as the
+    scenario says."""
     try:
-        told = telegrams.telegram(text)
-        digits = told.digits
+        telegram = telegrams.telegram(text)
+        digits = telegram.digits
     except telegrams.Wrong as wrong:
         raise at.fault(str(wrong)) from wrong
     found = program.decode(digits)
@@ -204,15 +205,15 @@ def written(text: str, at: Value, refused: str | None) -> str:
         if found != [f"refused {refused}"]:
             raise at.fault(f"the telegram was to be refused with {refused}, and etcs decode says: {found[0]}")
         return digits
-    compared(told, found, at)
+    compare(telegram, found, at)
     return digits
 
 
-def compared(told: telegrams.Telegram, found: list[str], at: Value) -> None:
-    """Whether `etcs decode` finds the telegram that is reported; else that is a fault."""
+def compare(telegram: telegrams.Telegram, found: list[str], at: Value) -> None:
+    """Refuses a telegram if `etcs decode` finds another one."""
     if found[0].startswith("refused"):
         raise at.fault(f"etcs decode says of this telegram: {found[0]}")
-    for wanted, line in zip(told.lines(), found[:-1], strict=False):
+    for wanted, line in zip(telegram.lines(), found[:-1], strict=False):
         if line != wanted:
             raise at.fault(f"etcs decode finds another telegram: {line}; the scenario says {wanted}")
 
@@ -227,7 +228,7 @@ class Builder:
         self.places: list[int] = []
         """The places of the balises, from the first to the last."""
         self.digits: dict[int, str] = {}
-        """The digits of telegrams that were reported before, by their places in the YAML."""
+        """The digits of telegrams that were used before, by their nodes in the YAML."""
         self.taken = 0
 
     def build(self, members: dict[str, Value]) -> Scenario:
@@ -248,27 +249,27 @@ class Builder:
             raise members["balises"].fault(f"a group has 1 to 8 balises, and this one has {len(balises)}")
         if "spacing" not in members and len(balises) > 1:
             raise at.fault("spacing is missing, from each balise to the next")
-        place = told_quantity(members["at"], "distance", 1, MOST_PLACE_CM)
-        spacing = told_quantity(members["spacing"], "distance", 1, MOST_SPACING_CM) if "spacing" in members else 1
+        place = quantity_of(members["at"], "distance", 1, MOST_PLACE_CM)
+        spacing = quantity_of(members["spacing"], "distance", 1, MOST_SPACING_CM) if "spacing" in members else 1
         self.balises += [place + number * spacing for number in range(len(balises))]
         self.built.group_places.append(at)
         self.built.groups.append({"at": place, "spacing": spacing,
                                   "balises": [digits_of(balise, self.shared) for balise in balises]})
 
     def steps(self, at: Value, depth: int) -> None:
-        """Some steps, in turn."""
+        """Adds a list of steps."""
         for step in at.elements():
             if step.is_text():
-                word, value = step.one_of((*ALONE, "flush")), step
+                word, value = step.one_of((*WITHOUT_VALUE, "flush")), step
             else:
-                told = step.members((), WITH_VALUE)
-                if len(told) != 1:
-                    raise step.fault(f"a step needs exactly one keyword, found {', '.join(told) or 'none'}")
-                (word, value), = told.items()
+                members = step.members((), WITH_VALUE)
+                if len(members) != 1:
+                    raise step.fault(f"a step needs exactly one keyword, found {', '.join(members) or 'none'}")
+                (word, value), = members.items()
             self.step(word, value, step, depth)
 
     def step(self, word: str, value: Value, step: Value, depth: int) -> None:
-        """One step."""
+        """Adds a step."""
         self.taken += 1
         if self.taken > MOST_STEPS:
             raise value.fault(f"a life has at most {MOST_STEPS:,} steps, with each use of a part and each mark")
@@ -288,18 +289,18 @@ class Builder:
                 self.digits[id(value.node)] = digits_of(value, self.shared)
             self.add({"telegram": self.digits[id(value.node)]}, step)
         elif word == "clock":
-            self.add({"clock": told_quantity(value, "time", 0, MOST_MOMENT)}, step)
+            self.add({"clock": quantity_of(value, "time", 0, MOST_MOMENT)}, step)
         else:
             self.add({"driver": action_of(word, value)}, step)
 
-    def add(self, told: dict[str, Any], step: Value, events: int = 1) -> None:
-        """Adds a step of the JSON, of so many events."""
-        self.built.steps.append(told)
+    def add(self, members: dict[str, Any], step: Value, events: int = 1) -> None:
+        """Adds a step of the JSON, with the number of its events."""
+        self.built.steps.append(members)
         self.built.places.append(step)
         self.built.events += events
 
     def mark(self, at: Value) -> None:
-        """Gives the event before it a name."""
+        """Names the event before the mark."""
         name = at.text()
         if name in self.built.marks:
             raise at.fault(f"\"{shortened(name)}\" marks line {self.built.marked[name].line} already")
@@ -307,16 +308,16 @@ class Builder:
         self.built.marked[name] = at
 
     def drive(self, at: Value, step: Value) -> None:
-        """A movement at a speed, as `200 m at 30 km/h`."""
+        """Adds a movement at a speed, such as `200 m at 30 km/h`."""
         way, word, speed = at.text().partition(" at ")
         if not word:
-            raise at.fault(f"expected a distance and a speed, such as \"200 m at 30 km/h\", found {at.told_by()}")
+            raise at.fault(f"expected a distance and a speed, such as \"200 m at 30 km/h\", found {at.describe()}")
         movement = quantity(way, at, "distance", -LONGEST_CM, MOST_DRIVE_CM)
-        told = {"drive": [movement, quantity(speed, at, "speed", 0, MOST_SPEED)]}
-        self.add(told, step, self.events_of(movement))
+        members = {"drive": [movement, quantity(speed, at, "speed", 0, MOST_SPEED)]}
+        self.add(members, step, self.events_of(movement))
 
     def events_of(self, movement: int) -> int:
-        """How many events a drive has: forward readings of at most 100 m between the balises, and a telegram of each."""
+        """The number of events of a movement: forward readings of at most 100 m between the balises, and a telegram for each balise."""
         if movement <= 0:
             self.built.front_cm += movement
             return 1
@@ -329,9 +330,9 @@ class Builder:
 
 
 def action_of(word: str, value: Value) -> list[Any]:
-    """A driver's action: its code and its values."""
-    if word in ALONE:
-        return [ALONE[word]]
+    """An action of the driver: its code and its values."""
+    if word in WITHOUT_VALUE:
+        return [WITHOUT_VALUE[word]]
     if word == "enter_identity":
         text = value.text()
         if not re.fullmatch("[ -~]{1,16}", text):
@@ -349,13 +350,13 @@ def action_of(word: str, value: Value) -> list[Any]:
 
 
 def train_of(value: Value) -> list[int]:
-    """Train data: length, greatest speed, deceleration, reaction time, category (none is 15)."""
-    told = value.members(("length", "maximum", "deceleration"), ("reaction", "category"))
-    return [told_quantity(told["length"], "distance", 1, TRAIN["length"]),
-            told_quantity(told["maximum"], "speed", 1, TRAIN["maximum"]),
-            told_quantity(told["deceleration"], "deceleration", 1, TRAIN["deceleration"]),
-            told_quantity(told["reaction"], "time", 0, TRAIN["reaction"]) if "reaction" in told else 0,
-            told["category"].integer(0, TRAIN["category"]) if "category" in told else TRAIN["category"]]
+    """Train data: length, maximum speed, deceleration, reaction time, category (15 if none is given)."""
+    members = value.members(("length", "maximum", "deceleration"), ("reaction", "category"))
+    return [quantity_of(members["length"], "distance", 1, TRAIN["length"]),
+            quantity_of(members["maximum"], "speed", 1, TRAIN["maximum"]),
+            quantity_of(members["deceleration"], "deceleration", 1, TRAIN["deceleration"]),
+            quantity_of(members["reaction"], "time", 0, TRAIN["reaction"]) if "reaction" in members else 0,
+            members["category"].integer(0, TRAIN["category"]) if "category" in members else TRAIN["category"]]
 
 
 def build(members: dict[str, Value], shared: Shared) -> Scenario:
@@ -368,5 +369,5 @@ def read(path: Path) -> Scenario:
     at = document(path)
     members = at.members(("steps",), (*LIFE, "drive", *SHARED))
     if "drive" in members:
-        raise members["drive"].fault("what is driven in a closed loop is known when it was driven; lab drive has --scenario")
+        raise members["drive"].fault("the inputs of a drive in a closed loop are known only after it; use lab drive --scenario")
     return build(members, shared_of(members, path))

@@ -1,9 +1,8 @@
-"""Looks through random scenarios for one that breaks a property, and makes it small. docs/howto/searching.md says how it is
-used.
+"""Search random scenarios for one that breaks a property, and shrink it. docs/howto/searching.md explains how to use it.
 
-A scenario is played on the programs, and judged by the records that `etcs_lab events` reports, or by another unit's
-answers to them. What breaks a property is made small by hypothesis, and then each step is left out without which it
-breaks it too. It is kept as a test case.
+A scenario is run on the programs, and judged by the records that `etcs_lab events` prints, or by another unit's answers to them.
+Hypothesis shrinks a scenario that breaks a property, and then each step that isn't needed is removed. The scenario is kept as a
+test case.
 """
 import functools
 import json
@@ -21,20 +20,20 @@ from ..program import REFUSED, Failed
 from ..units import oracle
 from . import case_runner, properties
 from .properties import Property, Violated
-from .scenarios import ACKNOWLEDGED, ALONE, COLD, CONFIRMED
+from .scenarios import ACKNOWLEDGED, WITHOUT_VALUE, COLD, CONFIRMED
 from .strategies import Made, lives, text_of
 from .yaml_text import flow, quoted
 
 Lives = tuple[str, ...]
 SLOTS = 128
-MADE_SMALL = 250
-"""How many scenarios are played to make one small, at most."""
+MOST_SHRINKING = 250
+"""The greatest number of scenarios that are run to shrink one."""
 Records = Callable[[Lives], list[Json]]
 
 
 @dataclass(frozen=True)
 class Other:
-    """Another unit, and how long it has for an answer."""
+    """Another unit, and its time limit for an answer."""
 
     command: str
     within_s: float
@@ -42,25 +41,25 @@ class Other:
 
 @dataclass
 class Found:
-    """What came of a property: how many scenarios were played, and records judged; and what broke it, made small."""
+    """The result of a property: the numbers of scenarios and of judged records, and the shrunk scenario that broke it."""
 
     of: Property
     scenarios: int = 0
     judged: int = 0
     lives: Lives | None = None
     record: Json | None = None
-    said: str = ""
+    message: str = ""
 
     @property
     def steps(self) -> int:
-        """How many steps the scenario has."""
+        """The number of steps of the scenario."""
         return sum(len(json.loads(life)["steps"]) for life in self.lives or ())
 
 
 # ---- playing
 
 def image_of(scenarios: Lives, image: Path) -> None:
-    """Plays lives in turn on an image."""
+    """Runs lives in turn on an image."""
     program.format_image(image, SLOTS)
     for text in scenarios:
         scenario = image.with_name("scenario.json")
@@ -72,14 +71,14 @@ def image_of(scenarios: Lives, image: Path) -> None:
 
 def recorded(scenarios: Lives) -> list[Json]:
     """The records of lives."""
-    with program.room(SLOTS) as room:
-        image = Path(room) / "image"
+    with program.temporary_folder(SLOTS) as folder:
+        image = Path(folder) / "image"
         records: list[Json] = []
         ended: list[Json] = []
         image_of(scenarios, image)
 
-        def take(told: Json) -> None:
-            (records if "event" in told else ended).append(told)
+        def take(line: Json) -> None:
+            (records if "event" in line else ended).append(line)
 
         run = objects(["events"], image, take)
         if run.status or not ended or "end" not in ended[-1]:
@@ -88,15 +87,15 @@ def recorded(scenarios: Lives) -> list[Json]:
 
 
 def answered(scenarios: Lives, other: Other) -> list[Json]:
-    """The records of lives with another unit's answers. One that breaks the protocol is reported, with the lives."""
-    asked = oracle.ask(other.command, "search", recorded(scenarios), other.within_s)
-    if asked.broken:
-        raise Failed(f"the unit broke the protocol: {asked.broken}; scenarios: {' '.join(scenarios)}", REFUSED)
-    return properties.derived(oracle.answered(asked))
+    """The records of lives with another unit's answers. Fails with the lives if the unit breaks the protocol."""
+    comparison = oracle.ask(other.command, "search", recorded(scenarios), other.within_s)
+    if comparison.broken:
+        raise Failed(f"the unit broke the protocol: {comparison.broken}; scenarios: {' '.join(scenarios)}", REFUSED)
+    return properties.derived(oracle.answered(comparison))
 
 
 def player(other: Other | None) -> Records:
-    """What plays lives, the same ones once."""
+    """A function that runs lives, the same ones only once."""
     @functools.lru_cache(maxsize=20_000)
     def played(scenarios: Lives) -> list[Json]:
         return answered(scenarios, other) if other else recorded(scenarios)
@@ -107,15 +106,15 @@ def player(other: Other | None) -> Records:
 
 @dataclass
 class Search:
-    """A search for what breaks a property."""
+    """A search for lives that break a property."""
 
     of: Property
     records: Records
     found: Found = field(init=False)
     seen: dict[Lives, bool] = field(default_factory=dict)
-    """Of each scenario whether it breaks the property."""
+    """Whether each scenario breaks the property."""
     left: int | None = None
-    """How many scenarios may still be played to make one small."""
+    """The number of scenarios that may still be run to shrink one."""
     first: Lives | None = None
     """The first scenario that broke it."""
 
@@ -142,18 +141,18 @@ class Search:
         self.first = self.first or (scenarios if broken else None)
         return broken
 
-    def tell(self, scenarios: Lives) -> Found:
-        """What there is to say about lives that break the property."""
+    def result(self, scenarios: Lives) -> Found:
+        """The result for lives that break the property."""
         records = self.records(scenarios)
         try:
             properties.judge(self.of, records)
         except Violated as violated:
-            self.found.lives, self.found.record, self.found.said = scenarios, records[violated.index], str(violated)
+            self.found.lives, self.found.record, self.found.message = scenarios, records[violated.index], str(violated)
         return self.found
 
 
 def smaller(scenarios: Lives) -> list[Lives]:
-    """The lives with one part less: a life, a step, a group."""
+    """The lives without one part: a life, a step or a group."""
     found = [scenarios[:at] + scenarios[at + 1:] for at in range(len(scenarios)) if len(scenarios) > 1]
     for at, text in enumerate(scenarios):
         life = json.loads(text)
@@ -167,27 +166,27 @@ def smaller(scenarios: Lives) -> list[Lives]:
 
 
 def thinned(search: Search, scenarios: Lives) -> Lives:
-    """Lives of which no part can be left out."""
-    search.left = MADE_SMALL
+    """Removes parts of lives until none can be removed."""
+    search.left = MOST_SHRINKING
     while less := next((one for one in smaller(scenarios) if search.is_broken(one)), None):
         scenarios = less
     return scenarios
 
 
 class Broke(Exception):
-    """What hypothesis makes small."""
+    """A scenario breaks a property; hypothesis shrinks it."""
 
 
 def over_lives(made: Made, examples: int, seed: int, phases: tuple[Phase, ...], each: Callable[[Lives], None]) -> None:
-    """Hands random lives to a function. The same seed gives the same ones."""
+    """Calls a function with random lives. The same seed gives the same lives."""
     settings(max_examples=examples, deadline=None, database=None, phases=phases,
              suppress_health_check=list(HealthCheck),
              report_multiple_bugs=False)(hypothesis.seed(seed)(hypothesis.given(lives(made))(each)))()
 
 
-def survey(told: list[Property], made: Made, records: Records, examples: int, seed: int) -> list[Search]:
-    """Looks through random scenarios for all properties at once."""
-    searches = [Search(one, records) for one in told]
+def survey(wanted: list[Property], made: Made, records: Records, examples: int, seed: int) -> list[Search]:
+    """Searches random scenarios for all properties at once."""
+    searches = [Search(one, records) for one in wanted]
 
     def each(scenarios: Lives) -> None:
         for search in searches:
@@ -198,8 +197,8 @@ def survey(told: list[Property], made: Made, records: Records, examples: int, se
     return searches
 
 
-def made_small(search: Search, made: Made, examples: int, seed: int) -> Found:
-    """Finds what breaks a property once more, and makes it small."""
+def shrunk(search: Search, made: Made, examples: int, seed: int) -> Found:
+    """Finds a scenario that breaks a property again, and shrinks it."""
     assert search.first is not None
     last = [search.first]
 
@@ -208,26 +207,26 @@ def made_small(search: Search, made: Made, examples: int, seed: int) -> Found:
             last[0] = scenarios
             raise Broke
 
-    search.left = MADE_SMALL
+    search.left = MOST_SHRINKING
     try:
         over_lives(made, examples, seed, (Phase.generate, Phase.shrink), each)
     except Broke:
         pass
-    return search.tell(thinned(search, last[0]))
+    return search.result(thinned(search, last[0]))
 
 
 # ---- as a test case
 
 def name_of(numbers: dict[str, int], value: int) -> str:
-    """The word of a number."""
+    """The name of a number."""
     return next(word for word, number in numbers.items() if number == value)
 
 
-def action_text(told: list[Any]) -> str:
-    """A driver's action as a step in YAML."""
-    code, *values = told
+def action_text(action: list[Any]) -> str:
+    """An action of the driver as a step in YAML."""
+    code, *values = action
     if not values:
-        return name_of(ALONE, code)
+        return name_of(WITHOUT_VALUE, code)
     if code == 3:
         length, maximum, deceleration, reaction, category = values
         return (f"enter_train_data: {{length: {length} cm, maximum: {maximum} m/h, deceleration: {deceleration} cm/s2, "
@@ -252,7 +251,7 @@ def step_text(step: Json, made: Made) -> str:
 
 
 def life_text(text: str, made: Made) -> list[str]:
-    """A life in YAML, a line a step."""
+    """A life in YAML, one line for each step."""
     life = json.loads(text)
     lines = [f"  - cold: {name_of(COLD, life['cold'])}"]
     if life["groups"]:
@@ -265,7 +264,7 @@ def life_text(text: str, made: Made) -> list[str]:
 
 
 def expected_text(found: Found) -> str:
-    """What was to be so of the record, as an expected result."""
+    """The requirement on the record, as an expected result."""
     of, record = found.of, found.record
     assert record is not None
     event, required = f"{{event: {record['event']}}}", flow(of.required.at)

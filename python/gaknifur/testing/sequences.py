@@ -1,8 +1,8 @@
-"""A table of test steps, in the form of SUBSET-076's sequences, as test cases: each step has an interface, an action,
-and what is expected. docs/howto/sequences.md has the words.
+"""Convert a table of test steps, in the form of SUBSET-076's sequences, to test cases. Each step has an interface, an action and
+an expected result. docs/howto/sequences.md describes the keys.
 
-What the texts of a table mean, no file of this product says: a laboratory owns a mapping file, in which patterns stand
-for steps and for expected results. What no pattern fits is reported by its row, and is never guessed.
+The laboratory writes a mapping file, in which patterns of texts stand for steps and expected results. A text that no pattern
+matches is reported with its row, and is never guessed.
 """
 import contextlib
 import csv
@@ -29,7 +29,7 @@ MOST_BYTES, MOST_ROWS = 1 << 26, 100_000
 
 @dataclass(frozen=True)
 class Row:
-    """A row of a table: where it stands, and its texts by the names of this page."""
+    """A row of a table: its place, and its texts by the names of COLUMNS."""
 
     at: str
     texts: dict[str, str]
@@ -37,7 +37,7 @@ class Row:
 
 @dataclass(frozen=True)
 class Pattern:
-    """What a text means on an interface, where it is reported: steps, or what is expected; or why it is left out."""
+    """The meaning of a text on an interface, if one is given: steps or an expected result, or why it is left out."""
 
     at: Value
     interface: str | None
@@ -46,14 +46,14 @@ class Pattern:
     left_out: str | None
 
     def fits(self, interface: str, text: str) -> dict[str, str] | None:
-        """The words that a text has for it, where it fits."""
+        """The groups of the pattern in a text; None if it doesn't match."""
         found = self.pattern.fullmatch(text) if self.interface in (None, interface) else None
         return None if found is None else {name: word or "" for name, word in found.groupdict().items()}
 
 
 @dataclass(frozen=True)
 class Mapping:
-    """What a laboratory says of its table."""
+    """A laboratory's mapping of its table."""
 
     path: Path
     columns: dict[str, str]
@@ -64,7 +64,7 @@ class Mapping:
 
 @dataclass
 class Made:
-    """The cases of a table, and what is reported of its rows."""
+    """The cases of a table, and the messages about its rows."""
 
     cases: list[str] = field(default_factory=list)
     unmapped: list[str] = field(default_factory=list)
@@ -76,26 +76,26 @@ class Made:
 # ---- the mapping
 
 def pattern_of(at: Value, name: str) -> Pattern:
-    """What a text means."""
-    told = at.members(("text",), ("interface", name, "left_out"))
-    if (name in told) == ("left_out" in told):
+    """A pattern of the mapping."""
+    members = at.members(("text",), ("interface", name, "left_out"))
+    if (name in members) == ("left_out" in members):
         raise at.fault(f"expected one of {name}, left_out")
     try:
-        pattern = re.compile(told["text"].text())
+        pattern = re.compile(members["text"].text())
     except re.error as error:
-        raise told["text"].fault(f"not a regular expression: {error}") from None
-    return Pattern(at, told["interface"].text() if "interface" in told else None, pattern, told.get(name),
-                   told["left_out"].text() if "left_out" in told else None)
+        raise members["text"].fault(f"not a regular expression: {error}") from None
+    return Pattern(at, members["interface"].text() if "interface" in members else None, pattern, members.get(name),
+                   members["left_out"].text() if "left_out" in members else None)
 
 
 def mapping(path: Path) -> Mapping:
     """The mapping of a file."""
-    told = document(path).members(("columns", "case", "actions"), ("expected",))
-    columns = told["columns"].members(COLUMNS, MORE_COLUMNS)
-    case = told["case"].members(("feature", "sections", "rule", "starting_conditions"), ("include", "slots"))
+    members = document(path).members(("columns", "case", "actions"), ("expected",))
+    columns = members["columns"].members(COLUMNS, MORE_COLUMNS)
+    case = members["case"].members(("feature", "sections", "rule", "starting_conditions"), ("include", "slots"))
     return Mapping(path, {name: one.text() for name, one in columns.items()}, case,
-                   [pattern_of(one, "steps") for one in told["actions"].elements()],
-                   [pattern_of(one, "expect") for one in (told["expected"].elements() if "expected" in told else [])])
+                   [pattern_of(one, "steps") for one in members["actions"].elements()],
+                   [pattern_of(one, "expect") for one in (members["expected"].elements() if "expected" in members else [])])
 
 
 # ---- the table
@@ -122,8 +122,8 @@ def of_text(file: BinaryIO) -> Iterator[list[str]]:
 
 
 def of_workbook(path: Path, file: BinaryIO) -> Iterator[list[str]]:
-    """The cells of the first sheet of a workbook; of a formula what it came to. It is read twice at once: a reader gives either
-    the formulas or what they came to."""
+    """The cells of the first sheet of a workbook, with the values of formulas. The file is read twice: a reader gives either formulas
+    or their values."""
     try:
         import openpyxl
     except ImportError as error:
@@ -134,7 +134,7 @@ def of_workbook(path: Path, file: BinaryIO) -> Iterator[list[str]]:
             for has_values in (True, False):
                 book = books.enter_context(contextlib.closing(openpyxl.load_workbook(file, read_only=True, data_only=has_values)))
                 sheets.append(book.worksheets[0])
-                sheets[-1].reset_dimensions()  # what a sheet says about its own size isn't always so
+                sheets[-1].reset_dimensions()  # the size that a sheet gives isn't always right
             for row, formulas in zip(sheets[0].iter_rows(), sheets[1].iter_rows()):
                 check_saved(path, row, formulas)
                 yield [text_of(cell.value) for cell in row]
@@ -145,10 +145,10 @@ def of_workbook(path: Path, file: BinaryIO) -> Iterator[list[str]]:
 
 
 def check_saved(path: Path, row: Iterable[Any], formulas: Iterable[Any]) -> None:
-    """The workbook says of each formula what it came to. A program that isn't a spreadsheet may write the formula alone."""
+    """Refuses a formula without a saved value, as a program that isn't a spreadsheet may write it."""
     for cell, formula in zip(row, formulas):
         if formula.value is not None and formula.data_type == "f" and cell.value is None and cell.data_type == "n":
-            raise Failed(f"{path}: the cell {formula.coordinate} has a formula, and the workbook doesn't say what it came to; "
+            raise Failed(f"{path}: the cell {formula.coordinate} has a formula without a saved value; "
                          "save the workbook with a spreadsheet program, or write the value in place of the formula", REFUSED)
 
 
@@ -162,7 +162,7 @@ def text_of(cell: object) -> str:
 
 
 def table(path: Path, columns: dict[str, str]) -> list[Row]:
-    """The rows of a table that say something, after the one that names its columns."""
+    """The rows of a table that aren't empty, after the one that names its columns."""
     rows = [(number, [" ".join(cell.split()) for cell in row]) for number,
             row in enumerate(itertools.islice(cells(path), MOST_ROWS + 1), 1)]
     if len(rows) > MOST_ROWS:
@@ -180,13 +180,13 @@ def table(path: Path, columns: dict[str, str]) -> list[Row]:
 class Case:
     """The lines of one case."""
 
-    def __init__(self, made: Made, told: Mapping) -> None:
-        self.made, self.told = made, told
+    def __init__(self, made: Made, mapping: Mapping) -> None:
+        self.made, self.mapping = made, mapping
         self.steps: list[str] = []
         self.expected: list[str] = []
 
     def meaning(self, row: Row, name: str, patterns: list[Pattern]) -> tuple[Pattern, dict[str, str]] | None:
-        """What a text of a row means; where nothing fits, or it is left out, that is reported."""
+        """The meaning of a text of a row; reports a text that is left out or that no pattern matches."""
         text, interface = row.texts[name], row.texts["interface"]
         if not text:
             return None
@@ -203,12 +203,12 @@ class Case:
 
     def add(self, row: Row) -> None:
         """Adds a row."""
-        done = self.meaning(row, "action", self.told.actions)
+        done = self.meaning(row, "action", self.mapping.actions)
         if done:
             assert done[0].means is not None
             self.steps += [flow(one, done[1]) for one in done[0].means.elements()]
             self.made.steps += 1
-        wanted = self.meaning(row, "expected", self.told.expected) if "expected" in row.texts else None
+        wanted = self.meaning(row, "expected", self.mapping.expected) if "expected" in row.texts else None
         if wanted:
             assert wanted[0].means is not None
             mark = f"row_{row.at.rpartition(':')[2]}"
@@ -219,15 +219,15 @@ class Case:
 
     def text(self, name: str) -> str:
         """The case in YAML."""
-        head = "\n".join(f"{word}: {flow(value)}" for word, value in self.told.case.items())
+        head = "\n".join(f"{word}: {flow(value)}" for word, value in self.mapping.case.items())
         return "\n".join([f"test_case: {quoted(name)}", head, "lives:", "  - steps:",
                           *(f"      - {step}" for step in self.steps),
                           "expected:", *(f"  - {one}" for one in self.expected), ""])
 
 
 def named(rows: list[Row]) -> Iterator[tuple[str, list[Row]]]:
-    """The sequences of a table with their names. A row without a name belongs to the sequence of the row before it: of merged
-    cells the first one has the name."""
+    """The sequences of a table with their names. A row without a name belongs to the sequence of the row before it, since only the
+    first of merged cells has the name."""
     names = itertools.accumulate((row.texts.get("sequence", "") for row in rows), lambda before, name: name or before)
     seen = set[str]()
     for name, pairs in itertools.groupby(zip(names, rows), lambda pair: pair[0]):
@@ -239,11 +239,11 @@ def named(rows: list[Row]) -> Iterator[tuple[str, list[Row]]]:
         yield name, inner
 
 
-def cases_of(told: Mapping, rows: list[Row], name: str) -> Made:
+def cases_of(mapping: Mapping, rows: list[Row], name: str) -> Made:
     """The cases of the rows of a table, one for each sequence."""
     made = Made()
     for sequence, inner in named(rows):
-        case = Case(made, told)
+        case = Case(made, mapping)
         for row in inner:
             case.add(row)
         made.cases.append(case.text(sequence or name))

@@ -1,4 +1,4 @@
-"""Whether a journal is sound: the image is whole, the kernel answers as it says, and what was released is what it says."""
+"""Check that a journal is sound: the image is whole, a replay agrees, and the released outputs are those of the records."""
 import re
 from collections.abc import Iterable, Sequence
 
@@ -10,21 +10,21 @@ BITS = {name.lower(): int(sign) for name, sign in Indication.__members__.items()
 
 
 class Missed(Exception):
-    """An expected result that didn't come: what was wanted, what was found, and the record where that is seen."""
+    """An expected result didn't come: what was wanted, what was found, and the record that shows it."""
 
     def __init__(self, wanted: str, found: str, record: Json | None = None) -> None:
         super().__init__(f"expected: {wanted}\nfound:    {found}" + (f"\nrecord:   {record_text(record)}" if record else ""))
 
     @classmethod
-    def of(cls, said: str) -> "Missed":
-        """One of which all is said already."""
+    def of(cls, message: str) -> "Missed":
+        """One with a complete message."""
         missed = cls("", "")
-        missed.args = (said,)
+        missed.args = (message,)
         return missed
 
 
 def record_text(record: Json) -> str:
-    """A record, for people."""
+    """A record as text."""
     if "speed_kmh" not in record:
         from .cases import derived  # (a test case takes longer to load than a life to play)
         record = derived({"speed_m_per_h": None} | record)
@@ -37,24 +37,24 @@ def record_text(record: Json) -> str:
 
 
 def check_image(journal: Journal) -> None:
-    """The image is whole, and the kernel answers as the journal reports."""
+    """Fails unless the image is whole and a replay agrees with the journal."""
     if journal.refusal is not None:
         raise Missed("a journal that can be read", journal.refusal)
     if not journal.is_whole:
-        raise Missed("a whole image", "etcs_lab examine says that something is lost, damaged or contradicts")
+        raise Missed("a whole image", "etcs_lab examine reports that something is lost, damaged or contradicts")
     if journal.records:
         check_replay(journal.replay)
 
 
 def check_replay(lines: Sequence[Json]) -> None:
-    """The kernel answers as the journal reports, by the lines of a replay."""
+    """Fails unless the lines of a replay agree with the journal."""
     if not lines:
         raise Missed("a replay of the journal", "etcs_lab replay refused it")
     for line in lines:
         if line.get("replay", "agrees") not in ("agrees", "not_replayed"):
-            raise Missed("a replay that agrees with the journal", f"etcs_lab replay says: {line}")
+            raise Missed("a replay that agrees with the journal", f"etcs_lab replay prints: {line}")
         if line.get("replay") == "not_replayed" and line.get("reason") != "before_oldest_block":
-            raise Missed("a replay of all records", f"etcs_lab replay says: {line}")
+            raise Missed("a replay of all records", f"etcs_lab replay prints: {line}")
     if lines[-1].get("end") != "nothing_differs":
         raise Missed("a replay in which nothing differs", str(lines[-1]))
 
@@ -67,10 +67,9 @@ def output_text(record: Json) -> str:
 
 
 def check_released(printed: Iterable[str], records: Iterable[Json]) -> None:
-    """Each output that was released is that of its record. Other lines that were printed aren't looked at, and none of an older block,
-    which was written over."""
+    """Fails unless each released output is that of its record. Ignores other lines, and outputs of blocks that were overwritten."""
     by_head = {f"event {record['event']}": record for record in records}
-    told = set(map(output_text, by_head.values()))
+    outputs = set(map(output_text, by_head.values()))
     for line in printed:
-        if line not in told and (record := by_head.get(line[:line.find(" ", 6)])) is not None and RELEASED.fullmatch(line):
+        if line not in outputs and (record := by_head.get(line[:line.find(" ", 6)])) is not None and RELEASED.fullmatch(line):
             raise Missed(f"the output of its record: {output_text(record)}", f"this output was released: {line}", record)

@@ -1,8 +1,8 @@
-"""What random scenarios are made of: tracks, trains, drivers and losses of power, as strategies of hypothesis.
+"""Make random scenarios: tracks, trains, drivers and losses of power, as strategies of hypothesis.
 
-A file of properties may say what its scenarios are made of (docs/howto/searching.md); what it doesn't say is reported here. What
-stands first is the simplest, so a scenario that is made small goes that way. Forward drives prevail: lives in which all
-steps are as frequent stay near their beginning.
+A file of properties may say what its scenarios are made of (docs/howto/searching.md); this module has the defaults. The first
+choice of each strategy is the simplest, towards which hypothesis shrinks. Forward movements are the most frequent: with equal
+frequencies a life would stay near its beginning.
 """
 import json
 from collections.abc import Callable, Iterable
@@ -13,7 +13,7 @@ from hypothesis import strategies as st
 
 from ..yaml_files import Value
 from . import scenarios, telegrams
-from .scenarios import ACKNOWLEDGED, ALONE, CONFIRMED, Shared
+from .scenarios import ACKNOWLEDGED, WITHOUT_VALUE, CONFIRMED, Shared
 
 Step = dict[str, Any]
 TRACK = "21: D_GRADIENT 0, Q_GDIR 1, G_A 0; 27: D_STATIC 0, V_STATIC 24, Q_FRONT 1"
@@ -31,7 +31,7 @@ TELEGRAMS = {
                 "L_MAMODE 32767, L_ACKMAMODE 100",
     "stop": "NID_BG 14; 12: V_MAIN 0, L_ENDSECTION 100",
 }
-"""The telegrams of a track that isn't reported: the first two are heard where a life begins ready."""
+"""The default telegrams: a life that begins ready has heard one of the first two."""
 WAYS_CM, BACK_CM = (100, 1_000, 5_000, 10_000), (100, 300)
 SPEEDS, BACK_SPEED = (5_000, 20_000, 40_000, 90_000), 1_000
 WAITS_MS = (1_000, 5_000, 60_000)
@@ -41,7 +41,7 @@ LIMITS = {"steps": 100, "lives": 8, "groups": 16}
 TRACK_CM = 50_000
 MADE_OF = ("begins", "telegrams", "trains", "ways", "speeds", "waits", "track", *MOST)
 FORWARD, READY = 6, 3
-"""How often a drive forward comes for each other kind of step, and a ready beginning for each other one."""
+"""The weight of a forward movement against each other kind of step, and of a ready beginning against each other one."""
 
 
 @dataclass
@@ -57,44 +57,44 @@ class Made:
     track_cm: int = TRACK_CM
     most: dict[str, int] = field(default_factory=lambda: dict(MOST))
     texts: dict[str, tuple[str, str]] = field(default_factory=dict)
-    """Of a telegram its name, and how it is reported by its variables."""
+    """The name and the variables of each telegram, by its digits."""
 
 
 def ready(telegram: str, train: list[int]) -> list[Step]:
-    """A train that is made ready: an authority, the identity, level 1, the train data, and the start."""
+    """The steps that make a train ready: an authority, the identity, level 1, the train data, and the start."""
     return [{"telegram": telegram}, *({"driver": action} for action in ([1, "IC 704"], [4, 1], [3, *train], [6]))]
 
 
 def begins_of(digits: list[str], train: list[int]) -> list[list[Step]]:
-    """How a life begins: ready, tripped after 100 m, and in Unfitted."""
+    """The ways in which a life begins: ready with either authority, tripped after 100 m, and in Unfitted."""
     short, long = (ready(one, train) for one in digits[:2])
-    return [short, long, [*short, *({"drive": told} for told in ([10_000, 20_000], [5_000, 20_000], [0, 0]))],
+    return [short, long, [*short, *({"drive": movement} for movement in ([10_000, 20_000], [5_000, 20_000], [0, 0]))],
             [{"driver": action} for action in ([1, "IC 704"], [4, 0], [3, *train], [6])]]
 
 
 def usual() -> Made:
-    """What scenarios are made of where nothing is reported."""
+    """What scenarios are made of by default."""
     texts = {telegrams.telegram(text).digits: (name, text) for name, text in TELEGRAMS.items()}
     digits = list(texts)
     return Made(digits, begins_of(digits, TRAIN), texts=texts)
 
 
-# ---- what a file reports
+# ---- what a file says
 
 def telegrams_of(at: Value, shared: Shared) -> dict[str, tuple[str, str]]:
-    """The telegrams that are reported: by their digits names and texts."""
+    """The names and texts of the telegrams of a file, by their digits."""
     found = {}
     for number, one in enumerate(at.elements(), 1):
         name = one.text() if one.is_text() else ""
-        told = shared.telegrams.get(name, one)
+        telegram = shared.telegrams.get(name, one)
         digits = scenarios.digits_of(one, shared)
-        found[digits] = (name if name in shared.telegrams else f"telegram_{number}", told.text() if told.is_text()
+        found[digits] = (name if name in shared.telegrams else f"telegram_{number}", telegram.text() if telegram.is_text()
                          else digits)
     return found
 
 
 def steps_of(at: Value, shared: Shared) -> list[Step]:
-    """The steps of a part, with which a life may begin."""
+    """The steps of a part with which a life may begin."""
     builder = scenarios.Builder(shared)
     name = at.one_of(shared.parts)
     builder.steps(shared.parts[name], 1)
@@ -102,8 +102,8 @@ def steps_of(at: Value, shared: Shared) -> list[Step]:
 
 
 def quantities(at: Value, kind: str, least: int, most: int) -> tuple[int, ...]:
-    """A list of quantities, of which at least one is there."""
-    found = tuple(scenarios.told_quantity(one, kind, least, most) for one in at.elements())
+    """A list of at least one quantity."""
+    found = tuple(scenarios.quantity_of(one, kind, least, most) for one in at.elements())
     if not found:
         raise at.fault("the list is empty")
     return found
@@ -112,36 +112,36 @@ def quantities(at: Value, kind: str, least: int, most: int) -> tuple[int, ...]:
 def made_of(at: Value | None, shared: Shared) -> Made:
     """What the scenarios of a file are made of."""
     made = usual()
-    told = at.members((), MADE_OF) if at else {}
-    if "telegrams" in told:
-        texts = telegrams_of(told["telegrams"], shared)
+    members = at.members((), MADE_OF) if at else {}
+    if "telegrams" in members:
+        texts = telegrams_of(members["telegrams"], shared)
         made.texts, made.telegrams = made.texts | texts, list(texts)
-    if "trains" in told:
-        made.trains = [scenarios.train_of(one) for one in told["trains"].elements()] or [TRAIN]
+    if "trains" in members:
+        made.trains = [scenarios.train_of(one) for one in members["trains"].elements()] or [TRAIN]
         made.begins = [one for train in made.trains for one in begins_of(list(usual().texts), train)]
-    if "begins" in told:
-        made.begins = [steps_of(one, shared) for one in told["begins"].elements()]
-    if "ways" in told:
-        made.ways = quantities(told["ways"], "distance", 1, scenarios.LONGEST_CM)
-    if "speeds" in told:
-        made.speeds = quantities(told["speeds"], "speed", 1, scenarios.MOST_SPEED)
-    if "waits" in told:
-        made.waits = quantities(told["waits"], "time", 0, scenarios.MOST_MOMENT >> 8)
-    if "track" in told:
-        made.track_cm = scenarios.told_quantity(told["track"], "distance", 100, scenarios.MOST_PLACE_CM)
-    made.most |= {name: told[name].integer(0 if name == "groups" else 1, LIMITS[name]) for name in MOST if name in told}
+    if "begins" in members:
+        made.begins = [steps_of(one, shared) for one in members["begins"].elements()]
+    if "ways" in members:
+        made.ways = quantities(members["ways"], "distance", 1, scenarios.LONGEST_CM)
+    if "speeds" in members:
+        made.speeds = quantities(members["speeds"], "speed", 1, scenarios.MOST_SPEED)
+    if "waits" in members:
+        made.waits = quantities(members["waits"], "time", 0, scenarios.MOST_MOMENT >> 8)
+    if "track" in members:
+        made.track_cm = scenarios.quantity_of(members["track"], "distance", 100, scenarios.MOST_PLACE_CM)
+    made.most |= {name: members[name].integer(0 if name == "groups" else 1, LIMITS[name]) for name in MOST if name in members}
     return made
 
 
 # ---- strategies
 
 ANSWERS = [*[[6]] * 2, *([10, one] for one in ACKNOWLEDGED.values() for _ in range(2)),
-           *([one] for one in ALONE.values() if one != 6)]
-"""What a driver does without entering anything: he starts and acknowledges, twice as often as he chooses."""
+           *([one] for one in WITHOUT_VALUE.values() if one != 6)]
+"""The actions of a driver without an entry: he starts and acknowledges twice as often as he chooses."""
 
 
 def entries(made: Made) -> list[list[Any]]:
-    """What a driver enters and confirms."""
+    """The entries and confirmations of a driver."""
     return [*([5, one] for one in CONFIRMED.values()), [4, 1], [4, 0], [1, "IC 704"],
             *([3, *train] for train in made.trains), [2, 704]]
 
@@ -152,12 +152,12 @@ def of(word: str, values: Iterable[Any]) -> st.SearchStrategy[Step]:
 
 
 def drive(way: int, speed: int) -> Step:
-    """A movement at a speed. (hypothesis looks up the source of each lambda, so none stands here.)"""
+    """A movement at a speed. (A function, since hypothesis looks up the source of each lambda.)"""
     return {"drive": [way, speed]}
 
 
 def steps(made: Made) -> st.SearchStrategy[Step]:
-    """A step. A wait is reported by how long it is."""
+    """A step. A wait is given by its duration."""
     forward = st.builds(drive, st.sampled_from(made.ways), st.sampled_from(made.speeds))
     stands, answers = of("drive", [[0, 0]]), of("driver", ANSWERS)
     return st.one_of(*[forward] * FORWARD, stands, stands, answers, answers, answers, of("driver", entries(made)),
@@ -171,12 +171,12 @@ def group(metres: int, telegram: str) -> Step:
 
 
 def place_of(one: Step) -> int:
-    """Where a group lies."""
+    """The place of a group."""
     return int(one["at"])
 
 
 def in_order(found: list[Step]) -> list[Step]:
-    """Groups by their places."""
+    """Groups in the order of their places."""
     return sorted(found, key=place_of)
 
 
@@ -189,26 +189,26 @@ def groups(made: Made) -> st.SearchStrategy[list[Step]]:
 
 
 def timed(found: list[Step]) -> list[Step]:
-    """Steps with moments in place of waits."""
-    moment, told = 0, []
+    """Steps with moments instead of waits."""
+    moment, steps = 0, []
     for step in found:
         moment = step.get("clock", moment + step.get("wait", 0))
-        told.append({"clock": moment} if "wait" in step else step)
-    return told
+        steps.append({"clock": moment} if "wait" in step else step)
+    return steps
 
 
 def lives(made: Made) -> st.SearchStrategy[tuple[str, ...]]:
-    """The scenarios, in JSON, of lives between which power is lost."""
+    """The scenarios, in JSON, of lives that losses of power separate."""
     begins = st.sampled_from([[], *made.begins * READY]) if made.begins else st.just([])
 
     @st.composite
     def life(draw: Callable[[Any], Any]) -> str:
-        told = draw(begins) + draw(st.lists(steps(made), max_size=made.most["steps"]))
-        return text_of({"groups": draw(groups(made)), "steps": timed(told), "cold": draw(st.integers(0, 2))})
+        all_steps = draw(begins) + draw(st.lists(steps(made), max_size=made.most["steps"]))
+        return text_of({"groups": draw(groups(made)), "steps": timed(all_steps), "cold": draw(st.integers(0, 2))})
 
     return st.lists(life(), min_size=1, max_size=made.most["lives"]).map(tuple)
 
 
 def text_of(life: dict[str, Any]) -> str:
-    """A scenario as a text; the same one always by the same."""
+    """A scenario as text; equal scenarios have equal texts."""
     return json.dumps(life, separators=(",", ":"))

@@ -1,4 +1,4 @@
-"""What came of a sweep: a table for people, CSV, and a page with heat maps in the style of reports."""
+"""Show the results of a sweep: a text table, CSV, and a page with heat maps in the style of reports."""
 import csv
 import io
 from collections.abc import Sequence
@@ -7,18 +7,18 @@ from decimal import Decimal
 
 import jinja2
 
-from .sweeps import Cell, Point, Sweep, Told
+from .sweeps import Cell, Point, Sweep, PointResult
 
 MISSED, FAULT = "missed", "fault"
 LOW, HIGH = (0xEF, 0xF6, 0xFB), (0x00, 0x5A, 0x8C)
 """The colours of the least and the greatest number of a map."""
 LIGHT = 0.55
-"""Beyond so much of the way between both the letters are white."""
+"""The part of the way from LOW to HIGH beyond which the text is white."""
 WORDS = {"none": "#ffffff", "service": "#E69F00", "emergency": "#b84c00"}
 
 
 def text_of(cell: Cell) -> str:
-    """A cell, for people and for CSV; nothing where no record says it."""
+    """A cell as text; empty if no record has a value for it."""
     if isinstance(cell, bool):
         return "true" if cell else "false"
     if isinstance(cell, Decimal):
@@ -26,36 +26,36 @@ def text_of(cell: Cell) -> str:
     return "" if cell is None else str(cell)
 
 
-def columns(sweep: Sweep, told: Sequence[Told]) -> list[str]:
-    """The names of what is reported: of outcomes, and where there are any, of expected results that didn't come and of faults."""
-    names = list(dict.fromkeys(name for one in told for name in one.cells))
-    return [*names, *([MISSED] if any(one.missed for one in told) else []), *([FAULT] if any(one.fault for one in told) else [])]
+def columns(sweep: Sweep, results: Sequence[PointResult]) -> list[str]:
+    """The names of the columns: the outcomes, and missed results and faults if there are any."""
+    names = list(dict.fromkeys(name for one in results for name in one.cells))
+    return [*names, *([MISSED] if any(one.missed for one in results) else []), *([FAULT] if any(one.fault for one in results) else [])]
 
 
-def cell(one: Told, name: str) -> Cell:
-    """What is reported of a point by a name."""
+def cell(one: PointResult, name: str) -> Cell:
+    """The cell of a point in a column."""
     if name == MISSED:
         return "; ".join(one.missed)
     return one.fault if name == FAULT else one.cells.get(name)
 
 
-def rows(sweep: Sweep, told: Sequence[Told]) -> list[list[str]]:
+def rows(sweep: Sweep, results: Sequence[PointResult]) -> list[list[str]]:
     """The table: its head, and a row for each point."""
-    names = columns(sweep, told)
-    return [[*sweep.parameters, *names]] + [[*one.point.values(), *(text_of(cell(one, name)) for name in names)] for one in told]
+    names = columns(sweep, results)
+    return [[*sweep.parameters, *names]] + [[*one.point.values(), *(text_of(cell(one, name)) for name in names)] for one in results]
 
 
-def as_text(sweep: Sweep, told: Sequence[Told]) -> str:
-    """The table for people."""
-    table = [[one or "-" for one in row] for row in rows(sweep, told)]
+def as_text(sweep: Sweep, results: Sequence[PointResult]) -> str:
+    """The table as text."""
+    table = [[one or "-" for one in row] for row in rows(sweep, results)]
     widths = [max(map(len, column)) for column in zip(*table)]
     return "".join("  ".join(one.rjust(width) for one, width in zip(row, widths)).rstrip() + "\n" for row in table)
 
 
-def as_csv(sweep: Sweep, told: Sequence[Told]) -> str:
-    """The table as CSV, each point with its number."""
+def as_csv(sweep: Sweep, results: Sequence[PointResult]) -> str:
+    """The table as CSV, with the number of each point."""
     text = io.StringIO()
-    head, *others = rows(sweep, told)
+    head, *others = rows(sweep, results)
     writer = csv.writer(text, lineterminator="\n")
     writer.writerow(["point", *head])
     writer.writerows([number, *row] for number, row in enumerate(others, 1))
@@ -75,7 +75,7 @@ class Square:
 
 @dataclass(frozen=True)
 class Map:
-    """A heat map of an outcome: over two parameters, the others at some values; the least and the greatest number of it."""
+    """A heat map of an outcome over two parameters, with the other parameters fixed; `span` is its least and its greatest number."""
 
     name: str
     fixed: Point
@@ -86,9 +86,9 @@ class Map:
     span: tuple[str, str] | None
 
 
-def span_of(told: Sequence[Told], name: str) -> tuple[Decimal, Decimal] | None:
-    """The least and the greatest number of an outcome; None where it has other values."""
-    found = [one.cells.get(name) for one in told]
+def span_of(results: Sequence[PointResult], name: str) -> tuple[Decimal, Decimal] | None:
+    """The least and the greatest number of an outcome; None if it has other values."""
+    found = [one.cells.get(name) for one in results]
     numbers = [Decimal(one) for one in found if isinstance(one, (int, Decimal)) and not isinstance(one, bool)]
     return (min(numbers), max(numbers)) if numbers and len(numbers) == sum(one is not None for one in found) else None
 
@@ -104,16 +104,16 @@ def square(value: Cell, span: tuple[Decimal, Decimal] | None) -> Square:
     return Square(text, paper, "#ffffff" if part > LIGHT else "#1c2733")
 
 
-def maps(sweep: Sweep, told: Sequence[Told]) -> list[Map]:
-    """The maps: of each outcome one for each choice of the parameters but two. The last two with several values lie across and
-    down; with one such parameter a map has one line."""
+def maps(sweep: Sweep, results: Sequence[PointResult]) -> list[Map]:
+    """The maps: one for each outcome and each choice of the fixed parameters. The last two parameters with several values are across
+    and down; if only one parameter has several values, a map has one line."""
     several = [name for name, values in sweep.parameters.items() if len(values) > 1] or list(sweep.parameters)
     across, down = several[-1], several[-2] if len(several) > 1 else ""
-    by_point = {tuple(one.point.items()): one for one in told}
-    fixed = list(dict.fromkeys(tuple((name, value) for name, value in one.point.items() if name not in (across, down)) for one in told))
+    by_point = {tuple(one.point.items()): one for one in results}
+    fixed = list(dict.fromkeys(tuple((name, value) for name, value in one.point.items() if name not in (across, down)) for one in results))
     found: list[Map] = []
-    for name in [one for one in columns(sweep, told) if one not in (MISSED, FAULT)]:
-        span = span_of(told, name)
+    for name in [one for one in columns(sweep, results) if one not in (MISSED, FAULT)]:
+        span = span_of(results, name)
         for chosen in fixed:
             lines = []
             for value in sweep.parameters[down] if down else [""]:
@@ -125,11 +125,11 @@ def maps(sweep: Sweep, told: Sequence[Told]) -> list[Map]:
     return found
 
 
-def as_page(sweep: Sweep, told: Sequence[Told]) -> str:
+def as_page(sweep: Sweep, results: Sequence[PointResult]) -> str:
     """The page."""
-    room = jinja2.Environment(loader=jinja2.PackageLoader("gaknifur.journal"), autoescape=True, trim_blocks=True, lstrip_blocks=True,
+    environment = jinja2.Environment(loader=jinja2.PackageLoader("gaknifur.journal"), autoescape=True, trim_blocks=True, lstrip_blocks=True,
                               undefined=jinja2.StrictUndefined)
-    head, *others = rows(sweep, told)
-    return room.get_template("sweep.html.j2").render(
-        sweep=sweep, file=sweep.at.path.name, maps=maps(sweep, told), head=head, rows=others, points=len(told),
-        missed=[one for one in told if one.missed], faults=[one for one in told if one.fault])
+    head, *others = rows(sweep, results)
+    return environment.get_template("sweep.html.j2").render(
+        sweep=sweep, file=sweep.at.path.name, maps=maps(sweep, results), head=head, rows=others, points=len(results),
+        missed=[one for one in results if one.missed], faults=[one for one in results if one.fault])

@@ -1,13 +1,13 @@
-"""Telegrams by the variables of SUBSET-026, 7.5.1, and the bits that they come to.
+"""Encode telegrams that are written with the variables of SUBSET-026, 7.5.1.
 
-A telegram is reported as its header and its packets, one after another:
+A telegram is written as its header and its packets, one after another:
 
     NID_BG 2; 12: V_MAIN 24, L_ENDSECTION 300; 65: NID_TSR 7, D_TSR 100, L_TSR 50, Q_FRONT 1, V_TSR 4
 
-The variables of a packet stand in the order of its layout (docs/explain/conformance.md). What follows from the others is worked
-out where it isn't reported: L_PACKET, a counter, and a Q_ that says whether further variables follow. `USUAL` is what stands
-for other variables that aren't reported. A packet that the kernel skips has the layout of docs/reference/packets.md; one without a
-layout has its head and any variables after it.
+The variables of a packet are in the order of its layout (docs/explain/conformance.md). Missing variables that follow from the
+others are computed: L_PACKET, a counter, and a Q_ that says whether further variables follow. `USUAL` has the defaults of other
+variables. A packet that the kernel skips has the layout of docs/reference/packets.md; one without a layout has its head and any
+variables after it.
 """
 import re
 from collections.abc import Iterator, Sequence
@@ -20,7 +20,7 @@ Pairs = list[tuple[str, int]]
 
 HEADER = {"Q_UPDOWN": 1, "M_VERSION": 16, "Q_MEDIA": 0, "N_PIG": 0, "N_TOTAL": 0, "M_DUP": 0, "M_MCOUNT": 255, "NID_C": 1,
           "NID_BG": None, "Q_LINK": 1}
-"""The header of SUBSET-026, 8.4.2.1, in its order, with what stands where a variable isn't reported."""
+"""The header of SUBSET-026, 8.4.2.1, in its order, with the defaults."""
 HEAD = ("Q_DIR", "L_PACKET", "Q_SCALE")
 USUAL = {"Q_DIR": 2, "Q_SCALE": 1, "V_LOA": 0, "T_LOA": 1023}
 WITHOUT_SCALE = (66,)
@@ -48,12 +48,12 @@ WIDTH = {name: width for width, names in WIDTHS.items() for name in names.split(
 
 
 class Wrong(Exception):
-    """A telegram that can't be written so."""
+    """A telegram can't be encoded."""
 
 
 @dataclass(frozen=True)
 class Where:
-    """A variable, and those that follow where it has a number."""
+    """A variable, and those that follow if it has a number."""
 
     name: str
     number: int
@@ -62,7 +62,7 @@ class Where:
 
 @dataclass(frozen=True)
 class Repeated:
-    """A list: with `is_more` a first element, a counter and that many more; else a counter and that many."""
+    """A list: a counter and that number of elements; with `is_more` one more element before the counter."""
 
     element: tuple["Part", ...]
     is_more: bool = False
@@ -71,7 +71,7 @@ class Repeated:
 
 @dataclass(frozen=True)
 class Choice:
-    """Variables that stand where an earlier one has a number."""
+    """Variables that are present if an earlier one has a number."""
 
     name: str
     number: int
@@ -81,10 +81,10 @@ class Choice:
 Part = str | Where | Repeated | Choice
 
 
-def parts(*told: str | Where | Repeated) -> tuple[Part, ...]:
-    """Names of a text, and other parts."""
+def parts(*items: str | Where | Repeated) -> tuple[Part, ...]:
+    """A layout of names, several in a text, and other parts."""
     found: list[Part] = []
-    for one in told:
+    for one in items:
         if isinstance(one, str):
             found += one.split()
         else:
@@ -112,7 +112,7 @@ LAYOUTS: dict[int, tuple[Part, ...]] = {
 
 
 def read_layout(text: str) -> tuple[Part, ...]:
-    """The layout of a text, as docs/reference/packets.md has it: `(N_ITER ..)` is a list, `[Q_SCALE=1 ..]` a choice."""
+    """The layout in a text, in the notation of docs/reference/packets.md: `(N_ITER ..)` is a list, `[Q_SCALE=1 ..]` a choice."""
     stack: list[list[Part]] = [[]]
     heads: list[str] = []
     for word in re.findall(r"[(\[][A-Z_=0-9]+|[A-Z_0-9]+|[)\]]", text):
@@ -132,11 +132,11 @@ SKIPPED = {number: read_layout(text) for number, text in _track_packets.LAYOUTS.
 """The layouts of packets that the kernel skips."""
 NATIONAL_VALUES = 3
 OF_TRACK = SKIPPED | {NATIONAL_VALUES: read_layout(_track_packets.LAYOUTS[NATIONAL_VALUES])}
-"""Those of a track of issue 2.3.0, whose packet 3 has another layout than a unit reads."""
+"""The layouts on a track of issue 2.3.0, whose packet 3 has another layout than the one that a unit reads."""
 
 
 def packets_in(bits: str) -> Iterator[tuple[int, str]]:
-    """The packets of a telegram by their lengths alone, each with its bits."""
+    """The packets of a telegram, each with its bits, found only by their lengths."""
     at = 50
     while at + 23 <= len(bits) and (number := int(bits[at:at + 8], 2)) != 255:
         length = int(bits[at + 10:at + 23], 2)
@@ -154,7 +154,7 @@ def first_of(element: tuple[Part, ...]) -> str:
 
 
 def begins(element: tuple[Part, ...]) -> set[str]:
-    """The names that may be reported first of an element: what a qualifier that isn't reported decides, too."""
+    """The names with which an element may begin, also those that a missing qualifier would decide."""
     found = {first_of(element)}
     for part in element[1:]:
         if not isinstance(part, Choice):
@@ -163,28 +163,28 @@ def begins(element: tuple[Part, ...]) -> set[str]:
     return found
 
 
-def answer_of(name: str, rest: Sequence[Part], comes: str | None) -> int | None:
-    """What a qualifier that isn't reported has to be: the number of the choice after it whose first variable is reported."""
+def qualifier_of(name: str, rest: Sequence[Part], comes: str | None) -> int | None:
+    """The number of a missing qualifier: that of the choice after it whose first variable comes next."""
     choices = [part for part in rest if isinstance(part, Choice) and part.name == name]
-    told = [part.number for part in choices if part.parts and first_of(part.parts) == comes]
+    numbers = [part.number for part in choices if part.parts and first_of(part.parts) == comes]
     spare = [number for number in (0, 1) if number not in {part.number for part in choices}]
-    return told[0] if told else spare[0] if choices and spare and name.startswith("Q_") else None
+    return numbers[0] if numbers else spare[0] if choices and spare and name.startswith("Q_") else None
 
 
 @dataclass
-class Told:
-    """The variables of a packet as they are reported, taken one by one in the order of its layout."""
+class Writer:
+    """Writes the variables of a packet in the order of its layout."""
 
     packet: int
     left: Pairs
     written: Pairs = field(default_factory=list)
 
     def comes(self) -> str | None:
-        """The name that is reported next."""
+        """The name that is next in the text."""
         return self.left[0][0] if self.left else None
 
     def take(self, name: str, usual: int | None) -> int:
-        """Writes a variable: the number that is reported, or what stands for it."""
+        """Writes a variable: the number of the text, or the default."""
         if self.comes() == name:
             number = self.left.pop(0)[1]
         elif usual is not None:
@@ -199,7 +199,7 @@ class Told:
         """Writes the parts of a layout."""
         for at, part in enumerate(layout):
             if isinstance(part, str):
-                self.take(part, USUAL.get(part, answer_of(part, layout[at + 1:], self.comes())))
+                self.take(part, USUAL.get(part, qualifier_of(part, layout[at + 1:], self.comes())))
             elif isinstance(part, Choice):
                 if [number for name, number in self.written if name == part.name][-1:] == [part.number]:
                     self.write(part.parts)
@@ -212,7 +212,7 @@ class Told:
                 self.write_list(part)
 
     def write_list(self, part: Repeated) -> None:
-        """Writes a list; its count is worked out where it isn't reported."""
+        """Writes a list; computes its counter if it is missing."""
         if part.is_more:
             self.write(part.element)
         at, written, left = len(self.written), 0, None
@@ -226,12 +226,12 @@ class Told:
             self.written.insert(at, (part.counter, written))
 
 
-def packet_pairs(number: int, told: Pairs, of_track: bool = False) -> Pairs:
-    """The variables of a packet in their order, its head among them; `of_track`: as a track of issue 2.3.0 sends it."""
+def packet_pairs(number: int, pairs: Pairs, of_track: bool = False) -> Pairs:
+    """The variables of a packet in their order, with its head; `of_track`: as a track of issue 2.3.0 sends it."""
     skipped = (OF_TRACK if of_track else SKIPPED).get(number)
     layout = LAYOUTS.get(number) if skipped is None else skipped
-    head = dict(pair for pair in told if pair[0] in HEAD)
-    body = Told(number, [pair for pair in told if pair[0] not in HEAD])
+    head = dict(pair for pair in pairs if pair[0] in HEAD)
+    body = Writer(number, [pair for pair in pairs if pair[0] not in HEAD])
     if skipped is not None:
         scale = [("Q_SCALE", head.pop("Q_SCALE", USUAL["Q_SCALE"]))] if "Q_SCALE" in skipped else []
         body.left = scale + body.left
@@ -253,7 +253,7 @@ def packet_pairs(number: int, told: Pairs, of_track: bool = False) -> Pairs:
 
 
 def width_of(name: str) -> int:
-    """How many bits a variable has."""
+    """The number of bits of a variable."""
     if name not in WIDTH:
         raise Wrong(f"there is no variable {name}; {guess(name, WIDTH)}")
     return WIDTH[name]
@@ -296,21 +296,21 @@ class Telegram:
         return f"{int(bits, 2):0{len(bits) // 4}X}"
 
     def adapted(self) -> "Telegram":
-        """What a unit is to be handed in its place: without the variables of a track's packet 3 that a unit's doesn't have."""
+        """The telegram for a unit: without the variables of a track's packet 3 that a unit's packet 3 doesn't have."""
         return Telegram(self.header, [unit_pairs(packet) if packet[0][1] == NATIONAL_VALUES else packet for packet in self.packets])
 
     def lines(self) -> list[str]:
-        """The telegram as `etcs decode` prints it, but for the last line, which counts its bits."""
+        """The telegram as `etcs decode` prints it, without the last line, which counts its bits."""
         return [" ".join(["telegram", *map(shown, self.header)]), *map(packet_line, self.packets)]
 
 
 def names_in(layout: Sequence[Part]) -> set[str]:
-    """The variables of a layout that stand in no list."""
+    """The variables of a layout that aren't in a list."""
     return {part for part in layout if isinstance(part, str)}
 
 
 def unit_pairs(packet: Pairs) -> Pairs:
-    """A packet 3 without the variables that a track's has more."""
+    """A packet 3 without the variables that only a track's packet 3 has."""
     gone = names_in(OF_TRACK[NATIONAL_VALUES]) - names_in(LAYOUTS[NATIONAL_VALUES]) - set(HEAD)
     kept = [(name, number) for name, number in packet if name not in gone]
     less = sum(width_of(name) for name, _ in packet) - sum(width_of(name) for name, _ in kept)
@@ -323,7 +323,7 @@ def shown(pair: tuple[str, int]) -> str:
 
 
 def packet_line(packet: Pairs) -> str:
-    """A packet as `etcs decode` prints it. Of one that has no layout the head alone is shown."""
+    """A packet as `etcs decode` prints it: only the head if it has no layout."""
     number = packet[0][1]
     if number in LAYOUTS:
         return " ".join([f"packet {number}", *map(shown, packet[1:])])
@@ -331,20 +331,20 @@ def packet_line(packet: Pairs) -> str:
 
 
 def telegram(text: str, of_track: bool = False) -> Telegram:
-    """The telegram that a text reports; `of_track`: as a track of issue 2.3.0 sends it."""
+    """The telegram of a text; `of_track`: as a track of issue 2.3.0 sends it."""
     if len(text) > MOST_TEXT:
-        raise Wrong(f"a telegram is told in at most {MOST_TEXT:,} characters, and this has {len(text):,}")
+        raise Wrong(f"a telegram is written in at most {MOST_TEXT:,} characters, and this has {len(text):,}")
     first, *rest = text.split(";")
-    told = pairs_of(first)
+    pairs = pairs_of(first)
     header: dict[str, int | None] = dict(HEADER)
-    for name, number in told:
+    for name, number in pairs:
         if name not in HEADER:
             raise Wrong(f"the header has no {name}; {guess(name, HEADER)}")
         header[name] = number
-    if len(told) != len(dict(told)):
+    if len(pairs) != len(dict(pairs)):
         raise Wrong("a variable of the header stands twice")
     if header["NID_BG"] is None:
-        raise Wrong("the header tells no NID_BG")
+        raise Wrong("the header has no NID_BG")
     packets = []
     for one in rest:
         number_text, _, body = one.strip().partition(":")

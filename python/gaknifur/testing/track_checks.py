@@ -1,7 +1,7 @@
-"""Checks of a track and of the steps of a train on it, by the items of docs/explain/safety.md.
+"""Check a track and the steps of a train on it for the items of docs/explain/safety.md.
 
-Each check has the number of its item. It looks at the course of a life (`messages`), and finds what the item warns of,
-with the numbers that decide it. docs/reference/track-checks.md has the list, and says which items no track can show.
+Each check has the number of its item. It examines the course of a life (`track_messages`) and finds what the item warns of,
+with the numbers that decide it. docs/reference/track-checks.md lists the items, and those that no track can show.
 """
 from collections.abc import Callable, Iterator
 from dataclasses import dataclass
@@ -18,13 +18,13 @@ from .track_messages import (INFILL, NATIONAL_SPEED, NEAR_CM, NONE, ONBOARD, ON_
                              National, Packet, Read, Restriction, Train, Walked, links_of, name_of, rounded_up, speed_of)
 
 RESTRICTING = (3, 12, 27, 41, 65, 80)
-"""Packets that may restrict: where they are lost, something is allowed that they were to forbid."""
+"""Packets that may restrict: if one is lost, something is allowed that it would have forbidden."""
 NEVER_S, NO_END_S = 1_023, 255
 MARGIN_M_PER_H, EMERGENCY_M_PER_H = 5_000, 10_000
-"""How far above the limit the service and the emergency brake come."""
+"""How far above the limit the service brake and the emergency brake are commanded."""
 FIX_CM, KM_CM, ACKNOWLEDGED_WITHIN_S = 500, 100_000, 5
 CM_PER_S2 = 2_592
-"""The square of a speed in m/h grows by so much a cm with 1 cm/s2."""
+"""The growth per cm of the square of a speed in m/h, at 1 cm/s2."""
 UNKNOWN_GRADIENT, LEVEL_1 = 255, 2
 WRONG_VERSION, UNKNOWN_GROUP = 5, 16_383
 """The refusal of a telegram by its M_VERSION; NID_BG of a group whose identity isn't known."""
@@ -33,7 +33,7 @@ TRIP_MODES = ("FS", "OS", "SR")
 
 @dataclass(frozen=True)
 class Finding:
-    """What an item of docs/explain/safety.md warns of: where, what is so, and what to do."""
+    """A finding for an item of docs/explain/safety.md: where, what was found, and what to do."""
 
     safety: int
     pointer: str
@@ -43,7 +43,7 @@ class Finding:
 
 @dataclass(frozen=True)
 class Judged:
-    """What the checks look at: a life as it was walked, and the drive in a closed loop that it has."""
+    """The input of the checks: a life that was followed, and its drive in a closed loop, if any."""
 
     walked: Walked
     drive: Drive | None = None
@@ -59,7 +59,7 @@ CHECKS: list[tuple[int, Check]] = []
 
 
 def item(number: int) -> Callable[[Check], Check]:
-    """A check of an item."""
+    """Registers a check of an item."""
     def add(check: Check) -> Check:
         CHECKS.append((number, check))
         return check
@@ -84,27 +84,27 @@ def way_to_slow(fast: int, slow: int, deceleration: int, reaction_ms: int) -> in
 
 
 def margin(limit: int, deceleration: int, reaction_ms: int) -> int:
-    """How far in cm a train overruns that is braked from 10,000 m/h above a limit (item 14)."""
+    """How far in cm a train that is braked from 10,000 m/h above a limit overruns (item 14)."""
     return rounded_up(20_000 * limit + 100_000_000, CM_PER_S2 * deceleration) + rounded_up(10_000 * reaction_ms, 36_000)
 
 
 def is_under(start: int, end: int | None, record: Json, length_cm: int) -> bool:
-    """Whether a stretch lies under a train, wherever it may be."""
+    """Whether a stretch may be under the train."""
     return start <= record["max_safe_front_cm"] and (end is None or end > record["min_safe_front_cm"] - length_cm)
 
 
 def is_left(end: int | None, record: Json) -> bool:
-    """Whether a stretch isn't after the minimum safe front."""
+    """Whether a stretch isn't yet behind the minimum safe front."""
     return end is None or end > record["min_safe_front_cm"]
 
 
 def is_refused(record: Json) -> bool:
-    """Whether a record is that of a telegram that the kernel refuses."""
+    """Whether a record is a telegram that the kernel refuses."""
     return record["kind"] == "telegram" and "refused" in record["decoded"]
 
 
 def packets_sent(record: Json) -> Iterator[tuple[int, str]]:
-    """The packets of a telegram's record by their lengths, each with its bits."""
+    """The packets in the telegram of a record, each with its bits, found by their lengths."""
     digits = record["telegram"]
     return packets_in(f"{int(digits, 16):0{4 * len(digits)}b}")
 
@@ -120,31 +120,31 @@ def timers_that_start_late(judged: Judged) -> Iterator[Finding]:
                 time != NEVER_S for time in packet.all("T_SECTIONTIMER"))):
             way = judged.walked.events[message.closed].place_cm - message.reads[-1].place_cm
             unread = ", ".join(map(str, message.unread))
-            yield Finding(1, packet.pointer, f"group {message.name} sends an authority with timers and closes {metres(way)} behind "
-                          f"the last balise of it that was read, since N_PIG {unread} wasn't; the timers start there",
+            yield Finding(1, packet.pointer, f"group {message.name} sends an authority with timers and closes {metres(way)} after "
+                          f"its last balise that was read, since N_PIG {unread} wasn't; the timers start there",
                           "send authorities with timers by groups that are whole at their last balise")
 
 
 def announced(judged: Judged, message: Message) -> Link | None:
-    """How a group was announced, also where that was missed while the group was being read."""
+    """The announcement of a group, also if it was missed while the group was being read."""
     lost = {one.read.event: one.link for one in judged.walked.lost}
     return message.link or next((lost[read.event] for read in message.reads if read.event in lost), None)
 
 
 @item(2)
 def lost_without_a_sign(judged: Judged) -> Iterator[Finding]:
-    """A restriction that a broken group takes away without a sign."""
+    """A restriction that is lost without a sign if a group is broken."""
     for message in judged.walked.messages:
         there = sorted({packet.number for packet in message.own if packet.number in RESTRICTING})
-        told = f"packet{'s' if len(there) > 1 else ''} {', '.join(map(str, there))}"
+        packets = f"packet{'s' if len(there) > 1 else ''} {', '.join(map(str, there))}"
         link = announced(judged, message)
         if there and message.is_linked and link is None and message.size > 1 and (
                 message.is_broken or not message.before.links):
             yield Finding(2, message.pointer, f"group {message.name} of {message.size} balises has Q_LINK 1, isn't announced and sends "
-                          f"{told}; where it is broken, that is lost without a brake or a sign",
+                          f"{packets}; if it is broken, that is lost without a brake or a sign",
                           "announce it with a reaction, or send it with Q_LINK 0")
         if there and link and link.reaction == NONE:
-            yield Finding(2, link.pointer, f"group {message.name}, which sends {told}, is announced with Q_LINKREACTION 2; where "
+            yield Finding(2, link.pointer, f"group {message.name}, which sends {packets}, is announced with Q_LINKREACTION 2; if "
                           "it is missed or broken, nothing brakes", "announce it with Q_LINKREACTION 1 or 0")
 
 
@@ -152,9 +152,9 @@ def lost_without_a_sign(judged: Judged) -> Iterator[Finding]:
 def trips_that_have_no_effect(judged: Judged) -> Iterator[Finding]:
     """A group announced with a trip, passed in a mode that doesn't trip."""
     for number, event in enumerate(judged.walked.events):
-        mode, begun = event.record["mode"], event.record["place_cm"] - event.record.get("movement_cm", 0)
+        mode, start = event.record["mode"], event.record["place_cm"] - event.record.get("movement_cm", 0)
         for link in judged.walked.known_before(number).links:
-            if link.reaction == TRIP and mode not in TRIP_MODES and begun < link.place_cm <= event.record["place_cm"]:
+            if link.reaction == TRIP and mode not in TRIP_MODES and start < link.place_cm <= event.record["place_cm"]:
                 yield Finding(3, link.pointer, f"group {name_of(link.group)} is announced with Q_LINKREACTION 0, a trip, and its place at "
                               f"{metres(link.place_cm)} is passed in {mode}, where a trip has no effect",
                               "announce it with Q_LINKREACTION 1")
@@ -172,14 +172,14 @@ def one_packet_replaces_another(judged: Judged) -> Iterator[Finding]:
             if len(there) > 1:
                 groups = " and ".join(f"group {message.name}" for message in messages)
                 yield Finding(4, there[-1].pointer, f"{groups} close{'s' if len(messages) == 1 else ''} in one event with {len(there)} "
-                              f"packets {number}; the last one alone holds", f"send at most one packet {number} in a message")
+                              f"packets {number}; only the last one holds", f"send at most one packet {number} in a message")
 
 
 MOST_LOCACC_M = 63
 
 
 def announce_it(length_cm: int, longest_cm: int, is_by_path: bool) -> str:
-    """What to do about a group that is longer than its accuracy."""
+    """The advice for a group that is longer than its accuracy."""
     needed = rounded_up(length_cm + (NEAR_CM + longest_cm if is_by_path else 0), 100)
     if needed <= MOST_LOCACC_M:
         return f"announce it with Q_LOCACC {needed} or more"
@@ -202,10 +202,10 @@ def missed_while_it_is_read(judged: Judged) -> Iterator[Finding]:
         uncertainty = message.first.uncertainty_cm(way)
         if way <= link.accuracy_cm:
             continue
-        closes = f", and without one of its balises closes up to {metres(NEAR_CM + longest)} behind the last one" if is_by_path else ""
+        closes = f", and without one of its balises closes up to {metres(NEAR_CM + longest)} after the last one" if is_by_path else ""
         over = way - uncertainty
         is_missed = (f"less the uncertainty there, {metres(uncertainty)}, {metres(over)} are left, so it is missed while it is being read"
-                     if over > link.accuracy_cm else "where the odometer reads too much, it can be missed while it is being read")
+                     if over > link.accuracy_cm else "if the odometer reads too much, it can be missed while it is being read")
         yield Finding(31, link.pointer, f"group {message.name} is {metres(message.length_cm)} long{closes}, and is announced with Q_LOCACC "
                       f"{link.accuracy_cm // 100} m; {is_missed}", announce_it(message.length_cm, longest, is_by_path))
 
@@ -214,17 +214,17 @@ def missed_while_it_is_read(judged: Judged) -> Iterator[Finding]:
 
 @item(5)
 def fixes_that_leave_old_places(judged: Judged) -> Iterator[Finding]:
-    """A fix by a group that isn't announced, with restrictions or areas of before."""
+    """A fix by a group that isn't announced, with restrictions or areas from before it."""
     for message in judged.walked.messages:
         before = judged.walked.events[message.closed - 1].record if message.closed else None
         now = judged.walked.events[message.closed].record
         if not message.makes_fix or message.link or before is None or before["uncertainty_cm"] <= now["uncertainty_cm"]:
             continue
-        for told, name in places_of(message.before):
-            if told.message.group != message.group and is_left(told.end_cm, before):
+        for old, name in places_of(message.before):
+            if old.message.group != message.group and is_left(old.end_cm, before):
                 yield Finding(5, message.pointer, f"group {message.name} isn't announced and makes a fix at {metres(message.place_cm)}, where "
                               f"the uncertainty falls from {metres(before['uncertainty_cm'])} to {metres(now['uncertainty_cm'])}; {name} of "
-                              f"group {told.message.name} keeps the place of before",
+                              f"group {old.message.name} keeps its old place",
                               f"announce group {message.name}, or lengthen {name} by {metres(before['uncertainty_cm'])}")
 
 
@@ -236,20 +236,20 @@ def places_of(known: Known) -> Iterator[tuple[Restriction | Area, str]]:
 
 @item(32)
 def places_that_no_fix_moves(judged: Judged) -> Iterator[Finding]:
-    """What a group says that isn't announced, before a fix by one that is."""
+    """What a group that isn't announced sent, before a fix by one that is."""
     for fix in judged.walked.messages:
         if not (fix.makes_fix and fix.link):
             continue
         record = judged.walked.events[fix.closed].record
-        told = [(one.message, one.pointer, name) for one, name in places_of(fix.before) if is_left(one.end_cm, record)]
+        old = [(one.message, one.pointer, name) for one, name in places_of(fix.before) if is_left(one.end_cm, record)]
         if fix.before.authority and is_left(fix.before.authority[0].place_cm + fix.before.authority[1].end_cm, record):
-            told.append((fix.before.authority[0], fix.before.authority[1].pointer, "the authority"))
-        for message, pointer, name in told:
+            old.append((fix.before.authority[0], fix.before.authority[1].pointer, "the authority"))
+        for message, pointer, name in old:
             if message.link is None and not message.makes_fix:
                 by = message.first.uncertainty_cm()
-                yield Finding(32, pointer, f"group {message.name} isn't announced; {name} that it sends lies at an estimate that may be wrong "
+                yield Finding(32, pointer, f"group {message.name} isn't announced; {name} that it sends is at an estimate that may be wrong "
                               f"by {metres(by)}, and the fix by group {fix.name} doesn't move it",
-                              f"announce group {message.name}, or leave {metres(by)} more before and behind")
+                              f"announce group {message.name}, or leave {metres(by)} more before and after it")
 
 
 @item(6)
@@ -263,7 +263,7 @@ def rear_that_is_forgotten(judged: Judged) -> Iterator[Finding]:
         for one in judged.walked.known[number].restrictions:
             if is_under(one.start_cm, one.end_cm, event.record, train.length_cm):
                 yield Finding(6, event.pointer, f"a train of {metres(train.length_cm)} enters {event.record['mode']} over restriction "
-                              f"{one.number}; what lies more than 1 km behind its front is forgotten",
+                              f"{one.number}; restrictions more than 1 km behind its front are forgotten",
                               "let no train longer than 1 km enter SB or SH there")
 
 
@@ -271,18 +271,18 @@ def rear_that_is_forgotten(judged: Judged) -> Iterator[Finding]:
 
 @item(7)
 def stop_by_main_speed(judged: Judged) -> Iterator[Finding]:
-    """V_MAIN 0 before an end that lies ahead."""
+    """V_MAIN 0 with an end of authority ahead."""
     for message, packet in judged.authorities:
-        if packet.told("V_MAIN") == 0 and packet.end_cm > 0:
+        if packet.value("V_MAIN") == 0 and packet.end_cm > 0:
             yield Finding(7, packet.pointer, f"group {message.name} sends V_MAIN 0 with an end of authority {metres(packet.end_cm)} ahead; it "
-                          f"trips only where it is used in FS, OS or SR without an override, and here it is used in {message.mode}",
+                          f"trips only if it is used in FS, OS or SR without an override, and here it is used in {message.mode}",
                           "put the end of authority where the train has to stand")
 
 
 @item(8)
 def faster_than_meant(judged: Judged) -> Iterator[Finding]:
     """On Sight between two areas; Shunting over a restriction, or with a slow train."""
-    for areas in areas_told(judged):
+    for areas in new_areas(judged):
         for one, other in pairwise(area for area in areas if area.kind == ON_SIGHT):
             if one.end_cm is not None and other.start_cm > one.end_cm:
                 yield Finding(8, other.pointer, f"between two On Sight areas {metres(other.start_cm - one.end_cm)} are left, from "
@@ -294,14 +294,14 @@ def faster_than_meant(judged: Judged) -> Iterator[Finding]:
         for restriction in known.restrictions:
             if restriction.speed < known.national.shunting and is_under(restriction.start_cm, restriction.end_cm, event.record, 0):
                 yield Finding(8, restriction.pointer, f"restriction {restriction.number} of {speed(restriction.speed)} is met in Shunting, "
-                              f"where V_NVSHUNT, {speed(known.national.shunting)}, holds alone",
+                              f"where only V_NVSHUNT, {speed(known.national.shunting)}, holds",
                               f"choose V_NVSHUNT no greater than {speed(restriction.speed)}")
         if known.train and known.train.maximum < known.national.shunting:
-            yield Finding(8, event.pointer, f"a train of {speed(known.train.maximum)} at the most runs in Shunting, where V_NVSHUNT, "
-                          f"{speed(known.national.shunting)}, holds alone", f"choose V_NVSHUNT no greater than {speed(known.train.maximum)}")
+            yield Finding(8, event.pointer, f"a train with a maximum speed of {speed(known.train.maximum)} runs in Shunting, where V_NVSHUNT, "
+                          f"{speed(known.national.shunting)}, is the only limit", f"choose V_NVSHUNT no greater than {speed(known.train.maximum)}")
 
 
-def areas_told(judged: Judged) -> Iterator[list[Area]]:
+def new_areas(judged: Judged) -> Iterator[list[Area]]:
     """The areas of each packet 80 that was used."""
     for number, known in enumerate(judged.walked.known):
         if known.areas and known.areas != judged.walked.known_before(number).areas:
@@ -327,8 +327,8 @@ def override_without_end(judged: Judged) -> Iterator[Finding]:
     for message in judged.walked.messages:
         for packet in message.packets:
             if packet.number == 3 and packet.get("T_NVOVTRP") == NO_END_S:
-                yield Finding(9, packet.pointer, f"T_NVOVTRP 255 of group {message.name} lets the time of an override have no end, and an override "
-                              "holds back each trip", "choose T_NVOVTRP as small as the procedure allows")
+                yield Finding(9, packet.pointer, f"T_NVOVTRP 255 of group {message.name} gives an override no time limit, and an override "
+                              "suppresses each trip", "choose T_NVOVTRP as small as the procedure allows")
 
 
 @item(10)
@@ -339,26 +339,26 @@ def area_in_place_of_another(judged: Judged) -> Iterator[Finding]:
         if before == now or not now:
             continue
         for kind, name in ((ON_SIGHT, "On Sight"), (SHUNTING, "Shunting")):
-            asked = [area for area in before if area.kind == kind and is_left(area.end_cm, event.record)
+            acknowledged = [area for area in before if area.kind == kind and is_left(area.end_cm, event.record)
                      and event.record["max_safe_front_cm"] >= area.start_cm - area.acknowledged_cm]
             new = [area for area in now if area.kind == kind and (area.start_cm, area.end_cm) not in {
-                (one.start_cm, one.end_cm) for one in asked}]
-            if asked and new:
-                yield Finding(10, new[0].pointer, f"the {name} area at {metres(new[0].start_cm)} comes in the place of the one at "
-                              f"{metres(asked[0].start_cm)}, which the driver may have acknowledged; he isn't asked again",
+                (one.start_cm, one.end_cm) for one in acknowledged}]
+            if acknowledged and new:
+                yield Finding(10, new[0].pointer, f"the {name} area at {metres(new[0].start_cm)} replaces the one at "
+                              f"{metres(acknowledged[0].start_cm)}, which the driver may have acknowledged; he isn't asked again",
                               f"let no packet 80 put another {name} area there")
 
 
 @item(11)
 def transitions_in_a_row(judged: Judged) -> Iterator[Finding]:
     """On Sight areas that follow one another within 5 s."""
-    for areas in areas_told(judged):
+    for areas in new_areas(judged):
         for one, other in pairwise(area for area in areas if area.kind == ON_SIGHT):
             fast = one.speed if one.speed is not None else 30_000
             way = fast * ACKNOWLEDGED_WITHIN_S // 36
             if one.end_cm is not None and one.end_cm < other.start_cm and other.start_cm - one.start_cm <= way:
                 yield Finding(11, other.pointer, f"two On Sight areas begin {metres(other.start_cm - one.start_cm)} apart, which take at most "
-                              f"5 s at {speed(fast)}; the second transition puts off the brake of the first",
+                              f"5 s at {speed(fast)}; the second transition delays the brake of the first",
                               f"keep them more than {metres(way)} apart, or lay them without a gap")
 
 
@@ -369,7 +369,7 @@ def backward_with_speed_0(judged: Judged) -> Iterator[Finding]:
         way = event.record.get("movement_cm", 0)
         if way < 0 and event.record["speed_m_per_h"] == 0:
             yield Finding(12, event.pointer, f"{metres(-way)} backward are read with speed 0, so they don't count against D_NVROLL from there on",
-                          "hand in speed 0 only where the train stands")
+                          "pass speed 0 only at standstill")
 
 
 @item(33)
@@ -393,8 +393,8 @@ def nothing_ahead_is_braked_for(judged: Judged) -> Iterator[Finding]:
 
 # ---- ends of authority
 
-def after_the_end(packet: Packet, national: National) -> dict[str, tuple[int, int]]:
-    """Of danger point and overlap the distance beyond the end, and the release speed (0 where there is none)."""
+def beyond_the_end(packet: Packet, national: National) -> dict[str, tuple[int, int]]:
+    """The distance of danger point and overlap beyond the end, and their release speeds (0 if there is none)."""
     found: dict[str, tuple[int, int]] = {}
     for name, distance, release in (("danger point", "D_DP", "V_RELEASEDP"), ("overlap", "D_OL", "V_RELEASEOL")):
         way, fast = packet.get(distance), packet.get(release)
@@ -406,18 +406,18 @@ def after_the_end(packet: Packet, national: National) -> dict[str, tuple[int, in
 def greatest_limit(message: Message, packet: Packet, train: Train) -> int:
     """The greatest limit that an authority allows."""
     static = [speed_of(steps) for one in message.packets if one.number == 27 for steps in one.all("V_STATIC")]
-    return min([train.maximum, *([speed_of(packet.told("V_MAIN"))] if packet.told("V_MAIN") else []), *([max(static)] if static else [])])
+    return min([train.maximum, *([speed_of(packet.value("V_MAIN"))] if packet.value("V_MAIN") else []), *([max(static)] if static else [])])
 
 
 def least_deceleration(message: Message, train: Train) -> int:
-    """What the train brakes with on the steepest fall that the message reports."""
-    gradients = [told["G_A"] if told["Q_GDIR"] else -told["G_A"] for one in message.packets if one.number == 21
-                 for told in one.elements("D_GRADIENT") if told["G_A"] != UNKNOWN_GRADIENT]
+    """The deceleration of the train on the steepest downhill gradient of a message."""
+    gradients = [element["G_A"] if element["Q_GDIR"] else -element["G_A"] for one in message.packets if one.number == 21
+                 for element in one.elements("D_GRADIENT") if element["G_A"] != UNKNOWN_GRADIENT]
     return train.deceleration + min(981 * gradient // 1000 for gradient in gradients or [0])
 
 
 def train_at(judged: Judged, message: Message) -> Train | None:
-    """The train data of an authority: those that hold, or that are entered next."""
+    """The train data for an authority: the valid ones, or those that are entered next."""
     later = (known.train for known in judged.walked.known[message.closed:] if known.train)
     return message.before.train or next(later, None)
 
@@ -430,10 +430,10 @@ def ends_and_margins(judged: Judged) -> Iterator[Finding]:
         if train is None:
             continue
         limit, least = greatest_limit(message, packet, train), least_deceleration(message, train)
-        for name, (distance, _) in after_the_end(packet, message.before.national).items():
+        for name, (distance, _) in beyond_the_end(packet, message.before.national).items():
             needed = margin(limit, least, train.reaction_ms) if least > 0 else None
             if needed is None or distance < needed:
-                yield Finding(14, packet.pointer, f"the {name} of group {message.name} lies {metres(distance)} behind the end of authority; from "
+                yield Finding(14, packet.pointer, f"the {name} of group {message.name} is {metres(distance)} beyond the end of authority; from "
                               f"{speed(limit)} with {max(least, 0)} cm/s2 and {train.reaction_ms} ms a braked train overruns by "
                               f"{metres(needed) if needed is not None else 'any distance'}",
                               f"put the end at least {metres(needed)} before the danger" if needed is not None else
@@ -444,17 +444,17 @@ def ends_and_margins(judged: Judged) -> Iterator[Finding]:
 def clock_that_raises_a_limit(judged: Judged) -> Iterator[Finding]:
     """A timer that gives a permission."""
     for message, packet in judged.authorities:
-        behind, loa = after_the_end(packet, message.before.national), speed_of(packet.told("V_LOA"))
-        for name, (_, release) in behind.items():
-            if loa and packet.told("T_LOA") != NEVER_S and release > loa:
+        beyond, loa = beyond_the_end(packet, message.before.national), speed_of(packet.value("V_LOA"))
+        for name, (_, release) in beyond.items():
+            if loa and packet.value("T_LOA") != NEVER_S and release > loa:
                 yield Finding(15, packet.pointer, f"the release speed of the {name} of group {message.name} is {speed(release)}; when T_LOA, "
-                              f"{packet.told('T_LOA')} s, is over, it counts in place of V_LOA, {speed(loa)}",
+                              f"{packet.value('T_LOA')} s, is over, it counts instead of V_LOA, {speed(loa)}",
                               f"choose a release speed no greater than {speed(loa)}")
-        if len(behind) == 2 and packet.told("T_OL") != NEVER_S:
-            danger, overlap = behind["danger point"], behind["overlap"]
+        if len(beyond) == 2 and packet.value("T_OL") != NEVER_S:
+            danger, overlap = beyond["danger point"], beyond["overlap"]
             if danger[0] > overlap[0] or danger[1] > overlap[1]:
-                yield Finding(15, packet.pointer, f"when T_OL, {packet.told('T_OL')} s, is over, the danger point of group {message.name}, "
-                              f"{metres(danger[0])} at {speed(danger[1])}, counts in place of the overlap, {metres(overlap[0])} at "
+                yield Finding(15, packet.pointer, f"when T_OL, {packet.value('T_OL')} s, is over, the danger point of group {message.name}, "
+                              f"{metres(danger[0])} at {speed(danger[1])}, counts instead of the overlap, {metres(overlap[0])} at "
                               f"{speed(overlap[1])}", "choose distance and speed of the danger point no greater than those of the overlap")
     for number, event in enumerate(judged.walked.events):
         if number and event.record["kind"] == "clock" and event.record["mode"] == "SR":
@@ -462,12 +462,12 @@ def clock_that_raises_a_limit(judged: Judged) -> Iterator[Finding]:
             if "overridden" in before["indications"] and "overridden" not in now["indications"] \
                     and now["limit_m_per_h"] > before["limit_m_per_h"]:
                 yield Finding(15, event.pointer, f"the time of an override ends, and the limit rises from {speed(before['limit_m_per_h'])} to "
-                              f"{speed(now['limit_m_per_h'])}", "choose V_NVSTFF so that it may be run at there")
+                              f"{speed(now['limit_m_per_h'])}", "choose a V_NVSTFF that is safe there")
 
 
 def uncertainty_at(message: Message, packet: Packet, links: tuple[Link, ...]) -> int:
-    """The uncertainty that a train may have at the end of an authority: since its group, or since the last group announced
-    before the end."""
+    """The uncertainty of a train at the end of an authority: since its group, or since the last group announced before the
+    end."""
     place, accuracy = message.place_cm, message.link.accuracy_cm if message.link else 0
     end = place + packet.end_cm
     for link in links:
@@ -481,44 +481,43 @@ def creeping_past_the_end(judged: Judged) -> Iterator[Finding]:
     """A danger point nearer beyond the end than twice the uncertainty."""
     for message, packet in judged.authorities:
         train = train_at(judged, message)
-        behind = after_the_end(packet, message.before.national)
+        beyond = beyond_the_end(packet, message.before.national)
         least = least_deceleration(message, train) if train else 0
-        if train is None or least <= 0 or not behind:
+        if train is None or least <= 0 or not beyond:
             continue
         uncertainty = uncertainty_at(message, packet, judged.walked.known[message.closed].links)
         needed = 2 * uncertainty + way_to_slow(EMERGENCY_M_PER_H, 0, least, train.reaction_ms)
-        for name, (distance, _) in behind.items():
+        for name, (distance, _) in beyond.items():
             if distance < needed:
-                yield Finding(16, packet.pointer, f"the {name} of group {message.name} lies {metres(distance)} behind the end of authority, where "
-                              f"the uncertainty may be {metres(uncertainty)}; a train that creeps may come {metres(needed)} past the end",
+                yield Finding(16, packet.pointer, f"the {name} of group {message.name} is {metres(distance)} beyond the end of authority, where "
+                              f"the uncertainty may be {metres(uncertainty)}; a creeping train may overrun the end by {metres(needed)}",
                               "announce groups nearer to the end, or put the end farther before the danger")
 
 
 def gradients_of(packet: Packet) -> list[tuple[int, int]]:
-    """Of a packet 21 where each gradient begins, from the group on, and its per mille; none where its end is reported."""
+    """The gradients of a packet 21: the distance of each from the group, and its per mille. Ends at the end of the profile."""
     place, found = 0, []
-    for told in packet.elements("D_GRADIENT"):
-        place += packet.cm(told["D_GRADIENT"])
-        if told["G_A"] == UNKNOWN_GRADIENT:
+    for element in packet.elements("D_GRADIENT"):
+        place += packet.cm(element["D_GRADIENT"])
+        if element["G_A"] == UNKNOWN_GRADIENT:
             break
-        found.append((place, told["G_A"] if told["Q_GDIR"] else -told["G_A"]))
+        found.append((place, element["G_A"] if element["Q_GDIR"] else -element["G_A"]))
     return found
 
 
 @item(38)
 def slope_under_the_rear(judged: Judged) -> Iterator[Finding]:
-    """A slope that is reported over less than the train's length: then it isn't reported of the places that the front reaches while the
-    train is still on it."""
+    """A slope that is shorter than the train: beyond it the front is at another gradient while the train is still on the slope."""
     for message in judged.walked.messages:
         train = train_at(judged, message)
         for packet in message.packets if train else ():
-            told = gradients_of(packet) if packet.number == 21 else []
-            for before, here, behind in zip(told, told[1:], told[2:]):
-                way = behind[0] - here[0]
-                if train and before[1] > here[1] < behind[1] and way < train.length_cm:
+            gradients = gradients_of(packet) if packet.number == 21 else []
+            for before, here, beyond in zip(gradients, gradients[1:], gradients[2:]):
+                way = beyond[0] - here[0]
+                if train and before[1] > here[1] < beyond[1] and way < train.length_cm:
                     yield Finding(38, packet.pointer, f"group {message.name} sends {here[1]} per mille over {metres(way)}, from {metres(here[0])} "
-                                  f"behind it on, and {behind[1]} beyond; a train of {metres(train.length_cm)} is still on it there",
-                                  "send as the gradient of each place the lowest one from there back over the train's length")
+                                  f"after it on, and {beyond[1]} beyond; a train of {metres(train.length_cm)} is still on it there",
+                                  "send for each place the lowest gradient from there back over the train's length")
 
 
 @item(40)
@@ -542,12 +541,12 @@ def other_versions(judged: Judged) -> Iterator[Finding]:
         if not is_refused(event.record) or event.record["decoded"]["refused"]["number"] != WRONG_VERSION:
             continue
         version = int(event.record["telegram"][:2], 16) % 128
-        said = f"the telegram has M_VERSION {version}, version {version // 16}.{version % 16}; it is refused and has no effect"
+        text = f"the telegram has M_VERSION {version}, version {version // 16}.{version % 16}; it is refused and has no effect"
         if version // 16 == 1:
-            yield Finding(40, event.pointer, f"{said}, and a train of issue 2.3.0 uses it",
+            yield Finding(40, event.pointer, f"{text}, and a train of issue 2.3.0 uses it",
                           "send M_VERSION 16, or announce each such group with a reaction")
         elif version // 16 > 1:
-            yield Finding(40, event.pointer, f"{said}, and a train of issue 2.3.0 trips",
+            yield Finding(40, event.pointer, f"{text}, and a train of issue 2.3.0 trips",
                           "announce the first such groups with Q_LINKREACTION 0")
 
 
@@ -560,7 +559,7 @@ def group_of_unknown_identity(judged: Judged) -> Iterator[Finding]:
                 if link.group[1] == UNKNOWN_GROUP:
                     yield Finding(40, packet.pointer, f"group {message.name} announces NID_BG 16383 at {metres(link.place_cm)}, in issue 2.3.0 a "
                                   "repositioning group whose identity isn't known; here it is a group of that number, which is always missed, "
-                                  f"so Q_LINKREACTION {link.reaction} comes", "announce the group by its own NID_BG")
+                                  f"so Q_LINKREACTION {link.reaction} is applied", "announce the group by its own NID_BG")
 
 
 @item(37)
@@ -569,18 +568,18 @@ def overlap_without_end(judged: Judged) -> Iterator[Finding]:
     for message, packet in judged.authorities:
         if packet.get("T_OL") == NEVER_S:
             yield Finding(37, packet.pointer, f"the overlap of group {message.name} has T_OL 1023 and never ends, nor does a standstill end it",
-                          "give the overlap a time, and release nothing behind the end before it is over")
+                          "give the overlap a time, and release nothing beyond the end before it is over")
 
 
 @item(44)
 def speed_beyond_the_known_track(judged: Judged) -> Iterator[Finding]:
-    """A V_LOA by which a train may run beyond the static speeds that it knows."""
+    """A V_LOA with which a train may run beyond the static speeds that it knows."""
     for number, known in enumerate(judged.walked.known):
         before = judged.walked.known_before(number)
         if known.authority is None or (known.authority, known.speeds_end_cm) == (before.authority, before.speeds_end_cm):
             continue
         message, packet = known.authority
-        fast, lasts = speed_of(packet.told("V_LOA")), packet.told("T_LOA")
+        fast, lasts = speed_of(packet.value("V_LOA")), packet.value("T_LOA")
         if fast and lasts == NEVER_S:
             yield Finding(44, packet.pointer, f"group {message.name} sends V_LOA {speed(fast)} with T_LOA 1023, which never ends; the train may "
                           f"run past the end of authority, {metres(packet.end_cm)} ahead, and past all track that it knows, without a brake",
@@ -601,7 +600,7 @@ INSTALLED = 176
 
 @item(39)
 def packet_3_of_installed_tracks(judged: Judged) -> Iterator[Finding]:
-    """A telegram that is refused since its packet 3 has more variables."""
+    """A telegram that is refused because its packet 3 has more variables."""
     for event in judged.walked.events:
         for number, bits in packets_sent(event.record) if is_refused(event.record) else ():
             # N_ITER is before the first NID_C, or after it (docs/reference/packets.md).
@@ -615,12 +614,12 @@ def packet_3_of_installed_tracks(judged: Judged) -> Iterator[Finding]:
 
 @dataclass(frozen=True)
 class Obeyed:
-    """What a train of issue 2.3.0 does by a packet that the unit skips, and what to do instead."""
+    """What a packet that the unit skips makes a train of issue 2.3.0 do, and what to do instead."""
 
     does: str
     do: str
     go_bit: int | None = None
-    """The bit of the packet that is 1 where such a train needs to do nothing."""
+    """The bit of the packet that is 1 if such a train needs to do nothing."""
 
 
 OBEYED = {
@@ -635,11 +634,11 @@ OBEYED = {
     135: Obeyed("doesn't go on with Shunting when the desk is opened", "let the driver close the desk, which leads to Stand By"),
     137: Obeyed("trips in Staff Responsible", "let the equipment around the unit brake there", 23),
 }
-"""Such packets. Where the bits are is in docs/reference/packets.md."""
+"""These packets. docs/reference/packets.md has the places of the bits."""
 
 
 def skipped_by(judged: Judged, message: Message, read: Read) -> Iterator[int]:
-    """The packets of a telegram that ask a train of issue 2.3.0 for something, are valid in its direction, and are skipped."""
+    """The packets of a telegram that are skipped, are valid in its direction, and that a train of issue 2.3.0 obeys."""
     for number, bits in packets_sent(judged.walked.events[read.event].record):
         if number == INFILL:
             return
@@ -680,11 +679,11 @@ def train_data_and_train(judged: Judged) -> Iterator[Finding]:
     grip = min((share for share, _, _ in train.adhesion), default=Decimal(1))
     brakes = int(min(train.service or train.emergency, train.emergency) * grip)
     if entered.deceleration > brakes:
-        yield Finding(27, DRIVE, f"train data say {entered.deceleration} cm/s2, and the train brakes with {brakes}",
-                      "enter the least deceleration that the train has")
+        yield Finding(27, DRIVE, f"the train data have {entered.deceleration} cm/s2, and the train brakes with {brakes}",
+                      "enter the least deceleration of the train")
     late = train.reaction_ms + train.build_up_ms
     if entered.reaction_ms < late:
-        yield Finding(27, DRIVE, f"train data say a reaction time of {entered.reaction_ms} ms, and the train has {train.reaction_ms} ms and "
+        yield Finding(27, DRIVE, f"the train data have a reaction time of {entered.reaction_ms} ms, and the train has {train.reaction_ms} ms and "
                       f"builds up its brakes within {train.build_up_ms} ms", f"enter {late} ms")
 
 
@@ -692,12 +691,12 @@ def train_data_and_train(judged: Judged) -> Iterator[Finding]:
 def odometer_beyond_the_formula(judged: Judged) -> Iterator[Finding]:
     """An odometer that is wrong by more than a 20th."""
     if judged.drive and abs(judged.drive.train.odometer - 1) > Decimal("0.05"):
-        yield Finding(36, DRIVE, f"the odometer tells {(judged.drive.train.odometer * 100).normalize():f} % of the way, and the confidence interval grows by 5 % "
-                      "of the path alone", "show that the odometer keeps to 5 m and 5 %, wheel slide included")
+        yield Finding(36, DRIVE, f"the odometer measures {(judged.drive.train.odometer * 100).normalize():f} % of the distance, and the "
+                      "confidence interval grows only by 5 % of the path", "show that the odometer keeps to 5 m and 5 %, wheel slide included")
 
 
 def findings(judged: Judged) -> list[Finding]:
-    """What all checks find, by their items, each once."""
+    """The findings of all checks, by their items, each once."""
     found = [finding for _, check in sorted(CHECKS, key=lambda one: one[0]) for finding in check(judged)]
     return list(dict.fromkeys(found))
 

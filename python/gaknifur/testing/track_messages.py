@@ -1,7 +1,7 @@
-"""What the track says along a course: balise groups, their messages, and what is known of the track after each event.
+"""Follow the balise groups of a course and their messages, and what is known of the track after each event.
 
-It follows docs/explain/conformance.md as far as the checks of a track ask for it. Where the front is thought to be, and which mode
-holds, is read off the records of the kernel.
+This implements docs/explain/conformance.md as far as the checks of a track need it. The estimated front and the mode come from
+the records of the kernel.
 """
 from collections.abc import Iterable, Sequence
 from dataclasses import dataclass, field, replace
@@ -12,11 +12,11 @@ from .course import Event
 
 NEAR_CM, NO_END, NOW = 1_300, 32_767, 32_767
 INFILL = 136
-"""The packet that ends what is used of a telegram."""
+"""The packet that ends the used part of a telegram."""
 BY_AUTHORITY = ("FS", "OS")
-"""The modes that keep announced groups, authority, profiles and areas; each other one deletes them where it is entered."""
+"""The modes that keep announced groups, authority, profiles and areas; entering any other mode deletes them."""
 USED = {"SH": (3, 65, 66), "TR": (3, 65, 66), "PT": (3, 41, 65, 66), "SF": ()}
-"""The packets that a mode uses, where it doesn't use all."""
+"""The packets that a mode uses, if it doesn't use all."""
 ON_SIGHT, SHUNTING = 0, 1
 TRIP, SERVICE, NONE = 0, 1, 2
 """Q_LINKREACTION."""
@@ -44,32 +44,32 @@ def speed_of(steps: int) -> int:
 
 @dataclass(frozen=True)
 class Packet:
-    """A packet, and the pointer of the telegram that has it."""
+    """A packet, and the pointer of its telegram."""
 
     number: int
     fields: tuple[tuple[str, int], ...]
     pointer: str
 
     def get(self, name: str) -> int | None:
-        """A variable that stands once, where it is there."""
+        """A variable that occurs once; None if the packet doesn't have it."""
         return next((number for one, number in self.fields if one == name), None)
 
-    def told(self, name: str) -> int:
-        """A variable that is there."""
+    def value(self, name: str) -> int:
+        """A variable that the packet has."""
         number = self.get(name)
         assert number is not None
         return number
 
     def all(self, name: str) -> list[int]:
-        """A variable of a list."""
+        """All values of a variable that occurs in a list."""
         return [number for one, number in self.fields if one == name]
 
     def cm(self, distance: int) -> int:
-        """A distance by the packet's scale."""
-        return distance * SCALES_CM[self.told("Q_SCALE")]
+        """A distance in the packet's scale."""
+        return distance * SCALES_CM[self.value("Q_SCALE")]
 
     def elements(self, first: str) -> list[dict[str, int]]:
-        """The elements of a list, each of which begins with a variable."""
+        """The elements of a list, each beginning with the variable `first`."""
         found: list[dict[str, int]] = []
         for name, number in self.fields:
             if name == first:
@@ -80,13 +80,13 @@ class Packet:
 
     @property
     def end_cm(self) -> int:
-        """How far from the group an authority (packet 12) ends."""
+        """The distance from the group to the end of an authority (packet 12)."""
         return self.cm(sum(self.all("L_SECTION") + self.all("L_ENDSECTION")))
 
 
 @dataclass(frozen=True)
 class Link:
-    """A group that is announced, where, and to what accuracy."""
+    """An announced group, its place and its accuracy."""
 
     group: Group
     place_cm: int
@@ -110,7 +110,7 @@ class Restriction:
 
 @dataclass(frozen=True)
 class Area:
-    """An On Sight or Shunting area; no end where it has none."""
+    """An On Sight or Shunting area; `end_cm` is None if it has no end."""
 
     kind: int
     start_cm: int
@@ -133,7 +133,7 @@ class Train:
 
 @dataclass(frozen=True)
 class National:
-    """The national values that the checks ask for, and their countries."""
+    """The national values that the checks need, and their countries."""
 
     shunting: int = 30_000
     staff: int = 40_000
@@ -141,7 +141,7 @@ class National:
     override: int = 30_000
     countries: tuple[int, ...] = ()
     allowed: int = 0
-    """Up to which speed an override is accepted."""
+    """The greatest speed at which an override is accepted."""
 
 
 @dataclass(frozen=True)
@@ -154,7 +154,7 @@ class Known:
     authority: tuple["Message", Packet] | None = None
     has_profile: bool = False
     speeds_end_cm: int | None = None
-    """Where the static speeds end; none where no end is sent, and where the last speed before it is 0."""
+    """Where the static speeds end; None if no end is sent, or the last speed before it is 0."""
     national: National = National()
     waiting: tuple[int, National] | None = None
     """A packet 3 that comes into force at a place."""
@@ -162,13 +162,13 @@ class Known:
 
     @property
     def is_free(self) -> bool:
-        """Nothing lies at a known place, so that a group that isn't announced makes a fix."""
+        """Whether nothing is at a known place, so that a group that isn't announced makes a fix."""
         return not self.links and self.authority is None and not self.has_profile
 
 
 @dataclass(frozen=True)
 class Read:
-    """A telegram that was read: at which event of the life, after which path, and where really."""
+    """A telegram that was read: the event of the life, the path up to it, and its real place."""
 
     event: int
     path_cm: int
@@ -186,13 +186,13 @@ class Read:
         return self.header["NID_C"], self.header["NID_BG"]
 
     def uncertainty_cm(self, farther_cm: int = 0) -> int:
-        """The uncertainty there, or so much farther on without another fix."""
+        """The uncertainty at the reading, or `farther_cm` farther on without another fix."""
         return uncertainty(*self.fix, self.path_cm + farther_cm)
 
 
 @dataclass(frozen=True, eq=False)
 class Message:
-    """A group that was read and closed, and what became of it."""
+    """A group that was read and closed, and how it was used."""
 
     reads: tuple[Read, ...]
     closed: int
@@ -202,12 +202,12 @@ class Message:
     is_used: bool = False
     makes_fix: bool = False
     place_cm: int = 0
-    """From where its distances count, as the kernel has it."""
+    """The place from which its distances count, as in the kernel."""
     mode: str = "SB"
     direction: int | None = None
-    """That in which it was passed: of its own, or of its announcement."""
+    """The direction in which it was passed, from its own balises or from its announcement."""
     packets: tuple[Packet, ...] = ()
-    """Those that are used, in the order in which they are."""
+    """The packets that are used, in the order of their use."""
     before: Known = Known()
 
     @property
@@ -217,12 +217,12 @@ class Message:
 
     @property
     def name(self) -> str:
-        """Its group, for people."""
+        """Its group, as text."""
         return name_of(self.group)
 
     @property
     def pointer(self) -> str:
-        """The telegram of it that was read first."""
+        """The pointer of its telegram that was read first."""
         return self.reads[0].pointer
 
     @property
@@ -232,7 +232,7 @@ class Message:
 
     @property
     def size(self) -> int:
-        """How many balises it says to have."""
+        """The number of its balises, as its telegrams give it."""
         return self.reads[0].header["N_TOTAL"] + 1
 
     @property
@@ -243,17 +243,17 @@ class Message:
 
     @property
     def first(self) -> Read:
-        """The reading that gives its place: of balise 1, else the first one."""
+        """The reading that gives its place: that of balise 1, or else the first one."""
         return next((read for read in self.reads if read.header["N_PIG"] == 0), self.reads[0])
 
     @property
     def length_cm(self) -> int:
-        """From that reading to the last one, on the track."""
+        """The distance on the track from that reading to the last one."""
         return abs(self.reads[-1].place_cm - self.first.place_cm)
 
     @property
     def is_broken(self) -> bool:
-        """Whether it says nothing: its telegrams contradict, or a balise is missed that no other one repeats."""
+        """Whether it has no valid message: its telegrams contradict, or a balise is missed that no other one repeats."""
         first = self.reads[0].header
         if any((one.header["N_TOTAL"], one.header["Q_LINK"]) != (first["N_TOTAL"], first["Q_LINK"]) for one in self.reads):
             return True
@@ -264,25 +264,25 @@ class Message:
 
     @property
     def nominal(self) -> int | None:
-        """The direction in which it was passed, where two balises say it."""
+        """The direction in which it was passed; None if fewer than two balises were read."""
         if len(self.reads) < 2:
             return None
         return int(self.reads[0].header["N_PIG"] < self.reads[1].header["N_PIG"])
 
     @property
     def own(self) -> list[Packet]:
-        """All packets that it sends, in rising number, whether they are used or not."""
+        """All packets that it sends, by number, used or not."""
         reads = sorted(self.reads, key=lambda read: read.header["N_PIG"])
         return sorted((packet for read in reads for packet in read.packets), key=lambda packet: packet.number)
 
 
 def name_of(group: Group) -> str:
-    """A group, for people."""
+    """A group, as text."""
     return f"{group[0]}/{group[1]}"
 
 
 def packets_of(decoded: Json, pointer: str) -> tuple[Packet, ...]:
-    """The packets of a telegram before infill that are known."""
+    """The known packets of a telegram before infill."""
     found: list[Packet] = []
     for packet in decoded["packets"]:
         if packet["packet"] == INFILL:
@@ -303,7 +303,7 @@ class Lost:
 
 @dataclass
 class Walked:
-    """What a life came to: its events, what is known after each, and the groups in their order."""
+    """The course of a life: its events, what is known after each, and the groups in their order."""
 
     events: list[Event]
     known: list[Known] = field(default_factory=list)
@@ -316,7 +316,7 @@ class Walked:
         return max((abs(event.record["movement_cm"]) for event in self.events if "movement_cm" in event.record), default=0)
 
     def mode_before(self, event: int) -> str:
-        """The mode that an event meets."""
+        """The mode before an event."""
         return str(self.events[event - 1].record["mode"]) if event else "SB"
 
     def known_before(self, event: int) -> Known:
@@ -325,29 +325,29 @@ class Walked:
 
 
 class Walk:
-    """Goes along the events of a life."""
+    """Follows the events of a life."""
 
-    def __init__(self, events: list[Event], begun: Known) -> None:
-        self.walked, self.known = Walked(events), begun
+    def __init__(self, events: list[Event], start: Known) -> None:
+        self.walked, self.known = Walked(events), start
         self.current: list[Read] = []
         self.last: tuple[Group, int] | None = None
         self.path = self.reached = 0
         self.fix, self.estimate = (500, 0), 0
-        """The uncertainty of the last fix and the path up to it; the estimate that follows from it."""
+        """The uncertainty of the last fix and the path up to it; and the estimated front."""
 
     def walk(self) -> Walked:
-        """All events."""
+        """Follows all events."""
         for number, event in enumerate(self.walked.events):
             self.event(number, event)
             self.walked.known.append(self.known)
         return self.walked
 
     def uncertainty(self) -> int:
-        """The uncertainty that follows from the last fix."""
+        """The current uncertainty."""
         return uncertainty(*self.fix, self.path)
 
     def event(self, number: int, event: Event) -> None:
-        """One event."""
+        """Follows one event."""
         record, mode, closed = event.record, self.walked.mode_before(number), list[Message]()
         if record["kind"] == "odometer":
             self.path += abs(record["movement_cm"])
@@ -365,7 +365,7 @@ class Walk:
         self.settle(record, closed, mode)
 
     def settle(self, record: Json, closed: Sequence[Message], mode: str) -> None:
-        """What the kernel made of it: a fix, a mode, a packet 3 that comes into force."""
+        """Takes over the kernel's answer: a fix, a mode, a packet 3 that comes into force."""
         if (record["place_cm"], record["uncertainty_cm"]) != (self.estimate, self.uncertainty()) and closed:
             path = closed[-1].first.path_cm
             self.fix = record["uncertainty_cm"] - rounded_up(self.path - path, 20), path
@@ -384,7 +384,7 @@ class Walk:
         return message
 
     def take(self, number: int, event: Event) -> list[Message]:
-        """A telegram; the groups that it closes."""
+        """Takes a telegram; returns the groups that it closes."""
         record, closed = event.record, list[Message]()
         read = Read(number, self.path, self.estimate, self.fix, event.place_cm, event.pointer, record["decoded"]["header"],
                     packets_of(record["decoded"], event.pointer))
@@ -403,7 +403,7 @@ class Walk:
     # ---- linking
 
     def miss(self, number: int, closed: Sequence[Message]) -> None:
-        """Announcements that the minimum safe front has left."""
+        """Removes announcements that the minimum safe front has passed."""
         min_front = self.estimate - self.uncertainty()
         missed = [link for link in self.known.links if min_front > link.place_cm + link.accuracy_cm]
         reading = closed[-1].reads if closed else tuple(self.current)
@@ -413,7 +413,7 @@ class Walk:
         self.known = replace(self.known, links=tuple(link for link in self.known.links if link not in missed))
 
     def judge(self, message: Message, mode: str) -> None:
-        """What becomes of a closed group, and of what it says."""
+        """Decides whether a closed group and its packets are used."""
         links, first = self.known.links, message.first
         link = next((one for one in links if message.is_linked and one.group == message.group), None)
         is_used = not message.is_broken and (link is not None or not message.is_linked or not links)
@@ -424,7 +424,7 @@ class Walk:
         place = link.place_cm if link and is_used else first.estimate_cm
         nominal = link.nominal if link and message.nominal is None else message.nominal
         packets = tuple(packet for packet in message.own if is_used and packet.number in USED.get(mode, (packet.number,))
-                        and packet.told("Q_DIR") in (2, nominal))
+                        and packet.value("Q_DIR") in (2, nominal))
         message = replace(message, link=link, is_used=is_used, makes_fix=makes_fix, place_cm=place, mode=mode, direction=nominal,
                           packets=packets, before=self.known)
         if link:
@@ -439,15 +439,15 @@ class Walk:
     # ---- packets
 
     def country(self, country: int) -> None:
-        """An accepted group of a country that the values in force don't list puts the defaults in force."""
+        """Puts the defaults in force after an accepted group of a country that the values in force don't list."""
         if self.known.national.countries and country not in self.known.national.countries:
             self.known = replace(self.known, national=National(countries=(country,)))
 
     def use(self, message: Message, packet: Packet) -> None:
-        """What a packet changes."""
+        """Applies a packet."""
         known, here = self.known, message.place_cm
         if packet.number == 3:
-            start, values = packet.told("D_VALIDNV"), national_of(packet, message.group[0])
+            start, values = packet.value("D_VALIDNV"), national_of(packet, message.group[0])
             self.known = replace(known, national=values, waiting=None) if start == NOW else replace(
                 known, waiting=(here + packet.cm(start), values))
         elif packet.number == 5:
@@ -461,32 +461,32 @@ class Walk:
         elif packet.number == 80:
             self.known = replace(known, areas=tuple(areas_of(packet, message)))
         elif packet.number in (65, 66):
-            number = packet.told("NID_TSR")
+            number = packet.value("NID_TSR")
             left = [one for one in known.restrictions if one.number != number or number == ALWAYS]
             if packet.number == 65:
-                start = here + packet.cm(packet.told("D_TSR"))
-                left.append(Restriction(number, start, start + packet.cm(packet.told("L_TSR")), speed_of(packet.told("V_TSR")),
+                start = here + packet.cm(packet.value("D_TSR"))
+                left.append(Restriction(number, start, start + packet.cm(packet.value("L_TSR")), speed_of(packet.value("V_TSR")),
                                         message, packet.pointer))
             self.known = replace(known, restrictions=tuple(left))
 
 
 def national_of(packet: Packet, country: int) -> National:
     """The values of a packet 3, for the countries that it lists and that of its group."""
-    return National(speed_of(packet.told("V_NVSHUNT")), speed_of(packet.told("V_NVSTFF")), speed_of(packet.told("V_NVREL")),
-                    speed_of(packet.told("V_NVSUPOVTRP")), (*packet.all("NID_C"), country), speed_of(packet.told("V_NVALLOWOVTRP")))
+    return National(speed_of(packet.value("V_NVSHUNT")), speed_of(packet.value("V_NVSTFF")), speed_of(packet.value("V_NVREL")),
+                    speed_of(packet.value("V_NVSUPOVTRP")), (*packet.all("NID_C"), country), speed_of(packet.value("V_NVALLOWOVTRP")))
 
 
 def links_of(packet: Packet, country: int, place: int) -> Iterable[Link]:
-    """The groups that a packet 5 announces. Each distance counts from the one before; so does a country that isn't reported."""
-    for told in packet.elements("D_LINK"):
-        place += packet.cm(told["D_LINK"])
-        country = told.get("NID_C", country)
-        yield Link((country, told["NID_BG"]), place, 100 * told["Q_LOCACC"], told["Q_LINKORIENTATION"], told["Q_LINKREACTION"],
+    """The groups that a packet 5 announces. Each distance counts from the group before; a missing country is that of the group before."""
+    for link in packet.elements("D_LINK"):
+        place += packet.cm(link["D_LINK"])
+        country = link.get("NID_C", country)
+        yield Link((country, link["NID_BG"]), place, 100 * link["Q_LOCACC"], link["Q_LINKORIENTATION"], link["Q_LINKREACTION"],
                    packet.pointer)
 
 
 def speeds_end(packet: Packet, place: int) -> int | None:
-    """Where the static speeds of a packet 27 end; none where no end is sent, and where the train is to stop before it."""
+    """Where the static speeds of a packet 27 end; None if no end is sent, or the train has to stop before it."""
     last = NO_SPEED
     for sent in packet.elements("D_STATIC"):
         place += packet.cm(sent["D_STATIC"])
@@ -497,15 +497,15 @@ def speeds_end(packet: Packet, place: int) -> int | None:
 
 
 def areas_of(packet: Packet, message: Message) -> Iterable[Area]:
-    """The areas of a packet 80. Each distance counts from the start of the one before."""
+    """The areas of a packet 80. Each distance counts from the start of the area before."""
     start = message.place_cm
-    for told in packet.elements("D_MAMODE"):
-        start += packet.cm(told["D_MAMODE"])
-        yield Area(told["M_MAMODE"], start, None if told["L_MAMODE"] == NO_END else start + packet.cm(told["L_MAMODE"]),
-                   None if told["V_MAMODE"] == NATIONAL_SPEED else speed_of(told["V_MAMODE"]), packet.cm(told["L_ACKMAMODE"]),
+    for area in packet.elements("D_MAMODE"):
+        start += packet.cm(area["D_MAMODE"])
+        yield Area(area["M_MAMODE"], start, None if area["L_MAMODE"] == NO_END else start + packet.cm(area["L_MAMODE"]),
+                   None if area["V_MAMODE"] == NATIONAL_SPEED else speed_of(area["V_MAMODE"]), packet.cm(area["L_ACKMAMODE"]),
                    message, packet.pointer)
 
 
 def walk(events: list[Event], kept: Known = Known()) -> Walked:
-    """What a life came to. Of a life before the national values and the train data are kept."""
+    """Follows a life. It keeps the national values and the train data of the life before."""
     return Walk(events, Known(national=kept.national, train=kept.train)).walk()

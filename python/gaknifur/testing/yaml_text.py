@@ -1,4 +1,4 @@
-"""Texts in YAML, on one line."""
+"""Write YAML on one line."""
 import json
 import re
 
@@ -11,7 +11,7 @@ def quoted(text: str) -> str:
 
 
 def flow(at: Value, words: dict[str, str] | None = None) -> str:
-    """A value of YAML on a line; in its texts `{name}` stands for a word."""
+    """A value of YAML on one line; `{name}` in its texts is replaced by a word."""
     if at.is_list():
         return f"[{', '.join(flow(one, words) for one in at.elements())}]"
     if at.is_mapping():
@@ -21,7 +21,7 @@ def flow(at: Value, words: dict[str, str] | None = None) -> str:
 
 
 def filled(at: Value, words: dict[str, str]) -> str:
-    """A text, with words in place of their names."""
+    """A text with `{name}` replaced by words."""
     text = at.text()
     for name in re.findall(r"\{(\w+)\}", text):
         if name not in words:

@@ -1,8 +1,8 @@
-"""A maker's own unit, as a program that speaks the protocol of docs/howto/oracle.md over its standard streams.
+"""Run a maker's own unit: a program that speaks the protocol of docs/howto/oracle.md over its standard streams.
 
-It is started once for each case or image, asked event by event, and ended. Whatever it does, each call comes back
-within the time that it has: what breaks the protocol, is late or ends before its time raises `Broken`, and no process
-of it stays after. What it may use is limited (module `sandbox`).
+It is started once for each case or image, gets event by event, and is ended. Whatever it does, each call returns within the time
+limit: a unit that breaks the protocol, is late or ends early raises `Broken`, and none of its processes is left. Its resources are
+limited (module `sandbox`).
 """
 import contextlib
 import os
@@ -20,22 +20,22 @@ from .protocol import MOST_LINE, PROTOCOL, Greeting, Wrong, checked, greeting_of
 from .sandbox import Confined
 
 WITHIN_S = 10.0
-"""How long a unit has for an answer, where nothing else is reported."""
-MOST_SAID, MOST_READS, LOOK_S = 4_096, 64, 0.001
-"""The last bytes of standard error that are kept; how often a stream is read that has ended or is given up; and how often
-it is looked whether a process has ended."""
+"""The default time limit of a unit for an answer."""
+MOST_ERRORS, MOST_READS, LOOK_S = 4_096, 64, 0.001
+"""The bytes of standard error that are kept, the most reads of a stream that has ended or is given up, and the interval at which
+the end of a process is checked."""
 
 
 class Broken(Exception):
-    """A unit that broke the protocol: after how many answers, and how."""
+    """A unit broke the protocol: the message, and the number of answers before it."""
 
-    def __init__(self, said: str, answers: int) -> None:
-        super().__init__(said)
+    def __init__(self, message: str, answers: int) -> None:
+        super().__init__(message)
         self.answers = answers
 
 
 def words_of(command: str) -> list[str]:
-    """The words of a command, as a shell parts them; no shell runs it."""
+    """The arguments of a command, split like in a shell; no shell runs it."""
     try:
         words = shlex.split(command)
     except ValueError as error:
@@ -46,13 +46,13 @@ def words_of(command: str) -> list[str]:
 
 
 class Streams:
-    """The pipes to and from a unit. None of them is waited for beyond a deadline, and of each no more is kept than a message
-    or the last line needs."""
+    """The pipes to and from a unit. No wait is longer than a deadline, and no more is kept of each than a message or the last
+    line needs."""
 
     def __init__(self, process: "subprocess.Popen[bytes]") -> None:
         assert process.stdin is not None and process.stdout is not None and process.stderr is not None
         self.into, self.out, self.errors = process.stdin, process.stdout, process.stderr
-        self.unsent, self.received, self.last_said = b"", b"", b""
+        self.unsent, self.received, self.last_errors = b"", b"", b""
         self.is_at_end = False
         self.ready = selectors.DefaultSelector()
         for stream in (self.into, self.out, self.errors):
@@ -61,12 +61,12 @@ class Streams:
         self.ready.register(self.errors, selectors.EVENT_READ, self.listen)
 
     def send(self, message: bytes) -> None:
-        """Takes a message, which `move` sends."""
+        """Queues a message, which `move` sends."""
         self.unsent = message
         self.ready.register(self.into, selectors.EVENT_WRITE, self.write)
 
     def move(self, deadline: float) -> bool:
-        """Waits until a stream is ready, and moves what can be moved; whether one was ready in time."""
+        """Waits until a stream is ready, and transfers what can be transferred; returns whether one was ready in time."""
         left = deadline - time.monotonic()
         found = self.ready.select(left) if left > 0 else []
         for key, _ in found:
@@ -74,7 +74,7 @@ class Streams:
         return bool(found)
 
     def write(self) -> None:
-        """Sends what the unit takes."""
+        """Sends as much as the unit accepts."""
         try:
             self.unsent = self.unsent[os.write(self.into.fileno(), self.unsent):]
         except BlockingIOError:
@@ -85,7 +85,7 @@ class Streams:
             self.ready.unregister(self.into)
 
     def receive(self) -> None:
-        """Takes what it answers."""
+        """Receives from its standard output."""
         data = os.read(self.out.fileno(), MOST_LINE)
         self.received += data
         if not data:
@@ -93,21 +93,21 @@ class Streams:
             self.ready.unregister(self.out)
 
     def listen(self) -> bool:
-        """Takes what it says on standard error; whether there was something."""
+        """Receives from its standard error; returns whether there was something."""
         try:
             data = os.read(self.errors.fileno(), MOST_LINE)
         except BlockingIOError:
             return False
-        self.last_said = (self.last_said + data)[-MOST_SAID:]
+        self.last_errors = (self.last_errors + data)[-MOST_ERRORS:]
         if not data:
             self.ready.unregister(self.errors)
         return bool(data)
 
     def last_line(self) -> str | None:
-        """The last line on standard error that says something."""
+        """The last line on standard error that isn't empty."""
         if self.errors in self.ready.get_map():
             any(not self.listen() for _ in range(MOST_READS))
-        lines = [line for line in self.last_said.decode("utf-8", "replace").splitlines() if line.strip()]
+        lines = [line for line in self.last_errors.decode("utf-8", "replace").splitlines() if line.strip()]
         return lines[-1] if lines else None
 
     def close_input(self) -> None:
@@ -145,23 +145,23 @@ class OtherUnit:
         self.kill()
 
     def kill(self) -> None:
-        """Ends what is left of it: the process, and those of its session that it began."""
+        """Kills the process, and all processes of its session."""
         self.confined.kill()
         self.streams.close()
 
     # ---- lines
 
-    def broken(self, said: str) -> Broken:
-        """What is said of it, with the last line that it wrote on standard error."""
+    def broken(self, problem: str) -> Broken:
+        """An error with the last line that the unit wrote on standard error."""
         line = self.streams.last_line()
-        return Broken(said if line is None else f"{said}; it said: {short(line)}", self.answers)
+        return Broken(problem if line is None else f"{problem}; it said: {short(line)}", self.answers)
 
-    def unasked(self, where: str) -> Broken:
-        """A line that isn't an answer."""
-        return self.broken(f"{where}: a line that nobody asked for: {short(self.streams.received.decode('utf-8', 'replace'))}")
+    def unrequested(self, where: str) -> Broken:
+        """The error for a line that isn't an answer."""
+        return self.broken(f"{where}: a line that wasn't requested: {short(self.streams.received.decode('utf-8', 'replace'))}")
 
     def ended(self, deadline: float) -> str:
-        """How its process ended, beyond the end of its standard output."""
+        """How its process ended, after the end of its standard output."""
         while (status := self.confined.status()) is None and (now := time.monotonic()) < deadline:
             self.streams.move(min(deadline, now + LOOK_S))
         if status is None:
@@ -171,12 +171,12 @@ class OtherUnit:
             return f"was ended by signal {-status} ({name})"
         return f"ended with status {status}"
 
-    def asked(self, told: Json, where: str) -> bytes:
-        """The line that answers a message. The unit has one time to take the message and to answer it."""
+    def exchange(self, message: Json, where: str) -> bytes:
+        """Sends a message; returns the line that answers it. One time limit holds for reading the message and answering it."""
         streams, deadline = self.streams, time.monotonic() + self.within_s
         if streams.received:
-            raise self.unasked(where)
-        streams.send(line_of(told).encode())
+            raise self.unrequested(where)
+        streams.send(line_of(message).encode())
         while True:
             line, end, rest = streams.received.partition(b"\n")
             if len(line) >= MOST_LINE:
@@ -185,17 +185,17 @@ class OtherUnit:
                 streams.received = rest
                 return line
             if streams.is_at_end and not end:
-                said = "a line without its end, and then it" if line else "it"
-                raise self.broken(f"{where}: {said} {self.ended(deadline)}")
+                subject = "a line without its end, and then it" if line else "it"
+                raise self.broken(f"{where}: {subject} {self.ended(deadline)}")
             if not streams.move(deadline):
-                said = "it doesn't read its input, and has not taken the message" if streams.unsent else "no answer"
-                raise self.broken(f"{where}: {said} within {self.within_s:g} s")
+                problem = "it doesn't read its input, and has not taken the message" if streams.unsent else "no answer"
+                raise self.broken(f"{where}: {problem} within {self.within_s:g} s")
 
     # ---- the protocol
 
     def greet(self, name: str) -> Greeting:
-        """The greeting: which unit it is, and what it says."""
-        line = self.asked({"protocol": PROTOCOL, "case": name}, "greeting")
+        """The greeting: the name of the unit, and the members of its answers."""
+        line = self.exchange({"protocol": PROTOCOL, "case": name}, "greeting")
         try:
             self.greeting = greeting_of(line)
         except Wrong as wrong:
@@ -206,23 +206,23 @@ class OtherUnit:
         """Its answer to an event."""
         assert self.greeting is not None
         where = f"event {event['event']}"
-        line = self.asked(event, where)
+        line = self.exchange(event, where)
         try:
-            told = checked(line, event["event"], self.greeting.tells)
+            found = checked(line, event["event"], self.greeting.members)
         except Wrong as wrong:
             raise self.broken(f"{where}: {wrong}") from None
         self.answers += 1
-        return told
+        return found
 
     def end(self) -> None:
-        """Closes its standard input. It ends with status 0, and says nothing more."""
+        """Closes its standard input. Fails unless the unit then ends with status 0, without further output."""
         self.streams.close_input()
         deadline = time.monotonic() + self.within_s
         while not self.streams.received and not self.streams.is_at_end:
             if not self.streams.move(deadline):
-                raise self.broken(f"end: it goes on for {self.within_s:g} s")
+                raise self.broken(f"end: it keeps running for {self.within_s:g} s")
         if self.streams.received:
-            raise self.unasked("end")
+            raise self.unrequested("end")
         how = self.ended(deadline)
         if how != "ended with status 0":
             raise self.broken(f"end: it {how}")

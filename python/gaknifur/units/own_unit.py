@@ -1,7 +1,7 @@
-"""The proved unit under the protocol of docs/howto/oracle.md: the library of `unit`, over a journal in memory.
+"""Serve the proved unit with the protocol of docs/howto/oracle.md: the library of `unit`, with a journal in memory.
 
-Each event is flushed by itself, so that each has its answer at once. The output of a power-up is never released; its
-record says it.
+Each event is flushed by itself, so that each has its answer at once. The output of a power-up is never released; it is read from
+its record.
 """
 import os
 import sys
@@ -20,14 +20,14 @@ DIRECT = ("start", "choose_shunting", "leave_shunting", "override", "close_desk"
 
 
 class Answering(Protocol):
-    """What answers events: the proved unit, or another one."""
+    """A unit that answers events: the proved one, or another."""
 
     def answer(self, event: Json) -> Json:
         """The answer to an event."""
 
 
 def action_of(event: Json) -> Action:
-    """The driver's action that has no value of its own, or one of a few."""
+    """The driver's action, if it has no value or one of a few."""
     name = event["action"]
     if name == "choose_level":
         return Action[f"CHOOSE_LEVEL_{event['chosen_level']}"]
@@ -36,9 +36,8 @@ def action_of(event: Json) -> Action:
     return Action[name.upper()]
 
 
-def told(event: int, mode: unit.Mode, level: unit.Level, brake: Brake, shows: Indication, place: int | None,
-         uncertainty: int | None,
-         limit: int | None) -> Json:
+def members_of(event: int, mode: unit.Mode, level: unit.Level, brake: Brake, shows: Indication, place: int | None,
+               uncertainty: int | None, limit: int | None) -> Json:
     """An answer, with all its members."""
     return {"event": event, "mode": MODES[mode], "level": None if level == Level.INVALID else int(level),
             "brake": brake.name.lower(),
@@ -47,7 +46,7 @@ def told(event: int, mode: unit.Mode, level: unit.Level, brake: Brake, shows: In
 
 
 class OwnUnit:
-    """The proved unit. It never had power before the first power-up; power is lost at each further one."""
+    """The proved unit. It had no power before the first power-up; each later power-up is after a loss of power."""
 
     def __init__(self) -> None:
         closed_loop.check_library()
@@ -55,23 +54,23 @@ class OwnUnit:
         self.unit: Unit | None = None
 
     def close(self) -> None:
-        """Gives its memory back."""
+        """Frees its memory."""
         if self.unit:
             self.unit.close()
         self.unit = None
 
     def power_up(self, word: str) -> Json:
-        """Power is lost, where there was any, and comes back."""
+        """Takes power away, if there was any, and powers up."""
         self.close()
         opened = Unit(self.medium, Cold[word.upper()])
         opened.open()
         self.unit = opened
         last = list(unit.records(self.medium.read()))[-1]
-        return told(last.event, last.mode, last.level, last.brake, last.indications, last.front_cm, last.uncertainty_cm,
-                    last.limit_m_per_h)
+        return members_of(last.event, last.mode, last.level, last.brake, last.indications, last.front_cm, last.uncertainty_cm,
+                          last.limit_m_per_h)
 
     def take(self, one: Unit, event: Json) -> None:
-        """Hands the unit what came."""
+        """Gives the unit an event."""
         kind, action = event["kind"], event.get("action")
         if kind == "telegram":
             one.telegram(bytes.fromhex(event["telegram"]))
@@ -92,7 +91,7 @@ class OwnUnit:
             one.action(action_of(event))
 
     def answer(self, event: Json) -> Json:
-        """The answer to an event. `unit.Refused` where the unit doesn't take it."""
+        """The answer to an event. `unit.Refused` if the unit doesn't accept it."""
         if event["kind"] == "powerup":
             return self.power_up(event["word"])
         if self.unit is None:
@@ -100,18 +99,17 @@ class OwnUnit:
         self.take(self.unit, event)
         output, = self.unit.flush()
         state = self.unit.state()
-        return told(output.event, output.mode, output.level, output.brake, output.indications, state.front_cm,
-                    state.uncertainty_cm,
-                    output.limit_m_per_h)
+        return members_of(output.event, output.mode, output.level, output.brake, output.indications, state.front_cm,
+                          state.uncertainty_cm, output.limit_m_per_h)
 
 
 def answered(own: OwnUnit, line: bytes, is_first: bool) -> Json:
-    """The answer to a line: the greeting after the first one."""
+    """The answer to a line: the greeting to the first line, then answers to events."""
     message = protocol.object_of(line)
     if is_first:
         if message.get("protocol") != protocol.PROTOCOL:
             raise protocol.Wrong(f"the protocol {message.get('protocol')}, and this one is {protocol.PROTOCOL}")
-        return {"protocol": protocol.PROTOCOL, "unit": f"Gaknifur {unit.version()}", "tells": list(protocol.ANSWER)}
+        return {"protocol": protocol.PROTOCOL, "unit": f"Gaknifur {unit.version()}", "members": list(protocol.ANSWER)}
     return own.answer(message)
 
 
@@ -123,8 +121,8 @@ def serve(into: BinaryIO, out: BinaryIO) -> None:
             try:
                 answer = answered(own, line, number == 0)
             except (protocol.Wrong, unit.Refused, KeyError, TypeError, ValueError) as error:
-                said = f"{error} is missing or unknown" if isinstance(error, KeyError) else str(error)
-                raise Failed(f"serve: line {number + 1}: {said}", REFUSED) from error
+                reason = f"{error} is missing or unknown" if isinstance(error, KeyError) else str(error)
+                raise Failed(f"serve: line {number + 1}: {reason}", REFUSED) from error
             out.write(protocol.line_of(answer).encode())
             out.flush()
     finally:

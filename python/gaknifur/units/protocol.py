@@ -1,8 +1,7 @@
-"""What a unit is asked, and what it answers, as docs/reference/unit-protocol.md has it: the messages of the protocol, and whether a line
-is one.
+"""Encode and check the messages of the protocol of docs/reference/unit-protocol.md between `lab` and a unit.
 
-An event is reported by the members of a record of `etcs_lab events` that say what came (docs/reference/json.md); an answer has those
-that say what the unit makes of it.
+An event has the members of a record of `etcs_lab events` that describe the input (docs/reference/json.md); an answer has the members that
+describe the unit's answer.
 """
 import json
 from collections.abc import Callable
@@ -15,38 +14,38 @@ PROTOCOL = 1
 ANSWER = ("mode", "level", "brake", "indications", "place_cm", "uncertainty_cm", "limit_m_per_h")
 """The members of an answer, in the order in which they are compared."""
 NEEDED = ("mode", "brake")
-"""Those that each unit has to report."""
+"""The members that each unit has to report."""
 CAME = {"powerup": ("word",), "telegram": ("telegram",), "odometer": ("movement_cm", "speed_m_per_h"),
         "clock": ("now_ms",),
         "driver": ("action",)}
 DONE = {"enter_identity": ("identity",), "enter_running_number": ("running_number",), "choose_level": ("chosen_level",),
         "enter_train_data": ("length_cm", "maximum_m_per_h", "category", "deceleration_cm_per_s2", "reaction_ms"),
         "confirm": ("confirmed",), "acknowledge": ("acknowledged",)}
-"""The members of what came, and of what the driver did."""
+"""The members of each kind of event, and of each action of the driver."""
 MOST_LINE, MOST_NAME, MOST_SHOWN = 65_536, 200, 120
 
 
 class Wrong(Exception):
-    """What is no message of the protocol."""
+    """A line isn't a message of the protocol."""
 
 
-def line_of(told: Json) -> str:
+def line_of(message: Json) -> str:
     """A message as a line."""
-    return json.dumps(told, separators=(",", ":")) + "\n"
+    return json.dumps(message, separators=(",", ":")) + "\n"
 
 
 def event_of(record: Json) -> Json:
-    """What a unit is given of a record: all but the answer."""
+    """The message for a record: all but the answer."""
     names = ("life", "event", "kind", *CAME[record["kind"]], *DONE.get(record.get("action", ""), ()))
     return {name: record[name] for name in names}
 
 
-def answer_of(record: Json, tells: tuple[str, ...]) -> Json:
-    """What a record answers."""
-    return {"event": record["event"], **{name: record[name] for name in tells}}
+def answer_of(record: Json, members: tuple[str, ...]) -> Json:
+    """The answer in a record."""
+    return {"event": record["event"], **{name: record[name] for name in members}}
 
 
-# ---- what a unit says
+# ---- messages of a unit
 
 def is_number(value: object) -> bool:
     """Whether it is a whole number within the limits of JSON's readers."""
@@ -54,7 +53,7 @@ def is_number(value: object) -> bool:
 
 
 def is_count(value: object) -> bool:
-    """Whether it is such a number, not below 0."""
+    """Whether it is such a number, and not negative."""
     return type(value) is int and 0 <= value < 1 << 62
 
 
@@ -76,13 +75,13 @@ VALUES: dict[str, tuple[Callable[[object], bool], str]] = {
 
 
 def short(text: str) -> str:
-    """The beginning of a text, with nothing that can't be seen."""
+    """The beginning of a text, with invisible characters escaped."""
     seen = text if len(text) <= MOST_SHOWN else f"{text[:MOST_SHOWN]}.."
     return "".join(one if one.isprintable() else one.encode("unicode_escape", "replace").decode() for one in seen)
 
 
 def once(pairs: list[tuple[str, object]]) -> dict[str, object]:
-    """The members of an object, each of another name."""
+    """The members of an object. Refuses a name that is given twice."""
     found: dict[str, object] = {}
     for name, value in pairs:
         if name in found:
@@ -94,63 +93,63 @@ def once(pairs: list[tuple[str, object]]) -> dict[str, object]:
 def object_of(line: bytes) -> Json:
     """The object on a line."""
     try:
-        told = json.loads(line.decode("utf-8"), object_pairs_hook=once)
+        found = json.loads(line.decode("utf-8"), object_pairs_hook=once)
     except (ValueError, RecursionError):
-        raise Wrong(f"a line that is no JSON: {short(line.decode('utf-8', 'replace'))}") from None
-    if not isinstance(told, dict):
-        raise Wrong(f"a line that is no JSON object: {short(line.decode('utf-8', 'replace'))}")
-    return told
+        raise Wrong(f"a line that is not JSON: {short(line.decode('utf-8', 'replace'))}") from None
+    if not isinstance(found, dict):
+        raise Wrong(f"a line that is not a JSON object: {short(line.decode('utf-8', 'replace'))}")
+    return found
 
 
-def check_members(told: Json, names: tuple[str, ...]) -> None:
-    """An object has just these members."""
-    for name in told:
+def check_members(found: Json, names: tuple[str, ...]) -> None:
+    """Refuses an object that doesn't have exactly these members."""
+    for name in found:
         if name not in names:
             raise Wrong(f"the member \"{short(name)}\", which isn't one of {', '.join(names)}")
     for name in names:
-        if name not in told:
+        if name not in found:
             raise Wrong(f"no member \"{name}\"")
 
 
 @dataclass(frozen=True)
 class Greeting:
-    """What a unit says of itself: its name, and which members it says."""
+    """The greeting of a unit: its name, and the members of its answers."""
 
     unit: str
-    tells: tuple[str, ...]
+    members: tuple[str, ...]
 
     @property
     def leaves_out(self) -> tuple[str, ...]:
-        """The members that it doesn't report."""
-        return tuple(name for name in ANSWER if name not in self.tells)
+        """The members that its answers don't have."""
+        return tuple(name for name in ANSWER if name not in self.members)
 
 
 def greeting_of(line: bytes) -> Greeting:
     """The greeting on a line."""
-    told = object_of(line)
-    check_members(told, ("protocol", "unit", "tells"))
-    if type(told["protocol"]) is not int or told["protocol"] != PROTOCOL:
-        raise Wrong(f"the protocol {short(json.dumps(told['protocol']))}, and this one is {PROTOCOL}")
-    unit, tells = told["unit"], told["tells"]
+    found = object_of(line)
+    check_members(found, ("protocol", "unit", "members"))
+    if type(found["protocol"]) is not int or found["protocol"] != PROTOCOL:
+        raise Wrong(f"the protocol {short(json.dumps(found['protocol']))}, and this one is {PROTOCOL}")
+    unit, members = found["unit"], found["members"]
     if not isinstance(unit, str) or not 1 <= len(unit) <= MOST_NAME:
         raise Wrong(f"a unit whose name isn't a text of 1 to {MOST_NAME} characters")
-    if not isinstance(tells, list) or any(name not in ANSWER for name in tells) or len(set(tells)) != len(tells):
-        raise Wrong(f"as \"tells\" something else than a list of {', '.join(ANSWER)}, none twice")
+    if not isinstance(members, list) or any(name not in ANSWER for name in members) or len(set(members)) != len(members):
+        raise Wrong(f"\"members\" that isn't a list of {', '.join(ANSWER)}, none twice")
     for name in NEEDED:
-        if name not in tells:
-            raise Wrong(f"\"tells\" without {name}")
-    return Greeting(unit, tuple(name for name in ANSWER if name in tells))
+        if name not in members:
+            raise Wrong(f"\"members\" without {name}")
+    return Greeting(unit, tuple(name for name in ANSWER if name in members))
 
 
-def checked(line: bytes, event: int, tells: tuple[str, ...]) -> Json:
-    """The answer on a line, to this event."""
-    told = object_of(line)
-    check_members(told, ("event", *tells))
-    if type(told["event"]) is not int or told["event"] != event:
-        raise Wrong(f"the answer to event {short(json.dumps(told['event']))}")
-    for name in tells:
+def checked(line: bytes, event: int, members: tuple[str, ...]) -> Json:
+    """The answer to this event on a line."""
+    found = object_of(line)
+    check_members(found, ("event", *members))
+    if type(found["event"]) is not int or found["event"] != event:
+        raise Wrong(f"an answer to event {short(json.dumps(found['event']))}")
+    for name in members:
         holds, wanted = VALUES[name]
-        if not holds(told[name]):
-            raise Wrong(f"{name} {short(json.dumps(told[name]))}, where {wanted} is wanted")
-    return {name: sorted(told[name], key=list(INDICATIONS).index) if name == "indications" else told[name]
-            for name in ("event", *tells)}
+        if not holds(found[name]):
+            raise Wrong(f"{name} {short(json.dumps(found[name]))}, which isn't {wanted}")
+    return {name: sorted(found[name], key=list(INDICATIONS).index) if name == "indications" else found[name]
+            for name in ("event", *members)}

@@ -1,8 +1,8 @@
-"""What a unit under test may use: a session of its own, limits of the system, and a sandbox where bubblewrap is there.
+"""Confine a unit under test: a session of its own, limits of the system, and a sandbox if bubblewrap is available.
 
-The limits hold for each of its processes, and are set between the start of the process and that of the unit's program.
-The sandbox (`bwrap`) has processes of its own and no network; it sees all files, and writes to a small folder in memory
-alone, which TMPDIR names. docs/reference/unit-protocol.md lists the limits.
+The limits hold for each of its processes, and are set after the process starts and before the unit's program does. The sandbox
+(`bwrap`) has its own processes and no network; it sees all files, and can write only to a small folder in memory, which TMPDIR
+names. docs/reference/unit-protocol.md lists the limits.
 """
 import contextlib
 import errno
@@ -19,9 +19,9 @@ from ..program import DEVICE, WRONG_WORDS, Failed
 
 MIB = 1 << 20
 MEMORY, SANDBOX = "GAKNIFUR_UNIT_MEMORY", "GAKNIFUR_UNIT_SANDBOX"
-"""Variables of the environment: the unit's address space in MiB, 0 for no limit; and `none` for no sandbox."""
+"""Environment variables: the unit's address space in MiB, 0 for no limit; and `none` for no sandbox."""
 MEMORY_MIB, FILE_MIB, OPEN_FILES, PROCESSES = 4_096, 64, 256, 256
-"""Address space of a process, greatest file, open files, and processes and threads more than the system has now."""
+"""Address space of a process, greatest file, open files, and processes and threads in addition to the system's current ones."""
 SCRATCH_MIB = 64
 PROC = Path("/proc")
 
@@ -35,7 +35,7 @@ def memory_mib() -> int:
 
 
 def tasks() -> int:
-    """How many processes and threads the system has: no fewer than the user has."""
+    """The number of processes and threads of the system, which is at least that of the user."""
     try:
         return int((PROC / "loadavg").read_text().split()[3].partition("/")[2])
     except (OSError, ValueError, IndexError):
@@ -43,7 +43,7 @@ def tasks() -> int:
 
 
 def limits() -> dict[int, int]:
-    """The limits of a unit's process. One that is lower here already stays."""
+    """The limits of a unit's process. A limit that is lower already stays."""
     import resource
     wanted = {resource.RLIMIT_CORE: 0, resource.RLIMIT_FSIZE: FILE_MIB * MIB, resource.RLIMIT_NOFILE: OPEN_FILES,
               resource.RLIMIT_NPROC: tasks() + PROCESSES}
@@ -57,13 +57,13 @@ def limits() -> dict[int, int]:
 
 
 def limiting() -> Callable[[], None]:
-    """What a unit's process does before its program begins. Nothing in it allocates a lock or reads a file."""
+    """The function that sets the limits in a unit's process before its program starts. It takes no lock and reads no file."""
     import resource
-    told = [(which, (value, value)) for which, value in limits().items()]
+    pairs = [(which, (value, value)) for which, value in limits().items()]
     set_limit = resource.setrlimit
 
     def limit() -> None:
-        for which, value in told:
+        for which, value in pairs:
             set_limit(which, value)
 
     return limit
@@ -78,7 +78,7 @@ def sandbox(scratch: Path) -> list[str]:
 
 @functools.cache
 def bubblewrap() -> str | None:
-    """The path of bubblewrap, where it works here: it may be missing, or not be allowed a namespace."""
+    """The path of bubblewrap; None if it is missing, or may not make a namespace."""
     path = shutil.which("bwrap")
     if path is None:
         return None
@@ -96,7 +96,7 @@ def is_sandboxed() -> bool:
 
 
 def check_program(name: str) -> None:
-    """A program of this name can be started; bubblewrap would report it in the unit's place."""
+    """Fails if a program can't be started; otherwise bubblewrap would report it instead of the unit."""
     if shutil.which(name) is None:
         number = errno.EACCES if os.path.exists(name) else errno.ENOENT
         raise Failed(f"--against: {name}: {os.strerror(number)}", DEVICE)
@@ -121,16 +121,16 @@ class Confined:
             raise
 
     def status(self) -> int | None:
-        """The status with which it ended, less than 0 for a signal; None while it runs. Bubblewrap reports a signal as a shell
-        does, by 128 more."""
+        """Its exit status, negative for a signal; None while it runs. Bubblewrap reports a signal like a shell, as 128 plus its
+        number."""
         status = self.process.poll()
         if status is None or self.scratch is None or status <= 128:
             return status
         return 128 - status if status - 128 in signal.Signals.__members__.values() else status
 
     def kill(self) -> None:
-        """Ends all processes of its session, also those that left its group. Its number isn't given to another one before
-        its first process is waited for, which comes last."""
+        """Kills all processes of its session, also those that left its group. The system doesn't reuse the session's number before
+        its first process is waited for, which is done last."""
         with contextlib.suppress(ProcessLookupError, PermissionError):
             os.killpg(self.process.pid, signal.SIGKILL)
         for _ in range(100):
@@ -150,7 +150,7 @@ class Confined:
 
 
 def members(session: int) -> list[int]:
-    """The processes of a session that run, where the system lists them."""
+    """The running processes of a session, if the system lists them."""
     found = []
     for folder in PROC.glob("[0-9]*"):
         with contextlib.suppress(OSError, IndexError, ValueError):

@@ -1,8 +1,8 @@
-"""A dissector in Lua for Wireshark, made of the layouts of `telegrams`; and captures of the telegrams of a journal.
+"""Make a Wireshark dissector in Lua from the layouts of `telegrams`, and captures of the telegrams of a journal.
 
-A capture has the link type USER0 (147, https://www.tcpdump.org/linktypes.html), which is left to who agrees on it. Here
-each packet of it is what one balise sent: the bytes of a telegram (SUBSET-026, 8.4.2) from its first bit on.
-docs/howto/wireshark.md says how both are used.
+A capture has the link type USER0 (147, https://www.tcpdump.org/linktypes.html), which is reserved for private use. Each of its
+packets is what one balise sent: the bytes of a telegram (SUBSET-026, 8.4.2) from its first bit on.
+docs/howto/wireshark.md explains how to use both.
 """
 import struct
 
@@ -73,7 +73,7 @@ function Reader:walk(layout, tree)
 end
 
 function Reader:packet(tree)
-    local begun = self.at
+    local start = self.at
     if self:range(8):bitfield(self.at % 8, 8) == END_MARK then
         self:take("NID_PACKET", tree)
         return nil
@@ -82,7 +82,7 @@ function Reader:packet(tree)
     local inner = tree:add(packet_field, self:range(8), number)
     self:take("NID_PACKET", inner)
     self:take("Q_DIR", inner)
-    local ends = begun + self:take("L_PACKET", inner)
+    local ends = start + self:take("L_PACKET", inner)
     if LAYOUTS[number] then
         if not WITHOUT_SCALE[number] then self:take("Q_SCALE", inner) end
         self:walk(LAYOUTS[number], inner)
@@ -103,12 +103,12 @@ end
 function balise.dissector(buffer, pinfo, tree)
     local whole = tree:add(balise, buffer())
     local reader = setmetatable({buffer = buffer, at = 0}, Reader)
-    local told, packets = "", {}
+    local summary, packets = "", {}
     local ok, fault = pcall(function()
         local header = {}
         for _, name in ipairs(HEADER) do header[name] = reader:take(name, whole) end
         local balises = string.format("balise %d of %d", header.N_PIG + 1, header.N_TOTAL + 1)
-        told = string.format("group %d/%d, %s", header.NID_C, header.NID_BG, balises)
+        summary = string.format("group %d/%d, %s", header.NID_C, header.NID_BG, balises)
         while true do
             local number = reader:packet(whole)
             if not number then break end
@@ -120,7 +120,7 @@ function balise.dissector(buffer, pinfo, tree)
         whole:add_proto_expert_info(truncated)
     end
     pinfo.cols.protocol = "ETCS balise"
-    pinfo.cols.info = told .. (#packets > 0 and ", packets " .. table.concat(packets, ", ") or "")
+    pinfo.cols.info = summary .. (#packets > 0 and ", packets " .. table.concat(packets, ", ") or "")
 end
 
 DissectorTable.get("wtap_encap"):add(wtap.USER0, balise)
@@ -150,7 +150,7 @@ def part_of(part: Part) -> str:
 def lua() -> str:
     """The dissector."""
     widths = ", ".join(f"{name} = {width}" for name, width in sorted(WIDTH.items()) if name not in _track_packets.WIDTHS)
-    meanings = "\n".join(f"    {name} = {{{', '.join(f'[{number}] = {text_of(told)}' for number, told in numbers.items())}}},"
+    meanings = "\n".join(f"    {name} = {{{', '.join(f'[{number}] = {text_of(meaning)}' for number, meaning in numbers.items())}}},"
                          for name, numbers in _track_packets.MEANINGS.items() if name not in _track_packets.WIDTHS)
     layouts = "\n".join(f"    [{number}] = {{{parts_of(layout)}}}," for number, layout in sorted(LAYOUTS.items()))
     return (f"{MADE}balise telegrams of ETCS (SUBSET-026, 7 and 8.4.2), by link type USER0 (147)\n"
@@ -163,14 +163,14 @@ def lua() -> str:
 
 
 def capture(journal: Journal) -> tuple[bytes, int]:
-    """A capture of the telegrams of a journal, in their order, and how many there are. The time of a packet is the moment of its
-    life; each life begins at the first full second that is more than a second after the last moment of the life before."""
-    found, life, begun, last = [PCAP_HEAD], None, 0, 0
+    """A capture of the telegrams of a journal, in their order, and their number. The time of a packet is its moment in its life; each
+    life begins at the first full second that is more than a second after the last moment of the life before."""
+    found, life, start, last = [PCAP_HEAD], None, 0, 0
     for record in journal.records:
         if record["life"] != life:
-            begun = 0 if life is None else (last // 1000 + 2) * 1000
+            start = 0 if life is None else (last // 1000 + 2) * 1000
             life = record["life"]
-        last = begun + record["time_ms"]
+        last = start + record["time_ms"]
         if record["kind"] == "telegram":
             data, ms = bytes.fromhex(record["telegram"]), last
             found.append(struct.pack("<IIII", ms // 1000 & 0xFFFFFFFF, ms % 1000 * 1000, len(data), len(data)) + data)

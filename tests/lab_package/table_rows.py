@@ -1,15 +1,15 @@
 #!/usr/bin/env python3
-"""What `./lab` makes of images, along with what plain readers find in them.
+"""Compare the output of `./lab` about images with what plain readers find in them.
 
-    tests/lab_package/told_rows.py ETCS_LAB [IMAGES [SEED]]
+    tests/lab_package/table_rows.py ETCS_LAB [IMAGES [SEED]]
 
 - Tables and the database agree, record by record, with the plain reader of tests/events over pseudo-random images in
   all three formats, whole and damaged, with and without other blocks; so do interventions and runs above the limit.
 - So do the records of blocks that are damaged or in a wrong slot, each with its slot and byte, in a table of their own and on
   the page.
-- Over images of lives that are run, whole, damaged and in all formats, the causes of tables, database and interventions are
-  those of the plain causes (tests/plain/why.py), and they are not known just where the plain replay doesn't agree.
-- Whatever text an image holds stands escaped on the page.
+- For images of lives that are run, whole, damaged and in all formats, the causes of tables, database and interventions are
+  those of the plain causes (tests/plain/why.py), and they are unknown exactly where the plain replay doesn't agree.
+- All text of an image is escaped on the page.
 """
 import csv
 import html.parser
@@ -41,7 +41,7 @@ from event_lines import Refused, image_lines  # noqa: E402
 
 IMAGES, SEED = 200, 44
 LIVES, EACH = 25, 7
-"""Images of each kind of lives; of the events of which nothing new is reported each seventh is compared."""
+"""Images of each kind of lives; every EACH-th event without a line of its own is compared."""
 LEAST_KNOWN, LEAST_UNKNOWN, LEAST_TRIPS = 150, 20, 3
 LEAST_RECORDS, LEAST_INTERVENTIONS, LEAST_TELEGRAMS, LEAST_UNUSED = 4_000, 500, 300, 100
 PLAIN = ("block event life kind time_ms mode level brake place_cm uncertainty_cm min_safe_front_cm max_safe_front_cm limit_m_per_h movement_cm "
@@ -52,14 +52,14 @@ GREATEST = 2**62
 LEAST_STRAYS, EACH_PAGE, LEAST_PAGES, MOST_SHOWN = {"damaged": 800, "misplaced": 400}, 40, 5, 800
 """Records of each source, and pages that show some: that of each fortieth image that has any."""
 
-BESIDE = """
+NEIGHBOURS = """
 SELECT image, block, event FROM (
     SELECT *, LAG(mode) OVER w AS mode_was, LAG(level) OVER w AS level_was, LAG(brake) OVER w AS brake_was,
         LAG(speed_m_per_h) OVER w AS speed_was, LEAD(event) OVER w AS event_is, LEAD(time_ms) OVER w AS ms_is, LEAD(place_cm) OVER w AS cm_is
     FROM event WINDOW w AS (PARTITION BY image, stretch ORDER BY block, event))
 WHERE (mode_before, level_before, brake_before, speed_before_m_per_h, next_event, next_ms, next_cm)
     IS NOT (mode_was, level_was, brake_was, speed_was, event_is, ms_is, cm_is)"""
-"""Records along with which something else stands than what the record before and the next one of their stretch report."""
+"""Records whose columns about their neighbours differ from the record before or after in their stretch."""
 
 
 def plain_records(image, all_blocks):
@@ -89,10 +89,10 @@ def with_speeds(records):
         before = record
 
 
-def wanted_row(record, beside):
-    """A row of the table as CSV says it, with what stands there along with the record's own members."""
+def wanted_row(record, more):
+    """A row of the table as in CSV, with the columns that aren't members of the record."""
     row = {name: record.get(name) for name in PLAIN}
-    row |= {"reading_m_per_h": record.get("speed_m_per_h"), "source": record.get("source"), **beside}
+    row |= {"reading_m_per_h": record.get("speed_m_per_h"), "source": record.get("source"), **more}
     row |= {f"shows_{sign}": sign in record["indications"] for sign in SIGNS}
     decoded = dict(record.get("decoded", ()))
     header = dict(decoded.get("header", ()))
@@ -135,7 +135,7 @@ class Count(Compared):
         super().__init__()
         self.images = self.unused = self.records = self.interventions = self.telegrams = self.pages = self.strayed = 0
         self.strays = Counter()
-        self.is_none_told = False
+        self.is_none_tried = False
 
     def end(self):
         print(f"lab: {self.records} records of {self.images} images, {self.interventions} interventions, {self.telegrams} telegrams, "
@@ -171,7 +171,7 @@ def compare_table(count, name, journal, records):
 def compare_strays(count, name, journal, image):
     """The table of records of blocks that are damaged or in a wrong slot; and the page of some images that have any."""
     strays = plain_strays(image)
-    if not strays and count.is_none_told:
+    if not strays and count.is_none_tried:
         count.same(f"{name}, records of damaged blocks", journal.strays, [])
         return
     wanted = [wanted_row(one, {"byte": str(one["byte"]), "slot": str((one["byte"] - 512) // 3072)}) for one in strays]
@@ -180,13 +180,13 @@ def compare_strays(count, name, journal, image):
     count.same(f"{name}, records of damaged blocks", rows, wanted)
     count.strays.update(one["source"] for one in strays)
     if not strays:
-        count.is_none_told = True  # (a table without a row was compared, which takes as long as one with rows)
+        count.is_none_tried = True  # (a table without a row was compared, which takes as long as one with rows)
         return
     count.strayed += 1
     if count.strayed % EACH_PAGE == 1:
         count.pages += 1
-        told = [[row[at] for at in (0, 1, 2, 3, 4, 5, 9)] for row in page_of(report.page(journal)).strays]
-        count.same(f"{name}, damaged blocks on the page", told, [
+        rows_of_page = [[row[at] for at in (0, 1, 2, 3, 4, 5, 9)] for row in page_of(report.page(journal)).strays]
+        count.same(f"{name}, damaged blocks on the page", rows_of_page, [
             [row[key] or "?" for key in ("source", "slot", "byte", "block", "life", "event", "mode")] for row in wanted[:MOST_SHOWN]])
 
 
@@ -266,7 +266,7 @@ def images_agree(room, images, seed):
             added = compare_database(count, name, connection, journal, table, records)
             if not all_blocks:
                 compare_views(count, name, connection, added, records)
-        count.same("what stands beside a record", connection.execute(BESIDE).fetchall(), [])
+        count.same("the columns about neighbours of a record", connection.execute(NEIGHBOURS).fetchall(), [])
         faults = connection.execute("PRAGMA foreign_key_check").fetchall() + [
             row for row in connection.execute("PRAGMA integrity_check") if row != ("ok",)]
         count.same("the database", faults, [])
@@ -331,7 +331,7 @@ def causes_agree(room):
         # each change is reported, and the last event of each command; those and some others are asked of the plain program
         ends = {last for _, last in wanted_runs(records, lambda record, _: record["brake"] != "none")} - set(reasons)
         found = plain_causes(lines)
-        count.same(f"{name}, events that are told", (found.keys() - set(reasons)) | ends <= set(got), True)
+        count.same(f"{name}, events that are listed", (found.keys() - set(reasons)) | ends <= set(got), True)
         for event in ends | {event for event in got if event % EACH == 0}:
             found |= plain_causes(plain_lines(walk, event))
         count.same(f"{name}, causes", {event: got.get(event) for event in found if event not in reasons},
@@ -359,14 +359,14 @@ def causes_agree(room):
 
 def trips_agree(count, name, lines, table, reasons):
     """The trips of the table, their causes and the events by which they were entered, are those that the plain program's lines say."""
-    told = {event: (cause, None if at is pd.NA else int(at))
+    tripped = {event: (cause, None if at is pd.NA else int(at))
             for event, cause, at in zip(table["event"], table["trip_cause"], table["trip_cause_event"])}
     wanted = {line["event"]: (line["trip_cause"], line["trip_cause_event"]) for line in lines if line["event"] not in reasons}
-    count.same(f"{name}, trips", {event: told.get(event) for event in wanted}, wanted)
+    count.same(f"{name}, trips", {event: tripped.get(event) for event in wanted}, wanted)
 
 
 def in_database(count, name, connection, journal, got, wanted):
-    """The same in the database."""
+    """The causes in the database are the same."""
     image = connection.execute("SELECT image FROM image WHERE sha256 = ?", [journal.sha256]).fetchone()[0]
     rows = {}
     for event, cause, since in connection.execute(
@@ -380,13 +380,13 @@ def in_database(count, name, connection, journal, got, wanted):
 
 
 def words_agree(count, name, path):
-    """What the program says of causes to people is what the package says."""
+    """The texts about causes that the program prints are those of the package."""
     line = re.compile(r"; ([^()]*) \(since event \d+, ([^()]*)\)")
     trip = re.compile(r"; the train was tripped: ([^()]*) \(event \d+, ([^()]*)\)")
-    told = list(Run(["why"], path).lines())
-    said = {pair for text in told for pair in line.findall(text)}
+    lines = list(Run(["why"], path).lines())
+    said = {pair for text in lines for pair in line.findall(text)}
     count.same(f"{name}, words", said <= set(causes.CAUSES.values()), True)
-    trips = {pair for text in told for pair in trip.findall(text)}
+    trips = {pair for text in lines for pair in trip.findall(text)}
     count.same(f"{name}, words of trips", trips <= set(causes.TRIP_CAUSES.values()), True)
     return trips
 
@@ -441,7 +441,7 @@ def page_faults(text):
 
 
 def markup_stays_text(room):
-    """Each identity with markup, in a record and in a head, stands on the page as text and adds no element."""
+    """Each identity with markup, in a record and in a head, is on the page as text and adds no element."""
     wrong = 0
     path = Path(room) / "image"
     plain = None

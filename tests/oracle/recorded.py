@@ -1,10 +1,10 @@
 #!/usr/bin/python3
-"""A unit that answers as records say it, and in the first lives wrongly: in each life another member.
+"""A unit that gives the answers of records, and in the first lives a wrong one: of another member in each life.
 
-    tests/oracle/told.py RECORDS WORD
+    tests/oracle/recorded.py RECORDS WORD
 
-RECORDS are lines of `etcs_lab events`. WORD is `right`, by which it is never wrong; `wrong`; or `breaks`, by which it
-is right, and has no answer to the last event.
+RECORDS are lines of `etcs_lab events`. WORD is `right`: it is never wrong; `wrong`; or `breaks`: it is right, and gives
+no answer to the last event.
 """
 import json
 import sys
@@ -24,14 +24,14 @@ def other(name, value):
     return 1 - value if value in (0, 1) else 0 if value is None else value + 1
 
 
-def say(told):
-    print(json.dumps(told), flush=True)
+def say(message):
+    print(json.dumps(message), flush=True)
 
 
 def main(path, word):
     records = [one for one in map(json.loads, Path(path).read_text(encoding="utf-8").splitlines()) if "event" in one]
     sys.stdin.readline()
-    say({"protocol": 1, "unit": word, "tells": ANSWER})
+    say({"protocol": 1, "unit": word, "members": ANSWER})
     for _, record in zip(sys.stdin, records):
         answer = {name: record[name] for name in ("event", *ANSWER)}
         wrong = dict(enumerate(ANSWER, 1)).get(record["life"])

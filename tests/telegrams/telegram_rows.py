@@ -21,7 +21,7 @@ import jsonschema
 import decoded
 import faults
 import images
-import told
+import event_lines
 from compared import Compared, loaded, run, status_of_full
 from named import WIDTH
 from random_inputs import headed, mutated
@@ -45,7 +45,7 @@ LEAST = {"telegrams": 2_500, "refused": 2_500}
 
 def told_of(data):
     """What is to be reported of bytes: the object of the events of an image."""
-    value = dict(told.telegram_told(data))
+    value = dict(event_lines.telegram_members(data))
     if "refused" in value:
         return {"refused": dict(value["refused"])}
     return value | {"header": dict(value["header"]), "packets": list(map(dict, value["packets"]))}

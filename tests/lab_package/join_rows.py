@@ -221,7 +221,7 @@ def syncs(rows, room):
             with patch("os.fsync", fails):
                 try:
                     kept.keep(image)
-                    rows.tell(f"{name} sync that fails: all is well")
+                    rows.report(f"{name} sync that fails: all is well")
                 except OSError as error:
                     rows.same(f"{name} sync that fails", error.errno, errno.EIO)
         for name, wanted in (("what is owed", [(SECTOR, 6 * SLOT), "sync"]), ("nothing is owed", [])):
@@ -233,7 +233,7 @@ def syncs(rows, room):
     with patch("os.fsync", fails):
         try:
             Archive(path).close()
-            rows.tell("an archive that can't be settled is opened")
+            rows.report("an archive that can't be settled is opened")
         except Failed as failed:
             rows.unless("can't be settled: no sync" in str(failed), str(failed))
     done.clear()
@@ -243,7 +243,7 @@ def syncs(rows, room):
         with patch("os.fsync", fails):
             try:
                 marks.mark(1, 0, 0, 5, "a")
-                rows.tell("a mark whose sync fails: all is well")
+                rows.report("a mark whose sync fails: all is well")
             except OSError as error:
                 rows.same("a mark whose sync fails", error.errno, errno.EIO)
         done.clear()
@@ -293,7 +293,7 @@ def stays(rows, room):
             (room / "empty").write_bytes(image_of(4, {}))
             try:
                 do()
-                rows.tell(f"{name}: is taken")
+                rows.report(f"{name}: is taken")
             except Failed as failed:
                 rows.unless(said in str(failed), f"{name}: {failed}")
         rows.same("what is there", (path.read_bytes(), text.read_bytes(), (room / "new").exists()), (before, b"text", False))

@@ -422,7 +422,7 @@ def refuses(count, name, said, image, folder):
     before = sorted(os.listdir(folder.parent))
     try:
         seal.seal(image, folder, seal.Sealing())
-        count.tell(f"{name} is sealed")
+        count.report(f"{name} is sealed")
     except Failed as failed:
         count.unless(said in str(failed), f"{name}: {failed}")
     count.same(f"{name}: what is left", sorted(os.listdir(folder.parent)), before)
@@ -485,7 +485,7 @@ def killed(count, room, image):
         with patch("gaknifur.files.rename_new", fails):
             try:
                 seal.seal(image, at / "new", seal.Sealing())
-                count.tell("a name that can't be given is given")
+                count.report("a name that can't be given is given")
             except Failed as failed:
                 count.unless(said in str(failed) and failed.status == status, f"no name: {failed}")
         count.same("where no name is given", sorted(os.listdir(at)), strangers)
@@ -494,7 +494,7 @@ def killed(count, room, image):
     (at / "one").mkdir()
     try:
         files.rename_new(at / "one", at / "there")
-        count.tell("a folder that is there is written over")
+        count.report("a folder that is there is written over")
     except FileExistsError:
         pass
 

@@ -116,8 +116,8 @@ static void put(const char *path, const char *text) {
 }
 
 static long size_of(const char *path) {
-    struct stat told;
-    return stat(path, &told) == 0 ? (long)told.st_size : -1;
+    struct stat info;
+    return stat(path, &info) == 0 ? (long)info.st_size : -1;
 }
 
 /* Whether a file ends with a text. */

@@ -90,7 +90,7 @@ PLANTED = [
     ("history.py", "self.sums.path - entered[-1] > farthest", "self.sums.path - entered[-1] >= farthest"),
     ("history.py", "return not self.is_overridden() and bool(", "return bool("),
     ("history.py", "time_left <= 0)", "time_left < 0)"),
-    ("history.py", "if live and told[-1].packet.kind == 80 else []", "if live else []"),
+    ("history.py", "if live and sent[-1].packet.kind == 80 else []", "if live else []"),
     ("history.py", "for profile in (self.gradients(), self.speeds())", "for profile in (self.speeds(),)"),
     ("modes.py", " 2  FS OS SR SH UN PT        SB  desk_closed\n", ""),
     ("modes.py", " 3  FS                       TR  trip\n", ""),

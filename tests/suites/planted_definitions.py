@@ -180,7 +180,7 @@ DEFINITIONS = [
      '(kind == "level-0" and self.now.came_in == 0)', '(kind == "level-0" and self.now.came_in == 0 and mode == "UN" and row)'),
     ('level 0 that comes into force owes nothing', 'life.py', ' or (kind == "level-0" and self.now.came_in == 0)', ''),
     ('an announcement counts again after it came into force', 'history.py',
-     'if not told or any(entry.came_in is not None for entry in self.entries[told[-1].entry:]):', 'if not told:'),
+     'if not announcing or any(entry.came_in is not None for entry in self.entries[announcing[-1].entry:]):', 'if not announcing:'),
     ('an announcement at a place comes into force one centimetre later', 'life.py',
      'max_front >= announced.place', 'max_front > announced.place'),
     ('an area is entered one centimetre before it', 'areas.py',

@@ -14,9 +14,9 @@ from pathlib import Path
 TOP = Path(__file__).resolve().parents[2]
 sys.path[:0] = [str(TOP / "tests" / part) for part in ("", "plain", "events", "hostile", "rows")]
 
+import event_lines
 import images
 import packet_lists
-import told
 from compared import Compared, loaded, run, status_of_full
 from random_inputs import headed
 from test_track import telegram as installed
@@ -50,7 +50,7 @@ def packet_of(data, never, number, start, length):
 def wanted_of(data):
     """What JSON says about a telegram."""
     packets, (end, at) = packets_in_order(data)
-    never = {dict(one)["bit"]: dict(one)["why"] for one in told.unused_told(data)}
+    never = {dict(one)["bit"]: dict(one)["why"] for one in event_lines.unused_packets(data)}
     return {"packets": [packet_of(data, never, number, start, length) for number, _, start, length in packets], "end": ENDS[end], "end_bit": at}
 
 

@@ -19,9 +19,9 @@ sys.path[:0] = [str(TOP / "tests" / part) for part in ("", "plain", "events", "h
 import jsonschema
 
 import decoded
+import event_lines
 import faults
 import images
-import told
 from compared import Compared, loaded, run, status_of_full
 from named import WIDTH
 from random_inputs import headed, mutated
@@ -45,7 +45,7 @@ LEAST = {"telegrams": 2_500, "refused": 2_500}
 
 def decoded_by_reader(data):
     """The object that bytes have in the events of an image, by the plain reader."""
-    value = dict(told.telegram_told(data))
+    value = dict(event_lines.telegram_members(data))
     if "refused" in value:
         return {"refused": dict(value["refused"])}
     return value | {"header": dict(value["header"]), "packets": list(map(dict, value["packets"]))}

@@ -14,9 +14,9 @@ from pathlib import Path
 TOP = Path(__file__).resolve().parents[2]
 sys.path[:0] = [str(TOP / "tests" / part) for part in ("", "plain", "events", "hostile", "rows")]
 
+import event_lines
 import images
 import packet_lists
-import event_lines
 from compared import Compared, loaded, run, status_of_full
 from random_inputs import headed
 from test_track import telegram as installed

@@ -19,9 +19,9 @@ sys.path[:0] = [str(TOP / "tests" / part) for part in ("", "plain", "events", "h
 import jsonschema
 
 import decoded
+import event_lines
 import faults
 import images
-import event_lines
 from compared import Compared, loaded, run, status_of_full
 from named import WIDTH
 from random_inputs import headed, mutated

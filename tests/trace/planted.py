@@ -192,8 +192,8 @@ PLANTS = (
     (
         "a claim of a promise that isn't there",
         "docs/assurance.yaml",
-        "of: [P-6]",
-        "of: [P-66]",
+        "of: [P-6, P-14]",
+        "of: [P-66, P-14]",
         "G6 names P-66, which isn't there",
     ),
     (
@@ -210,7 +210,7 @@ PLANTS = (
         "## Requirements\n\nIt tries 77 images.\n",
         "nothing holds the number in",
     ),
-    ("a promise of no claim", "docs/assurance.yaml", "of: [P-6]", "of: [P-66]", "no claim is of the promise P-6"),
+    ("a promise of no claim", "docs/assurance.yaml", "of: [P-6, P-14]", "of: [P-66, P-14]", "no claim is of the promise P-6"),
     ("a claim that rests on nothing", "docs/assurance.yaml", "of: [P-4]", "of: []", "G4 rests on nothing"),
     (
         "a requirement that nothing tries",

@@ -6,6 +6,6 @@ use Rattle.areas.specs.Acknowledging.{Happening, after}
 
 pub deleted : (before : Acknowledgement) → state.Nothing ≡ after Happening.Deleted before
 deleted state.Nothing = refl
-deleted state.Asked = refl
+deleted state.Requested = refl
 deleted state.Done = refl
 deleted (state.Owed since) = refl

@@ -11,7 +11,7 @@ use Rattle.areas.specs.declared.acknowledgement.Acknowledgement.TheVariants as s
 pub data Happening : Type 0 where
   Acknowledged : Happening  -- the driver acknowledged it
   Entered : ℕ → Happening  -- at a moment its mode was entered because of an area, or an announced level 0 came into force
-  Asked : Happening  -- the train is where an area or an announcement asks for it
+  Requested : Happening  -- the train is where an area or an announcement asks for it
   Deleted : Happening  -- a mode was entered that deletes acknowledgements
   Settled : Happening  -- no area or announcement of the kind is left
 
@@ -19,14 +19,14 @@ pub data Happening : Type 0 where
 pub data Next : Type 0 where
   Same : Next
   Nothing : Next
-  Asked : Next
+  Requested : Next
   Done : Next
   Owed : ℕ → Next
 
 -- a line of the table
 abbrev pub line : Next → Next → Next → Next → Acknowledgement → Next
 line was_nothing was_asked was_done was_owed state.Nothing = was_nothing
-line was_nothing was_asked was_done was_owed state.Asked = was_asked
+line was_nothing was_asked was_done was_owed state.Requested = was_asked
 line was_nothing was_asked was_done was_owed state.Done = was_done
 line was_nothing was_asked was_done was_owed (state.Owed since) = was_owed
 
@@ -34,14 +34,14 @@ abbrev pub table : Happening → Acknowledgement → Next
 -- in each line, by what it was before: Nothing, Asked, Done, Owed
 table Happening.Acknowledged = line Next.Same Next.Done Next.Same Next.Nothing  -- 5.7, 5.9, 5.10
 table (Happening.Entered now) = line (Next.Owed now) (Next.Owed now) Next.Nothing (Next.Owed now)  -- 5.7, 5.9, 5.10
-table Happening.Asked = line Next.Asked Next.Same Next.Same Next.Same  -- 5.7, 5.9, 5.10
+table Happening.Requested = line Next.Requested Next.Same Next.Same Next.Same  -- 5.7, 5.9, 5.10
 table Happening.Deleted = line Next.Nothing Next.Nothing Next.Nothing Next.Nothing  -- 4.10
 table Happening.Settled = line Next.Nothing Next.Nothing Next.Nothing Next.Same  -- this project's profile
 
 abbrev pub becomes : Next → Acknowledgement → Acknowledgement
 becomes Next.Same before = before
 becomes Next.Nothing before = state.Nothing
-becomes Next.Asked before = state.Asked
+becomes Next.Requested before = state.Requested
 becomes Next.Done before = state.Done
 becomes (Next.Owed now) before = state.Owed now
 
@@ -65,7 +65,7 @@ after_all (happening ∷ earlier) = after happening (after_all earlier)
 -- it is asked for or owed
 abbrev pub waits : Acknowledgement → Bool
 waits state.Nothing = false
-waits state.Asked = true
+waits state.Requested = true
 waits state.Done = false
 waits (state.Owed since) = true
 
@@ -75,6 +75,6 @@ brake_delay = 5_000
 
 abbrev pub brakes : ℕ → Acknowledgement → Bool
 brakes now state.Nothing = false
-brakes now state.Asked = false
+brakes now state.Requested = false
 brakes now state.Done = false
 brakes now (state.Owed since) = nat_le (since + brake_delay) now

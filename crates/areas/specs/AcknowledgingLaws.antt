@@ -9,14 +9,14 @@ use Rattle.areas.specs.Acknowledging.{Happening, after_all}
 abbrev pub ends_owed : Happening → Bool
 ends_owed Happening.Acknowledged = true
 ends_owed (Happening.Entered moment) = true
-ends_owed Happening.Asked = false
+ends_owed Happening.Requested = false
 ends_owed Happening.Settled = false
 ends_owed Happening.Deleted = true
 
 abbrev pub ends_done : Happening → Bool
 ends_done Happening.Acknowledged = false
 ends_done (Happening.Entered moment) = true
-ends_done Happening.Asked = false
+ends_done Happening.Requested = false
 ends_done Happening.Settled = true
 ends_done Happening.Deleted = true
 
@@ -33,14 +33,14 @@ pub record IsDone (happenings : List Happening) : Type 0 where
   pub later : List Happening
   pub earlier : List Happening
   pub in_turn : happenings ≡ later ++ Happening.Acknowledged ∷ earlier
-  pub was_asked : after_all earlier ≡ state.Asked
+  pub was_asked : after_all earlier ≡ state.Requested
   pub still : list_any ends_done later ≡ false
 
 -- what ends that something is owed: an acknowledgement, or a mode that deletes it; a power-up begins with no happening
 abbrev pub ends_owing : Happening → Bool
 ends_owing Happening.Acknowledged = true
 ends_owing (Happening.Entered moment) = false
-ends_owing Happening.Asked = false
+ends_owing Happening.Requested = false
 ends_owing Happening.Settled = false
 ends_owing Happening.Deleted = true
 

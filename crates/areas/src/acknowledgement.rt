@@ -11,7 +11,7 @@ pub enum Acknowledgement {
     /// Nothing is asked for.
     Nothing,
     /// It is asked for, before the transition.
-    Asked,
+    Requested,
     /// It was given before the transition.
     Done,
     /// It is owed since a transition at this moment, in milliseconds.
@@ -34,7 +34,7 @@ impl Acknowledgement {
         ensures { self.new ≡ after Happening.Acknowledged self.old }
     {
         *self = match *self {
-            Acknowledgement::Asked => Acknowledgement::Done,
+            Acknowledgement::Requested => Acknowledgement::Done,
             Acknowledgement::Owed(_) => Acknowledgement::Nothing,
             other => other,
         };
@@ -53,10 +53,10 @@ impl Acknowledgement {
 
     /// An area or an announcement of the kind asks for it: from Nothing it becomes Asked.
     pub fn ask(&mut self)
-        ensures { self.new ≡ after Happening.Asked self.old }
+        ensures { self.new ≡ after Happening.Requested self.old }
     {
         if matches!(self, Acknowledgement::Nothing) {
-            *self = Acknowledgement::Asked;
+            *self = Acknowledgement::Requested;
         }
     }
 
@@ -80,7 +80,7 @@ impl Acknowledgement {
     pub fn waits(&self) -> bool
         ensures { result ≡ waits self.now }
     {
-        matches!(self, Acknowledgement::Asked | Acknowledgement::Owed(_))
+        matches!(self, Acknowledgement::Requested | Acknowledgement::Owed(_))
     }
 
     /// Whether it has been owed for 5,000 ms at this moment, and so asks for the service brake (this project's

@@ -9,7 +9,7 @@ use Rattle.authority.specs.Track.{timed_sections, end_entry, reported_end}
 use Rattle.authority.specs.Authority.{section_has_run_out, end_timer_has_run_out, taken_back, end_now, end_of}
 use Rattle.authority.specs.Laws.{MayBeEnd}
 use Rattle.authority.proofs.Along.{first_or, sections_along, first_most, first_least, first_is}
-use Rattle.authority.proofs.Places.{last_place, place_is, last_behind, by_place}
+use Rattle.authority.proofs.Places.{last_place, place_is, last_beyond, by_place}
 use Rattle.authority.proofs.RunningOut.{run_out_so}
 
 module _ (fact : Fact) (now : ℕ) (seen : List Sight) where
@@ -33,7 +33,7 @@ module _ (fact : Fact) (now : ℕ) (seen : List Sight) where
   ]
 
   at_most_last : first_or test (timed_sections fact) (last_place fact late) ≤ℤ last_place fact late
-  at_most_last = first_most test fact.place (last_place fact late) (timed_sections fact) (sections_along fact (last_place fact late) (last_behind fact late))
+  at_most_last = first_most test fact.place (last_place fact late) (timed_sections fact) (sections_along fact (last_place fact late) (last_beyond fact late))
 
   last_most : (b : Bool) → last_place fact b ≤ℤ reported_end fact
   last_most true = omega (arith, ints)
@@ -44,7 +44,7 @@ module _ (fact : Fact) (now : ℕ) (seen : List Sight) where
     | inl is ↦ (let last = last_most late in rw is (omega (arith, ints, last, at_most_last)))
     | inr more ↦ elim more [
       | inl timer ↦ (let last : last_place fact late ≡ end_entry fact = ap (last_place fact) timer.0 in rw timer.1 (omega (arith, ints, last, at_most_last)))
-      | inr w ↦ rw w.3 (first_least test fact.place (last_place fact late) (timed_sections fact) w.0 (sections_along fact (last_place fact late) (last_behind fact late)) w.1
+      | inr w ↦ rw w.3 (first_least test fact.place (last_place fact late) (timed_sections fact) w.0 (sections_along fact (last_place fact late) (last_beyond fact late)) w.1
           ((run_out_so fact.moment now seen w.0).1 w.2))
     ]
   ]

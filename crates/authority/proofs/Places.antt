@@ -23,9 +23,9 @@ place_is fact test late =
     elim [ None ↦ elim [ true ↦ refl | false ↦ refl ] | Some s ↦ λ b. refl ] in
     cases (find test (timed_sections fact)) late
 
-pub last_behind : (fact : Fact) (late : Bool) → end_entry fact ≤ℤ last_place fact late
-last_behind fact true = omega (arith, ints)
-last_behind fact false = omega (arith, ints)
+pub last_beyond : (fact : Fact) (late : Bool) → end_entry fact ≤ℤ last_place fact late
+last_beyond fact true = omega (arith, ints)
+last_beyond fact false = omega (arith, ints)
 
 last_sooner : (fact : Fact) (late more : Bool) → (late ≡ true → more ≡ true) → last_place fact more ≤ℤ last_place fact late
 last_sooner fact true true h = omega (arith, ints)
@@ -38,7 +38,7 @@ place_sooner : (fact : Fact) (test more : TimedSection → Bool) (late later : B
 place_sooner fact test more late later h k =
     rw (place_is fact test late, place_is fact more later)
     (first_sooner test more fact.place (last_place fact late) (last_place fact later) (timed_sections fact) h (last_sooner fact late later k)
-    (sections_along fact (last_place fact late) (last_behind fact late)))
+    (sections_along fact (last_place fact late) (last_beyond fact late)))
 
 pub by_place : (fact : Fact) (now : ℕ) (seen : List Sight) (taken : Option ℤ) → (end_by fact now seen taken).place ≡ unwrap_or taken (reported_end fact)
 by_place fact now seen None = refl

@@ -72,7 +72,7 @@ fn timer_by(end: Cm, scale: Scale, start: Distance, time: Timer) -> PlaceTimer
     ensures { result ≡ timer_of end scale start time [] }
 {
     PlaceTimer {
-        from: end.behind(start.in_scale(scale)),
+        from: end.back(start.in_scale(scale)),
         time,
         started: None,
     }

@@ -5,7 +5,7 @@ use Rattle.std.proofs.lemmas.Bool.Decides.{nat_tests}
 use Rattle.vars.specs.declared.group.GroupIdentity.{GroupIdentity}
 use Rattle.balise_groups.specs.declared.reading.Reading.{Reading}
 use Rattle.balise_groups.specs.Closing.{is_whole}
-use Rattle.balise_groups.specs.Groups.{GroupEntry, Groups, counting, newest, seen_at, is_close, is_behind, goes_on, same_group, groups_of, ended, joined_by, last_after}
+use Rattle.balise_groups.specs.Groups.{GroupEntry, Groups, counting, newest, seen_at, is_close, is_passed, goes_on, same_group, groups_of, ended, joined_by, last_after}
 use Rattle.balise_groups.specs.Groups.GroupEntry.{Read, Went}
 use Rattle.balise_groups.specs.Laws.{HaveName, HaveOneName}
 
@@ -43,7 +43,7 @@ pub one_name : (es : List GroupEntry) → HaveOneName (groups_of es).current × 
 one_name [] = (tt, tt)
 one_name (Went path ∷ es) =
     let before = one_name es in
-    if_ended (is_behind path (newest (groups_of es).current)) (groups_of es) before.0 before.1
+    if_ended (is_passed path (newest (groups_of es).current)) (groups_of es) before.0 before.1
 one_name (Read r ∷ es) =
     let gs = groups_of es in
     let before = one_name es in

@@ -29,7 +29,7 @@ reported_shorter : (ts : List Telegram) → length (reported_by ts) ≤ all_of t
 reported_shorter [] = omega arith
 reported_shorter (t ∷ ts) =
     let here = shorter t.packets.items in
-    let behind = reported_shorter ts in
+    let following = reported_shorter ts in
     let both = length-append (before_infill t.packets.items) (reported_by ts) in
     omega arith
 

@@ -43,9 +43,9 @@ abbrev pub is_close : ℕ → Seen → Bool
 is_close path seen = nat_le path (seen.path + group_path)
 
 -- A group is left where the path is farther after its newest telegram.
-abbrev pub is_behind : ℕ → Option Seen → Bool
-is_behind path None = false
-is_behind path (Some seen) = not (is_close path seen)
+abbrev pub is_passed : ℕ → Option Seen → Bool
+is_passed path None = false
+is_passed path (Some seen) = not (is_close path seen)
 
 -- NID_C and NID_BG are equal
 abbrev pub same_group : GroupIdentity → GroupIdentity → Bool
@@ -87,7 +87,7 @@ after_reading reading groups =
     else joined_by reading (ended groups))
 
 abbrev pub after_movement : ℕ → Groups → Groups
-after_movement path groups = if is_behind path (newest groups.current) then ended groups else groups
+after_movement path groups = if is_passed path (newest groups.current) then ended groups else groups
 
 abbrev pub groups_of : List GroupEntry → Groups
 groups_of [] = record { current = []; last = [] }
@@ -123,4 +123,4 @@ taken_by reading known =
 
 -- A movement closes the group that is left.
 abbrev pub ended_by : ℕ → KnownGroups → Option Closed
-ended_by path known = if is_behind path known.current then close_of known.readings else None
+ended_by path known = if is_passed path known.current then close_of known.readings else None

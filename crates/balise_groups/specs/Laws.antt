@@ -3,7 +3,7 @@ use Rattle.std.specs.Prelude.{ℕ, ◌≡◌, List, [], ◌∷◌, false, if◌t
 use Rattle.vars.specs.declared.group.GroupIdentity.{GroupIdentity}
 use Rattle.balise_groups.specs.declared.reading.Reading.{Reading}
 use Rattle.balise_groups.specs.Closing.{is_at, is_read, reading_at}
-use Rattle.balise_groups.specs.Groups.{GroupEntry, counting, newest, is_behind, groups_of}
+use Rattle.balise_groups.specs.Groups.{GroupEntry, counting, newest, is_passed, groups_of}
 use Rattle.balise_groups.specs.Groups.GroupEntry.{Read, Went}
 
 -- no place is lost
@@ -36,7 +36,7 @@ DescribePaths (Went path ∷ entries) = DescribePaths entries
 -- name.
 abbrev pub IsNeverLeft : Type 0
 IsNeverLeft = (entries : List GroupEntry) → DescribePaths entries →
-    is_behind (path_of entries) (newest (groups_of entries).current) ≡ false
+    is_passed (path_of entries) (newest (groups_of entries).current) ≡ false
 
 abbrev pub HaveName : GroupIdentity → List Reading → Type 0
 HaveName name [] = Unit {0}

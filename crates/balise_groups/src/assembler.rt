@@ -1,7 +1,7 @@
 //! Readings come in one by one, and groups go out as they end (this project's profile).
 ghost use Rattle.std.specs.Prelude.{◌≡◌, ◌+◌, ◌≤◌, ℕ, List, [], ◌∷◌, None, is_none, false};
 ghost use Rattle.balise_groups.specs.Closing.{close_of};
-ghost use Rattle.balise_groups.specs.Groups.{GroupEntry, Groups, KnownGroups, seen_at, is_close, is_behind, goes_on, ended, ended_if_whole, joined_by, close_if_whole, with_reading, known_of, known, taken_by, ended_by};
+ghost use Rattle.balise_groups.specs.Groups.{GroupEntry, Groups, KnownGroups, seen_at, is_close, is_passed, goes_on, ended, ended_if_whole, joined_by, close_if_whole, with_reading, known_of, known, taken_by, ended_by};
 ghost use Rattle.balise_groups.specs.Groups.GroupEntry.{Read, Went};
 ghost use Rattle.balise_groups.specs.Rooms.{most_packets, packets_at, packets_in, packets_of_closed, packets_of_taken};
 
@@ -70,8 +70,8 @@ fn is_close(path: Length, seen: &Seen) -> bool
 }
 
 // Whether the train has left a group, at this path of the life.
-fn is_behind(path: Length, group: &Option<Seen>) -> bool
-    ensures { result ≡ is_behind path group.now }
+fn is_passed(path: Length, group: &Option<Seen>) -> bool
+    ensures { result ≡ is_passed path group.now }
 {
     match group {
         None => false,
@@ -147,12 +147,12 @@ impl Assembler {
     /// telegram. While it isn't, `moved` answers None and changes nothing; its answer has room for a whole message, so
     /// who asks at each movement asks this first.
     pub fn is_leaving(&self, path: Length) -> bool
-        ensures answer { result ≡ is_behind path self.now.current }
+        ensures answer { result ≡ is_passed path self.now.current }
         ensures none { result ≡ false → ended_by path self.now ≡ None }
         ensures stands { result ≡ false → (entries : List GroupEntry) → self.now ≡ known entries
             → self.now ≡ known (Went path ∷ entries) }
     {
-        is_behind(path, &self.current)
+        is_passed(path, &self.current)
     }
 
     /// Whether no group is being read, so that no movement closes one.

@@ -234,8 +234,8 @@ again (then_ m f) y front rest s =
     let two = again (f s.0) y s.2 rest s.5 in
     rw (s.3, append_assoc, one) two
 
-pub begun : {F C A : Type 0} (m : Layout F C A) (x : A) (bits rest : List Bool) → Begins m x bits rest → read m bits ≡ Ok (x, rest)
-begun m x bits rest b = rw b.parts (again m x b.front rest b.spelled)
+pub initial : {F C A : Type 0} (m : Layout F C A) (x : A) (bits rest : List Bool) → Begins m x bits rest → read m bits ≡ Ok (x, rest)
+initial m x bits rest b = rw b.parts (again m x b.front rest b.spelled)
 
 -- ---- a fault of reading is the first fault
 
@@ -331,11 +331,11 @@ one_spelling m x y a b u v s t e =
 -- ---- bits begin with one value at most, or have one first fault
 
 pub begins_once : {F C A : Type 0} (m : Layout F C A) (x y : A) (bits r s : List Bool) → Begins m x bits r → Begins m y bits s → (x ≡ y) × (r ≡ s)
-begins_once {F = F} m x y bits r s b d = same_reading F (x, r) (y, s) (sym (begun m x bits r b) ∙ begun m y bits s d)
+begins_once {F = F} m x y bits r s b d = same_reading F (x, r) (y, s) (sym (initial m x bits r b) ∙ initial m y bits s d)
 
 pub begins_not_refused : {F C A : Type 0} (m : Layout F C A) (x : A) (e : F) (bits rest : List Bool) → Begins m x bits rest → Refuses m e bits → ⊥
 begins_not_refused m x e bits rest b r =
-    let one = begun m x bits rest b in
+    let one = initial m x bits rest b in
     let two = refused_again m bits e r in
     absurd cc
 

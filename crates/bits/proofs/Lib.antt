@@ -4,7 +4,7 @@ pub mod Found
 pub mod Laws
 pub mod Lists
 pub mod Numbers
-pub mod Shown
+pub mod ListedField
 pub mod Windows
 pub mod Writes
 pub mod WritingLaws

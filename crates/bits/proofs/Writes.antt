@@ -152,8 +152,8 @@ pub written_over : (a b out one two : List ℕ) (k m : ℕ) → k ≡ length a �
     → two ≡ (a ++ b) ++ drop (k + m) out
 written_over a b out one two k m ea p q =
     let front : take k one ≡ a = ap (take k) p ∙ take_at a (drop (0 + length a) out) k (sym ea) in
-    let behind : drop k one ≡ drop k out = ap (drop k) p ∙ drop_at a (drop (0 + length a) out) k (sym ea) ∙ ap (λ (n : ℕ). drop n out) (omega arith) in
-    let rest : drop (k + m) one ≡ drop (k + m) out = sym (drop-drop m k one) ∙ ap (drop m) behind ∙ drop-drop m k out in
+    let following : drop k one ≡ drop k out = ap (drop k) p ∙ drop_at a (drop (0 + length a) out) k (sym ea) ∙ ap (λ (n : ℕ). drop n out) (omega arith) in
+    let rest : drop (k + m) one ≡ drop (k + m) out = sym (drop-drop m k one) ∙ ap (drop m) following ∙ drop-drop m k out in
     q ∙ ap (λ (t : List ℕ). (t ++ b) ++ drop (k + m) one) front ∙ ap (λ (t : List ℕ). (a ++ b) ++ t) rest
 
 -- the first n bits, through their number

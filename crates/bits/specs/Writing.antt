@@ -9,9 +9,9 @@ use Rattle.bits.specs.declared.name.VariableName.{VariableName}
 
 -- A field as it is taken: the name of its variable, the number of its bits, and the number that they spell; or a run of
 -- bits.
-pub data Shown : Type 0 where
-  named : VariableName → ℕ → ℕ → Shown
-  raw : List Bool → Shown
+pub data ListedField : Type 0 where
+  named : VariableName → ℕ → ℕ → ListedField
+  raw : List Bool → ListedField
 
 -- What is read again of a value that is written. It is None where a kind is to be written that the value is not.
 abbrev pub value : {F C A : Type 0} → Layout F C A → C → Option A
@@ -34,7 +34,7 @@ each_taken w [] s = s
 each_taken w (x ∷ xs) s = each_taken w xs (w x s)
 
 -- What becomes of s when it takes the fields of a value, one after another.
-abbrev pub taken : {F C A S : Type 0} → (S → Shown → S) → Layout F C A → C → S → S
+abbrev pub taken : {F C A S : Type 0} → (S → ListedField → S) → Layout F C A → C → S → S
 taken t (done x) c s = s
 taken t (unless bad f) c s = s
 taken t (field name f g codes get) c s = t s (named name codes.width (codes.number (get c)))
@@ -64,12 +64,12 @@ size (reported_as g m) c = size m c
 size (then_ m f) c = size m c + option_map_or (λ x. size (f x) c) (value m c) 0
 
 -- the bits of a field
-abbrev pub shown_bits : Shown → List Bool
+abbrev pub shown_bits : ListedField → List Bool
 shown_bits (named name width v) = number_bits width v
 shown_bits (raw bits) = bits
 
 -- bits with those of a field after them
-abbrev pub with_bits : List Bool → Shown → List Bool
+abbrev pub with_bits : List Bool → ListedField → List Bool
 with_bits front x = front ++ shown_bits x
 
 -- The bits before, and then those of a value.
@@ -77,10 +77,10 @@ abbrev pub appended : {F C A : Type 0} → Layout F C A → C → List Bool → 
 appended m c front = taken with_bits m c front
 
 -- The fields of a value.
-abbrev pub shown : {F C A : Type 0} → Layout F C A → C → List Shown
+abbrev pub shown : {F C A : Type 0} → Layout F C A → C → List ListedField
 shown m c = taken (λ s x. s ++ x ∷ []) m c []
 
 -- what becomes of s when it takes fields, one after another
-abbrev pub each_field : {S : Type 0} → (S → Shown → S) → List Shown → S → S
+abbrev pub each_field : {S : Type 0} → (S → ListedField → S) → List ListedField → S → S
 each_field t [] s = s
 each_field t (x ∷ xs) s = each_field t xs (t s x)

@@ -111,7 +111,7 @@ module _ (front : ℤ) (gradient : ℤ → Option ℤ) (brakes : Brakes) (t : Ta
         let over = braked_over gradient brakes.deceleration sum.from (start v) t.place late (omega (arith, ints, early)) in
         is_false (v * v) (t.speed * t.speed + off (start v)) _ (omega (arith, greater, over, off_is))
         (braking_fits front gradient brakes t v (start v) fast refl early))
-        (λ (behind : t.place ≤ℤ start v). late_fails front gradient brakes t v fast behind)
+        (λ (earlier : t.place ≤ℤ start v). late_fails front gradient brakes t v fast earlier)
 
     -- so it is the greatest where the brakes act there at that
     pub known_greatest : (low ≤ t.speed) ⊎ (start low ≤ℤ sum.from) → sum.from ≤ℤ start low → low ≡ greatest (fits front gradient brakes t) limit
@@ -121,27 +121,27 @@ module _ (front : ℤ) (gradient : ℤ → Option ℤ) (brakes : Brakes) (t : Ta
 
   -- where one gradient lies before what is summed, and each speed is taken off at which the brakes act before both
   module _ (stretch : Stretch) (low high : ℕ) (is : IsStretch gradient brakes.deceleration stretch) (known : IsKnown stretch.sum low)
-      (more : IsKnown stretch.begun high)
-      (enough : (v : ℕ) → v ≤ limit → start v <ℤ stretch.begun.from → v * v ≤ t.speed * t.speed + stretch.begun.taken_off) where
+      (more : IsKnown stretch.initial high)
+      (enough : (v : ℕ) → v ≤ limit → start v <ℤ stretch.initial.from → v * v ≤ t.speed * t.speed + stretch.initial.taken_off) where
     abbrev evenly : ℤ → ℕ
     evenly place = 2592 * stretch.slowing * natural (stretch.sum.from -ℤ place) + stretch.sum.taken_off
 
-    evenly_is : (place : ℤ) → stretch.begun.from ≤ℤ place → place ≤ℤ stretch.sum.from → evenly place ≡ off place
+    evenly_is : (place : ℤ) → stretch.initial.from ≤ℤ place → place ≤ℤ stretch.sum.from → evenly place ≡ off place
     evenly_is place a b =
         even_is gradient brakes.deceleration stretch.slowing place stretch.sum.from t.place b (within stretch.sum low known) (λ z c d. is.even z (omega (arith, ints, a, c)) d)
         stretch.sum.taken_off (off_is stretch.sum low known)
 
-    late : high < limit → stretch.begun.from ≤ℤ start (high + 1)
+    late : high < limit → stretch.initial.from ≤ℤ start (high + 1)
     late less =
-        by_lt_z (start (high + 1)) stretch.begun.from
-        (λ (early : start (high + 1) <ℤ stretch.begun.from). absurd (omega (arith, enough (high + 1) (omega (arith, less)) early, more.root.next less)))
-        (λ (behind : stretch.begun.from ≤ℤ start (high + 1)). behind)
+        by_lt_z (start (high + 1)) stretch.initial.from
+        (λ (early : start (high + 1) <ℤ stretch.initial.from). absurd (omega (arith, enough (high + 1) (omega (arith, less)) early, more.root.next less)))
+        (λ (earlier : stretch.initial.from ≤ℤ start (high + 1)). earlier)
 
     enough_fits : (v : ℕ) → IsEnough front brakes t stretch v → fits front gradient brakes t v ≡ true
     enough_fits v much =
-        let place : ℤ = int_max (start v) stretch.begun.from in
-        let first : stretch.begun.from ≤ℤ place = omega (arith, ints, clamps) in
-        let last : place ≤ℤ stretch.sum.from = omega (arith, ints, clamps, is.begun.ordered, much.acts) in
+        let place : ℤ = int_max (start v) stretch.initial.from in
+        let first : stretch.initial.from ≤ℤ place = omega (arith, ints, clamps) in
+        let last : place ≤ℤ stretch.sum.from = omega (arith, ints, clamps, is.initial.ordered, much.acts) in
         let target : stretch.sum.from ≤ℤ t.place = within stretch.sum low known in
         fits_from v place (omega (arith, ints, clamps)) (omega (arith, ints, last, target)) (omega (arith, ints, much.acts, target))
         (omega (arith, much.enough, evenly_is place first last))
@@ -151,31 +151,31 @@ module _ (front : ℤ) (gradient : ℤ → Option ℤ) (brakes : Brakes) (t : Ta
     not_enough_fails v above below most not =
         by_lt_z (start v) stretch.sum.from
         (λ (acts : start v <ℤ stretch.sum.from).
-        let place : ℤ = int_max (start v) stretch.begun.from in
-        let first : stretch.begun.from ≤ℤ place = omega (arith, ints, clamps) in
-        let last : place ≤ℤ stretch.sum.from = omega (arith, ints, clamps, is.begun.ordered, acts) in
+        let place : ℤ = int_max (start v) stretch.initial.from in
+        let first : stretch.initial.from ≤ℤ place = omega (arith, ints, clamps) in
+        let last : place ≤ℤ stretch.sum.from = omega (arith, ints, clamps, is.initial.ordered, acts) in
         elim (order (v * v) (t.speed * t.speed + evenly place)) [
           | inl much ↦ absurd (not (record { acts = acts; enough = much }))
-          | inr less ↦ by_lt_z (start v) stretch.begun.from
-              (λ (sooner : start v <ℤ stretch.begun.from).
-              let there : place ≡ stretch.begun.from = omega (arith, ints, clamps, sooner) in
+          | inr less ↦ by_lt_z (start v) stretch.initial.from
+              (λ (sooner : start v <ℤ stretch.initial.from).
+              let there : place ≡ stretch.initial.from = omega (arith, ints, clamps, sooner) in
               let all = evenly_is place first last in
-              absurd (omega (arith, less, all, ap (λ (z : ℤ). off z) there, off_is stretch.begun high more, more.root.below, square_less high v most)))
-              (λ (later : stretch.begun.from ≤ℤ start v).
+              absurd (omega (arith, less, all, ap (λ (z : ℤ). off z) there, off_is stretch.initial high more, more.root.below, square_less high v most)))
+              (λ (later : stretch.initial.from ≤ℤ start v).
               let there : place ≡ start v = omega (arith, ints, clamps, later) in
               let all = evenly_is place first last in
               let target : stretch.sum.from ≤ℤ t.place = within stretch.sum low known in
               is_false (v * v) (t.speed * t.speed + off (start v)) _ (omega (arith, less, all, ap (λ (z : ℤ). off z) there))
               (braking_fits front gradient brakes t v (start v) (root_less v t.speed (omega (arith, less))) refl (omega (arith, ints, acts, target))))
         ])
-        (λ (behind : stretch.sum.from ≤ℤ start v). later_fails stretch.sum low known v above below behind)
+        (λ (earlier : stretch.sum.from ≤ℤ start v). later_fails stretch.sum low known v above below earlier)
 
     module _ (end : ℕ) (next : high < limit → end ≡ high + 1) (last : limit ≤ high → end ≡ limit) (fails : fits front gradient brakes t limit ≡ false) where
       end_fails : fits front gradient brakes t end ≡ false
       end_fails = elim (order limit high) [
         | inl greatest ↦ ap (fits front gradient brakes t) (last greatest) ∙ fails
         | inr less ↦ ap (fits front gradient brakes t) (next less)
-            ∙ later_fails stretch.begun high more (high + 1) (omega arith) (omega (arith, less)) (late less)
+            ∙ later_fails stretch.initial high more (high + 1) (omega arith) (omega (arith, less)) (late less)
       ]
 
       end_near : (end ≤ limit) × (end ≤ high + 1)

@@ -8,7 +8,7 @@ use Rattle.units.specs.Stretches.{natural}
 use Rattle.brakes.specs.Brakes.{slowing_on}
 use Rattle.braking.specs.declared.summed.Summed.{Summed}
 use Rattle.braking.specs.Braking.{braked, IsSummed}
-use Rattle.braking.specs.Sums.{IsBegunEvenly}
+use Rattle.braking.specs.Sums.{StartsEvenly}
 use Rattle.braking.proofs.Naturals.{parts}
 
 module _ (gradient : ℤ → Option ℤ) (deceleration : ℕ) where
@@ -124,9 +124,9 @@ module _ (gradient : ℤ → Option ℤ) (deceleration : ℕ) where
   pub reached_whole : (from end : ℤ) (sum : Summed) → natural (end -ℤ from) ≤ 2 ^ 43 → sum.from ≡ from → sum.to ≤ℤ end →
       (sum.to ≡ end) ⊎ (18_446_744_073_709_551_615 ≤ sum.taken_off) → IsSummed gradient deceleration sum → sum.to ≡ end
   reached_whole from end sum near is within either summed =
-      let begun : from ≤ℤ sum.to = omega (arith, ints, summed.0, is) in
+      let initial : from ≤ℤ sum.to = omega (arith, ints, summed.0, is) in
       let same : natural (sum.to -ℤ sum.from) ≡ natural (sum.to -ℤ from) = ap (λ (z : ℤ). natural (sum.to -ℤ z)) is in
-      let first = parts from sum.to end begun within in
+      let first = parts from sum.to end initial within in
       reached (natural (sum.to -ℤ sum.from)) sum.taken_off sum.to end (omega (arith, same, first, near)) (summed_little sum summed) either
 
   pub taken_off_is : (from end : ℤ) (sum : Summed) → sum.from ≡ from → sum.to ≡ end → IsSummed gradient deceleration sum →
@@ -134,21 +134,21 @@ module _ (gradient : ℤ → Option ℤ) (deceleration : ℕ) where
   taken_off_is from end sum begins ends summed = summed.1 ∙ (λ i. braked gradient deceleration (begins i) (natural (ends i -ℤ begins i)))
 
   -- a stretch that is begun where each centimetre takes off the same
-  pub begun_summed : (from : ℤ) (slowing : ℕ) (sum begun : Summed) → IsSummed gradient deceleration sum →
-      IsEven slowing from sum.from → slowing ≤ 549 → from ≤ℤ begun.from → IsBegunEvenly slowing sum begun → IsSummed gradient deceleration begun
-  begun_summed from slowing sum begun summed same small within is_begun =
-      let even = even_is slowing begun.from sum.from sum.to is_begun.ordered summed.0 (λ z a b. same z (omega (arith, ints, within, a)) b) sum.taken_off summed.1 in (
-        omega (arith, ints, is_begun.ordered, is_begun.to, summed.0),
-        is_begun.taken_off ∙ even ∙ ap (λ (z : ℤ). braked gradient deceleration begun.from (natural (z -ℤ begun.from))) (sym is_begun.to),
+  pub initial_summed : (from : ℤ) (slowing : ℕ) (sum initial : Summed) → IsSummed gradient deceleration sum →
+      IsEven slowing from sum.from → slowing ≤ 549 → from ≤ℤ initial.from → StartsEvenly slowing sum initial → IsSummed gradient deceleration initial
+  initial_summed from slowing sum initial summed same small within is_initial =
+      let even = even_is slowing initial.from sum.from sum.to is_initial.ordered summed.0 (λ z a b. same z (omega (arith, ints, within, a)) b) sum.taken_off summed.1 in (
+        omega (arith, ints, is_initial.ordered, is_initial.to, summed.0),
+        is_initial.taken_off ∙ even ∙ ap (λ (z : ℤ). braked gradient deceleration initial.from (natural (z -ℤ initial.from))) (sym is_initial.to),
         λ (place : ℤ) a b. by_lt_z place sum.from
             (λ (sooner : place <ℤ sum.from). rw (same place (omega (arith, ints, within, a)) sooner) small)
-            (λ (later : sum.from ≤ℤ place). summed.2 place later (omega (arith, ints, b, is_begun.to))),
+            (λ (later : sum.from ≤ℤ place). summed.2 place later (omega (arith, ints, b, is_initial.to))),
       )
 
   -- .. takes off little enough
-  pub begun_little : (from : ℤ) (slowing : ℕ) (sum : Summed) → IsSummed gradient deceleration sum → from ≤ℤ sum.from → slowing ≤ 549 →
+  pub initial_little : (from : ℤ) (slowing : ℕ) (sum : Summed) → IsSummed gradient deceleration sum → from ≤ℤ sum.from → slowing ≤ 549 →
       natural (sum.to -ℤ from) ≤ 2 ^ 43 → 2592 * slowing * natural (sum.from -ℤ from) + sum.taken_off < 2 ^ 64 - 2 ^ 62
-  begun_little from slowing sum summed ordered small near =
+  initial_little from slowing sum summed ordered small near =
       let factor : 2592 * slowing ≤ 1_423_008 = omega arith in
       let product : 2592 * slowing * natural (sum.from -ℤ from) ≤ 1_423_008 * natural (sum.from -ℤ from) = mul-le-mul_right (natural (sum.from -ℤ from)) factor in
       omega (arith, product, parts from sum.from sum.to ordered summed.0, summed_little sum summed, near)

@@ -20,15 +20,15 @@ use Rattle.braking.proofs.Slower.{slow_fits, slower_fits, braking_fits, summed_l
 module _ (front : ℤ) (gradient : ℤ → Option ℤ) (brakes : Brakes) where
   pub stopping_fits : (v : ℕ) (sum : Summed) → IsSummed gradient brakes.deceleration sum → IsStopping front brakes.reaction v sum →
       (t : Target) → sum.to ≤ℤ t.place → fits front gradient brakes t v ≡ true
-  stopping_fits v sum summed stops t behind = elim (order v t.speed) [
+  stopping_fits v sum summed stops t earlier = elim (order v t.speed) [
     | inl slow ↦ slow_fits front gradient brakes t v slow
     | inr fast ↦ (let start : ℤ = front +ℤ pos (reaction_way brakes.reaction v) in
         let squares : t.speed * t.speed < v * v = square_greater t.speed v fast in
         let long : sum.from <ℤ sum.to = by_lt_z sum.from sum.to (λ (some : sum.from <ℤ sum.to). some)
         (λ (none : sum.to ≤ℤ sum.from). absurd (omega (arith, none_between sum.from sum.to none, summed_little gradient brakes.deceleration sum summed, stops.enough, squares))) in
-        let acts : start <ℤ t.place = omega (arith, ints, stops.acts, long, behind) in
-        let over = braked_over gradient brakes.deceleration start sum.from t.place stops.acts (omega (arith, ints, long, behind)) in
-        let less = summed_less front gradient brakes t sum summed behind in
+        let acts : start <ℤ t.place = omega (arith, ints, stops.acts, long, earlier) in
+        let over = braked_over gradient brakes.deceleration start sum.from t.place stops.acts (omega (arith, ints, long, earlier)) in
+        let less = summed_less front gradient brakes t sum summed earlier in
         is_true (v * v) (t.speed * t.speed + braked gradient brakes.deceleration start (natural (t.place -ℤ start))) _
         (omega (arith, over, less, stops.enough))
         (braking_fits front gradient brakes t v start fast refl acts))
@@ -37,7 +37,7 @@ module _ (front : ℤ) (gradient : ℤ → Option ℤ) (brakes : Brakes) where
   -- .. at a lesser speed too
   stop_slower : (stop : Option ℤ) (v w : ℕ) → w ≤ v → IsStop front gradient brakes v stop → IsStop front gradient brakes w stop
   stop_slower None v w less known = tt
-  stop_slower (Some place) v w less known = λ t behind. slower_fits front gradient brakes t v w less (known t behind)
+  stop_slower (Some place) v w less known = λ t earlier. slower_fits front gradient brakes t v w less (known t earlier)
 
   pub stop_lowered : (stop : Option ℤ) (t : Target) (speed v : ℕ) → v ≡ greatest (fits front gradient brakes t) speed →
       IsStop front gradient brakes speed stop → IsStop front gradient brakes v stop

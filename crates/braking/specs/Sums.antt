@@ -43,19 +43,19 @@ pub record IsEvenBefore (slowing : ℕ) (from : ℤ) (sum : Summed) : Type 0 whe
   pub little : 2592 * slowing * natural (sum.from -ℤ from) + sum.taken_off < 2 ^ 64 - 2 ^ 62
 
 -- a sum is begun on such a stretch
-pub record IsBegunEvenly (slowing : ℕ) (sum begun : Summed) : Type 0 where
-  pub ordered : begun.from ≤ℤ sum.from
-  pub to : begun.to ≡ sum.to
-  pub taken_off : begun.taken_off ≡ 2592 * slowing * natural (sum.from -ℤ begun.from) + sum.taken_off
+pub record StartsEvenly (slowing : ℕ) (sum initial : Summed) : Type 0 where
+  pub ordered : initial.from ≤ℤ sum.from
+  pub to : initial.to ≡ sum.to
+  pub taken_off : initial.taken_off ≡ 2592 * slowing * natural (sum.from -ℤ initial.from) + sum.taken_off
 
 -- a stretch with one gradient lies before what is summed, and what both take off is summed too
 pub record IsStretch (gradient : ℤ → Option ℤ) (deceleration : ℕ) (stretch : Stretch) : Type 0 where
-  pub behind : IsSummed gradient deceleration stretch.sum
-  pub even : (place : ℤ) → stretch.begun.from ≤ℤ place → place <ℤ stretch.sum.from → slowing_on deceleration (gradient place) ≡ stretch.slowing
-  pub before : stretch.begun.from <ℤ stretch.sum.from
-  pub may_begin : IsEvenBefore stretch.slowing stretch.begun.from stretch.sum
-  pub begun : IsBegunEvenly stretch.slowing stretch.sum stretch.begun
-  pub summed : IsSummed gradient deceleration stretch.begun
+  pub earlier : IsSummed gradient deceleration stretch.sum
+  pub even : (place : ℤ) → stretch.initial.from ≤ℤ place → place <ℤ stretch.sum.from → slowing_on deceleration (gradient place) ≡ stretch.slowing
+  pub before : stretch.initial.from <ℤ stretch.sum.from
+  pub may_begin : IsEvenBefore stretch.slowing stretch.initial.from stretch.sum
+  pub initial : StartsEvenly stretch.slowing stretch.sum stretch.initial
+  pub summed : IsSummed gradient deceleration stretch.initial
 
 -- the brakes act at a speed before what is summed after a stretch, and from there, or from where the stretch begins,
 -- enough is taken off for a target
@@ -64,5 +64,5 @@ pub record IsEnough (front : ℤ) (brakes : Brakes) (target : Target) (stretch :
   pub enough :
       speed * speed
       ≤ target.speed * target.speed
-      + (2592 * stretch.slowing * natural (stretch.sum.from -ℤ int_max (front +ℤ pos (reaction_way brakes.reaction speed)) stretch.begun.from)
+      + (2592 * stretch.slowing * natural (stretch.sum.from -ℤ int_max (front +ℤ pos (reaction_way brakes.reaction speed)) stretch.initial.from)
       + stretch.sum.taken_off)

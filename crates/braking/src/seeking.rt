@@ -4,7 +4,7 @@ ghost use Rattle.std.specs.Int.{int_max};
 ghost use Rattle.units.specs.Stretches.{natural};
 ghost use Rattle.brakes.specs.Brakes.{reaction_way};
 ghost use Rattle.braking.specs.Braking.{fits, greatest, IsSummed};
-ghost use Rattle.braking.specs.Sums.{IsSummedWhole, IsRoot, IsEvenBefore, IsBegunEvenly, IsEnough};
+ghost use Rattle.braking.specs.Sums.{IsSummedWhole, IsRoot, IsEvenBefore, StartsEvenly, IsEnough};
 
 use crate::Target;
 use crate::speeds::{brakes_act, fastest_before, lacking, summed_before};
@@ -63,11 +63,11 @@ fn sought<P: Profile<Permille>>(
         return (least, *sum);
     };
     let mut last = Stretch::before(sum, gradient, brakes.deceleration, start, 0);
-    while is_too_fast(front, limit, target, brakes, &last.begun) {
-        last = Stretch::before(&last.begun, gradient, brakes.deceleration, start, last.near);
+    while is_too_fast(front, limit, target, brakes, &last.initial) {
+        last = Stretch::before(&last.initial, gradient, brakes.deceleration, start, last.near);
     }
     let low = root(target.speed, last.sum.taken_off, limit, least);
-    let high = root(target.speed, last.begun.taken_off, limit, low);
+    let high = root(target.speed, last.initial.taken_off, limit, low);
     halved(front, low, above(high, limit), target, brakes, &last)
 }
 
@@ -101,13 +101,13 @@ fn halved(
 ) -> (Mph, Summed)
     requires faster { target.now.speed ≤ low }
     requires ordered { low ≤ high }
-    requires even { IsEvenBefore stretch.now.slowing stretch.now.begun.from stretch.now.sum }
+    requires even { IsEvenBefore stretch.now.slowing stretch.now.initial.from stretch.now.sum }
     ensures least { low ≤ result.0 }
     ensures most { result.0 ≤ high }
     ensures enough { (result.0 ≡ low) ⊎ IsEnough front brakes.now target.now stretch.now result.0 }
     ensures next { result.0 + 1 < high → ¬ (IsEnough front brakes.now target.now stretch.now (result.0 + 1)) }
-    ensures from { stretch.now.begun.from ≤ℤ result.1.from }
-    ensures begun { IsBegunEvenly stretch.now.slowing stretch.now.sum result.1 }
+    ensures from { stretch.now.initial.from ≤ℤ result.1.from }
+    ensures initial { StartsEvenly stretch.now.slowing stretch.now.sum result.1 }
 {
     let mut least = low;
     let mut end = high;
@@ -118,8 +118,8 @@ fn halved(
             end = middle;
         }
     }
-    match begun_at(front, least, brakes, stretch) {
-        Some(begun) => (least, begun),
+    match starting_at(front, least, brakes, stretch) {
+        Some(initial) => (least, initial),
         None => (least, stretch.sum),
     }
 }
@@ -128,30 +128,30 @@ fn halved(
 // begins, take off enough for a target. The caller owes a speed no less than the target's.
 fn is_enough(front: Cm, speed: Mph, target: &Target, brakes: &Brakes, stretch: &Stretch) -> bool
     requires faster { target.now.speed ≤ speed }
-    requires even { IsEvenBefore stretch.now.slowing stretch.now.begun.from stretch.now.sum }
+    requires even { IsEvenBefore stretch.now.slowing stretch.now.initial.from stretch.now.sum }
     ensures { IsTrue result ↔ IsEnough front brakes.now target.now stretch.now speed }
 {
-    match begun_at(front, speed, brakes, stretch) {
+    match starting_at(front, speed, brakes, stretch) {
         None => false,
-        Some(begun) => lacking(speed, target.speed) <= begun.taken_off,
+        Some(initial) => lacking(speed, target.speed) <= initial.taken_off,
     }
 }
 
 // What is summed after a stretch, begun where the brakes act at a speed, or where the stretch begins if they act before
 // that; None where they don't act before what is summed.
-fn begun_at(front: Cm, speed: Mph, brakes: &Brakes, stretch: &Stretch) -> Option<Summed>
-    requires { IsEvenBefore stretch.now.slowing stretch.now.begun.from stretch.now.sum }
+fn starting_at(front: Cm, speed: Mph, brakes: &Brakes, stretch: &Stretch) -> Option<Summed>
+    requires { IsEvenBefore stretch.now.slowing stretch.now.initial.from stretch.now.sum }
     ensures found { IsSome result ↔ (front +ℤ pos (reaction_way brakes.now.reaction speed)) <ℤ stretch.now.sum.from }
     ensures from { IfSome result
-        (λ begun. begun.from ≡ int_max (front +ℤ pos (reaction_way brakes.now.reaction speed)) stretch.now.begun.from) }
-    ensures begun { IfSome result (IsBegunEvenly stretch.now.slowing stretch.now.sum) }
+        (λ initial. initial.from ≡ int_max (front +ℤ pos (reaction_way brakes.now.reaction speed)) stretch.now.initial.from) }
+    ensures initial { IfSome result (StartsEvenly stretch.now.slowing stretch.now.sum) }
 {
     let way = reaction_way(brakes.reaction, speed);
     match brakes_act(front, way, stretch.sum.from) {
         None => None,
         Some(start) => {
-            let from = start.max(stretch.begun.from);
-            Some(stretch.sum.begun_evenly(stretch.slowing, from))
+            let from = start.max(stretch.initial.from);
+            Some(stretch.sum.starts_evenly(stretch.slowing, from))
         }
     }
 }

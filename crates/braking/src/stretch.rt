@@ -17,7 +17,7 @@ pub struct Stretch {
     /// What is summed after it.
     pub sum: Summed,
     /// The same, begun where the stretch begins.
-    pub begun: Summed,
+    pub initial: Summed,
     /// A hint for `Profile::piece_before`: near which piece the gradient is before it.
     pub near: usize,
 }
@@ -35,16 +35,16 @@ impl Stretch {
         requires summed { IsSummed (P.value gradient.now) deceleration sum.now }
         requires ordered { least <ℤ sum.now.from }
         requires near { natural (sum.now.to -ℤ least) ≤ 2 ^ 43 }
-        ensures behind { result.sum ≡ sum.now }
+        ensures earlier { result.sum ≡ sum.now }
         ensures stretch { IsStretch (P.value gradient.now) deceleration result }
-        ensures within { least ≤ℤ result.begun.from }
+        ensures within { least ≤ℤ result.initial.from }
     {
         let here = gradient.piece_before(sum.from, least, near);
         let slowing = slowing(deceleration, here.value);
         Stretch {
             slowing,
             sum: *sum,
-            begun: sum.begun_evenly(slowing, here.from),
+            initial: sum.starts_evenly(slowing, here.from),
             near: here.near,
         }
     }

@@ -2,7 +2,7 @@
 ghost use Rattle.std.specs.Prelude.{◌≡◌, ℕ, ◌^◌, ◌≤◌, Option, ℤ, ◌-ℤ◌, ◌≤ℤ◌, ◌⊎◌};
 ghost use Rattle.units.specs.Stretches.{natural};
 ghost use Rattle.braking.specs.Braking.{IsSummed};
-ghost use Rattle.braking.specs.Sums.{IsEvenBefore, IsBegunEvenly};
+ghost use Rattle.braking.specs.Sums.{IsEvenBefore, StartsEvenly};
 
 use crate::slowing::{end_of_stretch, taken_off_evenly};
 use brakes::{Deceleration, slowing};
@@ -76,7 +76,7 @@ impl Summed {
 
     /// The same, begun before: from an earlier place on, in centimetres. The caller owes a place at or before its
     /// beginning.
-    pub fn begun<P: Profile<Permille>>(
+    pub fn initial<P: Profile<Permille>>(
         self,
         gradient: &P,
         deceleration: Deceleration,
@@ -103,10 +103,10 @@ impl Summed {
 
     /// The same, begun before, at a place in centimetres from which on each centimetre slows alike, in cm/s^2. The
     /// caller owes a place at or before its beginning, and little enough to add up.
-    pub fn begun_evenly(self, slowing: u16, from: Cm) -> Summed
+    pub fn starts_evenly(self, slowing: u16, from: Cm) -> Summed
         requires { IsEvenBefore slowing from self }
         ensures from { result.from ≡ from }
-        ensures begun { IsBegunEvenly slowing self result }
+        ensures initial { StartsEvenly slowing self result }
     {
         Summed {
             from,

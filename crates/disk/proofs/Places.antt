@@ -32,7 +32,7 @@ same_place span i s other = ⊎_elim
     ∙ place_some (front_of span (i + 1)) (s - span.first) (omega arith)
     ∙ sym (place_some (front_of span i) (s - span.first) (omega arith))
     ∙ ap (λ (n : ℕ). place_in (front_of span i) n) place)
-    (λ (behind : span.first + i ≤ s).
+    (λ (following : span.first + i ≤ s).
     place_none (front_of span (i + 1)) s (inr (omega arith)) ∙ sym (place_none (front_of span i) s (inr (omega arith))))
     (cases_lt s (span.first + i)))
     (cases_lt s span.first)

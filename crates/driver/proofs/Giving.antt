@@ -42,9 +42,9 @@ past_value Nothing before value d g h = h
 
 -- ---- all entries
 
-behind : {A : Type 0} (reported : DriverEntry → ItemReport A) (kept : Datum A) (entry : DriverEntry) (entries : List DriverEntry) (value : A) → gives (reported entry) ≡ false →
+after_entry : {A : Type 0} (reported : DriverEntry → ItemReport A) (kept : Datum A) (entry : DriverEntry) (entries : List DriverEntry) (value : A) → gives (reported entry) ≡ false →
     HasValue reported kept entries value → HasValue reported kept (entry ∷ entries) value
-behind reported kept entry entries value h (inl given) = inl (record {
+after_entry reported kept entry entries value h (inl given) = inl (record {
   entry = given.entry;
   later = entry ∷ given.later;
   earlier = given.earlier;
@@ -52,7 +52,7 @@ behind reported kept entry entries value h (inl given) = inl (record {
   gives_it = given.gives_it;
   none_later = rw h given.none_later;
 })
-behind reported kept entry entries value h (inr was) = inr (rw h was.0, was.1)
+after_entry reported kept entry entries value h (inr was) = inr (rw h was.0, was.1)
 
 pub has_value : {A : Type 0} (reported : DriverEntry → ItemReport A) → ((entry : DriverEntry) → deletes (reported entry) ≡ false) → (kept : Datum A) (entries : List DriverEntry) (value : A) →
     value_of (datum_after reported kept entries) ≡ Some value → HasValue reported kept entries value
@@ -60,7 +60,7 @@ has_value reported never kept [] value h = inr (refl, h)
 has_value reported never kept (entry ∷ entries) value h =
     elim (by_value (reported entry) (datum_after reported kept entries) value (never entry) h) [
       | inl now ↦ inl (record { entry = entry; later = []; earlier = entries; in_turn = refl; gives_it = now; none_later = refl })
-      | inr before ↦ behind reported kept entry entries value before.0 (has_value reported never kept entries value before.1)
+      | inr before ↦ after_entry reported kept entry entries value before.0 (has_value reported never kept entries value before.1)
     ]
 
 still : {A : Type 0} (reported : DriverEntry → ItemReport A) → ((entry : DriverEntry) → deletes (reported entry) ≡ false) → (kept : Datum A) (later rest : List DriverEntry) (value : A) →

@@ -34,26 +34,26 @@ past_mode mode before h = h
 
 -- ---- all entries
 
-behind : (kept : Bool) (entry : DriverEntry) (entries : List DriverEntry) → is_deed acknowledges_trip entry ≡ false → IsOutstanding kept entries →
+after_entry : (kept : Bool) (entry : DriverEntry) (entries : List DriverEntry) → is_deed acknowledges_trip entry ≡ false → IsOutstanding kept entries →
     IsOutstanding kept (entry ∷ entries)
-behind kept entry entries h (inl tripped) = inl (record {
+after_entry kept entry entries h (inl tripped) = inl (record {
   later = entry ∷ tripped.later;
   earlier = tripped.earlier;
   in_turn = ap (λ (es : List DriverEntry). entry ∷ es) tripped.in_turn;
   not_since = rw h tripped.not_since;
 })
-behind kept entry entries h (inr was) = inr (was.0, rw h was.1)
+after_entry kept entry entries h (inr was) = inr (was.0, rw h was.1)
 
 outstanding : (kept : Bool) (entries : List DriverEntry) → after_all trip_after kept entries ≡ true → IsOutstanding kept entries
 outstanding kept [] h = inr (h, refl)
 outstanding kept (Did action occasion ∷ entries) h =
     let parts = by_action action occasion (after_all trip_after kept entries) h in
-    behind kept (Did action occasion) entries parts.0 (outstanding kept entries parts.1)
-outstanding kept (LevelEntered level ∷ entries) h = behind kept (LevelEntered level) entries refl (outstanding kept entries h)
+    after_entry kept (Did action occasion) entries parts.0 (outstanding kept entries parts.1)
+outstanding kept (LevelEntered level ∷ entries) h = after_entry kept (LevelEntered level) entries refl (outstanding kept entries h)
 outstanding kept (ModeEntered mode ∷ entries) h =
     elim (by_mode mode (after_all trip_after kept entries) h) [
       | inl trip ↦ inl (record { later = []; earlier = entries; in_turn = ap (λ (m : Mode). ModeEntered m ∷ entries) trip; not_since = refl })
-      | inr before ↦ behind kept (ModeEntered mode) entries refl (outstanding kept entries before)
+      | inr before ↦ after_entry kept (ModeEntered mode) entries refl (outstanding kept entries before)
     ]
 
 still : (kept : Bool) (later rest : List DriverEntry) → after_all trip_after kept rest ≡ true → did acknowledges_trip later ≡ false →

@@ -29,9 +29,9 @@ past_override entry before occasion e h = h
 
 -- ---- all entries
 
-behind : (entry : DriverEntry) (entries : List DriverEntry) (occasion : Occasion) → ends_override entry ≡ false → WasOverridden entries occasion →
+after_entry : (entry : DriverEntry) (entries : List DriverEntry) (occasion : Occasion) → ends_override entry ≡ false → WasOverridden entries occasion →
     WasOverridden (entry ∷ entries) occasion
-behind entry entries occasion h was = record {
+after_entry entry entries occasion h was = record {
   later = entry ∷ was.later;
   earlier = was.earlier;
   in_turn = ap (λ (es : List DriverEntry). entry ∷ es) was.in_turn;
@@ -43,7 +43,7 @@ overridden [] occasion h = absurd (cc)
 overridden (entry ∷ entries) occasion h =
     elim (by_override entry (after_all override_after None entries) occasion h) [
       | inl now ↦ record { later = []; earlier = entries; in_turn = ap (λ (e : DriverEntry). e ∷ entries) now; none_since = refl }
-      | inr before ↦ behind entry entries occasion before.0 (overridden entries occasion before.1)
+      | inr before ↦ after_entry entry entries occasion before.0 (overridden entries occasion before.1)
     ]
 
 still : (later earlier : List DriverEntry) (occasion : Occasion) → list_any ends_override later ≡ false →

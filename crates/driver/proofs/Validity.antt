@@ -76,10 +76,10 @@ made_valid Nothing before (inr h) = absurd (let no : false ≡ true = h.0 in cc)
 
 -- ---- all entries
 
-behind : {A : Type 0} (reported : DriverEntry → ItemReport A) (kept : Datum A) (entry : DriverEntry) (entries : List DriverEntry) → ends (reported entry) ≡ false →
+after_entry : {A : Type 0} (reported : DriverEntry → ItemReport A) (kept : Datum A) (entry : DriverEntry) (entries : List DriverEntry) → ends (reported entry) ≡ false →
     WasMadeValid reported kept entries ⊎ (none_ends reported entries × (is_valid kept ≡ true)) →
     WasMadeValid reported kept (entry ∷ entries) ⊎ (none_ends reported (entry ∷ entries) × (is_valid kept ≡ true))
-behind reported kept entry entries h (inl made) = inl (record {
+after_entry reported kept entry entries h (inl made) = inl (record {
   entry = made.entry;
   later = entry ∷ made.later;
   earlier = made.earlier;
@@ -87,7 +87,7 @@ behind reported kept entry entries h (inl made) = inl (record {
   made_so = made.made_so;
   none_since = rw h made.none_since;
 })
-behind reported kept entry entries h (inr was) = inr (rw h was.0, was.1)
+after_entry reported kept entry entries h (inr was) = inr (rw h was.0, was.1)
 
 made_now : {A : Type 0} (reported : DriverEntry → ItemReport A) → ((entry : DriverEntry) → deletes (reported entry) ≡ false) → (kept : Datum A) (entry : DriverEntry) (entries : List DriverEntry) →
     (gives (reported entry) ≡ true) ⊎ ((confirms (reported entry) ≡ true) × (is_known (datum_after reported kept entries) ≡ true)) →
@@ -111,7 +111,7 @@ valid reported never kept [] h = inr (refl, h)
 valid reported never kept (entry ∷ entries) h =
     elim (by_valid (reported entry) (datum_after reported kept entries) h) [
       | inl now ↦ inl (made_now reported never kept entry entries now)
-      | inr before ↦ behind reported kept entry entries before.0 (valid reported never kept entries before.1)
+      | inr before ↦ after_entry reported kept entry entries before.0 (valid reported never kept entries before.1)
     ]
 
 still : {A : Type 0} (reported : DriverEntry → ItemReport A) (kept : Datum A) (later rest : List DriverEntry) →

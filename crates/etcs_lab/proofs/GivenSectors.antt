@@ -38,8 +38,8 @@ given_beyond (Some first) contents zero some = absurd (omega arith)
 given_beyond (Some first) contents (suc s) some = refl
 
 -- the sectors after the first one stay where that is laid over
-behind : (first bytes : List ℕ) (i : ℕ) → length first ≡ 512 → sector_of (first ++ drop 512 bytes) (suc i) ≡ sector_of bytes (suc i)
-behind first bytes i size =
+following : (first bytes : List ℕ) (i : ℕ) → length first ≡ 512 → sector_of (first ++ drop 512 bytes) (suc i) ≡ sector_of bytes (suc i)
+following first bytes i size =
     let place : 512 * suc i ≡ length first + 512 * i = omega (arith, size) in
     let there : 512 + 512 * i ≡ 512 * suc i = omega arith in
     ap (λ (n : ℕ). take 512 (drop n (first ++ drop 512 bytes))) place
@@ -51,7 +51,7 @@ over_first : (first : List ℕ) (contents : ℕ → List ℕ) (bytes : List ℕ)
 over_first first contents bytes size some holds zero inside = sym (take_at first (drop 512 bytes) 512 size)
 over_first first contents bytes size some holds (suc i) inside =
     let within : 512 * suc i < length bytes = omega (arith, length-append first (drop 512 bytes), length-drop 512 bytes) in
-    given_beyond (Some first) contents (0 + suc i) (omega arith) ∙ holds (suc i) within ∙ sym (behind first bytes i size)
+    given_beyond (Some first) contents (0 + suc i) (omega arith) ∙ holds (suc i) within ∙ sym (following first bytes i size)
 
 -- bytes that were read hold what is read
 pub holds_given : (g : Option (List ℕ)) (contents : ℕ → List ℕ) (at : ℕ) (bytes : List ℕ) → ForSome g (λ sector. length sector ≡ 512) → 512 ≤ length bytes → Holds contents at bytes → Holds (given_at g contents) at (laid_over g at bytes)

@@ -26,7 +26,7 @@ sector_far bytes with offset s within (inl before) =
     sym (drop-take (512 * s) 512 (overwritten bytes offset with))
     ∙ ap (λ (l : List ℕ). drop (512 * s) l) (ap (λ (l : List ℕ). take (512 * s + 512) l) all ∙ take-append-le (512 * s + 512) front (with ++ rest) (omega (arith, size)) ∙ take-take (512 * s + 512) offset bytes before)
     ∙ drop-take (512 * s) 512 bytes
-sector_far bytes with offset s within (inr behind) =
+sector_far bytes with offset s within (inr end) =
     let front : List ℕ = take offset bytes ++ with in
     let rest : List ℕ = drop (offset + length with) bytes in
     let size : length front ≡ offset + length with = omega (arith, length-append (take offset bytes) with, length-take-le offset bytes (omega arith)) in
@@ -51,7 +51,7 @@ far_of s part none = ⊎_elim
 
 none_in : (s : ℕ) (part : Part) → (512 * s + 512 ≤ part.offset) ⊎ (part.offset + part.count ≤ 512 * s) → is_in s part ≡ false
 none_in s part (inl before) = grind (arith, nat_tests)
-none_in s part (inr behind) = grind (arith, nat_tests)
+none_in s part (inr end) = grind (arith, nat_tests)
 
 some_in : (s : ℕ) (part : Part) → 512 * s < part.offset + part.count → part.offset < 512 * s + 512 → is_in s part ≡ true
 some_in s part low high = grind (arith, nat_tests)
@@ -144,7 +144,7 @@ module _ (ms : List Moment) (last next : Moment) (offset size : ℕ) (with : Lis
 
   apart : (s : ℕ) → Outside (offset / 512) (offset % 512 + size) s → is_in s part ≡ false
   apart s (inl before) = none_in s part (inl (omega arith))
-  apart s (inr behind) = none_in s part (inr (omega arith))
+  apart s (inr end) = none_in s part (inr (omega arith))
 
   same_outside : SameOutside (offset / 512) (offset % 512 + size) (medium_of (old.at (length ms - 1))) (medium_of (new.at (length (ms ++ next ∷ []) - 1)))
   same_outside = record {

@@ -33,9 +33,9 @@ read_holds file out first size wide whole is i inside =
     let F : List ℕ = drop (512 * first) file in
     let rest : ℕ = size - 512 * i in
     let all : 512 * i + rest ≡ size = omega arith in
-    let behind : drop (512 * i) out ≡ take rest (drop (512 * i) F) = ap (λ (l : List ℕ). drop (512 * i) l) (is ∙ ap (λ (n : ℕ). take n F) (sym all)) ∙ drop-take (512 * i) rest F in
+    let end : drop (512 * i) out ≡ take rest (drop (512 * i) F) = ap (λ (l : List ℕ). drop (512 * i) l) (is ∙ ap (λ (n : ℕ). take n F) (sym all)) ∙ drop-take (512 * i) rest F in
     let place : 512 * first + 512 * i ≡ 512 * (first + i) = omega arith in
-    sym (ap (λ (l : List ℕ). take 512 l) behind
+    sym (ap (λ (l : List ℕ). take 512 l) end
     ∙ take-take 512 rest (drop (512 * i) F) (omega arith)
     ∙ ap (λ (l : List ℕ). take 512 l) (drop-drop (512 * i) (512 * first) file)
     ∙ ap (λ (n : ℕ). take 512 (drop n file)) place)
@@ -72,13 +72,13 @@ overwritten_more file bytes at done count within few =
 pub overwritten_holds : (file bytes : List ℕ) (first : ℕ) → 512 * first + length bytes ≤ length file → length bytes % 512 ≡ 0 → Holds (λ s. sector_of (overwritten file (512 * first) bytes) s) first bytes
 overwritten_holds file bytes first within whole i inside =
     let front : List ℕ = take (512 * first) file in
-    let behind : List ℕ = drop (512 * first + length bytes) file in
+    let end : List ℕ = drop (512 * first + length bytes) file in
     let ahead : length front ≡ 512 * first = length-take-le (512 * first) file (omega arith) in
     let place : 512 * (first + i) ≡ length front + 512 * i = omega (arith, ahead) in
     let rest : ℕ = length bytes - 512 * i in
-    (λ j. take 512 (drop (place j) (append_assoc front bytes behind j)))
-    ∙ ap (λ (l : List ℕ). take 512 l) (drop-append-add front (bytes ++ behind) (512 * i) ∙ drop-append-le (512 * i) bytes behind (omega arith))
-    ∙ take-append-le 512 (drop (512 * i) bytes) behind (omega (arith, length-drop (512 * i) bytes))
+    (λ j. take 512 (drop (place j) (append_assoc front bytes end j)))
+    ∙ ap (λ (l : List ℕ). take 512 l) (drop-append-add front (bytes ++ end) (512 * i) ∙ drop-append-le (512 * i) bytes end (omega arith))
+    ∙ take-append-le 512 (drop (512 * i) bytes) end (omega (arith, length-drop (512 * i) bytes))
 
 -- so does a file that has these bytes
 pub written_holds : (file bytes new : List ℕ) (first : ℕ) → 512 * first + length bytes ≤ length file → length bytes % 512 ≡ 0 → new ≡ overwritten file (512 * first) bytes → Holds (λ s. sector_of new s) first bytes
@@ -103,7 +103,7 @@ each_sector first bytes old new call s = ⊎_elim
     let place : first + (s - first) ≡ s = omega arith in
     subst (λ (n : ℕ). ((now (whole_disk new)).is_open n ≡ true) ⊎ (((now (whole_disk new)).is_open n ≡ (now (whole_disk old)).is_open n) × (contents_of (whole_disk new) n ≡ contents_of (whole_disk old) n))) place
     (call.open_or_same (s - first) (omega arith)))
-    (λ (behind : 512 * first + bytes ≤ 512 * s). inr (call.others_open s (inr behind), (call.moments.since new.clock call.moments.later (omega arith)).contents s (inr behind)))
+    (λ (end : 512 * first + bytes ≤ 512 * s). inr (call.others_open s (inr end), (call.moments.since new.clock call.moments.later (omega arith)).contents s (inr end)))
     (cases_lt (512 * s) (512 * first + bytes)))
     (cases_lt s first)
 
@@ -157,7 +157,7 @@ only_more first at done bytes old mid new place few one other =
     let all : done + length (take (length bytes - done) (drop done bytes)) ≡ length bytes = omega (arith, length-rest bytes done) in
     writes_on first (length bytes) old mid new one
     (writes_wider (at / 512) (at % 512 + length (take (length bytes - done) (drop done bytes))) first (length bytes) mid new
-    (λ s out. ⊎_elim (λ (before : s < first). inl (omega arith)) (λ (behind : 512 * first + length bytes ≤ 512 * s). inr (omega arith)) out) other)
+    (λ s out. ⊎_elim (λ (before : s < first). inl (omega arith)) (λ (end : 512 * first + length bytes ≤ 512 * s). inr (omega arith)) out) other)
 
 -- each sector that it begins or goes on with is open
 pub open_more : (first at part count done : ℕ) (mid new : FileState) → at ≡ 512 * first + done

@@ -35,10 +35,10 @@ impl HonestFile {
     /// Whether one of the bytes that were written since the last sync is in a sector.
     pub fn is_open(&self, sector: u64) -> bool {
         let first = sector.saturating_mul(512);
-        let behind = first.saturating_add(512);
+        let end = first.saturating_add(512);
         self.now().parts.iter().any(|part| {
             let offset = part.offset as u64;
-            offset < behind && first < offset.saturating_add(part.count as u64)
+            offset < end && first < offset.saturating_add(part.count as u64)
         })
     }
 

@@ -40,10 +40,10 @@ impl Moment {
         ensures bytes { IfOk result (λ next. next.bytes.items ≡ overwritten self.now.bytes.items offset bytes.now) }
         ensures parts { IfOk result (λ next. next.parts.items ≡ self.now.parts.items ++ record { offset = offset; count = length bytes.now } ∷ []) }
     {
-        let behind = offset + bytes.len();
+        let end = offset + bytes.len();
         let mut after = Vec::from_slice(alloc, &self.bytes[..offset])?;
         after.extend_from_slice(bytes)?;
-        after.extend_from_slice(&self.bytes[behind..])?;
+        after.extend_from_slice(&self.bytes[end..])?;
         let mut parts = Vec::from_slice(alloc, &self.parts)?;
         parts.push(Part {
             offset,

@@ -8,7 +8,7 @@ use Rattle.lives.specs.Walks.{WalksOn, Walked}
 use Rattle.reasons.specs.Reported.{Reasons}
 use Rattle.image_calls.specs.Asking.{Asks}
 use Rattle.image_calls.specs.Lived.{Lived, one_more, is_asked, up_to, life_after, later_life, story_after, Stands}
-use Rattle.image_calls.specs.declared.asking.Asked.{Asked}
+use Rattle.image_calls.specs.declared.asking.WalkToEvent.{WalkToEvent}
 use Rattle.image_calls.specs.declared.running.Known.{Known}
 
 -- ---- one event more
@@ -35,33 +35,33 @@ known_stands (Some life) known stands = (life, refl, stands)
 
 -- ---- steps
 
-abbrev pub met : Asked → Bool
+abbrev pub met : WalkToEvent → Bool
 met = λ asked. asked.is_met
 
-abbrev pub Reported : {O : Type 0} → Step → Asked → O → Asked → O → Type 0
+abbrev pub Reported : {O : Type 0} → Step → WalkToEvent → O → WalkToEvent → O → Type 0
 Reported = λ step old out new after. Asks step old new
 
 module _ {O : Type 0} where
   -- who has met the event is reported nothing
-  met_ends : (steps : List Step) (old new : Asked) (out after : O) → old.is_met ≡ true → Walked Reported met steps old out new after → new ≡ old
+  met_ends : (steps : List Step) (old new : WalkToEvent) (out after : O) → old.is_met ≡ true → Walked Reported met steps old out new after → new ≡ old
   met_ends [] old new out after so on = on.0
   met_ends (step ∷ steps) old new out after so on =
-      (subst (λ (b : Bool). WalksOn b ((new ≡ old) × (after ≡ out)) ((one : Asked) × (mid : O) × Asks step old one × Walked Reported met steps one mid new after)) so on).0
+      (subst (λ (b : Bool). WalksOn b ((new ≡ old) × (after ≡ out)) ((one : WalkToEvent) × (mid : O) × Asks step old one × Walked Reported met steps one mid new after)) so on).0
 
-  reported_if : (step : Step) (steps : List Step) (old one new : Asked) (mid after : O) (at : Option Lived) (b : Bool) → is_asked old.block old.event step ≡ b → one.is_met ≡ b
+  reported_if : (step : Step) (steps : List Step) (old one new : WalkToEvent) (mid after : O) (at : Option Lived) (b : Bool) → is_asked old.block old.event step ≡ b → one.is_met ≡ b
       → Stands (life_after step at) one.known → Walked Reported met steps one mid new after
       → (one.is_met ≡ false → Stands (later_life (up_to (is_asked old.block old.event) steps) (life_after step at)) new.known)
       → Stands (later_life (if b then step ∷ [] else step ∷ up_to (is_asked old.block old.event) steps) at) new.known
   reported_if step steps old one new mid after at true asked is stands on rest =
-      subst (λ (a : Asked). Stands (life_after step at) a.known) (sym (met_ends steps one new mid after is on)) stands
+      subst (λ (a : WalkToEvent). Stands (life_after step at) a.known) (sym (met_ends steps one new mid after is on)) stands
   reported_if step steps old one new mid after at false asked is stands on rest = rest is
 
   -- the life that was run again comes after the steps up to the one that was asked for
-  pub asked_reported : (steps : List Step) (old new : Asked) (out after : O) (at : Option Lived) → Walked Reported met steps old out new after → old.is_met ≡ false → Stands at old.known
+  pub asked_reported : (steps : List Step) (old new : WalkToEvent) (out after : O) (at : Option Lived) → Walked Reported met steps old out new after → old.is_met ≡ false → Stands at old.known
       → Stands (later_life (up_to (is_asked old.block old.event) steps) at) new.known
-  asked_reported [] old new out after at on so stands = subst (λ (a : Asked). Stands at a.known) (sym on.0) stands
+  asked_reported [] old new out after at on so stands = subst (λ (a : WalkToEvent). Stands at a.known) (sym on.0) stands
   asked_reported (step ∷ steps) old new out after at on so stands =
-      let it = subst (λ (b : Bool). WalksOn b ((new ≡ old) × (after ≡ out)) ((one : Asked) × (mid : O) × Asks step old one × Walked Reported met steps one mid new after)) so on in
+      let it = subst (λ (b : Bool). WalksOn b ((new ≡ old) × (after ≡ out)) ((one : WalkToEvent) × (mid : O) × Asks step old one × Walked Reported met steps one mid new after)) so on in
       let asks = it.2 in
       let next : Stands (life_after step at) it.0.known = asks.stands at stands in
       let is : it.0.is_met ≡ is_asked old.block old.event step = asks.met_is so in

@@ -1,4 +1,4 @@
-pub mod Asked
+pub mod WalkToEvent
 pub mod Asks
 pub mod Fewness
 pub mod Reading

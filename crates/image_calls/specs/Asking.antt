@@ -6,11 +6,11 @@ use Rattle.mode_table.specs.declared.statuses.Cold.{Cold}
 use Rattle.image_calls.specs.Images.{Holds, HoldsNone}
 use Rattle.image_calls.specs.Links.{first_word}
 use Rattle.image_calls.specs.Lived.{Lived, is_asked, life_after, Stands}
-use Rattle.image_calls.specs.declared.asking.Asked.{Asked}
+use Rattle.image_calls.specs.declared.asking.WalkToEvent.{WalkToEvent}
 use Rattle.image_calls.specs.declared.images.Ring.{Ring}
 
 -- The life goes on as the step reports, and whether the event is met is reported.
-pub record Asks (step : Step) (old new : Asked) : Type 0 where
+pub record Asks (step : Step) (old new : WalkToEvent) : Type 0 where
   pub block_is : new.block ≡ old.block
   pub event_is : new.event ≡ old.event
   pub met_is : old.is_met ≡ false → new.is_met ≡ is_asked old.block old.event step

@@ -24,8 +24,8 @@ use Rattle.image_calls.specs.declared.verdicts.Span.{Span}
 -- ---- places
 
 -- before the block of this number a walk has come to no line yet
-abbrev pub begun : ℕ → Place → Line
-begun number from = record { from = from; next = record { block = number; index = 0 }; judged = Unknown an_unknown.BeforeOldest; events = None; end = an_end.Going }
+abbrev pub initial : ℕ → Place → Line
+initial number from = record { from = from; next = record { block = number; index = 0 }; judged = Unknown an_unknown.BeforeOldest; events = None; end = an_end.Going }
 
 -- the place is that where the line begins, or one after it
 abbrev pub is_on : Line → Bool

@@ -36,17 +36,17 @@ powered_up (PowerUp word) kept at = Some (record { kept = kept; word = word; eve
 powered_up (Input input) kept at = one_more (Input input) at
 
 -- where nobody knows what was kept it isn't known; but within a block it goes on from the life before, where that is
-abbrev pub begun_unknown : Unknown → Event → Option Lived → Option Lived
-begun_unknown an_unknown.WithinBlock event at = one_more event at
-begun_unknown _ event at = None
+abbrev pub initial_unknown : Unknown → Event → Option Lived → Option Lived
+initial_unknown an_unknown.WithinBlock event at = one_more event at
+initial_unknown _ event at = None
 
-abbrev pub begun : Result Kept Unknown → Event → Option Lived → Option Lived
-begun (Ok kept) event at = powered_up event kept at
-begun (Err unknown) event at = begun_unknown unknown event at
+abbrev pub initial : Result Kept Unknown → Event → Option Lived → Option Lived
+initial (Ok kept) event at = powered_up event kept at
+initial (Err unknown) event at = initial_unknown unknown event at
 
 -- after a step
 abbrev pub life_after : Step → Option Lived → Option Lived
-life_after (Step.Begins block life before r) at = begun before r.event at
+life_after (Step.Begins block life before r) at = initial before r.event at
 life_after (Step.GoesOn block life r) at = one_more r.event at
 life_after (Step.Head block) at = at
 life_after _ at = None

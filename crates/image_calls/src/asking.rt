@@ -13,7 +13,7 @@ use std::alloc::Global;
 
 /// A walk up to an event of a block.
 #[derive(Drop)]
-pub(crate) struct Asked {
+pub(crate) struct WalkToEvent {
     /// The number of the block.
     pub(crate) block: u64,
     /// The number of the event.
@@ -24,12 +24,12 @@ pub(crate) struct Asked {
     pub(crate) is_met: bool,
 }
 
-impl Asked {
+impl WalkToEvent {
     /// Before the first step.
-    pub(crate) fn of(block: u64, event: u64) -> Asked
+    pub(crate) fn of(block: u64, event: u64) -> WalkToEvent
         ensures { result ≡ record { block = block; event = event; known = None; is_met = false } }
     {
-        Asked {
+        WalkToEvent {
             block,
             event,
             known: None,
@@ -49,7 +49,7 @@ impl Asked {
     }
 }
 
-impl Visit<()> for Asked {
+impl Visit<()> for WalkToEvent {
     ghost IsReported = { λ step old _ new _. Asks step old new };
 
     ghost enough = { λ asked. asked.is_met };

@@ -2,7 +2,7 @@
 ghost use Rattle.std.specs.Prelude.{◌≡◌, Some, IsOk, OnOk, IfErr, if◌then◌else◌};
 ghost use Rattle.lives.specs.Steps.Step.{Unreadable, Missing, Begins, GoesOn, Head};
 ghost use Rattle.lives.specs.declared.errors.LateError.TheVariants.{NoMemory};
-ghost use Rattle.image_calls.specs.Lines.{begun, is_on, is_ended, has_events, extended, ended, after_record, after_block};
+ghost use Rattle.image_calls.specs.Lines.{initial, is_on, is_ended, has_events, extended, ended, after_record, after_block};
 ghost use Rattle.image_calls.specs.Lines.{TakesFound, TakesHead, DescribesStep};
 ghost use Rattle.image_calls.specs.declared.lines.End.TheVariants.{Over};
 
@@ -52,8 +52,8 @@ pub(crate) struct Line {
 
 impl Line {
     /// Before the block of a number.
-    pub(crate) fn begun(number: u64, from: Place) -> Line
-        ensures { result ≡ begun number from }
+    pub(crate) fn initial(number: u64, from: Place) -> Line
+        ensures { result ≡ initial number from }
     {
         Line {
             from,

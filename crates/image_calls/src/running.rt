@@ -1,6 +1,6 @@
 //! A life that is run again, step after step of a walk.
 ghost use Rattle.std.specs.Prelude.{◌≡◌, Option, OnOk};
-ghost use Rattle.image_calls.specs.Lived.{Lived, one_more, powered_up, begun, Stands};
+ghost use Rattle.image_calls.specs.Lived.{Lived, one_more, powered_up, initial, Stands};
 
 use events::{Event, Kept, Output};
 use lives::Unknown;
@@ -61,7 +61,7 @@ pub(crate) fn begin(
     event: &Event,
 ) -> Result<(), NoMemory>
     ensures { OnOk result ((at : Option Lived) → Stands at known.old
-        → Stands (begun before.now event.now at) known.new) }
+        → Stands (initial before.now event.now at) known.new) }
 {
     match before {
         Ok(kept) => power_up(alloc, known, kept, event),

@@ -51,12 +51,12 @@ decoded (p ∷ ps) (suc n) at all rest lt b =
     let h = headed p bits b.0 first in
     let len = length_of p in
     let front_long : length first.front ≡ len = (spelled-packet p first.front first.spelled).length_is in
-    let behind : b.0 ≡ drop (at + len) all = sym (drop_at first.front b.0 len front_long) ∙ ap (drop len) (sym first.parts) ∙ drop-drop len at all in
+    let following : b.0 ≡ drop (at + len) all = sym (drop_at first.front b.0 len front_long) ∙ ap (drop len) (sym first.parts) ∙ drop-drop len at all in
     let is : listed (suc n) at bits ≡ in_front (place_at at bits) (listed n (at + len) (drop (at + len) all)) =
     packet_listed n at bits h.stands
     ∙ ap (λ k. in_front (place_at at bits) (listed n (at + k) (drop k bits))) h.length_is
     ∙ ap (λ r. in_front (place_at at bits) (listed n (at + len) r)) (drop-drop len at all) in
-    let others = decoded ps n (at + len) all rest (omega (arith, lt)) (subst (λ (r : List Bool). BeginsPackets ps r rest) behind b.2) in
+    let others = decoded ps n (at + len) all rest (omega (arith, lt)) (subst (λ (r : List Bool). BeginsPackets ps r rest) following b.2) in
     subst (λ (l : Listing). AllZip (ThereIn all) (p ∷ ps) l.packets.items) (sym is) ((b.0, first, h.length_is), others)
 
 -- ---- and were spelled before
@@ -94,12 +94,12 @@ others_are_there p bytes written y pad is t c =
     let b = carried written t c in
     let stays = others_stay p bytes written y pad is in
     let h = b.header_first in
-    let takes = header_takes t.header new b.behind h in
-    let front_long : length h.front ≡ 50 = omega (arith, ap length h.parts, length-append h.front b.behind) in
-    let behind : b.behind ≡ drop 50 new = sym (drop_at h.front b.behind 50 front_long) ∙ ap (drop 50) (sym h.parts) in
-    let front_is : take 50 old ≡ h.front = sym stays.header ∙ ap (take 50) h.parts ∙ take_at h.front b.behind 50 front_long in
+    let takes = header_takes t.header new b.following h in
+    let front_long : length h.front ≡ 50 = omega (arith, ap length h.parts, length-append h.front b.following) in
+    let following : b.following ≡ drop 50 new = sym (drop_at h.front b.following 50 front_long) ∙ ap (drop 50) (sym h.parts) in
+    let front_is : take 50 old ≡ h.front = sym stays.header ∙ ap (take 50) h.parts ∙ take_at h.front b.following 50 front_long in
     let listing : listing_of written ≡ listed 34 50 (drop 50 new) = listing_long written (parts p bytes written y pad is).long in
-    let zip = decoded t.packets.items 34 50 new c.rest (omega (arith, few_packets written t c)) (subst (λ (r : List Bool). BeginsPackets t.packets.items r c.rest) behind b.packets_then) in
+    let zip = decoded t.packets.items 34 50 new c.rest (omega (arith, few_packets written t c)) (subst (λ (r : List Bool). BeginsPackets t.packets.items r c.rest) following b.packets_then) in
     let zip_moved : AllZip (ThereIn new) t.packets.items (map (moved p) (listing_of bytes).packets.items) =
     subst (λ (qs : List PacketPlace). AllZip (ThereIn new) t.packets.items qs) (ap (λ (l : Listing). l.packets.items) (sym listing) ∙ stays.places) zip in
     record {

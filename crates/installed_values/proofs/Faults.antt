@@ -91,13 +91,13 @@ faults_stay p bytes written y pad is =
     let new = bits_of written in
     let header_long : 50 ≤ length (take 50 old) = omega (arith, length-take-le 50 old is.has.header) in
     let new_is : take 50 old ++ drop 50 new ≡ new = ap (λ f. f ++ drop 50 new) (sym (parts p bytes written y pad is).header) ∙ take-append-drop 50 new in
-    let behind = y ++ (drop (p.start + p.length) old ++ pad) in
+    let following = y ++ (drop (p.start + p.length) old ++ pad) in
     record {
       header = λ e r. subst (λ (b : List Bool). Refuses header e b) new_is
           (local_header.stays (take 50 old) (drop 50 old) (drop 50 new) e header_long (subst (λ (b : List Bool). Refuses header e b) (sym (take-append-drop 50 old)) r));
       front = λ e r. (
         subst (λ (b : List Bool). RefusesTelegram e b) (take-append-drop p.start old) (front_refuses e (take p.start old) (drop p.start old) r),
-        subst (λ (b : List Bool). RefusesTelegram e b) (sym is.bits) (front_refuses e (take p.start old) behind r),
+        subst (λ (b : List Bool). RefusesTelegram e b) (sym is.bits) (front_refuses e (take p.start old) following r),
       );
       others = others_are_there p bytes written y pad is;
     }

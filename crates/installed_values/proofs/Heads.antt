@@ -108,15 +108,15 @@ pub record Headed (p : Packet) (bits : List Bool) : Type 0 where
 -- L_PACKET of bits that begin with so many of a head
 length_reported : (n reported d : ℕ) (bits : List Bool) → reported < 8192 → Longer ((number_bits 8 n ++ number_bits 2 d) ++ number_bits 13 reported) bits → length_at bits ≡ reported
 length_reported n reported d bits small l =
-    let behind = number_bits 2 d ++ number_bits 13 reported in
+    let following = number_bits 2 d ++ number_bits 13 reported in
     let u = (number_bits 8 n ++ number_bits 2 d) ++ number_bits 13 reported in
     let long : length u ≡ 23 = omega (arith, length-append (number_bits 8 n ++ number_bits 2 d) (number_bits 13 reported), length-append (number_bits 8 n) (number_bits 2 d), length-number_bits 8 n, length-number_bits 2 d, length-number_bits 13 reported) in
-    let fifteen : length behind ≤ 15 = omega (arith, length-append (number_bits 2 d) (number_bits 13 reported), length-number_bits 2 d, length-number_bits 13 reported) in
+    let fifteen : length following ≤ 15 = omega (arith, length-append (number_bits 2 d) (number_bits 13 reported), length-number_bits 2 d, length-number_bits 13 reported) in
     let head : head_at bits ≡ number (number_bits 2 d) * 8192 + reported =
     ap head_at l.1 ∙ head_front u l.0 (omega arith)
     ∙ ap (λ (b : List Bool). number (take 15 (drop 8 b))) (append_assoc (number_bits 8 n) (number_bits 2 d) (number_bits 13 reported))
-    ∙ ap (λ (b : List Bool). number (take 15 b)) (drop_at (number_bits 8 n) behind 8 (length-number_bits 8 n))
-    ∙ ap number (take_all 15 behind fifteen)
+    ∙ ap (λ (b : List Bool). number (take 15 b)) (drop_at (number_bits 8 n) following 8 (length-number_bits 8 n))
+    ∙ ap number (take_all 15 following fifteen)
     ∙ number-append (number_bits 2 d) (number_bits 13 reported)
     ∙ ap (λ k. number (number_bits 2 d) * 2 ^ k + number (number_bits 13 reported)) (length-number_bits 13 reported)
     ∙ ap (λ k. number (number_bits 2 d) * 8192 + k) (number-of_bits 13 reported small) in

@@ -13,7 +13,7 @@ pub record AsSent (p : PacketPlace) (bits sent : List Bool) : Type 0 where
   pub whole : length sent ≡ length bits
   pub before : take p.start sent ≡ take p.start bits
   pub head : take 23 (drop p.start sent) ≡ take 23 (drop p.start bits)
-  pub behind : drop (p.start + p.length) sent ≡ drop (p.start + p.length) bits
+  pub following : drop (p.start + p.length) sent ≡ drop (p.start + p.length) bits
   pub layout : HasLength 40 176 p sent
 
 same : (p : PacketPlace) (bits sent : List Bool) → HasLength 40 176 p bits → sent ≡ bits → AsSent p bits sent
@@ -21,7 +21,7 @@ same p bits sent layout e = record {
   whole = ap length e;
   before = ap (take p.start) e;
   head = ap (λ b. take 23 (drop p.start b)) e;
-  behind = ap (drop (p.start + p.length)) e;
+  following = ap (drop (p.start + p.length)) e;
   layout = subst (λ (b : List Bool). HasLength 40 176 p b) (sym e) layout;
 }
 
@@ -59,7 +59,7 @@ counter_before p n bits few there len =
           ∙ take-append-le 23 (drop p.start f) (c ++ (k ++ z)) (omega (arith, g_long))
           ∙ ap (take 23) g
           ∙ take-take 23 40 (drop p.start bits) (omega arith);
-      behind = ap (drop (p.start + p.length)) grouped
+      following = ap (drop (p.start + p.length)) grouped
           ∙ ap (λ d. drop d (front ++ z)) j
           ∙ drop-append-add front z (p.length - 55)
           ∙ drop-drop (p.length - 55) (p.start + 55) bits

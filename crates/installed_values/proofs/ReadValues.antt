@@ -57,11 +57,11 @@ cut c [] (v ∷ vs) rest f = absurd f
 cut c (r ∷ rs) [] rest f = absurd f
 cut c (r ∷ rs) (v ∷ vs) rest f =
     let n = bits_of_row c r in
-    let behind = flat (pieces vs) ++ rest in
-    let whole : (v.1 ++ flat (pieces vs)) ++ rest ≡ v.1 ++ behind = append_assoc v.1 (flat (pieces vs)) rest in
+    let following = flat (pieces vs) ++ rest in
+    let whole : (v.1 ++ flat (pieces vs)) ++ rest ≡ v.1 ++ following = append_assoc v.1 (flat (pieces vs)) rest in
     ap (λ b. (r.variable, take n b) ∷ values_by c rs (drop n b)) whole
-    ∙ ap (λ b. (r.variable, b) ∷ values_by c rs (drop n (v.1 ++ behind))) (take_at v.1 behind n f.1)
-    ∙ ap (λ b. (r.variable, v.1) ∷ values_by c rs b) (drop_at v.1 behind n f.1)
+    ∙ ap (λ b. (r.variable, b) ∷ values_by c rs (drop n (v.1 ++ following))) (take_at v.1 following n f.1)
+    ∙ ap (λ b. (r.variable, v.1) ∷ values_by c rs b) (drop_at v.1 following n f.1)
     ∙ ap (λ xs. (r.variable, v.1) ∷ xs) (cut c rs vs rest f.2)
     ∙ ap (λ x. (x, v.1) ∷ vs) f.0
 
@@ -80,7 +80,7 @@ length-countries (c ∷ cs) = omega (arith, length-append (number_bits 10 c) (fl
 
 -- the variable of a row, its bits, and the rows after it
 row : {A B C : Type 0} → A → B → C → A × B × C
-row variable bits behind = (variable, bits, behind)
+row variable bits following = (variable, bits, following)
 
 fits : (v : NationalValues) → Fit (length v.countries.items) (own (rows_of 3)) (values_of v)
 fits v =
@@ -140,10 +140,10 @@ reads_values p bytes written y pad is v rest b =
     let y_long = is.shorter.long in
     let enough = is.shorter.enough in
     let layout = is.layout in
-    let behind = drop (p.start + p.length) old ++ pad in
+    let following = drop (p.start + p.length) old ++ pad in
     let s_long : length (take p.start old) ≡ p.start = length-take-le p.start old (omega arith) in
-    let there : drop p.start new ≡ y ++ behind = ap (drop p.start) is.bits ∙ drop_at (take p.start old) (y ++ behind) p.start s_long in
-    let place : place_at p.start (drop p.start new) ≡ place_at p.start y = ap (place_at p.start) there ∙ place_front p.start y behind (omega arith) in
+    let there : drop p.start new ≡ y ++ following = ap (drop p.start) is.bits ∙ drop_at (take p.start old) (y ++ following) p.start s_long in
+    let place : place_at p.start (drop p.start new) ≡ place_at p.start y = ap (place_at p.start) there ∙ place_front p.start y following (omega arith) in
     let length_is : length_at (drop p.start new) ≡ p.length - 29 = ap (λ (q : PacketPlace). q.length) (place ∙ is.shorter.heads) in
     let head = headed (packets.NationalValues v) (drop p.start new) rest b in
     let reported_is_len : reported ≡ p.length - 29 = sym head.length_is ∙ length_is in

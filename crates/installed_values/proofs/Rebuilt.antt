@@ -54,9 +54,9 @@ all_again countries [] bits rest le = refl
 all_again countries (row ∷ rows) bits rest le =
     let n = bits_of_row countries row in
     let here : n ≤ length bits = omega arith in
-    let behind : total_bits countries rows ≤ length (drop n bits) = omega (arith, length-drop n bits) in
+    let following : total_bits countries rows ≤ length (drop n bits) = omega (arith, length-drop n bits) in
     one_row countries (has_place row.variable) row rows bits (kept countries rows (drop n bits)) rest (take (total_bits countries rows) (drop n bits)) (dropped_by countries rows (drop n bits)) here
-    (all_again countries rows (drop n bits) rest behind)
+    (all_again countries rows (drop n bits) rest following)
     ∙ take_more n (total_bits countries rows) bits
 
 pub is_rebuilt : (p : PacketPlace) (bytes written : List ℕ) (y pad : List Bool) → (is : IsFor p bytes written y pad) → IsRebuilt p is.sent (bits_of written)

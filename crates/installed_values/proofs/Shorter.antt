@@ -37,10 +37,10 @@ length-kept countries [] bits le = refl
 length-kept countries (row ∷ rows) bits le =
     let n = bits_of_row countries row in
     let here : n ≤ length bits = omega arith in
-    let behind : total_bits countries rows ≤ length (drop n bits) = omega (arith, length-drop n bits) in
+    let following : total_bits countries rows ≤ length (drop n bits) = omega (arith, length-drop n bits) in
     length-append (kept_row countries row bits) (kept countries rows (drop n bits))
     ∙ ap (λ k. k + length (kept countries rows (drop n bits))) (length-taken (has_place row.variable) n bits here)
-    ∙ ap (λ k. where_kept (has_place row.variable) n + k) (length-kept countries rows (drop n bits) behind)
+    ∙ ap (λ k. where_kept (has_place row.variable) n + k) (length-kept countries rows (drop n bits) following)
 
 pub kept_is : (countries : ℕ) → kept_bits countries (rows_of 3) ≡ 124 + 10 * countries
 kept_is countries = omega arith
@@ -68,10 +68,10 @@ head_is bits len le small =
     let nb = number_bits 13 len in
     let d = take 2 (drop 8 bits) in
     let ten : 8 ≤ length (take 10 bits) = omega (arith, length-take-le 10 bits le) in
-    let behind : drop 8 (own_head bits len) ≡ d ++ nb = drop-append-le 8 (take 10 bits) nb ten ∙ ap (λ f. f ++ nb) (drop-take 8 2 bits) in
+    let following : drop 8 (own_head bits len) ≡ d ++ nb = drop-append-le 8 (take 10 bits) nb ten ∙ ap (λ f. f ++ nb) (drop-take 8 2 bits) in
     let two : length d ≡ 2 = length-take-le 2 (drop 8 bits) (omega (arith, length-drop 8 bits)) in
     let whole : length (d ++ nb) ≤ 15 = omega (arith, length-append d nb, two, length-number_bits 13 len) in
-    ap (λ (b : List Bool). number (take 15 b)) behind
+    ap (λ (b : List Bool). number (take 15 b)) following
     ∙ ap number (take_all 15 (d ++ nb) whole)
     ∙ number-append d nb
     ∙ ap (λ k. number d * 2 ^ k + number nb) (length-number_bits 13 len)
@@ -79,11 +79,11 @@ head_is bits len le small =
 
 direction_was : (bits : List Bool) → 23 ≤ length bits → head_at bits / 8192 ≡ q_dir_at bits
 direction_was bits le =
-    let behind = drop 8 bits in
-    let long : 15 ≤ length behind = omega (arith, length-drop 8 bits) in
-    let parts : head_at bits ≡ q_dir_at bits * 8192 + number (take 13 (drop 2 behind)) = number-parts 2 13 behind long in
-    let thirteen : length (take 13 (drop 2 behind)) ≡ 13 = length-take-le 13 (drop 2 behind) (omega (arith, length-drop 2 behind)) in
-    let small : number (take 13 (drop 2 behind)) < 8192 = subst (λ (k : ℕ). number (take 13 (drop 2 behind)) < 2 ^ k) thirteen (number-lt (take 13 (drop 2 behind))) in
+    let following = drop 8 bits in
+    let long : 15 ≤ length following = omega (arith, length-drop 8 bits) in
+    let parts : head_at bits ≡ q_dir_at bits * 8192 + number (take 13 (drop 2 following)) = number-parts 2 13 following long in
+    let thirteen : length (take 13 (drop 2 following)) ≡ 13 = length-take-le 13 (drop 2 following) (omega (arith, length-drop 2 following)) in
+    let small : number (take 13 (drop 2 following)) < 8192 = subst (λ (k : ℕ). number (take 13 (drop 2 following)) < 2 ^ k) thirteen (number-lt (take 13 (drop 2 following))) in
     omega (arith, parts, small)
 
 abbrev made : ℕ → ℕ → ℕ → ℕ → PacketPlace

@@ -49,9 +49,9 @@ values_kept countries [] bits rest le = refl
 values_kept countries (row ∷ rows) bits rest le =
     let n = bits_of_row countries row in
     let here : n ≤ length bits = omega arith in
-    let behind : total_bits countries rows ≤ length (drop n bits) = omega (arith, length-drop n bits) in
+    let following : total_bits countries rows ≤ length (drop n bits) = omega (arith, length-drop n bits) in
     one_row countries (has_place row.variable) row (own rows) bits (kept countries rows (drop n bits)) rest (with_place (values_by countries rows (drop n bits))) here
-    (values_kept countries rows (drop n bits) rest behind)
+    (values_kept countries rows (drop n bits) rest following)
 
 one_total : (countries : ℕ) (b : Bool) (row : Row) (rows : List Row) → total_bits countries (row_where b row rows) ≡ where_kept b (bits_of_row countries row) + total_bits countries rows
 one_total countries true row rows = refl

@@ -44,7 +44,7 @@ end_back (WrongLength k) = WrongLength k
 end_back (TooMany k) = TooMany k
 
 abbrev moved_by : Bool → Bool → PacketPlace → PacketPlace
-moved_by same behind q = if same then shorter q else if behind then back q else q
+moved_by same following q = if same then shorter q else if following then back q else q
 
 pub moved_here : (p : PacketPlace) → moved p p ≡ shorter p
 moved_here p = ap (λ b. moved_by b (nat_lt p.start p.start) p) (eq-eqb p.start p.start refl)
@@ -115,11 +115,11 @@ after_packet n at z pad q ih le e h =
     let step : PacketAt (at - 29) (z ++ pad) (back q) =
     record { stands = stands_more z pad e.stands; is = place_front (at - 29) z pad long ∙ ap back e.is } in
     let there : (at - 29) + q.length ≡ (at + q.length) - 29 = omega arith in
-    let behind : drop q.length (z ++ pad) ≡ drop q.length z ++ pad = drop-append-le q.length z pad (omega arith) in
+    let following : drop q.length (z ++ pad) ≡ drop q.length z ++ pad = drop-append-le q.length z pad (omega arith) in
     let new : listed (suc n) (at - 29) (z ++ pad) ≡ in_front (back q) (listed n ((at + q.length) - 29) (drop q.length z ++ pad)) =
     listed_packet n (at - 29) (z ++ pad) (back q) step
     ∙ ap (λ k. in_front (back q) (listed n k (drop q.length (z ++ pad)))) there
-    ∙ ap (λ bits. in_front (back q) (listed n ((at + q.length) - 29) bits)) behind in
+    ∙ ap (λ bits. in_front (back q) (listed n ((at + q.length) - 29) bits)) following in
     let rest = ih (at + q.length) (drop q.length z) (omega arith) (sym (ap ends_so old) ∙ h) in
     let to : (at + q.length) + length (drop q.length z) ≡ at + length z = omega (arith, length-drop q.length z) in
     let others : All (Within at (at + length z)) (listed n (at + q.length) (drop q.length z)).packets.items =
@@ -161,9 +161,9 @@ later_step n at z pad ih le h =
       ]
     ]
 
-behind : (n : ℕ) (pad : List Bool) → AfterAll n pad
-behind zero pad = λ at z le h. absurd (let no : false ≡ true = sym (ap ends_so (none_listed at z)) ∙ h in cc)
-behind (suc n) pad = λ at z le h. later_step n at z pad (behind n pad) le h
+following : (n : ℕ) (pad : List Bool) → AfterAll n pad
+following zero pad = λ at z le h. absurd (let no : false ≡ true = sym (ap ends_so (none_listed at z)) ∙ h in cc)
+following (suc n) pad = λ at z le h. later_step n at z pad (following n pad) le h
 
 -- ---- around the packet 3
 
@@ -220,7 +220,7 @@ around_here n at bits y pad p is le e h none =
     let length_is : length_at bits ≡ p.length = ap (λ (q : PacketPlace). q.length) e.is in
     let start_is : at ≡ p.start = ap (λ (q : PacketPlace). q.start) e.is in
     let old : listed (suc n) at bits ≡ in_front p (listed n (at + p.length) (drop p.length bits)) = listed_packet n at bits p e in
-    let rest = behind n pad (at + p.length) (drop p.length bits) (omega arith) (sym (ap ends_so old) ∙ h) in
+    let rest = following n pad (at + p.length) (drop p.length bits) (omega arith) (sym (ap ends_so old) ∙ h) in
     let w = drop p.length bits ++ pad in
     let zero_is : p.start - at ≡ 0 = omega arith in
     let all : swapped (p.start - at) p.length y pad bits ≡ y ++ w =

@@ -147,7 +147,7 @@ was_written bytes old new n p describes =
         shorter = is_shorter p countries here (few_countries here (omega arith)) len long place_here so;
         bits = rewrites.written
             ∙ pieces (take p.start sent) (take p.start bits) (take 10 here) (number_bits 13 (p.length - 29)) (kept countries (rows_of 3) (drop 23 here)) (drop p.length here) (drop (p.start + p.length) bits) pad
-            ordered.before (drop-drop p.length p.start sent ∙ ordered.behind);
+            ordered.before (drop-drop p.length p.start sent ∙ ordered.following);
       },
     )
 
@@ -155,7 +155,7 @@ was_written bytes old new n p describes =
 pub record Parts (p : PacketPlace) (bytes written : List ℕ) (y pad : List Bool) : Type 0 where
   pub header : take 50 (bits_of written) ≡ take 50 (bits_of bytes)
   pub long : 50 ≤ length (bits_of written)
-  pub behind : drop 50 (bits_of written) ≡ swapped (p.start - 50) p.length y pad (drop 50 (bits_of bytes))
+  pub following : drop 50 (bits_of written) ≡ swapped (p.start - 50) p.length y pad (drop 50 (bits_of bytes))
 
 pub parts : (p : PacketPlace) (bytes written : List ℕ) (y pad : List Bool) → IsFor p bytes written y pad → Parts p bytes written y pad
 parts p bytes written y pad is =
@@ -167,7 +167,7 @@ parts p bytes written y pad is =
     record {
       header = ap (take 50) all ∙ take_at (take 50 bits) w 50 fifty;
       long = omega (arith, ap length all, length-append (take 50 bits) w, fifty);
-      behind = ap (drop 50) all ∙ drop_at (take 50 bits) w 50 fifty;
+      following = ap (drop 50) all ∙ drop_at (take 50 bits) w 50 fifty;
     }
 
 pub around_it : (p : PacketPlace) (bytes written : List ℕ) (y pad : List Bool) → IsFor p bytes written y pad → Around 34 50 (drop 50 (bits_of bytes)) y pad p
@@ -177,7 +177,7 @@ pub new_listing : (p : PacketPlace) (bytes written : List ℕ) (y pad : List Boo
     → listing_of written ≡ listed 34 50 (swapped (p.start - 50) p.length y pad (drop 50 (bits_of bytes)))
 new_listing p bytes written y pad is =
     let ps = parts p bytes written y pad is in
-    listing_long written ps.long ∙ ap (listed 34 50) ps.behind
+    listing_long written ps.long ∙ ap (listed 34 50) ps.following
 
 -- ---- the bits of another packet
 
@@ -226,17 +226,17 @@ keeps p bytes written y pad is q (inr (inl before)) =
           ∙ ap (λ b. take q.length (drop q.start b)) is.bits
           ∙ before_stays p.start q.start q.length bits (y ++ (drop (p.start + p.length) bits ++ pad)) before.1 (omega arith),
     )
-keeps p bytes written y pad is q (inr (inr behind)) =
+keeps p bytes written y pad is q (inr (inr following)) =
     let bits = bits_of bytes in
     let enough = is.shorter.enough in
     let header = is.has.header in
-    let end : q.start + q.length ≤ length bits = omega (arith, behind.1, length-drop 50 bits) in
-    let goes : moved p q ≡ back q = moved_after p q (omega (arith, behind.0)) in
+    let end : q.start + q.length ≤ length bits = omega (arith, following.1, length-drop 50 bits) in
+    let goes : moved p q ≡ back q = moved_after p q (omega (arith, following.0)) in
     inr (
       ap (λ (r : PacketPlace). r.length) goes,
       ap (λ r. bits_there r (bits_of written)) goes
           ∙ ap (λ b. take q.length (drop (q.start - 29) b)) is.bits
-          ∙ after_stays p.start p.length q.start q.length bits y pad is.shorter.long (omega arith) behind.0 end,
+          ∙ after_stays p.start p.length q.start q.length bits y pad is.shorter.long (omega arith) following.0 end,
     )
 
 pub all_kept : (p : PacketPlace) (bytes written : List ℕ) (y pad : List Bool) → IsFor p bytes written y pad → All (Kept p (bits_of bytes) (bits_of written)) (listing_of bytes).packets.items

@@ -26,7 +26,7 @@ impl Position {
     }
 
     // The place after a byte that stands here.
-    fn behind(self, byte: u8) -> Position {
+    fn past(self, byte: u8) -> Position {
         if byte == b'\n' {
             Position {
                 line: self.line.saturating_add(1),
@@ -64,7 +64,7 @@ impl<'a> Walk<'a> {
         let count = place.saturating_sub(self.passed).min(self.rest.len());
         let (next, rest) = self.rest.split_at(count);
         for byte in next {
-            self.here = self.here.behind(*byte);
+            self.here = self.here.past(*byte);
         }
         self.rest = rest;
         self.passed = self.passed.saturating_add(count);

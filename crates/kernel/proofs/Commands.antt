@@ -8,7 +8,7 @@ use Rattle.events.specs.declared.output.Brake.{Brake}
 use Rattle.events.specs.declared.output.Brake.TheVariants as brake
 use Rattle.mode_control.specs.Life.{Life}
 use Rattle.mode_table.specs.declared.mode.Mode.TheVariants.{Trip, SystemFailure}
-use Rattle.kernel.specs.Brake.{is_not_revalidated, is_in, owes_trip, has_begun, is_above_limit_by, train_stood, has_rolled_too_far, service_brake_requested, was_within_limit, must_stand, owes_too_long, where_so, brake_of, causes_of}
+use Rattle.kernel.specs.Brake.{is_not_revalidated, is_in, owes_trip, has_started, is_above_limit_by, train_stood, has_rolled_too_far, service_brake_requested, was_within_limit, must_stand, owes_too_long, where_so, brake_of, causes_of}
 use Rattle.kernel.specs.Causes.{command_of, is_emergency, is_service}
 
 -- ---- what is commanded where a cause for the emergency brake is there, or else one for the service brake
@@ -45,15 +45,15 @@ service_row false why causes later is reported = reported
 pub commands : (life : Life) → brake_of life ≡ by_causes (causes_of life)
 commands life =
     let services =
-    service_row (has_begun service_brake_requested train_stood life) cause.ServiceBrakeRequested _ _ refl
-    (service_row (has_begun (is_above_limit_by 5_000) was_within_limit life) cause.TooFast _ _ refl
+    service_row (has_started service_brake_requested train_stood life) cause.ServiceBrakeRequested _ _ refl
+    (service_row (has_started (is_above_limit_by 5_000) was_within_limit life) cause.TooFast _ _ refl
     (service_row (must_stand life) cause.MustStand _ _ refl
     (service_row (owes_too_long life) cause.OwesTooLong [] brake.None refl (refl, refl)))) in
     emergency_row (is_not_revalidated life) cause.NotRevalidated _ _ refl
     (emergency_row (is_in Trip life) cause.InTrip _ _ refl
     (emergency_row (is_in SystemFailure life) cause.InSystemFailure _ _ refl
     (emergency_row (owes_trip life) cause.OwesTrip _ _ refl
-    (emergency_row (has_begun (is_above_limit_by 10_000) train_stood life) cause.FarTooFast _ _ refl
+    (emergency_row (has_started (is_above_limit_by 10_000) train_stood life) cause.FarTooFast _ _ refl
     (emergency_row (has_rolled_too_far life) cause.RolledTooFar _ _ refl services.0)))))
 
 -- ---- what a commanded brake says of its causes

@@ -7,7 +7,7 @@ use Rattle.events.specs.Kept.{PositionFrom}
 use Rattle.mode_table.specs.declared.level.TrainLevel.{TrainLevel}
 use Rattle.mode_table.specs.declared.statuses.Cold.{Cold}
 use Rattle.mode_table.specs.declared.statuses.Cold.TheVariants as cold
-use Rattle.mode_control.specs.Sentences.{begun_life}
+use Rattle.mode_control.specs.Sentences.{initial_life}
 use Rattle.mode_control.specs.StandsFor.{parts_of as supervision_parts_of}
 use Rattle.track_picture.specs.Stores.{Stores}
 use Rattle.kernel.specs.Lives.{left_by}
@@ -20,9 +20,9 @@ with_items kept level position = record kept { level = level; position = positio
 -- what is known of both lives, and what is answered, is the same
 abbrev Same : Cold → Kept → Type 0
 Same word kept =
-    (parts_of (begun_life kept word) ≡ parts_of (begun_life (left_by word kept) word))
-    × (supervision_parts_of (begun_life kept word) ≡ supervision_parts_of (begun_life (left_by word kept) word))
-    × (output_of (begun_life kept word) ≡ output_of (begun_life (left_by word kept) word))
+    (parts_of (initial_life kept word) ≡ parts_of (initial_life (left_by word kept) word))
+    × (supervision_parts_of (initial_life kept word) ≡ supervision_parts_of (initial_life (left_by word kept) word))
+    × (output_of (initial_life kept word) ≡ output_of (initial_life (left_by word kept) word))
 
 same_items : (word : Cold) (kept : Kept) (level : Datum TrainLevel) (position : Datum PositionFrom) → Same word (with_items kept level position)
 same_items cold.NotMoved kept level position = (refl, refl, refl)
@@ -49,8 +49,8 @@ same : (word : Cold) (kept : Kept) → Same word kept
 same word kept = same_items word kept kept.level kept.position
 
 module _ {G S : Type 0} {stores : Stores G S} {known : Knowledge G S} where
-  to_left : (word : Cold) (kept : Kept) → StandsForLife stores known (begun_life kept word) →
-      StandsForLife stores known (begun_life (left_by word kept) word)
+  to_left : (word : Cold) (kept : Kept) → StandsForLife stores known (initial_life kept word) →
+      StandsForLife stores known (initial_life (left_by word kept) word)
   to_left word kept s =
       let is = same word kept in
       record {
@@ -58,8 +58,8 @@ module _ {G S : Type 0} {stores : Stores G S} {known : Knowledge G S} where
         supervision_is = record { parts_are = s.supervision_is.parts_are ∙ is.1; track_is = s.supervision_is.track_is };
       }
 
-  from_left : (word : Cold) (kept : Kept) → StandsForLife stores known (begun_life (left_by word kept) word) →
-      StandsForLife stores known (begun_life kept word)
+  from_left : (word : Cold) (kept : Kept) → StandsForLife stores known (initial_life (left_by word kept) word) →
+      StandsForLife stores known (initial_life kept word)
   from_left word kept s =
       let is = same word kept in
       record {
@@ -69,10 +69,10 @@ module _ {G S : Type 0} {stores : Stores G S} {known : Knowledge G S} where
 
   -- where the same is left of both, what stands for the one life stands for the other
   pub left_alike : (word : Cold) (one other : Kept) → left_by word one ≡ left_by word other →
-      StandsForLife stores known (begun_life one word) → StandsForLife stores known (begun_life other word)
+      StandsForLife stores known (initial_life one word) → StandsForLife stores known (initial_life other word)
   left_alike word one other alike s =
-      from_left word other (subst (λ (k : Kept). StandsForLife stores known (begun_life k word)) alike (to_left word one s))
+      from_left word other (subst (λ (k : Kept). StandsForLife stores known (initial_life k word)) alike (to_left word one s))
 
-pub answered_alike : (word : Cold) (one other : Kept) → left_by word one ≡ left_by word other → output_of (begun_life one word) ≡ output_of (begun_life other word)
+pub answered_alike : (word : Cold) (one other : Kept) → left_by word one ≡ left_by word other → output_of (initial_life one word) ≡ output_of (initial_life other word)
 answered_alike word one other alike =
-    (same word one).2 ∙ ap (λ (k : Kept). output_of (begun_life k word)) alike ∙ sym (same word other).2
+    (same word one).2 ∙ ap (λ (k : Kept). output_of (initial_life k word)) alike ∙ sym (same word other).2

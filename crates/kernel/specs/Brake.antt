@@ -51,7 +51,7 @@ abbrev pub stands : Option Reading → Bool
 stands reading = option_map_or (λ r. r.speed == 0) reading false
 
 abbrev pub train_stood : Snapshot → Bool
-train_stood snapshot = stands snapshot.event.track.begun.reading
+train_stood snapshot = stands snapshot.event.track.initial.reading
 
 -- the speed was above the limit that the event answered by more than this
 abbrev pub is_above_limit_by : ℕ → Snapshot → Bool
@@ -82,7 +82,7 @@ abbrev pub backward_by : Bool → Option Reading → ℕ
 backward_by overrun reading = if overrun then 0 else option_map_or (λ r. backward r.movement) reading 0
 
 abbrev pub backward_at : SupervisionEntry → ℕ
-backward_at event = backward_by event.track.used.happened.overrun event.track.begun.reading
+backward_at event = backward_by event.track.used.happened.overrun event.track.initial.reading
 
 -- backward movements since the train stood, with no forward ones taken off
 abbrev pub rolled_backward : Life → ℕ
@@ -121,11 +121,11 @@ abbrev pub while_so : Brake → BrakeCause → (Life → Bool) → Row
 while_so command why is_so = record { brake = command; cause = why; holds = is_so }
 
 -- from an event after which something was so, until one that ends it; where both are at one event it begins
-abbrev pub has_begun : (Snapshot → Bool) → (Snapshot → Bool) → Life → Bool
-has_begun begins ends life = list_any begins (since ends (snapshots life))
+abbrev pub has_started : (Snapshot → Bool) → (Snapshot → Bool) → Life → Bool
+has_started begins ends life = list_any begins (since ends (snapshots life))
 
 abbrev pub from_until : Brake → BrakeCause → (Snapshot → Bool) → (Snapshot → Bool) → Row
-from_until command why begins ends = record { brake = command; cause = why; holds = has_begun begins ends }
+from_until command why begins ends = record { brake = command; cause = why; holds = has_started begins ends }
 
 abbrev pub rows : List Row
 rows =

@@ -12,7 +12,7 @@ use Rattle.mode_table.specs.declared.statuses.Cold.TheVariants as cold
 use Rattle.mode_table.specs.declared.statuses.Item.TheVariants as item
 use Rattle.mode_table.specs.Statuses.{power_up_status}
 use Rattle.mode_control.specs.Life.{Life, track_of, driver_of, grown}
-use Rattle.mode_control.specs.Sentences.{entry_of, begun_life}
+use Rattle.mode_control.specs.Sentences.{entry_of, initial_life}
 use Rattle.track_picture.specs.StandsFor.{national_of}
 use Rattle.kernel.specs.declared.counts.Counts.{Counts}
 use Rattle.kernel.specs.Position.{position_of}
@@ -56,7 +56,7 @@ no_life = record { kept = nothing_kept; cold = cold.Unknown; entries = [] }
 
 -- a power-up begins a life with what was kept; an input adds what it does
 abbrev pub life_after : Kept → Life → events.Event → Life
-life_after kept life (PowerUp cold) = begun_life kept cold
+life_after kept life (PowerUp cold) = initial_life kept cold
 life_after kept life (Input input) = grown life (entry_of life input)
 
 abbrev pub life_of : List events.Event → Life

@@ -15,14 +15,14 @@ use Rattle.track_picture.specs.History.{moment_of, speed_of}
 use Rattle.kernel.specs.Brake.{rolled_backward}
 use Rattle.kernel.specs.declared.showing.Acknowledgements.{Acknowledgements}
 use Rattle.kernel.specs.declared.showing.Motion.{Motion}
-use Rattle.kernel.specs.declared.showing.Shown.{Shown}
+use Rattle.kernel.specs.declared.showing.DisplayValues.{DisplayValues}
 use Rattle.kernel.specs.declared.showing.Waiting.{Waiting}
 use Rattle.kernel.specs.declared.showing.Waiting.TheVariants as waits
 
 -- what the driver is waited for: one that is owed has so long left until it orders the service brake, 0 where it does
 abbrev pub waiting : ℕ → Acknowledgement → Waiting
 waiting now state.Nothing = waits.Nothing
-waiting now state.Asked = waits.Asked
+waiting now state.Requested = waits.Requested
 waiting now state.Done = waits.Nothing
 waiting now (state.Owed since) = waits.Owed (since + brake_delay - now)
 
@@ -44,7 +44,7 @@ service_speed life = limit life + 5_000
 abbrev pub emergency_speed : Life → ℕ
 emergency_speed life = limit life + 10_000
 
-abbrev pub shown_of : Life → Shown
+abbrev pub shown_of : Life → DisplayValues
 shown_of life = record {
   waiting = acknowledgements_of life;
   overriding = left_of_override life;

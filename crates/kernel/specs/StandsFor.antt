@@ -19,7 +19,7 @@ use Rattle.track_picture.specs.Stores.{Stores}
 use Rattle.kernel.specs.declared.counts.Counts.{Counts}
 use Rattle.kernel.specs.declared.sight.Sight.{Sight}
 use Rattle.kernel.specs.declared.window.Window.{Window}
-use Rattle.kernel.specs.Brake.{stands, train_stood, was_within_limit, is_above_limit_by, service_brake_requested, backward_at, rolled_backward, has_begun}
+use Rattle.kernel.specs.Brake.{stands, train_stood, was_within_limit, is_above_limit_by, service_brake_requested, backward_at, rolled_backward, has_started}
 use Rattle.kernel.specs.Lives.{Past, kept_of, counts_of, counts_in, life_of}
 use Rattle.kernel.specs.Position.{position_at_power_up}
 
@@ -27,10 +27,10 @@ use Rattle.kernel.specs.Position.{position_at_power_up}
 -- backward stays at the greatest number of 64 bits
 abbrev pub window_of : Life → Window
 window_of life = record {
-  far_too_fast = has_begun (is_above_limit_by 10_000) train_stood life;
-  service_brake_requested = has_begun service_brake_requested train_stood life;
+  far_too_fast = has_started (is_above_limit_by 10_000) train_stood life;
+  service_brake_requested = has_started service_brake_requested train_stood life;
   backward = min (rolled_backward life) (2 ^ 64 - 1);
-  too_fast = has_begun (is_above_limit_by 5_000) was_within_limit life;
+  too_fast = has_started (is_above_limit_by 5_000) was_within_limit life;
 }
 
 -- ---- what an event shows the brakes, in a life that its entry is added to
@@ -44,7 +44,7 @@ reading_of (Driver action) = None
 
 abbrev pub sight_at : Life → SupervisionEntry → Sight
 sight_at life entry = record {
-  stands = stands entry.track.begun.reading;
+  stands = stands entry.track.initial.reading;
   backward = backward_at entry;
   service_brake_requested = entry.track.used.happened.asked.service;
   speed = speed_of (tracks (entry ∷ life.entries));

@@ -58,7 +58,7 @@ impl<T: ProfileStores> StateOver<T> {
     pub fn power_up(alloc: Global, kept: &Kept, cold: Cold) -> (Self, Output)
         ensures stands { (events : List Event) → left_by cold kept.now ≡ left_by cold (kept_by events) → StandsFor T.stores result.0 (event.PowerUp cold ∷ events) }
         ensures output { (events : List Event) → left_by cold kept.now ≡ left_by cold (kept_by events) → result.1 ≡ output_after (event.PowerUp cold ∷ events) }
-        ensures begun { (past : Past) → left_by cold kept.now ≡ left_by cold past.kept
+        ensures initial { (past : Past) → left_by cold kept.now ≡ left_by cold past.kept
             → StandsAt T.stores result.0 (past_after past (event.PowerUp cold)) }
         ensures answer { (past : Past) → left_by cold kept.now ≡ left_by cold past.kept
             → result.1 ≡ output_of (past_after past (event.PowerUp cold)).life }

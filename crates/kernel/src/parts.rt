@@ -1,7 +1,7 @@
 //! What the kernel holds along with supervision and counts: the window of the brakes, the limit, the kept position.
 ghost use Rattle.std.specs.Prelude.{◌≡◌, []};
 ghost use Rattle.kernel.specs.StandsFor.{parts_of};
-ghost use Rattle.mode_control.specs.Sentences.{begun_life};
+ghost use Rattle.mode_control.specs.Sentences.{initial_life};
 
 use crate::window::Window;
 use driver::Datum;
@@ -45,7 +45,7 @@ impl Parts {
     #[inline(never)]
     pub fn new(kept: &Kept, cold: Cold) -> Self
         ensures before { result ≡ parts_of (record { kept = kept.now; cold = cold; entries = [] }) }
-        ensures begun { result ≡ parts_of (begun_life kept.now cold) }
+        ensures initial { result ≡ parts_of (initial_life kept.now cold) }
     {
         Parts {
             window: Window::new(),

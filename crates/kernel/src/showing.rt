@@ -21,7 +21,7 @@ pub enum Waiting {
     /// He isn't.
     Nothing,
     /// An acknowledgement is asked for, before the transition.
-    Asked,
+    Requested,
     /// It is owed, and so many milliseconds are left until it orders the service brake; 0 where it does.
     Owed(u64),
 }
@@ -43,7 +43,7 @@ fn waits_at(now: Ms, it: Acknowledgement) -> Waiting
 {
     match it {
         Acknowledgement::Nothing | Acknowledgement::Done => Waiting::Nothing,
-        Acknowledgement::Asked => Waiting::Asked,
+        Acknowledgement::Requested => Waiting::Requested,
         Acknowledgement::Owed(since) => {
             let over = since.get() + BRAKE_DELAY;
             Waiting::Owed(over.saturating_sub(now.get()))
@@ -64,7 +64,7 @@ pub struct Motion {
 
 /// What a display shows along with the output.
 #[derive(Clone, Copy)]
-pub struct Shown {
+pub struct DisplayValues {
     /// Which acknowledgements the driver is waited for, and how long yet.
     pub waiting: Acknowledgements,
     /// What is left of an override: None exactly where the trip isn't overridden (SUBSET-026, 5.8).
@@ -95,13 +95,13 @@ impl<T: ProfileStores> StateOver<T> {
 
     /// What a display shows along with the output of the last event. Takes no memory, and is worked out where it is asked
     /// alone.
-    pub fn shown(&self) -> Shown
+    pub fn shown(&self) -> DisplayValues
         ensures shown { (life : Life) → StandsForLife T.stores self.now life → result ≡ shown_of life }
         ensures exact { (life : Life) → StandsForLife T.stores self.now life → is_some result.overriding ≡ is_overridden life }
     {
         let now = self.supervision.track().moment();
         let limit = self.parts.limit.get();
-        Shown {
+        DisplayValues {
             waiting: Acknowledgements {
                 on_sight: waits_at(now, self.supervision.on_sight()),
                 shunting: waits_at(now, self.supervision.shunting()),

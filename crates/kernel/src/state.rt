@@ -8,7 +8,7 @@ ghost use Rattle.kernel.specs.Lives.{counted, left_by, kept_by};
 ghost use Rattle.kernel.specs.Output.{output_after};
 ghost use Rattle.kernel.specs.Quiet.{HasNoTrack};
 ghost use Rattle.kernel.specs.StandsFor.{StandsForLife, StandsFor, WaitsFor};
-ghost use Rattle.mode_control.specs.Sentences.{begun_life};
+ghost use Rattle.mode_control.specs.Sentences.{initial_life};
 
 use crate::counts::Counts;
 use crate::parts::{Parts, no_speed};
@@ -79,7 +79,7 @@ impl<T: ProfileStores> StateOver<T> {
     // The life begins, and is counted.
     fn set_out(&mut self)
         ensures life { (kept : KeptItems) (cold : ColdWord) → WaitsFor T.stores self.old kept cold
-            → StandsForLife T.stores self.new (begun_life kept cold) }
+            → StandsForLife T.stores self.new (initial_life kept cold) }
         ensures counts { (cold : ColdWord) → self.new.counts ≡ counted self.old.counts (PowerUp cold) }
         ensures track { HasNoTrack T.stores self.old → HasNoTrack T.stores self.new }
     {
@@ -89,13 +89,13 @@ impl<T: ProfileStores> StateOver<T> {
 
     /// A life begins with what was kept, and is counted. Takes no memory.
     pub(crate) fn begin(alloc: Global, kept: Kept, cold: Cold) -> Self
-        ensures life { StandsForLife T.stores result (begun_life kept cold) }
+        ensures life { StandsForLife T.stores result (initial_life kept cold) }
         ensures counts { result.counts ≡ counted (record { events = kept.events; lives = kept.lives }) (PowerUp cold) }
         ensures track { HasNoTrack T.stores result }
     {
-        let mut begun = StateOver::before_power_up(alloc, kept, cold);
-        begun.set_out();
-        begun
+        let mut initial = StateOver::before_power_up(alloc, kept, cold);
+        initial.set_out();
+        initial
     }
 
     /// The life begins of which only what was kept is known (`before_power_up`), as `power_up` begins it: what is

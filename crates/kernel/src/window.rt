@@ -5,7 +5,7 @@ ghost use Rattle.mode_table.specs.declared.statuses.Cold.{Cold};
 ghost use Rattle.kernel.specs.StandsFor.{sight_at, window_of};
 ghost use Rattle.mode_control.specs.Entry.{SupervisionEntry};
 ghost use Rattle.mode_control.specs.Life.{Life, grown};
-ghost use Rattle.mode_control.specs.Sentences.{begun_life};
+ghost use Rattle.mode_control.specs.Sentences.{initial_life};
 
 use crate::sight::Sight;
 
@@ -40,7 +40,7 @@ impl Window {
     /// Nothing, as a life begins.
     pub fn new() -> Self
         ensures nothing { (kept : Kept) (cold : Cold) → result ≡ window_of (record { kept = kept; cold = cold; entries = [] }) }
-        ensures begun { (kept : Kept) (cold : Cold) → result ≡ window_of (begun_life kept cold) }
+        ensures initial { (kept : Kept) (cold : Cold) → result ≡ window_of (initial_life kept cold) }
     {
         Window {
             far_too_fast: false,

@@ -12,12 +12,12 @@ abbrev pub after_of : ℕ → ℕ → ℕ
 after_of bytes whole = bytes - 512 * (1 + 6 * whole)
 
 abbrev pub sizes_text : Form → ℕ → ℕ → List ℕ → ℕ → ℕ → List ℕ
-sizes_text form bytes sectors slots whole behind = joined (
+sizes_text form bytes sectors slots whole following = joined (
     text_in form (codes "image bytes ") (codes "{\"image\":{\"bytes\":") ∷ decimal bytes
     ∷ text_in form (codes " sectors ") (codes ",\"sectors\":") ∷ decimal sectors
     ∷ text_in form (codes " slots ") (codes ",\"slots\":") ∷ slots
     ∷ text_in form (codes " whole ") (codes ",\"whole_slots\":") ∷ decimal whole
-    ∷ text_in form (codes " trailing bytes ") (codes ",\"trailing_bytes\":") ∷ decimal behind ∷ [])
+    ∷ text_in form (codes " trailing bytes ") (codes ",\"trailing_bytes\":") ∷ decimal following ∷ [])
 
 abbrev pub size_text : Form → ℕ → Survey → List ℕ
 size_text form bytes it = sizes_text form bytes it.sectors (known_text form it.slots) it.whole (after_of bytes it.whole)

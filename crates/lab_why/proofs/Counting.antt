@@ -14,9 +14,9 @@ use Rattle.lab_why.specs.Playing.{inputs_from}
 
 -- ---- the ends of the steps of a scenario
 
-by_end : (end a b at_a at_b first part : ℕ) (before behind : Bool) → leb end a ≡ before → leb end b ≡ behind → a ≤ b → suc first ≤ cond before (1 + at_a) 0
-    → (first ≤ at_a → at_b ≡ first + part) → cond behind (1 + at_b) 0 ≡ suc first + part
-by_end end a b at_a at_b first part false behind x y le ended more = absurd (omega (arith, ended))
+by_end : (end a b at_a at_b first part : ℕ) (before following : Bool) → leb end a ≡ before → leb end b ≡ following → a ≤ b → suc first ≤ cond before (1 + at_a) 0
+    → (first ≤ at_a → at_b ≡ first + part) → cond following (1 + at_b) 0 ≡ suc first + part
+by_end end a b at_a at_b first part false following x y le ended more = absurd (omega (arith, ended))
 by_end end a b at_a at_b first part true false x y le ended more =
     absurd (let one = leb-true end a x in let other : leb end b ≡ true = le-leb end b (omega (arith, one, le)) in let clash : true ≡ false = sym other ∙ y in cc)
 by_end end a b at_a at_b first part true true x y le ended more = let same = more (omega (arith, ended)) in omega (arith, same)

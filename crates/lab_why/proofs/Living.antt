@@ -15,7 +15,7 @@ use Rattle.unit_start.specs.Events.{account_of, pairs_of}
 use Rattle.unit_start.specs.Lives.{IsReady, IsWord, IsBlank, IsOpenRefusal, IsNextNumber}
 use Rattle.unit_start.specs.Releases.{Release}
 use Rattle.whole_lives.specs.Runs.{durable_by, NothingReleased}
-use Rattle.onboard.specs.Progress.{begun_with}
+use Rattle.onboard.specs.Progress.{starting_with}
 use Rattle.whole_lives.specs.Stops.{AllStand, Stopped, LifeEnds, IsUnopened, AreAfter, IsDone}
 use Rattle.whole_lives.specs.declared.errors.LiveError.{LiveError}
 use Rattle.whole_lives.specs.declared.errors.LiveError.TheVariants as a_live
@@ -24,7 +24,7 @@ use Rattle.unit_start.specs.declared.errors.OpenError.TheVariants as an_open
 use Rattle.unit_start.proofs.Greatest.{no_cause, same_slots}
 use Rattle.lab_why.specs.Images.{IsEmpty}
 use Rattle.lab_why.specs.Playing.{carried_out, PlayEnds}
-use Rattle.lab_why.proofs.Releasing.{begun, nothing_durable}
+use Rattle.lab_why.proofs.Releasing.{initial, nothing_durable}
 
 -- ---- an empty image
 
@@ -60,15 +60,15 @@ module _ (disk : Recording) (empty : IsEmpty disk) where
   pub ends : (steps : List Step) (ended : Result (Unit {0}) LiveError) → LifeEnds (memory_state disk) steps ended → PlayEnds steps (result_err ended)
   ends steps (Ok x) how = ⊎_elim
       (λ (unopened : IsUnopened (memory_state disk) (Ok x)). absurd (let clash = unopened.1 in cc))
-      (λ (opened : (newest : ℕ) × (IsTrue (memory_state disk).honest → IsNextNumber (memory_state disk).sectors (contents_of (memory_state disk)) newest) × AllStand (begun_with newest) steps).
-      subst (λ (n : ℕ). AllStand (begun_with n) steps) (first_number opened.0 (opened.1 refl)) opened.2)
+      (λ (opened : (newest : ℕ) × (IsTrue (memory_state disk).honest → IsNextNumber (memory_state disk).sectors (contents_of (memory_state disk)) newest) × AllStand (starting_with newest) steps).
+      subst (λ (n : ℕ). AllStand (starting_with n) steps) (first_number opened.0 (opened.1 refl)) opened.2)
       how
   ends steps (Err error) how = ⊎_elim
       (λ (unopened : IsUnopened (memory_state disk) (Err error)).
       let same : error ≡ a_live.Open unopened.0 = (let e : Err error ≡ Err (a_live.Open unopened.0) = unopened.1 in cc) in
       inl (same ∙ ap (λ (e : OpenError). a_live.Open e) (only_device unopened.0 (unopened.2 refl))))
-      (λ (opened : (newest : ℕ) × (IsTrue (memory_state disk).honest → IsNextNumber (memory_state disk).sectors (contents_of (memory_state disk)) newest) × Stopped (begun_with newest) steps error).
-      inr (subst (λ (n : ℕ). Stopped (begun_with n) steps error) (first_number opened.0 (opened.1 refl)) opened.2))
+      (λ (opened : (newest : ℕ) × (IsTrue (memory_state disk).honest → IsNextNumber (memory_state disk).sectors (contents_of (memory_state disk)) newest) × Stopped (starting_with newest) steps error).
+      inr (subst (λ (n : ℕ). Stopped (starting_with n) steps error) (first_number opened.0 (opened.1 refl)) opened.2))
       how
 
   -- ---- what it releases
@@ -79,30 +79,30 @@ module _ (disk : Recording) (empty : IsEmpty disk) where
   word_or_nothing cold word released P is = ⊎_elim (λ (its : IsWord (memory_state disk).sectors (contents_of (memory_state disk)) cold word). inl (its.blank blank)) (λ (none : P × NothingReleased released). inr none.1) is
 
 -- after steps that were carried out
-behind : (cold word : Cold) (found : List Event) (done : List Step) (durable accepted : List Event) (released out : List Release) → found ≡ [] → out ≡ released
+following : (cold word : Cold) (found : List Event) (done : List Step) (durable accepted : List Event) (released out : List Release) → found ≡ [] → out ≡ released
     → (word ≡ cold) ⊎ (released ≡ []) → AreAfter (an_event.PowerUp word ∷ found) done durable accepted released
-    → pairs_of (durable_by (begun cold) done) ≡ pairs_of (begun cold) ++ out
-behind cold word found done durable accepted released out none same word_is so =
+    → pairs_of (durable_by (initial cold) done) ≡ pairs_of (initial cold) ++ out
+following cold word found done durable accepted released out none same word_is so =
     let R : List Event → Type 0 = λ f. pairs_of (durable_by (an_event.PowerUp word ∷ f) done) ≡ pairs_of (an_event.PowerUp word ∷ f) ++ released in
-    let at_word : pairs_of (durable_by (begun word) done) ≡ pairs_of (begun word) ++ released = subst R none (ap pairs_of (sym so.0) ∙ so.2) in
+    let at_word : pairs_of (durable_by (initial word) done) ≡ pairs_of (initial word) ++ released = subst R none (ap pairs_of (sym so.0) ∙ so.2) in
     ⊎_elim
-    (λ (it : word ≡ cold). subst (λ (w : Cold). pairs_of (durable_by (begun w) done) ≡ pairs_of (begun w) ++ out) it (at_word ∙ ap (λ (l : List Release). pairs_of (begun word) ++ l) (sym same)))
+    (λ (it : word ≡ cold). subst (λ (w : Cold). pairs_of (durable_by (initial w) done) ≡ pairs_of (initial w) ++ out) it (at_word ∙ ap (λ (l : List Release). pairs_of (initial word) ++ l) (sym same)))
     (λ (nothing : released ≡ []).
-    ap pairs_of (nothing_durable word cold done (at_word ∙ ap (λ (l : List Release). pairs_of (begun word) ++ l) nothing))
-    ∙ sym (append-nil (pairs_of (begun cold)))
-    ∙ ap (λ (l : List Release). pairs_of (begun cold) ++ l) (sym (same ∙ nothing)))
+    ap pairs_of (nothing_durable word cold done (at_word ∙ ap (λ (l : List Release). pairs_of (initial word) ++ l) nothing))
+    ∙ sym (append-nil (pairs_of (initial cold)))
+    ∙ ap (λ (l : List Release). pairs_of (initial cold) ++ l) (sym (same ∙ nothing)))
     word_is
 
 pub releases : (cold word : Cold) (found : List Event) (steps : List Step) (ended : Result (Unit {0}) LiveError) (U : Type 0) (taken : ℕ) (durable accepted : List Event) (released out : List Release)
     → found ≡ [] → out ≡ released → (word ≡ cold) ⊎ (released ≡ []) → IsDone (an_event.PowerUp word ∷ found) steps U ended taken durable accepted released
-    → pairs_of (durable_by (begun cold) (carried_out steps (result_err ended))) ≡ pairs_of (begun cold) ++ out
+    → pairs_of (durable_by (initial cold) (carried_out steps (result_err ended))) ≡ pairs_of (initial cold) ++ out
 releases cold word found steps (Ok x) U taken durable accepted released out none same word_is done =
-    behind cold word found steps durable accepted released out none same word_is done.1
+    following cold word found steps durable accepted released out none same word_is done.1
 releases cold word found steps (Err (a_live.Open e)) U taken durable accepted released out none same word_is done =
-    sym (append-nil (pairs_of (begun cold))) ∙ ap (λ (l : List Release). pairs_of (begun cold) ++ l) (sym (same ∙ done.0))
+    sym (append-nil (pairs_of (initial cold))) ∙ ap (λ (l : List Release). pairs_of (initial cold) ++ l) (sym (same ∙ done.0))
 releases cold word found steps (Err (a_live.Accept k e)) U taken durable accepted released out none same word_is done =
-    behind cold word found (take k steps) durable accepted released out none same word_is done.1
+    following cold word found (take k steps) durable accepted released out none same word_is done.1
 releases cold word found steps (Err (a_live.Flush k e)) U taken durable accepted released out none same word_is done =
-    behind cold word found (take k steps) durable accepted released out none same word_is done.1
+    following cold word found (take k steps) durable accepted released out none same word_is done.1
 releases cold word found steps (Err (a_live.NoMemory k)) U taken durable accepted released out none same word_is done =
-    behind cold word found (take k steps) durable accepted released out none same word_is done.1
+    following cold word found (take k steps) durable accepted released out none same word_is done.1

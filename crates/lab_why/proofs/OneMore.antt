@@ -17,41 +17,41 @@ use Rattle.whole_lives.specs.Runs.{accept_one, accepted_by}
 use Rattle.lab_why.specs.Ends.{step_at}
 use Rattle.lab_why.specs.Playing.{inputs_from, IsLine, AreLines}
 use Rattle.lab_why.proofs.Counting.{count_accepted, its_place}
-use Rattle.lab_why.proofs.Releasing.{begun, same_end, count_released, up_to}
+use Rattle.lab_why.proofs.Releasing.{initial, same_end, count_released, up_to}
 
 module _ (cold : Cold) (steps : List Step) (place : ℕ) where
   -- the events up to a step of the life
   abbrev pub up_to_here : List Event
-  up_to_here = accepted_by (begun cold) (take place steps)
+  up_to_here = accepted_by (initial cold) (take place steps)
 
   -- .. are the older part of all
-  pub all_after : accepted_by (begun cold) steps ≡ accepted_by [] (drop place steps) ++ up_to_here
-  all_after = ap (accepted_by (begun cold)) (sym (take-append-drop place steps)) ∙ up_to (begun cold) (take place steps) (drop place steps)
+  pub all_after : accepted_by (initial cold) steps ≡ accepted_by [] (drop place steps) ++ up_to_here
+  all_after = ap (accepted_by (initial cold)) (sym (take-append-drop place steps)) ∙ up_to (initial cold) (take place steps) (drop place steps)
 
   -- .. and by that step
-  pub one_on : (x d : Step) → place < length steps → x ≡ get_or steps place d → accepted_by (begun cold) (take (place + 1) steps) ≡ accept_one up_to_here x
-  one_on x d below is = fold_more accept_one (begun cold) steps place d below ∙ ap (accept_one up_to_here) (sym is)
+  pub one_on : (x d : Step) → place < length steps → x ≡ get_or steps place d → accepted_by (initial cold) (take (place + 1) steps) ≡ accept_one up_to_here x
+  one_on x d below is = fold_more accept_one (initial cold) steps place d below ∙ ap (accept_one up_to_here) (sym is)
 
   pub input_step : (ends : List ℕ) (input : Input) (d : Step) → place < length steps → Accept input ≡ get_or steps place d
       → slice_index (map (step_at ends) (inputs_from 0 steps)) (length up_to_here - 1) ≡ step_at ends place
   input_step ends input d below is =
-      let count : length up_to_here ≡ 1 + length (inputs_from 0 (take place steps)) = count_accepted (begun cold) 0 (take place steps) in
+      let count : length up_to_here ≡ 1 + length (inputs_from 0 (take place steps)) = count_accepted (initial cold) 0 (take place steps) in
       let number : length up_to_here - 1 ≡ length (inputs_from 0 (take place steps)) = omega (arith, count) in
       let same : 0 + place ≡ place = omega arith in
       ap (λ (n : ℕ). slice_index (map (step_at ends) (inputs_from 0 steps)) n) number ∙ its_place (step_at ends) steps place 0 input d below is ∙ ap (step_at ends) same
 
-  module _ (durable more : List Event) (released : List Release) (older : accepted_by (begun cold) steps ≡ more ++ durable) (pairs : pairs_of durable ≡ pairs_of (begun cold) ++ released) where
+  module _ (durable more : List Event) (released : List Release) (older : accepted_by (initial cold) steps ≡ more ++ durable) (pairs : pairs_of durable ≡ pairs_of (initial cold) ++ released) where
     -- so many were reported as were released: these are all
     pub all_reported : length up_to_here ≡ suc (length released) → up_to_here ≡ durable
-    all_reported count = sym (same_end (accepted_by (begun cold) steps) more durable (accepted_by [] (drop place steps)) up_to_here older all_after (count_released cold durable released pairs ∙ sym count))
+    all_reported count = sym (same_end (accepted_by (initial cold) steps) more durable (accepted_by [] (drop place steps)) up_to_here older all_after (count_released cold durable released pairs ∙ sym count))
 
     -- .. and so it is at the end
     pub none_left : (reported : ℕ) → length steps ≤ place → length up_to_here ≡ suc reported → reported ≤ length released → up_to_here ≡ durable
     none_left reported over count within =
-        let whole : accepted_by (begun cold) steps ≡ up_to_here = all_after ∙ ap (λ (l : List Step). accepted_by [] l ++ up_to_here) (drop_of_length-le steps over) in
+        let whole : accepted_by (initial cold) steps ≡ up_to_here = all_after ∙ ap (λ (l : List Step). accepted_by [] l ++ up_to_here) (drop_of_length-le steps over) in
         let long : length durable ≡ suc (length released) = count_released cold durable released pairs in
-        let all : length (accepted_by (begun cold) steps) ≡ length more + length durable = ap length older ∙ length-append more durable in
-        let same : length (accepted_by (begun cold) steps) ≡ length up_to_here = ap length whole in
+        let all : length (accepted_by (initial cold) steps) ≡ length more + length durable = ap length older ∙ length-append more durable in
+        let same : length (accepted_by (initial cold) steps) ≡ length up_to_here = ap length whole in
         all_reported (omega (arith, long, all, same, count, within))
 
 -- a line more

@@ -53,8 +53,8 @@ same_end all more one others other is also long =
 
 -- ---- what was accepted up to an input
 
-abbrev pub begun : Cold → List Event
-begun word = an_event.PowerUp word ∷ []
+abbrev pub initial : Cold → List Event
+initial word = an_event.PowerUp word ∷ []
 
 -- the input, after all that was accepted before it, is where it was accepted
 pub up_to : (events : List Event) (first rest : List Step) → accepted_by events (first ++ rest) ≡ accepted_by [] rest ++ accepted_by events first
@@ -62,7 +62,7 @@ up_to events first rest = fold-append accept_one events first rest ∙ accepted_
 
 -- what is released of an event, where that many are released before it
 pub its_release : (word : Cold) (event : Event) (all more durable rest events : List Event) (released : List Release) (reported : ℕ) (d : Release)
-    → all ≡ more ++ durable → all ≡ rest ++ event ∷ events → pairs_of durable ≡ pairs_of (begun word) ++ released
+    → all ≡ more ++ durable → all ≡ rest ++ event ∷ events → pairs_of durable ≡ pairs_of (initial word) ++ released
     → length events ≡ suc reported → reported < length released → get_or released reported d ≡ pair_of events event
 its_release word event all more durable rest events released reported d older also pairs counted below =
     let count : length durable ≡ suc (length released) = count_released word durable released pairs in
@@ -109,10 +109,10 @@ flushed_on d a events (Accept input ∷ steps) = flushed_on d (an_event.Input in
 flushed_on d a events (Flush ∷ steps) = flushed_on a a events steps
 
 -- where nothing was released after one power-up, nothing is durable after another one
-pub nothing_durable : (word other : Cold) (steps : List Step) → pairs_of (durable_by (begun word) steps) ≡ pairs_of (begun word) ++ [] → durable_by (begun other) steps ≡ begun other
+pub nothing_durable : (word other : Cold) (steps : List Step) → pairs_of (durable_by (initial word) steps) ≡ pairs_of (initial word) ++ [] → durable_by (initial other) steps ≡ initial other
 nothing_durable word other steps none =
-    let count : length (durable_by (begun word) steps) ≡ 1 = count_released word (durable_by (begun word) steps) [] none in
-    let more : length (durable_by (begun word) steps) ≡ length (durable_by [] steps) + 1 =
-    ap length (flushed_on [] [] (begun word) steps) ∙ length-append (durable_by [] steps) (begun word) in
+    let count : length (durable_by (initial word) steps) ≡ 1 = count_released word (durable_by (initial word) steps) [] none in
+    let more : length (durable_by (initial word) steps) ≡ length (durable_by [] steps) + 1 =
+    ap length (flushed_on [] [] (initial word) steps) ∙ length-append (durable_by [] steps) (initial word) in
     let empty : durable_by [] steps ≡ [] = empty_of (durable_by [] steps) (omega (arith, count, more)) in
-    flushed_on [] [] (begun other) steps ∙ ap (λ (l : List Event). l ++ begun other) empty
+    flushed_on [] [] (initial other) steps ∙ ap (λ (l : List Event). l ++ initial other) empty

@@ -31,12 +31,12 @@ use Rattle.lab_events.specs.declared.left_out.Stretch.{Stretch}
 use Rattle.lab_why.specs.Lines.{description_of, line_of}
 use Rattle.lab_why.specs.Played.{answer_in}
 use Rattle.lab_why.specs.declared.course.Course.{Course}
-use Rattle.lab_why.specs.declared.course.Shown.{Shown}
+use Rattle.lab_why.specs.declared.course.Explanation.{Explanation}
 
 -- ---- an event of a life that is known
 
 -- how the last event of a story was answered, where this decides the limit
-abbrev pub shown_of : Story → LimitCause → Shown
+abbrev pub shown_of : Story → LimitCause → Explanation
 shown_of story cause = record {
   brake = (output_at story).brake;
   limit = (output_at story).limit;
@@ -44,12 +44,12 @@ shown_of story cause = record {
   decides = limit_reported (output_at story).limit cause;
 }
 
-abbrev pub IsShown : Story → Shown → Type 0
+abbrev pub IsShown : Story → Explanation → Type 0
 IsShown story shown =
     (cause : LimitCause) × IsLimitCause (past_at story).life (output_at story).limit cause × (shown ≡ shown_of story cause)
 
 -- Two events were answered in the same way, for the same reasons. Where what decides the limit lies doesn't count.
-pub record IsSo (one other : Shown) : Type 0 where
+pub record IsSo (one other : Explanation) : Type 0 where
   pub brake : one.brake ≡ other.brake
   pub limit : one.limit ≡ other.limit
   pub runs : one.runs ≡ other.runs
@@ -58,19 +58,19 @@ pub record IsSo (one other : Shown) : Type 0 where
 
 -- an event of this number, before which an event of its life was answered so, has a line: it is the one that is asked
 -- for; or, where each change is, it is the first of its life, or was answered in another way
-abbrev pub HasLine : Option ℕ → ℕ → Option Shown → Shown → Type 0
+abbrev pub HasLine : Option ℕ → ℕ → Option Explanation → Explanation → Type 0
 HasLine (Some only) event before now = event ≡ only
 HasLine None event None now = Unit {0}
 HasLine None event (Some before) now = IsSo before now → ⊥
 
 -- the line of the last event of a story
-abbrev pub line_at : Form → Story → ℕ → Shown → List ℕ
+abbrev pub line_at : Form → Story → ℕ → Explanation → List ℕ
 line_at form story event shown =
     line_of form (answer_in story event (output_at story)) (description_of shown.runs) (trip_of story) shown.decides
     (judged_in story) (closings_of story)
 
 -- known bytes grew by the line of an event that has one, which counts; else they are the same
-abbrev pub AddsLine : Option ℕ → Form → Story → ℕ → Option Shown → Shown → ℕ → ℕ → Option (List ℕ) → Option (List ℕ) → Type 0
+abbrev pub AddsLine : Option ℕ → Form → Story → ℕ → Option Explanation → Explanation → ℕ → ℕ → Option (List ℕ) → Option (List ℕ) → Type 0
 AddsLine only form story event before now lines more old new =
     (HasLine only event before now × (more ≡ one_more lines (2 ^ 64 - 1)) × Appends old new (line_at form story event now))
     ⊎ ((HasLine only event before now → ⊥) × (more ≡ lines) × (new ≡ old))
@@ -101,8 +101,8 @@ lost_in form None number = lost_block_text form number
 -- ---- courses
 
 -- before the oldest block
-abbrev pub begun : Option ℕ → Form → Course
-begun only form = record {
+abbrev pub initial : Option ℕ → Form → Course
+initial only form = record {
   only = only;
   form = form;
   life = None;
@@ -123,10 +123,10 @@ after_gap c = record c { left = None; shown = None; life = None; reason = a_reas
 
 -- before a power-up, where no head says what was kept: within a block a life goes on from what the kernel keeps of the
 -- one before, where that is known
-abbrev pub begun_after : Result Kept Unknown → Option Reasoned → Course → Course
-begun_after (Ok kept) before c = c
-begun_after (Err an_unknown.WithinBlock) (Some life) c = c
-begun_after (Err unknown) before c = record c { life = None; reason = reason_of unknown }
+abbrev pub initial_after : Result Kept Unknown → Option Reasoned → Course → Course
+initial_after (Ok kept) before c = c
+initial_after (Err an_unknown.WithinBlock) (Some life) c = c
+initial_after (Err unknown) before c = record c { life = None; reason = reason_of unknown }
 
 -- ---- an event is run
 
@@ -150,7 +150,7 @@ Begins (Err unknown) event before run = Follows event before run
 
 -- the last event of a life has its line, if it has one
 pub record DescribesLife (life : Reasoned) (event : ℕ) (c next : Course) (old new : Option (List ℕ)) : Type 0 where
-  pub shown : Shown
+  pub shown : Explanation
   pub lines : ℕ
   pub next_is : next ≡ record c { shown = Some shown; lines = lines }
   pub stands : (story : Story) → Reasons story life → IsShown story shown
@@ -174,6 +174,6 @@ AddsStep (Step.Unreadable number) c next old new = (next ≡ after_gap c) × App
 AddsStep Step.Missing c next old new = (next ≡ after_gap c) × Appends old new (left_text c)
 AddsStep (Step.Begins block life before r) c next old new =
     (mid : Option (List ℕ)) × Appends old mid (left_text c)
-    × RunsAndDescribes (Begins before r.event) life r (begun_after before c.life (all_reported c)) next mid new
+    × RunsAndDescribes (Begins before r.event) life r (initial_after before c.life (all_reported c)) next mid new
 AddsStep (Step.GoesOn block life r) c next old new = RunsAndDescribes (Follows r.event) life r c next old new
 AddsStep (Step.Head block) c next old new = (next ≡ c) × (new ≡ old)

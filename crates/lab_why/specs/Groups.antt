@@ -64,12 +64,12 @@ reaction_text form reaction.ServiceBrake =
     text_in form (codes ", asks for the service brake") (codes ",\"reaction\":\"service\"")
 reaction_text form reaction.NoReaction = text_in form [] (codes ",\"reaction\":null")
 
-abbrev pub group_begun : Form → Bool → List ℕ
-group_begun form later = text_in form (codes "; group ") (if later then codes ",{\"country\":" else codes "{\"country\":")
+abbrev pub group_opening : Form → Bool → List ℕ
+group_opening form later = text_in form (codes "; group ") (if later then codes ",{\"country\":" else codes "{\"country\":")
 
 abbrev pub group_front : Form → Bool → Mode → GroupReport → List ℕ
 group_front form later mode reported =
-    joined (group_begun form later ∷ decimal reported.group.country
+    joined (group_opening form later ∷ decimal reported.group.country
     ∷ text_in form (codes " ") (codes ",\"group\":") ∷ decimal reported.group.number
     ∷ text_in form (codes " in mode ") (codes ",\"mode\":\"") ∷ mode_text mode
     ∷ text_in form (codes ", direction ") (codes "\",\"direction\":") ∷ direction_text form reported.direction

@@ -17,7 +17,7 @@ use Rattle.unit_start.specs.Events.{pair_of}
 use Rattle.unit_start.specs.Releases.{Release}
 use Rattle.whole_lives.specs.Runs.{durable_by}
 use Rattle.whole_lives.specs.Stops.{step_of, AllStand, Stopped}
-use Rattle.onboard.specs.Progress.{begun_with}
+use Rattle.onboard.specs.Progress.{starting_with}
 use Rattle.whole_lives.specs.declared.errors.LiveError.{LiveError}
 use Rattle.whole_lives.specs.declared.errors.LiveError.TheVariants as a_live
 use Rattle.unit_start.specs.declared.errors.OpenError.TheVariants as an_open
@@ -83,5 +83,5 @@ pub record IsPlayed (life : PlayedLife) (stopped : Option LiveError) (text : Lis
 -- How a life may end on an empty image: no step has a cause to be refused; or it stopped at the first one that has, or
 -- for memory or the device; or the device failed as it was opened.
 abbrev pub PlayEnds : List Step → Option LiveError → Type 0
-PlayEnds steps None = AllStand (begun_with 1) steps
-PlayEnds steps (Some error) = (error ≡ a_live.Open an_open.DeviceFault) ⊎ Stopped (begun_with 1) steps error
+PlayEnds steps None = AllStand (starting_with 1) steps
+PlayEnds steps (Some error) = (error ≡ a_live.Open an_open.DeviceFault) ⊎ Stopped (starting_with 1) steps error

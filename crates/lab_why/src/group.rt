@@ -4,7 +4,7 @@ ghost use Rattle.std.specs.Io.KnownBytes.{Appends};
 ghost use Rattle.text_output.specs.Pieces.{text_of, texts};
 ghost use Rattle.text_output.specs.declared.piece.Form.{Form as a_form};
 ghost use Rattle.track_picture.specs.Closings.{all_of};
-ghost use Rattle.lab_why.specs.Groups.{announcement_text, direction_text, group_back, group_begun, group_front, group_if, group_text, groups_text, head_text, packets_of, packets_text, reaction_text};
+ghost use Rattle.lab_why.specs.Groups.{announcement_text, direction_text, group_back, group_opening, group_front, group_if, group_text, groups_text, head_text, packets_of, packets_text, reaction_text};
 
 use crate::packet::write_packets;
 use mode_table::Mode;
@@ -52,8 +52,8 @@ fn reaction_piece(reaction: LinkReaction) -> Piece
     }
 }
 
-fn begun_piece(later: bool) -> Piece
-    ensures { (form : a_form) → text_of form result ≡ group_begun form later }
+fn opening_piece(later: bool) -> Piece
+    ensures { (form : a_form) → text_of form result ≡ group_opening form later }
 {
     if later {
         Piece::Text("; group ", ",{\"country\":")
@@ -66,7 +66,7 @@ fn front_pieces(later: bool, mode: Mode, reported: &GroupReport) -> [Piece; 10]
     ensures { (form : a_form) → texts form result ≡ group_front form later mode reported.now }
 {
     [
-        begun_piece(later),
+        opening_piece(later),
         Piece::Number(reported.group.country.number()),
         Piece::Text(" ", ",\"group\":"),
         Piece::Number(reported.group.number.number()),

@@ -7,7 +7,7 @@ ghost use Rattle.text_output.specs.declared.piece.Form.{Form as a_form};
 ghost use Rattle.reasons.specs.Reported.{Reasons};
 ghost use Rattle.lab_why.specs.Courses.{line_at, lost_in, AddsLine, Follows, Begins, Describes, AddsStep};
 
-use crate::course::{Course, Shown, begin_after, finish, has_line, leave_out, pass_gap, shown_in};
+use crate::course::{Course, Explanation, begin_after, finish, has_line, leave_out, pass_gap, shown_in};
 use crate::lines::{description_of, write_line};
 use crate::played::answer_in;
 use blocks::Block;
@@ -44,8 +44,8 @@ fn begin(
 {
     match (before, event) {
         (Ok(kept), Event::PowerUp(word)) => {
-            let (begun, _) = Reasoning::begin(alloc, kept, *word);
-            *life = Some(begun);
+            let (initial, _) = Reasoning::begin(alloc, kept, *word);
+            *life = Some(initial);
             Ok(())
         }
         (Ok(_), Event::Input(_)) => follow(alloc, life, event),
@@ -57,7 +57,7 @@ fn begin(
 fn write_event<W: Write>(
     life: &Reasoning,
     event: u64,
-    shown: &Shown,
+    shown: &Explanation,
     form: Form,
     out: &mut W,
 ) -> Result<(), LateError>
@@ -84,7 +84,7 @@ fn write_reported<W: Write>(
     course: &Course,
     life: &Reasoning,
     event: u64,
-    shown: &Shown,
+    shown: &Explanation,
     out: &mut W,
 ) -> Result<u64, LateError>
     ensures { (story : Story) → Reasons story life.now → IfOk result (λ lines.

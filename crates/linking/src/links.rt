@@ -127,12 +127,12 @@ impl Links {
         ensures stands { (entries : List LinkEntry) → self.old ≡ known entries
             → self.new ≡ known (after_misses (filter (is_passed_by min_front) self.old.left) entries) }
     {
-        if !is_any_behind(self.left.as_slice(), min_front) {
+        if !is_any_passed(self.left.as_slice(), min_front) {
             return Effect::NONE;
         }
-        let effect = effect_behind(self.left.as_slice(), min_front, self.has_missed);
-        self.has_missed = self.has_missed_behind(min_front);
-        drop_behind(&mut self.left, min_front);
+        let effect = effect_of_passed(self.left.as_slice(), min_front, self.has_missed);
+        self.has_missed = self.has_missed_passed(min_front);
+        forget_passed(&mut self.left, min_front);
         effect
     }
 
@@ -202,10 +202,10 @@ impl Links {
     }
 
     // Whether one was missed since the last acceptance, once those are missed that the minimum safe front has passed.
-    fn has_missed_behind(&self, min_front: Cm) -> bool
+    fn has_missed_passed(&self, min_front: Cm) -> bool
         ensures { result ≡ (self.now.has_missed || list_any (is_passed_by min_front) self.now.left) }
     {
-        self.has_missed || is_any_behind(self.left.as_slice(), min_front)
+        self.has_missed || is_any_passed(self.left.as_slice(), min_front)
     }
 
     // Drops the announcements up to a number, whose group was accepted.
@@ -258,7 +258,7 @@ fn effect_before(announcements: &[Announcement], number: u8, has_missed: bool) -
 }
 
 // What the announcements that the minimum safe front has passed ask for where they are missed.
-fn effect_behind(announcements: &[Announcement], min_front: Cm, has_missed: bool) -> Effect
+fn effect_of_passed(announcements: &[Announcement], min_front: Cm, has_missed: bool) -> Effect
     ensures { result ≡ misses has_missed (filter (is_passed_by min_front) announcements.now) }
 {
     let mut missed = has_missed;
@@ -273,14 +273,14 @@ fn effect_behind(announcements: &[Announcement], min_front: Cm, has_missed: bool
 }
 
 // Whether the minimum safe front has passed one of the announcements.
-fn is_any_behind(announcements: &[Announcement], min_front: Cm) -> bool
+fn is_any_passed(announcements: &[Announcement], min_front: Cm) -> bool
     ensures { result ≡ list_any (is_passed_by min_front) announcements.now }
 {
     announcements.iter().any(|a| a.is_passed_by(min_front))
 }
 
 // Drops the announcements that the minimum safe front has passed.
-fn drop_behind(announcements: &mut ArrayVec<Announcement, MOST_ANNOUNCED>, min_front: Cm)
+fn forget_passed(announcements: &mut ArrayVec<Announcement, MOST_ANNOUNCED>, min_front: Cm)
     ensures { announcements.new.items ≡ filter (λ a. not (is_passed_by min_front a)) announcements.old.items }
 {
     announcements.retain(|a| !a.is_passed_by(min_front));

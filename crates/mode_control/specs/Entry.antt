@@ -27,5 +27,5 @@ abbrev pub all_left : Left
 all_left = record { on_sight = true; shunting = true; level_0 = true }
 
 -- an event as it begins: its other columns aren't written yet
-abbrev pub begun : track.TrackEntry → Option Deed → SupervisionEntry
-begun track deed = record { track = track; deed = deed; level = None; calls = no_calls; left = all_left }
+abbrev pub initial : track.TrackEntry → Option Deed → SupervisionEntry
+initial track deed = record { track = track; deed = deed; level = None; calls = no_calls; left = all_left }

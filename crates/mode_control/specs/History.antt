@@ -119,7 +119,7 @@ abbrev pub happenings : Kind → SupervisionEntry → List (Option Happening)
 happenings kind event =
     only (acknowledges kind (action_of event.deed)) Happening.Acknowledged
     ∷ entered_at (call_for kind event.calls).turned
-    ∷ only (call_for kind event.calls).asks Happening.Asked
+    ∷ only (call_for kind event.calls).asks Happening.Requested
     ∷ only (deletes event.track.entered) Happening.Deleted
     ∷ only (not (remains kind event.left)) Happening.Settled
     ∷ []

@@ -27,14 +27,14 @@ use Rattle.vars.specs.declared.level.AreaMode.{AreaMode}
 use Rattle.vars.specs.declared.level.AreaMode.TheVariants as area
 use Rattle.track_picture.specs.Entry as track
 use Rattle.track_picture.specs.History.{place_of, speed_of, moment_of, areas_of, announced_level}
-use Rattle.track_picture.specs.Sentences.{received, span_with, mark_behind, powered_up}
+use Rattle.track_picture.specs.Sentences.{received, span_with, forgetting_mark, powered_up}
 use Rattle.track_picture.specs.StandsFor.{national_of}
 use Rattle.mode_control.specs.Conditions.{conditions, is_shunting_choice}
 use Rattle.mode_control.specs.declared.deed.Deed.{Deed}
 use Rattle.mode_control.specs.declared.calls.Call.{Call}
 use Rattle.mode_control.specs.declared.calls.Calls.{Calls}
 use Rattle.mode_control.specs.declared.calls.Left.{Left}
-use Rattle.mode_control.specs.Entry.{SupervisionEntry, begun}
+use Rattle.mode_control.specs.Entry.{SupervisionEntry, initial}
 use Rattle.mode_control.specs.History.{tracks, mode_of, done_in, on_sight_of, shunting_of, level_0_of}
 use Rattle.mode_control.specs.Life.{Life, track_of, driver_of, length_of, grown}
 
@@ -165,9 +165,9 @@ the_calls_are_settled now event = record event { left = left_in (tracks now.entr
 
 -- ---- the track far behind the train is forgotten
 
-abbrev pub the_track_behind_is_forgotten : Sentence
-the_track_behind_is_forgotten now event =
-    record event { track = record event.track { mark = Some (mark_behind (span_of now)) } }
+abbrev pub passed_track_is_forgotten : Sentence
+passed_track_is_forgotten now event =
+    record event { track = record event.track { mark = Some (forgetting_mark (span_of now)) } }
 
 -- ---- the whole event: the sentences in their order, each by the life with what those before it have written
 
@@ -176,7 +176,7 @@ sentences =
     the_train_is_seen
     ∷ the_mode_changes
     ∷ the_calls_are_settled
-    ∷ the_track_behind_is_forgotten
+    ∷ passed_track_is_forgotten
     ∷ []
 
 abbrev pub written : List Sentence → Life → SupervisionEntry → SupervisionEntry
@@ -184,13 +184,13 @@ written [] life event = event
 written (sentence ∷ later) life event = written later life (sentence (grown life event) event)
 
 abbrev pub entry_of : Life → inputs.Input → SupervisionEntry
-entry_of life input = written sentences life (begun (reported life input) (deed_of life input))
+entry_of life input = written sentences life (initial (reported life input) (deed_of life input))
 
 -- a power-up: nothing but the place and the forgetting mark
 abbrev pub powered_up_in : Life → SupervisionEntry
-powered_up_in life = begun (powered_up (length_of life)) None
+powered_up_in life = initial (powered_up (length_of life)) None
 
 -- a life begins with what was kept
-abbrev pub begun_life : Kept → Cold → Life
-begun_life kept cold =
+abbrev pub initial_life : Kept → Cold → Life
+initial_life kept cold =
     let empty : Life = record { kept = kept; cold = cold; entries = [] } in grown empty (powered_up_in empty)

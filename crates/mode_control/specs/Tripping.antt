@@ -12,7 +12,7 @@ use Rattle.mode_table.specs.Modes.{is_mode, is_one_of}
 use Rattle.mode_table.specs.Rows.{rows}
 use Rattle.track_picture.specs.History.{happened_of}
 use Rattle.mode_control.specs.Conditions.{is_beyond_end, trips}
-use Rattle.mode_control.specs.Entry.{SupervisionEntry, begun}
+use Rattle.mode_control.specs.Entry.{SupervisionEntry, initial}
 use Rattle.mode_control.specs.History.{tracks, mode_of}
 use Rattle.mode_control.specs.Life.{Life, grown}
 use Rattle.mode_control.specs.Sentences.{reported, deed_of, entered_in, train_in, the_train_is_seen, written}
@@ -47,7 +47,7 @@ trip_in life train = row_where (entered_in life train) life train
 
 -- .. by an input, as the next event
 abbrev pub seen_by : Life → inputs.Input → SupervisionEntry
-seen_by life input = written (the_train_is_seen ∷ []) life (begun (reported life input) (deed_of life input))
+seen_by life input = written (the_train_is_seen ∷ []) life (initial (reported life input) (deed_of life input))
 
 abbrev pub trip_by : Life → inputs.Input → Option TripCause
 trip_by life input = let now = grown life (seen_by life input) in trip_in now (train_in now (seen_by life input))

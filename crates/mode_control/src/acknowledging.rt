@@ -18,7 +18,7 @@ fn turn(acknowledgement: &mut Acknowledgement, turned: &Option<Ms>)
 }
 
 fn ask(acknowledgement: &mut Acknowledgement, asks: bool)
-    ensures { acknowledgement.new ≡ after_some (only asks Happening.Asked) acknowledgement.old }
+    ensures { acknowledgement.new ≡ after_some (only asks Happening.Requested) acknowledgement.old }
 {
     if asks {
         acknowledgement.ask();
@@ -59,7 +59,7 @@ pub fn answer(
     left: bool,
 )
     ensures { acknowledgement.new ≡ after_event (entered_at call.now.turned
-        ∷ only call.now.asks Happening.Asked
+        ∷ only call.now.asks Happening.Requested
         ∷ only (deletes entered.now) Happening.Deleted
         ∷ only (not left) Happening.Settled
         ∷ []) acknowledgement.old }

@@ -2,7 +2,7 @@
 ghost use Rattle.std.specs.Prelude.{◌≡◌, None, Some};
 ghost use Rattle.driver.specs.Accepting.{accepts};
 ghost use Rattle.track_picture.specs.Entry.{TrackEntry};
-ghost use Rattle.mode_control.specs.Entry.{begun};
+ghost use Rattle.mode_control.specs.Entry.{initial};
 ghost use Rattle.mode_control.specs.Life.{Life, driver_of, grown};
 ghost use Rattle.mode_control.specs.Sentences.{situation, occasion, deed_by, deed_of};
 ghost use Rattle.mode_control.specs.StandsFor.{StandsForLife, parts_of};
@@ -20,7 +20,7 @@ impl Parts {
     // An action is accepted.
     fn act(&mut self, deed: &Deed)
         ensures { (life : Life) (reported : TrackEntry) → self.old ≡ parts_of life
-            → self.new ≡ parts_of (grown life (begun (record reported { entered = None }) (Some deed.now))) }
+            → self.new ≡ parts_of (grown life (initial (record reported { entered = None }) (Some deed.now))) }
     {
         self.driver.act(&deed.action, &deed.occasion);
         acknowledge(&mut self.on_sight, Kind::OnSight, &deed.action);
@@ -32,7 +32,7 @@ impl Parts {
     /// What the driver did in an event.
     pub fn note(&mut self, deed: &Option<Deed>)
         ensures { (life : Life) (reported : TrackEntry) → self.old ≡ parts_of life
-            → self.new ≡ parts_of (grown life (begun (record reported { entered = None }) deed.now)) }
+            → self.new ≡ parts_of (grown life (initial (record reported { entered = None }) deed.now)) }
     {
         match deed {
             None => self.done = None,

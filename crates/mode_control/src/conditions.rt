@@ -1,6 +1,6 @@
 //! What the rows of the mode table ask for.
 ghost use Rattle.std.specs.Prelude.{◌≡◌, Bool, false, is_some};
-ghost use Rattle.mode_table.specs.declared.conditions.Conditions.{Conditions as Asked};
+ghost use Rattle.mode_table.specs.declared.conditions.Conditions.{Conditions as Requested};
 ghost use Rattle.mode_table.specs.Rows.{next_mode};
 ghost use Rattle.mode_control.specs.Conditions.{is_level_0, is_level_1, is_full_to, is_full, is_overridden, left_of_override, is_beyond, is_beyond_end, trips, is_beyond_staff_distance, is_start, is_shunting_choice, is_leaving, is_override, is_desk_closing, is_trip_acknowledging, conditions};
 ghost use Rattle.mode_control.specs.History.{mode_of};
@@ -68,7 +68,7 @@ fn is_trip_acknowledging(done: &Option<Action>) -> bool
 // Whether rows of the mode table that start from a mode may ask for the track ahead to be known up to the end of
 // authority.
 fn asks_for_full(mode: Mode) -> bool
-    ensures { result ≡ false → (c : Asked) (full : Bool) → next_mode mode (record c { full = full }) ≡ next_mode mode c }
+    ensures { result ≡ false → (c : Requested) (full : Bool) → next_mode mode (record c { full = full }) ≡ next_mode mode c }
 {
     matches!(
         mode,
@@ -179,7 +179,7 @@ impl<T: ProfileStores> SupervisionOver<T> {
 
     /// The mode after the event, where the train is there. Whether the track ahead is known up to the end of authority
     /// is looked for only where rows ask for it: in Full Supervision none does.
-    pub(crate) fn mode_behind(&self, train: &Stretch) -> Mode
+    pub(crate) fn mode_beyond(&self, train: &Stretch) -> Mode
         ensures { (life : Life) → StandsForLife T.stores self.now life → result ≡ next_mode (mode_of life.entries) (conditions life train.now) }
     {
         let mode = self.parts.mode;

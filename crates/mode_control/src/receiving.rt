@@ -2,9 +2,9 @@
 ghost use Rattle.std.specs.Prelude.{◌≡◌, ◌≤◌, IsOk, OnOk, OnErr, None};
 ghost use Rattle.track_picture.specs.StandsFor.{size_in};
 ghost use Rattle.track_picture.specs.Steps.{packets_by, HasRoomFor};
-ghost use Rattle.mode_control.specs.Entry.{SupervisionEntry, begun};
+ghost use Rattle.mode_control.specs.Entry.{SupervisionEntry, initial};
 ghost use Rattle.mode_control.specs.Life.{Life, grown};
-ghost use Rattle.mode_control.specs.Sentences.{reported, deed_of, the_track_behind_is_forgotten, entry_of};
+ghost use Rattle.mode_control.specs.Sentences.{reported, deed_of, passed_track_is_forgotten, entry_of};
 ghost use Rattle.mode_control.specs.StandsFor.{StandsForLife};
 
 use crate::state::SupervisionOver;
@@ -18,7 +18,7 @@ impl<T: ProfileStores> SupervisionOver<T> {
         ensures quiet { HasRoomFor T.stores self.old.track input.now → IsOk result }
         ensures idle { packets_by self.old.track.parts input.now ≡ 0 → OnOk result (size_in T.stores self.new.track ≡ size_in T.stores self.old.track) }
         ensures stands { OnOk result ((life : Life) → StandsForLife T.stores self.old life
-            → StandsForLife T.stores self.new (grown life (begun (reported life input.now) (deed_of life input.now)))) }
+            → StandsForLife T.stores self.new (grown life (initial (reported life input.now) (deed_of life input.now)))) }
         ensures err { OnErr result (self.new ≡ self.old) }
     {
         let deed = self.deed(input);
@@ -32,7 +32,7 @@ impl<T: ProfileStores> SupervisionOver<T> {
     fn forget(&mut self)
         ensures stands { (life : Life) (event : SupervisionEntry)
             → StandsForLife T.stores self.old (grown life (record event { track = record event.track { mark = None } }))
-            → StandsForLife T.stores self.new (grown life (the_track_behind_is_forgotten (grown life event) event)) }
+            → StandsForLife T.stores self.new (grown life (passed_track_is_forgotten (grown life event) event)) }
         ensures size { size_in T.stores self.new.track ≤ size_in T.stores self.old.track }
     {
         self.track.forget(self.parts.length());

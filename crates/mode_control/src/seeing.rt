@@ -6,7 +6,7 @@ ghost use Rattle.driver.specs.Known.{known};
 ghost use Rattle.units.specs.Stretches.{Span};
 ghost use Rattle.track_picture.specs.Entry.{TrackEntry};
 ghost use Rattle.mode_control.specs.declared.deed.Deed.{Deed};
-ghost use Rattle.mode_control.specs.Entry.{SupervisionEntry, begun};
+ghost use Rattle.mode_control.specs.Entry.{SupervisionEntry, initial};
 ghost use Rattle.mode_control.specs.History.{after_level};
 ghost use Rattle.mode_control.specs.Life.{Life, grown};
 ghost use Rattle.mode_control.specs.Sentences.{span_of, level_in, the_train_is_seen};
@@ -41,8 +41,8 @@ impl Parts {
     // An announced level comes into force, if one does.
     fn come_in(&mut self, level: &Option<TrainLevel>)
         ensures { (life : Life) (reported : TrackEntry) (train : Option Span) (deed : Option Deed)
-            → self.old ≡ parts_of (grown life (begun (record reported { entered = None }) deed))
-            → self.new ≡ parts_of (grown life (record (begun (record reported { train = train; entered = None }) deed) { level = level.now })) }
+            → self.old ≡ parts_of (grown life (initial (record reported { entered = None }) deed))
+            → self.new ≡ parts_of (grown life (record (initial (record reported { train = train; entered = None }) deed) { level = level.now })) }
     {
         come_in(&mut self.driver, level);
     }
@@ -54,10 +54,10 @@ impl<T: ProfileStores> SupervisionOver<T> {
         ensures train { (life : Life) (event : SupervisionEntry) → StandsForLife T.stores self.old (grown life event)
             → result.train ≡ span_of (grown life event) }
         ensures level { (life : Life) (reported : TrackEntry) (deed : Option Deed)
-            → (let event = begun (record reported { train = None; entered = None }) deed in
+            → (let event = initial (record reported { train = None; entered = None }) deed in
             StandsForLife T.stores self.old (grown life event) → result.level ≡ level_in (grown life event)) }
         ensures stands { (life : Life) (reported : TrackEntry) (deed : Option Deed)
-            → (let event = begun (record reported { train = None; entered = None }) deed in
+            → (let event = initial (record reported { train = None; entered = None }) deed in
             StandsForLife T.stores self.old (grown life event)
             → StandsForLife T.stores self.new (grown life (the_train_is_seen (grown life event) event))) }
         ensures size { size_in T.stores self.new.track ≡ size_in T.stores self.old.track }

@@ -3,7 +3,7 @@ ghost use Rattle.std.specs.Prelude.{◌≡◌, ◌≤◌, [], IsOk, IfOk};
 ghost use Rattle.events.specs.declared.kept.Kept.{Kept as KeptItems};
 ghost use Rattle.mode_table.specs.declared.statuses.Cold.{Cold as ColdWord};
 ghost use Rattle.mode_control.specs.Life.{Life, length_by};
-ghost use Rattle.mode_control.specs.Sentences.{begun_life, span_of};
+ghost use Rattle.mode_control.specs.Sentences.{initial_life, span_of};
 ghost use Rattle.mode_control.specs.StandsFor.{StandsForLife};
 ghost use Rattle.track_picture.specs.StandsFor.{size_in};
 
@@ -50,12 +50,12 @@ impl<T: ProfileStores> SupervisionOver<T> {
     /// A life begins with what was kept; what is known of movements while the power was off decides what of it stays
     /// valid. Takes no memory.
     pub fn power_up(alloc: Global, kept: Kept, cold: Cold) -> Self
-        ensures stands { StandsForLife T.stores result (begun_life kept cold) }
+        ensures stands { StandsForLife T.stores result (initial_life kept cold) }
         ensures size { size_in T.stores result.track ≡ 0 }
     {
-        let mut begun = SupervisionOver::new(alloc, kept, cold);
-        begun.set_out();
-        begun
+        let mut initial = SupervisionOver::new(alloc, kept, cold);
+        initial.set_out();
+        initial
     }
 
     /// The life begins of which only what was kept is known (`new`): the track is forgotten that lies too far behind the
@@ -63,7 +63,7 @@ impl<T: ProfileStores> SupervisionOver<T> {
     pub fn set_out(&mut self)
         ensures stands { (kept : KeptItems) (cold : ColdWord)
             → StandsForLife T.stores self.old (record { kept = kept; cold = cold; entries = [] })
-            → StandsForLife T.stores self.new (begun_life kept cold) }
+            → StandsForLife T.stores self.new (initial_life kept cold) }
         ensures size { size_in T.stores self.new.track ≤ size_in T.stores self.old.track }
     {
         self.track.forget(self.parts.length());

@@ -8,7 +8,7 @@ ghost use Rattle.track_picture.specs.History.{place_of};
 ghost use Rattle.track_picture.specs.StandsFor.{Life as TrackLife, StandsForLife as StandsForTrack, parts_of as track_parts_of, grown as track_grown, size_in};
 ghost use Rattle.mode_table.specs.declared.level.TrainLevel.{TrainLevel as Level};
 ghost use Rattle.mode_control.specs.declared.deed.Deed.{Deed};
-ghost use Rattle.mode_control.specs.Entry.{begun};
+ghost use Rattle.mode_control.specs.Entry.{initial};
 ghost use Rattle.mode_control.specs.History.{tracks, enters_staff, after_mode};
 ghost use Rattle.mode_control.specs.Life.{Life, grown};
 ghost use Rattle.mode_control.specs.Sentences.{changed, entered_in, has_entered, mode_after, moment_where, is_coming_to_level_0, call_of_areas, call_of_level, calls_in, left_in, the_mode_changes, the_calls_are_settled, written};
@@ -90,7 +90,7 @@ impl Parts {
     #[inline(always)]
     fn turn(&mut self, entered: &Option<Mode>, path: Length, calls: &Calls, left: &Left)
         ensures { (life : Life) (reported : TrackEntry) (deed : Option Deed) (level : Option Level)
-            → self.old ≡ parts_of (grown life (record (begun (record reported { entered = None }) deed) { level = level }))
+            → self.old ≡ parts_of (grown life (record (initial (record reported { entered = None }) deed) { level = level }))
             → path ≡ (place_of (reported ∷ tracks life.entries)).sums.path
             → self.new ≡ parts_of (grown life (record { track = record reported { entered = entered.now }; deed = deed; level = level; calls = calls.now; left = left.now })) }
     {
@@ -133,7 +133,7 @@ impl<T: ProfileStores> SupervisionOver<T> {
     pub(crate) fn entered(&self, train: &Stretch) -> Option<Mode>
         ensures { (life : Life) → StandsForLife T.stores self.now life → result ≡ entered_in life train.now }
     {
-        changed(self.parts.mode, self.mode_behind(train))
+        changed(self.parts.mode, self.mode_beyond(train))
     }
 
     // What is called for by the areas of a kind that has its own mode.
@@ -188,7 +188,7 @@ impl<T: ProfileStores> SupervisionOver<T> {
     #[inline(always)]
     pub(crate) fn turn(&mut self, seen: &Seen)
         ensures stands { (life : Life) (reported : TrackEntry) (deed : Option Deed)
-            → (let event = record (begun (record reported { train = Some seen.now.train; entered = None }) deed) { level = seen.now.level } in
+            → (let event = record (initial (record reported { train = Some seen.now.train; entered = None }) deed) { level = seen.now.level } in
             StandsForLife T.stores self.old (grown life event)
             → StandsForLife T.stores self.new (grown life (written (the_mode_changes ∷ the_calls_are_settled ∷ []) life event))) }
         ensures size { size_in T.stores self.new.track ≤ size_in T.stores self.old.track }

@@ -69,18 +69,18 @@ waiting (entry ∷ earlier) = or_before (brought entry) (unless_ended_by entry (
 --   a group of a country that is foreign to these values: the defaults, for that country alone
 --   a look that finds the start of the waiting packet 3 reached: the values of that packet, for its countries
 --   everything else: what was in force
-abbrev pub in_force_behind : NationalEntry → Option Fact → ValuesFor → ValuesFor
-in_force_behind (Entered country) waits before =
+abbrev pub in_force_after : NationalEntry → Option Fact → ValuesFor → ValuesFor
+in_force_after (Entered country) waits before =
     if is_foreign country before.countries then values_for defaults (country ∷ []) else before
-in_force_behind (Reached max_front) (Some fact) before =
+in_force_after (Reached max_front) (Some fact) before =
     if is_reached (start_of fact) max_front then reported_by fact.packet fact.country else before
-in_force_behind (Reached max_front) None before = before
-in_force_behind (Announced fact) waits before = before
+in_force_after (Reached max_front) None before = before
+in_force_after (Announced fact) waits before = before
 
 -- at first it is what a power-up kept
 abbrev pub in_force : ValuesFor → List NationalEntry → ValuesFor
 in_force kept [] = kept
-in_force kept (entry ∷ earlier) = in_force_behind entry (waiting earlier) (in_force kept earlier)
+in_force kept (entry ∷ earlier) = in_force_after entry (waiting earlier) (in_force kept earlier)
 
 -- whether a packet 3 came into force
 abbrev pub comes_by : NationalEntry → Option Fact → Bool

@@ -21,8 +21,8 @@ abbrev pub progress_of : JournalState → LifeState → Progress
 progress_of journal life = record { failed = journal.failed; pending = length life.records; moment = life.moment; newest = journal.newest }
 
 -- after a power-up in the block of this number
-abbrev pub begun_with : ℕ → Progress
-begun_with newest = record { failed = false; pending = 0; moment = 0; newest = newest }
+abbrev pub starting_with : ℕ → Progress
+starting_with newest = record { failed = false; pending = 0; moment = 0; newest = newest }
 
 -- after one more step: an input is pending; a flush writes a block, where something is pending
 abbrev pub go_on : Progress → Step → Progress

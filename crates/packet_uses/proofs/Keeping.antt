@@ -43,19 +43,19 @@ by_valid mode direction number start length (Some v) ps qs e =
     ∙ sym (ap (λ b. if b then record { number = number; start = start; length = length; fate = fate_by FullSupervision None number (Some v) } ∷ never_used_among qs else never_used_among qs)
     (by_table (uses FullSupervision number) (is_valid v None)))
 
-step : (mode : Mode) (direction : Option LinkOrientation) (behind : Bool) (start : ℕ) (p : Packet) (ps : List Packet) (is_behind : Bool)
-    → (behind || (number_of p == infill)) ≡ is_behind
-    → never_used_among (reported_from mode direction is_behind (start + length_of p) ps) ≡ never_used_among (reported_from FullSupervision None is_behind (start + length_of p) ps)
-    → never_used_among (reported_from mode direction behind start (p ∷ ps)) ≡ never_used_among (reported_from FullSupervision None behind start (p ∷ ps))
-step mode direction behind start p ps true e rest =
+step : (mode : Mode) (direction : Option LinkOrientation) (after_infill : Bool) (start : ℕ) (p : Packet) (ps : List Packet) (is_after_infill : Bool)
+    → (after_infill || (number_of p == infill)) ≡ is_after_infill
+    → never_used_among (reported_from mode direction is_after_infill (start + length_of p) ps) ≡ never_used_among (reported_from FullSupervision None is_after_infill (start + length_of p) ps)
+    → never_used_among (reported_from mode direction after_infill start (p ∷ ps)) ≡ never_used_among (reported_from FullSupervision None after_infill start (p ∷ ps))
+step mode direction after_infill start p ps true e rest =
     rw e (ap (λ (xs : List ReportedPacket). record { number = number_of p; start = start; length = length_of p; fate = Infill } ∷ xs) rest)
-step mode direction behind start p ps false e rest =
+step mode direction after_infill start p ps false e rest =
     rw e (by_valid mode direction (number_of p) start (length_of p) (valid_in p) (reported_from mode direction false (start + length_of p) ps)
     (reported_from FullSupervision None false (start + length_of p) ps) rest)
 
-pub whatever : (mode : Mode) (direction : Option LinkOrientation) (behind : Bool) (start : ℕ) (ps : List Packet)
-    → never_used_among (reported_from mode direction behind start ps) ≡ never_used_among (reported_from FullSupervision None behind start ps)
-whatever mode direction behind start [] = refl
-whatever mode direction behind start (p ∷ ps) =
-    step mode direction behind start p ps (behind || (number_of p == infill)) refl
-    (whatever mode direction (behind || (number_of p == infill)) (start + length_of p) ps)
+pub whatever : (mode : Mode) (direction : Option LinkOrientation) (after_infill : Bool) (start : ℕ) (ps : List Packet)
+    → never_used_among (reported_from mode direction after_infill start ps) ≡ never_used_among (reported_from FullSupervision None after_infill start ps)
+whatever mode direction after_infill start [] = refl
+whatever mode direction after_infill start (p ∷ ps) =
+    step mode direction after_infill start p ps (after_infill || (number_of p == infill)) refl
+    (whatever mode direction (after_infill || (number_of p == infill)) (start + length_of p) ps)

@@ -15,11 +15,11 @@ use Rattle.packet_uses.specs.Laws.{used_among}
 use Rattle.packet_uses.specs.Description.{reported_from}
 use Rattle.packet_uses.specs.declared.fate.Fate.TheVariants.{Used, OtherDirection, NotInMode}
 
-pub each_once : (mode : Mode) (direction : Option LinkOrientation) (behind : Bool) (start : ℕ) (ps : List Packet)
-    → length (reported_from mode direction behind start ps) ≡ length ps
-each_once mode direction behind start [] = refl
-each_once mode direction behind start (p ∷ ps) =
-    let rest = each_once mode direction (behind || (number_of p == infill)) (start + length_of p) ps in
+pub each_once : (mode : Mode) (direction : Option LinkOrientation) (after_infill : Bool) (start : ℕ) (ps : List Packet)
+    → length (reported_from mode direction after_infill start ps) ≡ length ps
+each_once mode direction after_infill start [] = refl
+each_once mode direction after_infill start (p ∷ ps) =
+    let rest = each_once mode direction (after_infill || (number_of p == infill)) (start + length_of p) ps in
     rw rest refl
 
 -- ---- after infill

@@ -17,10 +17,10 @@ use Rattle.packet_uses.specs.declared.description.ReportedPacket.{ReportedPacket
 
 -- packets one after another, the first of them at a place
 abbrev pub reported_from : Mode → Option LinkOrientation → Bool → ℕ → List Packet → List ReportedPacket
-reported_from mode direction behind start [] = []
-reported_from mode direction behind start (p ∷ ps) =
-    record { number = number_of p; start = start; length = length_of p; fate = fate_reported mode direction behind p }
-    ∷ reported_from mode direction (behind || (number_of p == infill)) (start + length_of p) ps
+reported_from mode direction after_infill start [] = []
+reported_from mode direction after_infill start (p ∷ ps) =
+    record { number = number_of p; start = start; length = length_of p; fate = fate_reported mode direction after_infill p }
+    ∷ reported_from mode direction (after_infill || (number_of p == infill)) (start + length_of p) ps
 
 -- the packets of a telegram that is refused
 abbrev pub refused_of : List PacketPlace → List ReportedPacket

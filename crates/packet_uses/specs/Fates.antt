@@ -20,5 +20,5 @@ fate_by mode direction number (Some valid) =
 
 -- What becomes of a packet, where a packet 136 stands before it or not.
 abbrev pub fate_reported : Mode → Option LinkOrientation → Bool → Packet → Fate
-fate_reported mode direction behind packet =
-    if behind || (number_of packet == infill) then Infill else fate_by mode direction (number_of packet) (valid_in packet)
+fate_reported mode direction after_infill packet =
+    if after_infill || (number_of packet == infill) then Infill else fate_by mode direction (number_of packet) (valid_in packet)

@@ -3,7 +3,7 @@ ghost use Rattle.std.specs.Prelude.{◌≡◌};
 ghost use Rattle.std.specs.List.{slice_get};
 ghost use Rattle.packet_uses.specs.Calls.{DescribesFor, DescribesIn, DescribesOne, DescribesUnused, direction_by, fate_number, is_unused as is_unused_reported, description_of, unused_among, wide_mode_by};
 
-use crate::description::{MOST_TOLD, ReportedPacket, reported_packets};
+use crate::description::{MOST_REPORTED, ReportedPacket, reported_packets};
 use crate::fate::Fate;
 use arrayvec::ArrayVec;
 use mode_table::Mode;
@@ -103,7 +103,7 @@ fn reported_to_c(packet: ReportedPacket) -> EtcsPacket
 
 /// Reports the packet of this index among those that aren't used.
 fn describe_one(
-    packets: &ArrayVec<ReportedPacket, MOST_TOLD>,
+    packets: &ArrayVec<ReportedPacket, MOST_REPORTED>,
     index: u32,
     reported: &mut EtcsPacket,
 ) -> u32

@@ -11,7 +11,7 @@ use track_packets::{MOST_LISTED, PacketPlace, packets_in_order};
 use vars::LinkOrientation;
 
 /// How many packets are reported at most: as many as `track_packets` lists of a telegram that is refused.
-pub const MOST_TOLD: usize = MOST_LISTED;
+pub const MOST_REPORTED: usize = MOST_LISTED;
 
 /// The bits of a telegram's header (SUBSET-026, 8.4.2).
 const HEADER_BITS: u64 = 50;
@@ -34,13 +34,13 @@ fn describe_read(
     packets: &[Packet<'_>],
     mode: Mode,
     direction: Option<LinkOrientation>,
-    is_behind: bool,
+    is_after_infill: bool,
     start: u64,
-    reported: &mut ArrayVec<ReportedPacket, MOST_TOLD>,
+    reported: &mut ArrayVec<ReportedPacket, MOST_REPORTED>,
 )
     requires room { length reported.old.items + length packets.now ≤ 34 }
     requires near { start + 2 ^ 33 * length packets.now ≤ 2 ^ 40 }
-    ensures { reported.new.items ≡ reported.old.items ++ reported_from mode direction is_behind start packets.now }
+    ensures { reported.new.items ≡ reported.old.items ++ reported_from mode direction is_after_infill start packets.now }
 {
     let Some((packet, others)) = packets.split_first() else {
         return;
@@ -51,14 +51,14 @@ fn describe_read(
         number,
         start,
         length,
-        fate: fate_of(packet, mode, direction, is_behind),
+        fate: fate_of(packet, mode, direction, is_after_infill),
     });
-    let is_behind = is_behind || number == INFILL;
-    describe_read(others, mode, direction, is_behind, start + length, reported);
+    let is_after_infill = is_after_infill || number == INFILL;
+    describe_read(others, mode, direction, is_after_infill, start + length, reported);
 }
 
 /// Reports the packets of a telegram that is refused.
-fn describe_refused(places: &[PacketPlace], reported: &mut ArrayVec<ReportedPacket, MOST_TOLD>)
+fn describe_refused(places: &[PacketPlace], reported: &mut ArrayVec<ReportedPacket, MOST_REPORTED>)
     requires { length reported.old.items + length places.now ≤ 34 }
     ensures { reported.new.items ≡ reported.old.items ++ refused_of places.now }
 {
@@ -81,10 +81,10 @@ pub fn reported_packets(
     bytes: &[u8],
     mode: Mode,
     direction: Option<LinkOrientation>,
-) -> ArrayVec<ReportedPacket, MOST_TOLD>
+) -> ArrayVec<ReportedPacket, MOST_REPORTED>
     ensures { DescribesPackets bytes.now mode direction result.items }
 {
-    let mut reported: ArrayVec<ReportedPacket, MOST_TOLD> = ArrayVec::new();
+    let mut reported: ArrayVec<ReportedPacket, MOST_REPORTED> = ArrayVec::new();
     let mut telegram = Telegram::new();
     match decode_into(bytes, &mut telegram) {
         Ok(()) => {

@@ -39,12 +39,12 @@ pub fn fate_of(
     packet: &Packet<'_>,
     mode: Mode,
     direction: Option<LinkOrientation>,
-    is_behind: bool,
+    is_after_infill: bool,
 ) -> Fate
-    ensures { result ≡ fate_reported mode direction is_behind packet.now }
+    ensures { result ≡ fate_reported mode direction is_after_infill packet.now }
 {
     let number = packet.number().get();
-    if is_behind || number == INFILL {
+    if is_after_infill || number == INFILL {
         return Fate::Infill;
     }
     let Some(valid) = valid_in(packet) else {

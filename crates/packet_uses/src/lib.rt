@@ -11,7 +11,7 @@ mod never;
 mod words;
 
 pub use calls::{EtcsPacket, unused_call};
-pub use description::{MOST_TOLD, ReportedPacket, reported_packets};
+pub use description::{MOST_REPORTED, ReportedPacket, reported_packets};
 pub use fate::{Fate, fate_of};
 pub use laws::{never_used_is_so, reported_as_used_is_used};
 pub use list::{write_never_used, write_reported};

@@ -2,7 +2,7 @@
 ghost use Rattle.std.specs.Prelude.{◌≡◌, ◌+◌, ◌≤◌, ◌++◌, length};
 ghost use Rattle.packet_uses.specs.Never.{DescribesNeverUsed, is_never_used as is_never_used_reported, never_used_among};
 
-use crate::description::{MOST_TOLD, ReportedPacket, reported_packets};
+use crate::description::{MOST_REPORTED, ReportedPacket, reported_packets};
 use crate::fate::Fate;
 use arrayvec::ArrayVec;
 use mode_table::Mode;
@@ -18,7 +18,7 @@ fn is_never_used(fate: Fate) -> bool
 }
 
 /// Keeps such packets of those that are reported.
-fn keep(packets: &[ReportedPacket], kept: &mut ArrayVec<ReportedPacket, MOST_TOLD>)
+fn keep(packets: &[ReportedPacket], kept: &mut ArrayVec<ReportedPacket, MOST_REPORTED>)
     requires { length kept.old.items + length packets.now ≤ 34 }
     ensures { kept.new.items ≡ kept.old.items ++ never_used_among packets.now }
 {
@@ -33,11 +33,11 @@ fn keep(packets: &[ReportedPacket], kept: &mut ArrayVec<ReportedPacket, MOST_TOL
 
 /// The packets of a telegram that no mode uses in any direction, in their order, each with why: those that the kernel
 /// doesn't know, a packet 136 and what follows it, and each packet of a telegram that is refused.
-pub fn never_used_packets(bytes: &[u8]) -> ArrayVec<ReportedPacket, MOST_TOLD>
+pub fn never_used_packets(bytes: &[u8]) -> ArrayVec<ReportedPacket, MOST_REPORTED>
     ensures { DescribesNeverUsed bytes.now result.items }
 {
     let reported = reported_packets(bytes, Mode::FullSupervision, None);
-    let mut kept: ArrayVec<ReportedPacket, MOST_TOLD> = ArrayVec::new();
+    let mut kept: ArrayVec<ReportedPacket, MOST_REPORTED> = ArrayVec::new();
     keep(reported.as_slice(), &mut kept);
     kept
 }

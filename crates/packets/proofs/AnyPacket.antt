@@ -113,13 +113,13 @@ unfolding packet
 spelled-packet p bits s =
     let low : number s.1 < 2 ^ 8 = number_below 8 s.1 s.4.0 in
     let read : s.0 ≡ number s.1 = (plain_back 8).back (number s.1) s.0 low s.4.1 in
-    let behind = spelled-packet_of s.0 p s.2 (subst (λ (i : ℕ). i < 2 ^ 8) (sym read) low) s.5 in
-    let number_is : s.1 ≡ number_bits 8 (number_of p) = field_bits 8 (number_of p) s.1 s.4.0 (behind.2 ∙ read) in
+    let following = spelled-packet_of s.0 p s.2 (subst (λ (i : ℕ). i < 2 ^ 8) (sym read) low) s.5 in
+    let number_is : s.1 ≡ number_bits 8 (number_of p) = field_bits 8 (number_of p) s.1 s.4.0 (following.2 ∙ read) in
     record {
-      length_is = omega (arith, ap length s.3, length-append s.1 s.2, s.4.0, behind.0);
-      small = behind.1;
-      fits = behind.3;
-      written = λ front. glue front bits s.1 s.2 (front ++ number_bits 8 (number_of p)) _ s.3 (ap (λ (t : List Bool). front ++ t) number_is) (behind.4 (front ++ number_bits 8 (number_of p)));
+      length_is = omega (arith, ap length s.3, length-append s.1 s.2, s.4.0, following.0);
+      small = following.1;
+      fits = following.3;
+      written = λ front. glue front bits s.1 s.2 (front ++ number_bits 8 (number_of p)) _ s.3 (ap (λ (t : List Bool). front ++ t) number_is) (following.4 (front ++ number_bits 8 (number_of p)));
     }
 
 -- ---- which packets have a spelling

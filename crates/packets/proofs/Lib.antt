@@ -1,7 +1,7 @@
 pub mod AnyPacket
 pub mod FieldRead
 pub mod FirstFits
-pub mod PacketShown
+pub mod PacketListed
 pub mod StaticFitting
 pub mod StaticSteps
 mod Reported

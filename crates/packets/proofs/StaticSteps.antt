@@ -6,7 +6,7 @@ use Rattle.std.proofs.lemmas.List.{drop_all, drop-drop}
 use Rattle.bits.specs.Bits.{number_bits}
 use Rattle.bits.specs.Layout.{folded}
 use Rattle.bits.specs.Sums.{total}
-use Rattle.bits.specs.Writing.{Shown, named, value, taken, size, with_bits, appended}
+use Rattle.bits.specs.Writing.{ListedField, named, value, taken, size, with_bits, appended}
 use Rattle.bits.specs.declared.name.VariableName.TheVariants as names
 use Rattle.bits.proofs.Numbers.{length-number_bits}
 use Rattle.bits.proofs.WritingLaws.{length-appended, length-each}
@@ -67,38 +67,38 @@ after_step p s = record {
   differences = record { items = differences_to (length s.steps.items) p };
 }
 
-one_step : {S : Type 0} (t : S → Shown → S) (p s : StaticSpeeds) (left : S)
+one_step : {S : Type 0} (t : S → ListedField → S) (p s : StaticSpeeds) (left : S)
     → taken t (static_step s) p left ≡ step_taken t (step_at (length s.steps.items) p) (drop (length s.differences.items) (differences_to (length s.steps.items) p)) left
 unfolding static_step
 one_step t p s left = refl
 
-folded_one : {S : Type 0} (t : S → Shown → S) (p s : StaticSpeeds) (n : ℕ) (left : S)
+folded_one : {S : Type 0} (t : S → ListedField → S) (p s : StaticSpeeds) (n : ℕ) (left : S)
     → taken t (folded static_step (suc n) s) p left ≡ taken t (folded static_step n (after_step p s)) p (taken t (static_step s) p left)
 unfolding folded static_step
 folded_one t p s n left = refl
 
-folded_none : {S : Type 0} (t : S → Shown → S) (p s : StaticSpeeds) (left : S) → taken t (folded static_step 0 s) p left ≡ left
+folded_none : {S : Type 0} (t : S → ListedField → S) (p s : StaticSpeeds) (left : S) → taken t (folded static_step 0 s) p left ≡ left
 unfolding folded
 folded_none t p s left = refl
 
 -- a step more, as the list says it
-step_more : {S : Type 0} (t : S → Shown → S) (p s : StaticSpeeds) (x : StaticStep) (xs : List StaticStep) (left : S)
+step_more : {S : Type 0} (t : S → ListedField → S) (p s : StaticSpeeds) (x : StaticStep) (xs : List StaticStep) (left : S)
     → drop (length s.steps.items) p.steps.items ≡ x ∷ xs → s.differences.items ≡ take (counted (take (length s.steps.items) p.steps.items)) p.differences.items
     → taken t (static_step s) p left ≡ step_taken t x (take x.differences (drop (counted (take (length s.steps.items) p.steps.items)) p.differences.items)) left
-step_more t p s x xs left e behind =
+step_more t p s x xs left e following =
     let own : drop (length s.differences.items) (differences_to (length s.steps.items) p) ≡ take x.differences (drop (counted (take (length s.steps.items) p.steps.items)) p.differences.items) =
-    ap (λ (ds : List Difference). drop (length ds) (differences_to (length s.steps.items) p)) behind
+    ap (λ (ds : List Difference). drop (length ds) (differences_to (length s.steps.items) p)) following
     ∙ ap (λ (n : ℕ). drop (length (take (counted (take (length s.steps.items) p.steps.items)) p.differences.items)) (take n p.differences.items)) (counted_more (length s.steps.items) p.steps.items x xs e)
     ∙ own_of (counted (take (length s.steps.items) p.steps.items)) x.differences p.differences.items in
     one_step t p s left ∙ ap (λ (ds : List Difference). step_taken t (step_at (length s.steps.items) p) ds left) own
     ∙ ap (λ (y : StaticStep). step_taken t y (take x.differences (drop (counted (take (length s.steps.items) p.steps.items)) p.differences.items)) left) (here (length s.steps.items) p.steps.items x xs e)
 
-steps_folded : {S : Type 0} (t : S → Shown → S) (p : StaticSpeeds) (xs : List StaticStep) (s : StaticSpeeds) (left : S)
+steps_folded : {S : Type 0} (t : S → ListedField → S) (p : StaticSpeeds) (xs : List StaticStep) (s : StaticSpeeds) (left : S)
     → drop (length s.steps.items) p.steps.items ≡ xs → s.differences.items ≡ take (counted (take (length s.steps.items) p.steps.items)) p.differences.items
     → taken t (folded static_step (length xs) s) p left ≡ steps_taken t xs (drop (counted (take (length s.steps.items) p.steps.items)) p.differences.items) left
 unfolding steps_taken
-steps_folded t p [] s left e behind = folded_none t p s left
-steps_folded t p (x ∷ xs) s left e behind =
+steps_folded t p [] s left e following = folded_none t p s left
+steps_folded t p (x ∷ xs) s left e following =
     let i : ℕ = length s.steps.items in
     let n : ℕ = counted (take i p.steps.items) in
     let long : length (after_step p s).steps.items ≡ i + 1 = length-append s.steps.items _ in
@@ -110,7 +110,7 @@ steps_folded t p (x ∷ xs) s left e behind =
     ap (λ (k : ℕ). drop (counted (take k p.steps.items)) p.differences.items) long ∙ ap (λ (k : ℕ). drop k p.differences.items) more ∙ sym (drop-drop x.differences n p.differences.items) in
     folded_one t p s (length xs) left ∙ others
     ∙ ap (λ (ds : List Difference). steps_taken t xs ds (taken t (static_step s) p left)) cut
-    ∙ ap (λ (y : _). steps_taken t xs (drop x.differences (drop n p.differences.items)) y) (step_more t p s x xs left e behind)
+    ∙ ap (λ (y : _). steps_taken t xs (drop x.differences (drop n p.differences.items)) y) (step_more t p s x xs left e following)
 
 -- ---- the whole profile
 
@@ -123,7 +123,7 @@ all_reported None s = refl
 all_reported (Some x) s = refl
 
 -- the first step and the other steps
-first_taken : {S : Type 0} (t : S → Shown → S) (p : StaticSpeeds) (reported : ℕ) (s : S)
+first_taken : {S : Type 0} (t : S → ListedField → S) (p : StaticSpeeds) (reported : ℕ) (s : S)
     → taken t (static_speeds_description (λ _. reported)) p s
     ≡ taken t (folded static_step (length p.steps.items - 1) (after_step p (no_steps_yet p))) p (t (taken t (static_step (no_steps_yet p)) p (head_taken t p.direction reported p.scale s)) (named names.NIter 5 (length p.steps.items - 1)))
 unfolding static_speeds_description static_step
@@ -133,7 +133,7 @@ counted_first : (steps : List StaticStep) → counted (take 1 steps) ≡ (slice_
 counted_first [] = refl
 counted_first (x ∷ xs) = omega arith
 
-pub speeds_taken : {S : Type 0} (t : S → Shown → S) (p : StaticSpeeds) (reported : ℕ) (s : S)
+pub speeds_taken : {S : Type 0} (t : S → ListedField → S) (p : StaticSpeeds) (reported : ℕ) (s : S)
     → taken t (static_speeds_description (λ _. reported)) p s ≡ profile_taken t p.steps.items p.differences.items (head_taken t p.direction reported p.scale s)
 speeds_taken t p reported s =
     let start : _ = head_taken t p.direction reported p.scale s in
@@ -220,7 +220,7 @@ cut_at xs i x d lt e =
     let k : suc i ≡ i + 1 = omega arith in
     drop-cons xs i d lt ∙ ap (λ (y : StaticStep). y ∷ drop (suc i) xs) (sym e) ∙ ap (λ (n : ℕ). x ∷ drop n xs) k
 
-pub steps_more : {S : Type 0} (t : S → Shown → S) (xs : List StaticStep) (i : ℕ) (x d : StaticStep) (left own others : List Difference) (old new all : S)
+pub steps_more : {S : Type 0} (t : S → ListedField → S) (xs : List StaticStep) (i : ℕ) (x d : StaticStep) (left own others : List Difference) (old new all : S)
     → i < length xs → x ≡ get_or xs i d → own ≡ take x.differences left → others ≡ drop x.differences left → new ≡ step_taken t x own old
     → steps_taken t (drop i xs) left old ≡ all → steps_taken t (drop (i + 1) xs) others new ≡ all
 unfolding steps_taken
@@ -229,7 +229,7 @@ steps_more t xs i x d left own others old new all lt e its rest put so_far =
     ap (λ (ys : List StaticStep). steps_taken t ys left old) (cut_at xs i x d lt e) in
     rw (put, its, rest) (sym one ∙ so_far)
 
-pub steps_end : {S : Type 0} (t : S → Shown → S) (xs : List StaticStep) (i : ℕ) (left : List Difference) (old all : S) → length xs ≤ i → steps_taken t (drop i xs) left old ≡ all → old ≡ all
+pub steps_end : {S : Type 0} (t : S → ListedField → S) (xs : List StaticStep) (i : ℕ) (left : List Difference) (old all : S) → length xs ≤ i → steps_taken t (drop i xs) left old ≡ all → old ≡ all
 unfolding steps_taken
 steps_end t xs i left old all le so_far =
     let none : drop i xs ≡ [] = drop_all i xs le in

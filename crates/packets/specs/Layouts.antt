@@ -87,8 +87,8 @@ authority_end = do
   end_section ← inner (section names.LEndsection) (λ p. p.end_section)
   the_timer ← qualified names.QEndtimer end_timer (λ p. p.end_timer)
   point ← qualified names.QDangerpoint danger_point (λ p. p.danger_point)
-  behind ← qualified names.QOverlap overlap (λ p. p.overlap)
-  done (record { end_section = end_section; end_timer = the_timer; danger_point = point; overlap = behind })
+  following ← qualified names.QOverlap overlap (λ p. p.overlap)
+  done (record { end_section = end_section; end_timer = the_timer; danger_point = point; overlap = following })
 
 -- Packet 12.
 unfoldable pub movement_authority_description : (MovementAuthority → ℕ) → Layout PacketFault MovementAuthority (ℕ × MovementAuthority)

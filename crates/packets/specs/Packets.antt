@@ -1,7 +1,7 @@
 -- Any packet: its layout by its number, its length and its fields (SUBSET-026, 7.4.2). Lengths are bits.
 use Rattle.std.specs.Prelude.{ℕ, ◌+◌, ◌==◌, List, Option, Some, None}
 use Rattle.bits.specs.Layout.{Layout, unless, choice, kind, measured, ◌>>=◌}
-use Rattle.bits.specs.Writing.{Shown, taken, size, shown}
+use Rattle.bits.specs.Writing.{ListedField, taken, size, shown}
 use Rattle.bits.specs.declared.name.VariableName.TheVariants as names
 use Rattle.vars.specs.Variables.{nid_packet}
 use Rattle.packets.specs.Parts.{variable}
@@ -128,9 +128,9 @@ length_of p = by_layout (λ C m c. 8 + size (m (λ _. 0)) c) p
 
 -- What becomes of s when it takes the fields of a packet after its number, one after another, L_PACKET reporting so
 -- much.
-abbrev pub packet_taken : {S : Type 0} → (S → Shown → S) → ℕ → Packet → S → S
+abbrev pub packet_taken : {S : Type 0} → (S → ListedField → S) → ℕ → Packet → S → S
 packet_taken t reported p s = by_layout (λ C m c. taken t (m (λ _. reported)) c s) p
 
 -- The fields of a packet after its number, L_PACKET reporting so much.
-abbrev pub packet_shown : ℕ → Packet → List Shown
+abbrev pub packet_shown : ℕ → Packet → List ListedField
 packet_shown reported p = by_layout (λ C m c. shown (m (λ _. reported)) c) p

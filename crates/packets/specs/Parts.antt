@@ -6,7 +6,7 @@ use Rattle.std.specs.Option.{option_map_or}
 use Rattle.bits.specs.Fitting.{HasNumber, Fits}
 use Rattle.bits.specs.Layout.{Codes, Layout, done, field, part, more, ◌>>=◌, after, read, read_field}
 use Rattle.bits.specs.Sums.{total}
-use Rattle.bits.specs.Writing.{Shown, named, each_taken, taken, size}
+use Rattle.bits.specs.Writing.{ListedField, named, each_taken, taken, size}
 use Rattle.bits.specs.declared.name.VariableName.{VariableName}
 use Rattle.bits.specs.declared.name.VariableName.TheVariants as names
 use Rattle.vars.specs.Values.{direction_number, scale_number}
@@ -43,11 +43,11 @@ description m = m (λ c. 8 + size (m (λ _. 0)) c)
 -- ---- what becomes of a sink, and how many bits there are
 
 -- a head with its L_PACKET
-abbrev pub head_taken : {S : Type 0} → (S → Shown → S) → ValidityDirection → ℕ → Scale → S → S
+abbrev pub head_taken : {S : Type 0} → (S → ListedField → S) → ValidityDirection → ℕ → Scale → S → S
 head_taken t direction reported scale s = t (t (t s (named names.QDir 2 (direction_number direction))) (named names.LPacket 13 reported)) (named names.QScale 2 (scale_number scale))
 
 -- a first element, N_ITER, and the other elements
-abbrev pub from_first_taken : {D S : Type 0} → (S → Shown → S) → Layout PacketFault D D → List D → S → S
+abbrev pub from_first_taken : {D S : Type 0} → (S → ListedField → S) → Layout PacketFault D D → List D → S → S
 from_first_taken t m xs s =
     each_taken (λ x left. taken t m x left) (drop (length (take 1 xs)) xs) (t (each_taken (λ x left. taken t m x left) (take 1 xs) s) (named names.NIter 5 (length xs - 1)))
 
@@ -55,7 +55,7 @@ abbrev pub from_first_size : {D : Type 0} → Layout PacketFault D D → List D 
 from_first_size m xs = total (λ x. size m x) (take 1 xs) + (5 + total (λ x. size m x) (drop (length (take 1 xs)) xs))
 
 -- a qualifier, and its part
-abbrev pub qualified_taken : {D S : Type 0} → (S → Shown → S) → Layout PacketFault D D → VariableName → Option D → S → S
+abbrev pub qualified_taken : {D S : Type 0} → (S → ListedField → S) → Layout PacketFault D D → VariableName → Option D → S → S
 qualified_taken t m name o s = let reported = t s (named name 1 (from_bool (is_some o))) in option_map_or (λ d. taken t m d reported) o reported
 
 abbrev pub qualified_size : {D : Type 0} → Layout PacketFault D D → Option D → ℕ

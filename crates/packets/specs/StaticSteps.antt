@@ -4,7 +4,7 @@ use Rattle.std.specs.Prelude.{◌≡◌, ℕ, ◌+◌, ◌-◌, ◌<◌, ◌≤�
 use Rattle.std.specs.List.{AllByRecursion as Each}
 use Rattle.bits.specs.Fitting.{HasNumber, Fits}
 use Rattle.bits.specs.Sums.{total}
-use Rattle.bits.specs.Writing.{Shown, named, each_taken, value, taken, size}
+use Rattle.bits.specs.Writing.{ListedField, named, each_taken, value, taken, size}
 use Rattle.bits.specs.declared.name.VariableName.TheVariants as names
 use Rattle.vars.specs.Values.{static_number, delay_number}
 use Rattle.vars.specs.Variables.{q_dir, q_scale, distance, v_static, q_front, n_iter}
@@ -15,13 +15,13 @@ use Rattle.packets.specs.declared.static_speeds.StaticSpeeds.{StaticSpeeds}
 use Rattle.packets.specs.declared.static_speeds.StaticStep.{StaticStep}
 
 -- what becomes of s when it takes a step and its own differences
-abbrev pub step_taken : {S : Type 0} → (S → Shown → S) → StaticStep → List Difference → S → S
+abbrev pub step_taken : {S : Type 0} → (S → ListedField → S) → StaticStep → List Difference → S → S
 step_taken t step own s =
     each_taken (λ x left. taken t difference x left) own
     (t (t (t (t s (named names.DStatic 15 step.distance)) (named names.VStatic 7 (static_number step.speed))) (named names.QFront 1 (delay_number step.delay))) (named names.NIter 5 step.differences))
 
 -- what becomes of s when it takes steps, each with its own of the differences
-unfoldable pub steps_taken : {S : Type 0} → (S → Shown → S) → List StaticStep → List Difference → S → S
+unfoldable pub steps_taken : {S : Type 0} → (S → ListedField → S) → List StaticStep → List Difference → S → S
 steps_taken t [] ds s = s
 steps_taken t (x ∷ xs) ds s = steps_taken t xs (drop x.differences ds) (step_taken t x (take x.differences ds) s)
 
@@ -35,7 +35,7 @@ steps_size [] ds = 0
 steps_size (x ∷ xs) ds = step_size (take x.differences ds) + steps_size xs (drop x.differences ds)
 
 -- the first step, N_ITER and the other steps, each with its own of the differences
-abbrev pub profile_taken : {S : Type 0} → (S → Shown → S) → List StaticStep → List Difference → S → S
+abbrev pub profile_taken : {S : Type 0} → (S → ListedField → S) → List StaticStep → List Difference → S → S
 profile_taken t xs ds s =
     let first : StaticStep = slice_index_or xs 0 no_step in
     steps_taken t (drop 1 xs) (drop first.differences ds) (t (step_taken t first (take first.differences ds) s) (named names.NIter 5 (length xs - 1)))

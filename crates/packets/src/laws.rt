@@ -8,7 +8,7 @@ use crate::sink::FieldSink;
 
 /// Whatever sink a packet is handed to takes the list of the packet's fields, one after another, and nothing else: the
 /// name of each variable, the number of its bits and the number that they spell.
-#[tactic(auto, using(crate::proofs::PacketShown::packet_is_shown))]
+#[tactic(auto, using(crate::proofs::PacketListed::packet_is_shown))]
 pub fn sinks_take_packet_fields<S: FieldSink>()
     ensures { (reported : ℕ) (p : Packet) (s : S.Seen) → packet_taken S.took reported p s ≡ each_field S.took (packet_shown reported p) s }
 {}

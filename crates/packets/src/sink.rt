@@ -1,6 +1,6 @@
 //! Where the fields of a packet go, one by one: the trait, and the bit writer that has it.
 ghost use Rattle.std.specs.Prelude.{◌≡◌, ◌+◌, ◌*◌, ◌<◌, ◌≤◌, ◌^◌, ℕ, length, OnOk};
-ghost use Rattle.bits.specs.Writing.{Shown, named, raw, with_bits};
+ghost use Rattle.bits.specs.Writing.{ListedField, named, raw, with_bits};
 
 use bits::{BitWriter, Run, VariableName};
 use std::convert::Infallible;
@@ -14,7 +14,7 @@ pub trait FieldSink {
     ghost seen: { Self → Seen };
 
     /// What becomes of it when it takes a field.
-    ghost took: { Seen → Shown → Seen };
+    ghost took: { Seen → ListedField → Seen };
 
     /// The bits that it holds, where it has room for so many alone.
     ghost held: { Self → ℕ };

@@ -66,7 +66,7 @@ impl Reasoning {
         let (state, output) = State::power_up(alloc, kept, word);
         let causes = causes_in(&state);
         let number = kept.events;
-        let runs = Runs::begun(&causes, number);
+        let runs = Runs::initial(&causes, number);
         let reasoning = Reasoning {
             state,
             next: number.saturating_add(1),

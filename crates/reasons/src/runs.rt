@@ -61,7 +61,7 @@ impl Runs {
     }
 
     /// After a power-up of this number, after which these causes hold.
-    pub fn begun(causes: &BrakeCauses, number: u64) -> Runs
+    pub fn initial(causes: &BrakeCauses, number: u64) -> Runs
         ensures { (story : Story) (word : Cold) → marked causes.now ≡ later_causes (onward story (PowerUp word))
             → number ≡ number_after story → result ≡ runs_of (onward story (PowerUp word)) }
     {
@@ -74,7 +74,7 @@ impl Runs {
             → number ≡ number_after story → result ≡ runs_of (onward story event.now) }
     {
         match event {
-            Event::PowerUp(_) => Runs::begun(causes, number),
+            Event::PowerUp(_) => Runs::initial(causes, number),
             Event::Input(_) => self.held(causes, number),
         }
     }

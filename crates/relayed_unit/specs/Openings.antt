@@ -18,8 +18,8 @@ pub record Opening : Type 0 where
   pub cold : Cold
 
 -- one that begins, on a medium of these bytes
-abbrev pub begun : List ℕ → ℕ → Cold → Opening
-begun medium sectors cold = record { disk = nothing_of medium sectors; scan = None; cold = cold }
+abbrev pub initial : List ℕ → ℕ → Cold → Opening
+initial medium sectors cold = record { disk = nothing_of medium sectors; scan = None; cold = cold }
 
 -- a disk on a medium of these bytes and so many sectors, before any call
 abbrev pub medium_state : List ℕ → ℕ → State

@@ -17,8 +17,8 @@ use Rattle.request_disk.specs.Requests.{has_sector, found_next, found_in, report
 outside : (span : Span) (s : ℕ) → (s < span.first) → has_sector span s ≡ false
 outside span s below = grind (arith, nat_tests)
 
-behind : (span : Span) (s : ℕ) → span.first + span.sectors ≤ s → has_sector span s ≡ false
-behind span s above = grind (arith, nat_tests)
+following : (span : Span) (s : ℕ) → span.first + span.sectors ≤ s → has_sector span s ≡ false
+following span s above = grind (arith, nat_tests)
 
 inside : (span : Span) (s : ℕ) → span.first ≤ s → s < span.first + span.sectors → has_sector span s ≡ true
 inside span s from below = grind (arith, nat_tests)
@@ -56,7 +56,7 @@ put_sectors start written ys span to k here wide room there is s =
     ∙ sym (ap T (inside span s ge lt)))
     (λ (past : span.first + span.sectors ≤ s).
     ap (λ (l : List ℕ). take 512 l) (drop-put_mid to k start ys (512 * s) (omega arith) (omega arith) size)
-    ∙ sym (ap T (behind span s past)))
+    ∙ sym (ap T (following span s past)))
     (cases_lt s (span.first + span.sectors)))
     (cases_lt s span.first)
 

@@ -74,8 +74,8 @@ pub missing_there : (d : Requesting) (first count : ℕ) (r : Lent) → Describe
     → Touches 0 0 (lent_state (lent_of d first count)) (lent_state r) → WantsMissing d first count r.wanted
 missing_there d first count r describes counted quiet =
     let shut : (s : ℕ) → (lent_at r.disk r.first r.count r.tried (lent_clock r.tried)).is_open s ≡ false = quiet_synced (lent_state (lent_of d first count)) (lent_state r) quiet (λ s. refl) in
-    let begun : lent_at r.disk r.first r.count r.tried 0 ≡ lent_at d first count None 0 = quiet.kept 0 (omega arith) in
-    let fails : (s : ℕ) → fails_at r.disk r.first r.count s ≡ fails_at d first count s = λ s. marks (fails_at r.disk r.first r.count s) (fails_at d first count s) (ap (λ (p : Platter). p.contents s) begun) in
+    let initial : lent_at r.disk r.first r.count r.tried 0 ≡ lent_at d first count None 0 = quiet.kept 0 (omega arith) in
+    let fails : (s : ℕ) → fails_at r.disk r.first r.count s ≡ fails_at d first count s = λ s. marks (fails_at r.disk r.first r.count s) (fails_at d first count s) (ap (λ (p : Platter). p.contents s) initial) in
     let one : r.faults ≡ 1 = counted.faults in
     same_missing (lent_of d first count) r r.wanted counted.sectors fails (describes (none_tried r.disk r.first r.count r.tried shut) (omega (arith, one)))
 

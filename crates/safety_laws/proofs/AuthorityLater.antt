@@ -29,12 +29,12 @@ use Rattle.packets.specs.declared.packet.Packet.{Packet}
 use Rattle.packets.specs.Packets.{as_movement_authority}
 use Rattle.units.specs.Stretches.{Span}
 use Rattle.vars.specs.declared.group.GroupIdentity.{GroupIdentity}
-use Rattle.track_picture.specs.Entry.{TrackEntry, Begun, Used, Outcome, Fact, blank, added, asking_for, facts_in}
+use Rattle.track_picture.specs.Entry.{TrackEntry, InputEffect, Used, Outcome, Fact, blank, added, asking_for, facts_in}
 use Rattle.track_picture.specs.Live.{deleting}
 use Rattle.track_picture.specs.History.{moment_of, groups_of, place_of}
 use Rattle.track_picture.specs.Columns.{after_authority, after_facts, authority_deleted}
 use Rattle.track_picture.proofs.SameParts.{same_end}
-use Rattle.track_picture.specs.Sentences.{begun, happened_first, with_closed, closed_by, used_by, outcome, outcome_at_first, judged, place_by, own_place, fix_made, is_used, direction_of}
+use Rattle.track_picture.specs.Sentences.{initial, happened_first, with_closed, closed_by, used_by, outcome, outcome_at_first, judged, place_by, own_place, fix_made, is_used, direction_of}
 use Rattle.mode_control.specs.History.{tracks, mode_of}
 use Rattle.mode_control.specs.Sentences.{reported, entry_of}
 use Rattle.kernel.specs.Lives.{life_of}
@@ -124,7 +124,7 @@ now_by_packets group place moment (packet ∷ packets) reported h =
     let fact : Fact = record { group = group; place = place; moment = moment; packet = packet } in
     now_by_packets group place moment packets (after_authority fact reported) (now_by_packet (as_movement_authority packet) fact reported h)
 
-module _ (mode : Mode) (entries : List TrackEntry) (first : Begun) where
+module _ (mode : Mode) (entries : List TrackEntry) (first : InputEffect) where
   abbrev now : ℕ
   now = unwrap_or first.clock (moment_of entries)
 
@@ -132,9 +132,9 @@ module _ (mode : Mode) (entries : List TrackEntry) (first : Begun) where
   KeepsNow outcomes = (reported : List AuthorityEntry) → now_of reported ≡ now → now_of (after_reported outcomes reported) ≡ now
 
   by_verdict : (used : Used) (message : Message) (verdict : Verdict) (reported : List AuthorityEntry) → now_of reported ≡ now →
-      now_of (after_facts after_authority (facts_in (outcome mode (record blank { begun = first; used = used } ∷ entries) message verdict)) reported) ≡ now
+      now_of (after_facts after_authority (facts_in (outcome mode (record blank { initial = first; used = used } ∷ entries) message verdict)) reported) ≡ now
   by_verdict used message (Accept announced) reported h =
-      let all = record blank { begun = first; used = used } ∷ entries in
+      let all = record blank { initial = first; used = used } ∷ entries in
       now_by_packets message.group (place_by (own_place (place_of all) message) (fix_made all message announced)) now
       (filter (is_used mode (direction_of message announced)) message.packets) reported h
   by_verdict used message Ignore reported h = h
@@ -144,13 +144,13 @@ module _ (mode : Mode) (entries : List TrackEntry) (first : Begun) where
   at_now None used keeps = keeps
   at_now (Some (closed.Broken b)) used keeps = keeps
   at_now (Some (closed.Whole message)) used keeps = λ reported h.
-      let judgement : Judgement = judged (record blank { begun = first; used = used } ∷ entries) message in
+      let judgement : Judgement = judged (record blank { initial = first; used = used } ∷ entries) message in
       by_verdict (added (outcome_at_first message judgement.verdict) (asking_for judgement.effect used)) message judgement.verdict
       (after_reported used.groups reported) (keeps reported h)
 
-all_now : (mode : Mode) (entries : List TrackEntry) (input : Input) → KeepsNow mode entries (begun entries input) (used_by mode entries input).groups
+all_now : (mode : Mode) (entries : List TrackEntry) (input : Input) → KeepsNow mode entries (initial entries input) (used_by mode entries input).groups
 all_now mode entries input =
-    let first = begun entries input in
+    let first = initial entries input in
     let closed = closed_by (groups_of entries) first.heard in
     let base : Used = record { groups = []; happened = happened_first entries input } in
     at_now mode entries first closed.whole (with_closed mode entries first closed.ended base) (at_now mode entries first closed.ended base (λ reported h. h))
@@ -172,7 +172,7 @@ now_is (an_event.Input input ∷ events) =
     let life = life_of events in
     let event = reported life input in
     let before = tracks life.entries in
-    let clock = event.begun.clock in
+    let clock = event.initial.clock in
     let known = after_clock clock (authorities before) in
     ap now_of (by_event (entry_of life input).track before)
     ∙ now_by_mode (entry_of life input).track.entered (Passed (train life input) ∷ after_reported event.used.groups known)
@@ -188,7 +188,7 @@ never_forward events input new none order is =
     let life = life_of events in
     let event = reported life input in
     let before = authorities (tracks life.entries) in
-    let clock = event.begun.clock in
+    let clock = event.initial.clock in
     let here : Span = train life input in
     let added = by_event (entry_of life input).track (tracks life.entries) in
     let reported_so = sym (same_end (tracks (life_of (an_event.Input input ∷ events)).entries) ∙ ap end_of added) ∙ is in

@@ -35,12 +35,12 @@ after_entered (Some mode) entries = after_mode item.Authority authority_deleted 
 
 -- ---- so it is
 
-begun : (clock : Option ℕ) (reading : Option Reading) (hs : List Happening) →
+initial : (clock : Option ℕ) (reading : Option Reading) (hs : List Happening) →
     (reported_in (and_moved reading (and_ticked clock hs))).grants ≡ after_clock clock (reported_in hs).grants
-begun None None hs = refl
-begun None (Some reading) hs = refl
-begun (Some moment) None hs = refl
-begun (Some moment) (Some reading) hs = refl
+initial None None hs = refl
+initial None (Some reading) hs = refl
+initial (Some moment) None hs = refl
+initial (Some moment) (Some reading) hs = refl
 
 judged : (outcome : Outcome) (hs : List Happening) → (judged_reported outcome hs).grants ≡ (reported_in hs).grants
 judged (Outcome.Broken b) hs = refl
@@ -77,12 +77,12 @@ entered (Some mode) hs = refl
 
 pub by_event : (event : TrackEntry) (earlier : List TrackEntry) →
     authorities (event ∷ earlier)
-    ≡ after_entered event.entered (after_train event.train (after_reported event.used.groups (after_clock event.begun.clock (authorities earlier))))
+    ≡ after_entered event.entered (after_train event.train (after_reported event.used.groups (after_clock event.initial.clock (authorities earlier))))
 by_event event earlier =
-    let moved = and_moved event.begun.reading (and_ticked event.begun.clock (happenings earlier)) in
+    let moved = and_moved event.initial.reading (and_ticked event.initial.clock (happenings earlier)) in
     ap (λ (t : TrackReports). t.grants) (reported_marked event.mark (and_entered event.entered (up_to_look event earlier)))
     ∙ (entered event.entered (up_to_look event earlier)
     ∙ ap (after_entered event.entered) (seen event.train (up_to_groups event earlier)
-    ∙ ap (after_train event.train) (closed event.used.groups (and_missed event.begun.missed moved)
+    ∙ ap (after_train event.train) (closed event.used.groups (and_missed event.initial.missed moved)
     ∙ ap (after_reported event.used.groups)
-    (ap (λ (t : TrackReports). t.grants) (reported_missed event.begun.missed moved) ∙ begun event.begun.clock event.begun.reading (happenings earlier)))))
+    (ap (λ (t : TrackReports). t.grants) (reported_missed event.initial.missed moved) ∙ initial event.initial.clock event.initial.reading (happenings earlier)))))

@@ -123,7 +123,7 @@ module _ (life : Life) (input : Input) where
   abbrev seen : List authority.AuthorityEntry
   seen =
       let event = reported life input in
-      after_train (Some (train life input)) (after_reported event.used.groups (after_clock event.begun.clock (authorities (tracks life.entries))))
+      after_train (Some (train life input)) (after_reported event.used.groups (after_clock event.initial.clock (authorities (tracks life.entries))))
 
   -- as it is read off the facts that count
   abbrev read : List authority.AuthorityEntry
@@ -137,7 +137,7 @@ module _ (life : Life) (input : Input) where
       let new : Mode = next_mode old c in
       let was : List authority.AuthorityEntry = authorities (tracks life.entries) in
       let event = reported life input in
-      let still : stored was → stored seen = λ s. past_groups event.used.groups (after_clock event.begun.clock was) (past_clock event.begun.clock was s) in
+      let still : stored was → stored seen = λ s. past_groups event.used.groups (after_clock event.initial.clock was) (past_clock event.initial.clock was s) in
       subst stored (sym (by_event (entry_of life input).track (tracks life.entries)))
       (past_turn runs (λ (entered : Option Mode). stored (after_entered entered seen)) (is_mode old new) old new now (λ h. still (before h))
       (λ h. past_mode new seen h (elim (enters old c h) [

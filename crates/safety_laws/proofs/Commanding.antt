@@ -10,7 +10,7 @@ use Rattle.mode_control.specs.Entry.{SupervisionEntry}
 use Rattle.mode_control.specs.History.{tracks}
 use Rattle.mode_control.specs.Life.{Life}
 use Rattle.speed_supervision.specs.Limit.{limit}
-use Rattle.kernel.specs.Brake.{Snapshot, is_above_limit_by, has_begun}
+use Rattle.kernel.specs.Brake.{Snapshot, is_above_limit_by, has_started}
 
 -- a row for the emergency brake changes nothing where a later one commands it
 pub or_before : (holds : Bool) (later : Brake) → later ≡ brake.Emergency → cond holds brake.Emergency later ≡ brake.Emergency
@@ -27,9 +27,9 @@ module _ (margin : ℕ) (ends : Snapshot → Bool) (life : Life) where
   abbrev with : List SupervisionEntry → Life
   with entries = record life { entries = entries }
 
-  pub begun_now : (entries : List SupervisionEntry) → limit (with entries) + margin < speed_of (tracks entries) →
-      has_begun (is_above_limit_by margin) ends (with entries) ≡ true
-  begun_now [] fast = absurd (let none : speed_of (tracks []) ≡ 0 = refl in omega (arith, none, fast))
-  begun_now (event ∷ earlier) fast =
+  pub starting_now : (entries : List SupervisionEntry) → limit (with entries) + margin < speed_of (tracks entries) →
+      has_started (is_above_limit_by margin) ends (with entries) ≡ true
+  starting_now [] fast = absurd (let none : speed_of (tracks []) ≡ 0 = refl in omega (arith, none, fast))
+  starting_now (event ∷ earlier) fast =
       let now : Life = with (event ∷ earlier) in
       or_left (is_above_limit_by margin (record { event = event; life = now })) _ (lt-ltb (limit now + margin) (speed_of (tracks (event ∷ earlier))) fast)

@@ -7,7 +7,7 @@ use Rattle.mode_table.specs.declared.mode.Mode.{Mode}
 use Rattle.mode_table.specs.Rows.{next_mode}
 use Rattle.units.specs.Stretches.{Span}
 use Rattle.mode_control.specs.Conditions.{conditions}
-use Rattle.mode_control.specs.Entry.{SupervisionEntry, begun}
+use Rattle.mode_control.specs.Entry.{SupervisionEntry, initial}
 use Rattle.mode_control.specs.History.{mode_of}
 use Rattle.mode_control.specs.Life.{Life, grown}
 use Rattle.mode_control.specs.Sentences.{changed, deed_of, reported, span_of, the_train_is_seen, entry_of}
@@ -23,14 +23,14 @@ past_turn runs P true old new h before entering = before h
 past_turn runs P false old new h before entering = entering h
 
 module _ (life : Life) (input : Input) where
-  abbrev pub event_begun : SupervisionEntry
-  event_begun = begun (reported life input) (deed_of life input)
+  abbrev pub event_initial : SupervisionEntry
+  event_initial = initial (reported life input) (deed_of life input)
 
   abbrev pub train : Span
-  train = span_of (grown life event_begun)
+  train = span_of (grown life event_initial)
 
   abbrev pub event_seen : SupervisionEntry
-  event_seen = the_train_is_seen (grown life event_begun) event_begun
+  event_seen = the_train_is_seen (grown life event_initial) event_initial
 
   abbrev pub found : Conditions
   found = conditions (grown life event_seen) train

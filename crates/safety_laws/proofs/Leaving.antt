@@ -20,9 +20,9 @@ use Rattle.mode_table.specs.declared.mode.Mode.{Mode}
 use Rattle.mode_table.specs.declared.mode.Mode.TheVariants.{FullSupervision, OnSight, StaffResponsible, Shunting, Unfitted, StandBy, Trip, PostTrip, SystemFailure}
 use Rattle.mode_table.specs.Modes.{is_one_of}
 use Rattle.odometry.specs.Place.{has_room}
-use Rattle.track_picture.specs.Entry.{TrackEntry, Begun, Used}
+use Rattle.track_picture.specs.Entry.{TrackEntry, InputEffect, Used}
 use Rattle.track_picture.specs.History.{place_of, speed_of, groups_of, authorities, happened_of, is_stopped}
-use Rattle.track_picture.specs.Sentences.{begun, happened_first, with_closed, closed_by, used_by}
+use Rattle.track_picture.specs.Sentences.{initial, happened_first, with_closed, closed_by, used_by}
 use Rattle.mode_control.specs.declared.deed.Deed.{Deed}
 use Rattle.mode_control.specs.Conditions.{is_start, is_shunting_choice, is_trip_acknowledging, is_desk_closing, is_overridden, is_beyond, is_beyond_end}
 use Rattle.mode_control.specs.History.{action_of, mode_of, tracks}
@@ -72,9 +72,9 @@ from_each old c overrun desk_closed h = absurd (let no : false ≡ true = h in c
 
 -- ---- an overrun
 
-module _ (mode : Mode) (entries : List TrackEntry) (begun : Begun) where
+module _ (mode : Mode) (entries : List TrackEntry) (initial : InputEffect) where
   same_overrun : (group : Option Closed) (used : Used) →
-      (with_closed mode entries begun group used).happened.overrun ≡ used.happened.overrun
+      (with_closed mode entries initial group used).happened.overrun ≡ used.happened.overrun
   same_overrun None used = refl
   same_overrun (Some (closed.Broken b)) used = refl
   same_overrun (Some (closed.Whole message)) used = refl
@@ -82,7 +82,7 @@ module _ (mode : Mode) (entries : List TrackEntry) (begun : Begun) where
 overrun_first : (mode : Mode) (entries : List TrackEntry) (input : Input) →
     (used_by mode entries input).happened.overrun ≡ (happened_first entries input).overrun
 overrun_first mode entries input =
-    let first = begun entries input in
+    let first = initial entries input in
     let closed = closed_by (groups_of entries) first.heard in
     let base : Used = record { groups = []; happened = happened_first entries input } in
     same_overrun mode entries first closed.whole (with_closed mode entries first closed.ended base)

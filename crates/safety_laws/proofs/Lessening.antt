@@ -164,7 +164,7 @@ never_raise setting fewer more m =
 
 -- ---- places
 
-module _ (gradient : ℤ → Option ℤ) (brakes : Brakes) (target : Target) (speed : ℕ) (far near : ℤ) (behind : far ≤ℤ near) where
+module _ (gradient : ℤ → Option ℤ) (brakes : Brakes) (target : Target) (speed : ℕ) (far near : ℤ) (beyond : far ≤ℤ near) where
   abbrev acts : ℤ → ℤ
   acts front = front +ℤ pos (reaction_way brakes.reaction speed)
 
@@ -172,18 +172,18 @@ module _ (gradient : ℤ → Option ℤ) (brakes : Brakes) (target : Target) (sp
   off from = braked gradient brakes.deceleration from (natural (target.place -ℤ from))
 
   -- the brakes that act farther back take off no less
-  braking_behind : target.speed < speed → acts near <ℤ target.place → fits near gradient brakes target speed ≡ true →
+  braking_farther : target.speed < speed → acts near <ℤ target.place → fits near gradient brakes target speed ≡ true →
       fits far gradient brakes target speed ≡ true
-  braking_behind fast early fit =
+  braking_farther fast early fit =
       let enough = leb-true (speed * speed) (target.speed * target.speed + off (acts near)) (braking_fits near gradient brakes target speed (acts near) fast refl early ∙ fit) in
-      let more = braked_over gradient brakes.deceleration (acts far) (acts near) target.place (omega (arith, ints, behind)) (omega (arith, ints, early)) in
-      sym (braking_fits far gradient brakes target speed (acts far) fast refl (omega (arith, ints, behind, early)))
+      let more = braked_over gradient brakes.deceleration (acts far) (acts near) target.place (omega (arith, ints, beyond)) (omega (arith, ints, early)) in
+      sym (braking_fits far gradient brakes target speed (acts far) fast refl (omega (arith, ints, beyond, early)))
       ∙ le-leb (speed * speed) (target.speed * target.speed + off (acts far)) (omega (arith, enough, more))
 
-  pub fits_behind : fits near gradient brakes target speed ≡ true → fits far gradient brakes target speed ≡ true
-  fits_behind fit =
+  pub fits_farther : fits near gradient brakes target speed ≡ true → fits far gradient brakes target speed ≡ true
+  fits_farther fit =
       elim (cases_lt target.speed speed) [
-        | inl fast ↦ by_lt_z (acts near) target.place (λ early. braking_behind fast early fit)
+        | inl fast ↦ by_lt_z (acts near) target.place (λ early. braking_farther fast early fit)
             (λ late. absurd (both_ways (fits near gradient brakes target speed) (late_fails near gradient brakes target speed fast late) fit))
         | inr slow ↦ slow_fits far gradient brakes target speed slow
       ]

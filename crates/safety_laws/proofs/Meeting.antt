@@ -158,8 +158,8 @@ module _ (life : Life) (train : Train) where
     by_rule = with_release_speed (permitted_to life train) end (values_of life).release
 
     at_location : end.place ≤ℤ end.location → end.speed ≡ 0 → can_meet stop by_rule
-    at_location behind none =
-        let near : IsNoNearer to_end stop = record { place = behind; speed = omega (arith, none) } in
+    at_location beyond none =
+        let near : IsNoNearer to_end stop = record { place = beyond; speed = omega (arith, none) } in
         either_fits (front_of life) (gradient_along life) train.brakes stop (permitted_to life train (Some to_end)) (permitted_to life train (Some stop))
         (release_speed end.release (values_of life).release)
         (farther_fits (front_of life) (gradient_along life) train.brakes to_end stop (permitted_to life train (Some to_end)) near (by_last to_end))

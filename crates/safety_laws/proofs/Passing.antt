@@ -28,9 +28,9 @@ enough_taken v way d vv s none is stands h =
 square_sum : (a b : ℕ) → (a + b) * (a + b) ≡ a * a + 2 * a * b + b * b
 square_sum a b = omega arith
 
-sums : (ll two mm loss gain ww ss first behind all lost left end : ℕ) → ll ≤ first → all ≡ first + behind → all ≡ lost + left → gain ≤ behind → lost ≤ loss →
+sums : (ll two mm loss gain ww ss first farther all lost left end : ℕ) → ll ≤ first → all ≡ first + farther → all ≡ lost + left → gain ≤ farther → lost ≤ loss →
     two + mm + loss ≤ gain → ww ≡ ll + two + mm → ss ≤ ww → end ≤ ss - left → end ≡ 0
-sums ll two mm loss gain ww ss first behind all lost left end a b c d e f g h k = omega arith
+sums ll two mm loss gain ww ss first farther all lost left end a b c d e f g h k = omega arith
 
 module _ (front : ℤ) (gradient : ℤ → Option ℤ) (brakes : Brakes) where
   abbrev off : ℕ → ℕ → ℕ

@@ -26,7 +26,7 @@ use Rattle.kernel.specs.Brake.{Snapshot, rolled_backward}
 use Rattle.kernel.specs.Lives.{life_of}
 use Rattle.kernel.specs.Output.{output_after}
 use Rattle.safety_laws.specs.Brakes.{since_standstill, speed_at}
-use Rattle.safety_laws.specs.Modes.{mode_after, mode_behind, IsOverrun, IsDoneAtStandstill}
+use Rattle.safety_laws.specs.Modes.{mode_after, mode_beyond, IsOverrun, IsDoneAtStandstill}
 
 -- ---- past the end of authority
 
@@ -50,9 +50,9 @@ pub record HasPassedEnd (life : Life) (input : Input) : Type 0 where
 abbrev pub PassingEndTrips : Type 0
 PassingEndTrips = (events : List Event) (input : Input) → IsTrue (is_one_of modes_to_end (mode_after events)) →
     HasPassedEnd (life_of events) input → is_overridden (seen (life_of events) input) ≡ false →
-    (mode_behind events input ≡ Trip)
-    ⊎ ((mode_behind events input ≡ SystemFailure) × IsOverrun (life_of events) input)
-    ⊎ ((mode_behind events input ≡ StandBy) × IsDoneAtStandstill (life_of events) input CloseDesk)
+    (mode_beyond events input ≡ Trip)
+    ⊎ ((mode_beyond events input ≡ SystemFailure) × IsOverrun (life_of events) input)
+    ⊎ ((mode_beyond events input ≡ StandBy) × IsDoneAtStandstill (life_of events) input CloseDesk)
 
 -- ---- the emergency brake
 

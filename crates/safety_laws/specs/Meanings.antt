@@ -102,9 +102,9 @@ abbrev pub ReleasedIsKept : Type 0
 ReleasedIsKept = (whole_from : ℕ) (durable accepted found : List Event) (word : Cold) (steps : List Step) (taken count : ℕ) (old new : State)
     (durable_at_end accepted_at_end : List Event) (released : List Released)
     → WasOpened whole_from durable accepted found word steps taken old new durable_at_end accepted_at_end released → count ≤ taken
-    → (let begun : List Event = an_event.PowerUp word ∷ found in let made : List Event = durable_by begun (take count steps) in
+    → (let initial : List Event = an_event.PowerUp word ∷ found in let made : List Event = durable_by initial (take count steps) in
     (moment : ℕ) × (released_by_then : List Released) × (later : List Released) × (released ≡ released_by_then ++ later)
-    × (pairs_of made ≡ pairs_of begun ++ released_by_then) × (moment ≤ new.clock)
+    × (pairs_of made ≡ pairs_of initial ++ released_by_then) × (moment ≤ new.clock)
     × ((k : ℕ) → moment ≤ k → k ≤ new.clock → (image : ℕ → List ℕ) → MayBeLeft (new.at k) image
     → (all : List Event) × IsOlderPart made all × Represents whole_from old.sectors all image))
 

@@ -29,8 +29,8 @@ use Rattle.kernel.specs.Output.{output_after}
 abbrev pub mode_after : List Event → Mode
 mode_after events = (output_after events).mode
 
-abbrev pub mode_behind : List Event → Input → Mode
-mode_behind events input = mode_after (an_event.Input input ∷ events)
+abbrev pub mode_beyond : List Event → Input → Mode
+mode_beyond events input = mode_after (an_event.Input input ∷ events)
 
 -- the odometer reports a movement for which there is no room: it leads beyond the farthest path or place
 pub record IsOverrun (life : Life) (input : Input) : Type 0 where
@@ -47,13 +47,13 @@ pub record IsDoneAtStandstill (life : Life) (input : Input) (action : Action) : 
 -- Trip stays, but for an accepted acknowledgement at standstill, which leads to Post Trip, and for an overrun
 abbrev pub TripIsLeft : Type 0
 TripIsLeft = (events : List Event) (input : Input) → mode_after events ≡ Trip →
-    (mode_behind events input ≡ Trip)
-    ⊎ ((mode_behind events input ≡ PostTrip) × IsDoneAtStandstill (life_of events) input (Acknowledge kind.Trip))
-    ⊎ ((mode_behind events input ≡ SystemFailure) × IsOverrun (life_of events) input)
+    (mode_beyond events input ≡ Trip)
+    ⊎ ((mode_beyond events input ≡ PostTrip) × IsDoneAtStandstill (life_of events) input (Acknowledge kind.Trip))
+    ⊎ ((mode_beyond events input ≡ SystemFailure) × IsOverrun (life_of events) input)
 
 -- System Failure stays until a power-up
 abbrev pub FailureStays : Type 0
-FailureStays = (events : List Event) (input : Input) → mode_after events ≡ SystemFailure → mode_behind events input ≡ SystemFailure
+FailureStays = (events : List Event) (input : Input) → mode_after events ≡ SystemFailure → mode_beyond events input ≡ SystemFailure
 
 -- Stand By stays, but for an accepted Start or choice of Shunting at standstill, and for an overrun
 abbrev pub modes_by_start : List Mode
@@ -61,7 +61,7 @@ modes_by_start = FullSupervision ∷ StaffResponsible ∷ Unfitted ∷ []
 
 abbrev pub StandByIsLeft : Type 0
 StandByIsLeft = (events : List Event) (input : Input) → mode_after events ≡ StandBy →
-    (mode_behind events input ≡ StandBy)
-    ⊎ (IsTrue (is_one_of modes_by_start (mode_behind events input)) × IsDoneAtStandstill (life_of events) input Start)
-    ⊎ ((mode_behind events input ≡ Shunting) × IsDoneAtStandstill (life_of events) input ChooseShunting)
-    ⊎ ((mode_behind events input ≡ SystemFailure) × IsOverrun (life_of events) input)
+    (mode_beyond events input ≡ StandBy)
+    ⊎ (IsTrue (is_one_of modes_by_start (mode_beyond events input)) × IsDoneAtStandstill (life_of events) input Start)
+    ⊎ ((mode_beyond events input ≡ Shunting) × IsDoneAtStandstill (life_of events) input ChooseShunting)
+    ⊎ ((mode_beyond events input ≡ SystemFailure) × IsOverrun (life_of events) input)

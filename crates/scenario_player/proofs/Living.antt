@@ -6,7 +6,7 @@ use Rattle.events.specs.declared.input.Event.{Event}
 use Rattle.events.specs.declared.input.Event.TheVariants as an_event
 use Rattle.events.specs.declared.step.Step.{Step}
 use Rattle.mode_table.specs.declared.statuses.Cold.{Cold}
-use Rattle.onboard.specs.Progress.{begun_with}
+use Rattle.onboard.specs.Progress.{starting_with}
 use Rattle.ring.specs.Scans.{IsNewest}
 use Rattle.ring.specs.Slots.{valid_at, IsAtRest}
 use Rattle.ring.proofs.Numbers.{same_newest}
@@ -20,7 +20,7 @@ use Rattle.whole_lives.specs.Written.{LeavesLast}
 use Rattle.whole_lives.specs.declared.errors.LiveError.{LiveError}
 use Rattle.whole_lives.specs.declared.errors.LiveError.TheVariants as a_live
 use Rattle.scenario_player.specs.Playing.{IsEmpty, AreBytesOf, is_refusal, is_played, carried_out, PlayEnds, IsPlayed}
-use Rattle.scenario_player.proofs.Releasing.{begun, nothing_durable}
+use Rattle.scenario_player.proofs.Releasing.{initial, nothing_durable}
 
 -- ---- an empty journal
 
@@ -50,15 +50,15 @@ module _ (slots : ℕ) (two : 2 ≤ slots) (disk : State) (empty : IsEmpty slots
   pub ends : (honest : IsTrue disk.honest) (steps : List Step) (ended : Result (Unit {0}) LiveError) → is_played ended ≡ true → LifeEnds disk steps ended → PlayEnds steps ended
   ends honest steps (Ok x) played how = ⊎_elim
       (λ (unopened : IsUnopened disk (Ok x)). absurd (let clash = unopened.1 in cc))
-      (λ (opened : (newest : ℕ) × (IsTrue disk.honest → IsNextNumber disk.sectors (contents_of disk) newest) × AllStand (begun_with newest) steps).
-      subst (λ (n : ℕ). AllStand (begun_with n) steps) (first_number opened.0 (opened.1 honest)) opened.2)
+      (λ (opened : (newest : ℕ) × (IsTrue disk.honest → IsNextNumber disk.sectors (contents_of disk) newest) × AllStand (starting_with newest) steps).
+      subst (λ (n : ℕ). AllStand (starting_with n) steps) (first_number opened.0 (opened.1 honest)) opened.2)
       how
   ends honest steps (Err error) played how = ⊎_elim
       (λ (unopened : IsUnopened disk (Err error)).
       let same : error ≡ a_live.Open unopened.0 = (let e : Err error ≡ Err (a_live.Open unopened.0) = unopened.1 in cc) in
       absurd (let clash : is_refusal (a_live.Open unopened.0) ≡ true = sym (ap is_refusal same) ∙ played in cc))
-      (λ (opened : (newest : ℕ) × (IsTrue disk.honest → IsNextNumber disk.sectors (contents_of disk) newest) × Stopped (begun_with newest) steps error).
-      (played, subst (λ (n : ℕ). Stopped (begun_with n) steps error) (first_number opened.0 (opened.1 honest)) opened.2))
+      (λ (opened : (newest : ℕ) × (IsTrue disk.honest → IsNextNumber disk.sectors (contents_of disk) newest) × Stopped (starting_with newest) steps error).
+      (played, subst (λ (n : ℕ). Stopped (starting_with n) steps error) (first_number opened.0 (opened.1 honest)) opened.2))
       how
 
   -- ---- what it releases
@@ -69,32 +69,32 @@ module _ (slots : ℕ) (two : 2 ≤ slots) (disk : State) (empty : IsEmpty slots
   word_or_nothing cold word released P is = ⊎_elim (λ (its : IsWord disk.sectors (contents_of disk) cold word). inl (its.blank blank)) (λ (none : P × NothingReleased released). inr none.1) is
 
 -- after steps that were carried out
-behind : (cold word : Cold) (done : List Step) (durable accepted : List Event) (released out : List Release) → out ≡ released
-    → (word ≡ cold) ⊎ (released ≡ []) → AreAfter (begun word) done durable accepted released
-    → pairs_of (durable_by (begun cold) done) ≡ pairs_of (begun cold) ++ out
-behind cold word done durable accepted released out same word_is so =
-    let at_word : pairs_of (durable_by (begun word) done) ≡ pairs_of (begun word) ++ released = ap pairs_of (sym so.0) ∙ so.2 in
+following : (cold word : Cold) (done : List Step) (durable accepted : List Event) (released out : List Release) → out ≡ released
+    → (word ≡ cold) ⊎ (released ≡ []) → AreAfter (initial word) done durable accepted released
+    → pairs_of (durable_by (initial cold) done) ≡ pairs_of (initial cold) ++ out
+following cold word done durable accepted released out same word_is so =
+    let at_word : pairs_of (durable_by (initial word) done) ≡ pairs_of (initial word) ++ released = ap pairs_of (sym so.0) ∙ so.2 in
     ⊎_elim
-    (λ (it : word ≡ cold). subst (λ (w : Cold). pairs_of (durable_by (begun w) done) ≡ pairs_of (begun w) ++ out) it (at_word ∙ ap (λ (l : List Release). pairs_of (begun word) ++ l) (sym same)))
+    (λ (it : word ≡ cold). subst (λ (w : Cold). pairs_of (durable_by (initial w) done) ≡ pairs_of (initial w) ++ out) it (at_word ∙ ap (λ (l : List Release). pairs_of (initial word) ++ l) (sym same)))
     (λ (nothing : released ≡ []).
-    ap pairs_of (nothing_durable word cold done (at_word ∙ ap (λ (l : List Release). pairs_of (begun word) ++ l) nothing))
-    ∙ sym (append-nil (pairs_of (begun cold)))
-    ∙ ap (λ (l : List Release). pairs_of (begun cold) ++ l) (sym (same ∙ nothing)))
+    ap pairs_of (nothing_durable word cold done (at_word ∙ ap (λ (l : List Release). pairs_of (initial word) ++ l) nothing))
+    ∙ sym (append-nil (pairs_of (initial cold)))
+    ∙ ap (λ (l : List Release). pairs_of (initial cold) ++ l) (sym (same ∙ nothing)))
     word_is
 
 pub releases : (cold word : Cold) (steps : List Step) (ended : Result (Unit {0}) LiveError) (U : Type 0) (taken : ℕ) (durable accepted : List Event) (released out : List Release)
-    → out ≡ released → (word ≡ cold) ⊎ (released ≡ []) → IsDone (begun word) steps U ended taken durable accepted released
-    → pairs_of (durable_by (begun cold) (carried_out steps ended)) ≡ pairs_of (begun cold) ++ out
+    → out ≡ released → (word ≡ cold) ⊎ (released ≡ []) → IsDone (initial word) steps U ended taken durable accepted released
+    → pairs_of (durable_by (initial cold) (carried_out steps ended)) ≡ pairs_of (initial cold) ++ out
 releases cold word steps (Ok x) U taken durable accepted released out same word_is done =
-    behind cold word steps durable accepted released out same word_is done.1
+    following cold word steps durable accepted released out same word_is done.1
 releases cold word steps (Err (a_live.Open e)) U taken durable accepted released out same word_is done =
-    sym (append-nil (pairs_of (begun cold))) ∙ ap (λ (l : List Release). pairs_of (begun cold) ++ l) (sym (same ∙ done.0))
+    sym (append-nil (pairs_of (initial cold))) ∙ ap (λ (l : List Release). pairs_of (initial cold) ++ l) (sym (same ∙ done.0))
 releases cold word steps (Err (a_live.Accept k e)) U taken durable accepted released out same word_is done =
-    behind cold word (take k steps) durable accepted released out same word_is done.1
+    following cold word (take k steps) durable accepted released out same word_is done.1
 releases cold word steps (Err (a_live.Flush k e)) U taken durable accepted released out same word_is done =
-    behind cold word (take k steps) durable accepted released out same word_is done.1
+    following cold word (take k steps) durable accepted released out same word_is done.1
 releases cold word steps (Err (a_live.NoMemory k)) U taken durable accepted released out same word_is done =
-    behind cold word (take k steps) durable accepted released out same word_is done.1
+    following cold word (take k steps) durable accepted released out same word_is done.1
 
 -- ---- all of a life that was played
 

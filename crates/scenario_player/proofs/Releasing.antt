@@ -15,8 +15,8 @@ length_pairs (event ∷ events) =
     let more : length (pairs_of events) ≡ length events = length_pairs events in
     omega (arith, more, length-append (pairs_of events) (pair_of events event ∷ []))
 
-abbrev pub begun : Cold → List Event
-begun word = an_event.PowerUp word ∷ []
+abbrev pub initial : Cold → List Event
+initial word = an_event.PowerUp word ∷ []
 
 -- what is durable goes on from what there was
 flushed_on : (d a events : List Event) (steps : List Step) → flushed_by (d ++ events) (a ++ events) steps ≡ flushed_by d a steps ++ events
@@ -25,10 +25,10 @@ flushed_on d a events (Accept input ∷ steps) = flushed_on d (an_event.Input in
 flushed_on d a events (Flush ∷ steps) = flushed_on a a events steps
 
 -- where nothing was released after one power-up, nothing is durable after another one
-pub nothing_durable : (word other : Cold) (steps : List Step) → pairs_of (durable_by (begun word) steps) ≡ pairs_of (begun word) ++ [] → durable_by (begun other) steps ≡ begun other
+pub nothing_durable : (word other : Cold) (steps : List Step) → pairs_of (durable_by (initial word) steps) ≡ pairs_of (initial word) ++ [] → durable_by (initial other) steps ≡ initial other
 nothing_durable word other steps none =
-    let count : length (durable_by (begun word) steps) ≡ 1 = sym (length_pairs (durable_by (begun word) steps)) ∙ ap length none in
-    let more : length (durable_by (begun word) steps) ≡ length (durable_by [] steps) + 1 =
-    ap length (flushed_on [] [] (begun word) steps) ∙ length-append (durable_by [] steps) (begun word) in
+    let count : length (durable_by (initial word) steps) ≡ 1 = sym (length_pairs (durable_by (initial word) steps)) ∙ ap length none in
+    let more : length (durable_by (initial word) steps) ≡ length (durable_by [] steps) + 1 =
+    ap length (flushed_on [] [] (initial word) steps) ∙ length-append (durable_by [] steps) (initial word) in
     let empty : durable_by [] steps ≡ [] = empty_of (durable_by [] steps) (omega (arith, count, more)) in
-    flushed_on [] [] (begun other) steps ∙ ap (λ (l : List Event). l ++ begun other) empty
+    flushed_on [] [] (initial other) steps ∙ ap (λ (l : List Event). l ++ initial other) empty

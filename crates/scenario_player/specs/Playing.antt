@@ -11,7 +11,7 @@ use Rattle.events.specs.declared.input.Event.TheVariants.{PowerUp}
 use Rattle.events.specs.declared.step.Step.{Step}
 use Rattle.journal.specs.Formats.{IsEmptied}
 use Rattle.mode_table.specs.declared.statuses.Cold.{Cold}
-use Rattle.onboard.specs.Progress.{begun_with}
+use Rattle.onboard.specs.Progress.{starting_with}
 use Rattle.onboard.specs.declared.errors.AcceptError.TheVariants as an_accept
 use Rattle.onboard.specs.declared.errors.FlushError.TheVariants as a_flush
 use Rattle.onboard.specs.declared.released.Released.{Released}
@@ -57,8 +57,8 @@ is_played (Err error) = is_refusal error
 
 -- Its power-up is in block 1. No step has a cause to be refused; or the life stopped at the first one that has.
 abbrev pub PlayEnds : {T : Type 0} → List Step → Result T LiveError → Type 0
-PlayEnds steps (Ok x) = AllStand (begun_with 1) steps
-PlayEnds steps (Err error) = IsTrue (is_refusal error) × Stopped (begun_with 1) steps error
+PlayEnds steps (Ok x) = AllStand (starting_with 1) steps
+PlayEnds steps (Err error) = IsTrue (is_refusal error) × Stopped (starting_with 1) steps error
 
 -- the steps that were carried out: all, or those before the one that was refused
 abbrev pub carried_out : {T : Type 0} → List Step → Result T LiveError → List Step

@@ -65,7 +65,7 @@ rises {bs} {p} {q} {i} {j} first end ahead =
       | true ↦ λ h.
           let below : j < i = ltb-true j i h in
           let low = first.before j nowhere below in
-          let high = end.behind j nowhere (omega arith) (omega (arith, below, first.inside)) in
+          let high = end.following j nowhere (omega arith) (omega (arith, below, first.inside)) in
           absurd (omega (arith, ints, low, high, ahead))
       | false ↦ λ h. grind (arith, nat_tests)
     ] refl
@@ -77,8 +77,8 @@ passed-between {bs} {p} {q} {i} {j} from n first end starts ends up =
     passed-in_order bs from n up
     ∙ between (λ b. is_ahead from n b.at) bs i (j - i)
     (λ k d a l. let here = first.before k d a in grind (arith, ints))
-    (λ k d a b l. let low = first.behind k d a l in let high = end.before k d (omega (arith, b, le)) in grind (arith, ints))
-    (λ k d a l. let here = end.behind k d (omega (arith, a, le)) l in grind (arith, ints))
+    (λ k d a b l. let low = first.following k d a l in let high = end.before k d (omega (arith, b, le)) in grind (arith, ints))
+    (λ k d a l. let here = end.following k d (omega (arith, a, le)) l in grind (arith, ints))
 
 abbrev pub IsAhead : ℤ → ℕ → Balise → Type 0
 IsAhead from n b = (from <ℤ pos b.at) × (pos b.at ≤ℤ (from +ℤ pos n))

@@ -18,15 +18,15 @@ pub between : {X : Type 0} (p : X → Bool) (xs : List X) (i n : ℕ)
     → ((k : ℕ) (d : X) → i ≤ k → k < i + n → k < length xs → p (get_or xs k d) ≡ true)
     → ((k : ℕ) (d : X) → i + n ≤ k → k < length xs → p (get_or xs k d) ≡ false)
     → filter p xs ≡ take n (drop i xs)
-between p [] i n before inside behind = rw (drop-nil i, take-nil n) refl
-between p (x ∷ xs) zero zero before inside behind = none p (x ∷ xs) (λ k d l. behind k d (omega arith) l)
-between p (x ∷ xs) zero (suc n) before inside behind =
+between p [] i n before inside following = rw (drop-nil i, take-nil n) refl
+between p (x ∷ xs) zero zero before inside following = none p (x ∷ xs) (λ k d l. following k d (omega arith) l)
+between p (x ∷ xs) zero (suc n) before inside following =
     let here : p x ≡ true = inside 0 x (omega arith) (omega arith) (omega arith) in
-    let rest = between p xs 0 n (λ k d a l. absurd (omega (arith, a))) (λ k d a b l. inside (suc k) d (omega arith) (omega (arith, b)) (omega (arith, l))) (λ k d a l. behind (suc k) d (omega (arith, a)) (omega (arith, l))) in
+    let rest = between p xs 0 n (λ k d a l. absurd (omega (arith, a))) (λ k d a b l. inside (suc k) d (omega arith) (omega (arith, b)) (omega (arith, l))) (λ k d a l. following (suc k) d (omega (arith, a)) (omega (arith, l))) in
     rw here (ap (λ l. x ∷ l) rest)
-between p (x ∷ xs) (suc i) n before inside behind =
+between p (x ∷ xs) (suc i) n before inside following =
     let here : p x ≡ false = before 0 x (omega arith) (omega arith) in
-    rw here (between p xs i n (λ k d a l. before (suc k) d (omega (arith, a)) (omega (arith, l))) (λ k d a b l. inside (suc k) d (omega (arith, a)) (omega (arith, b)) (omega (arith, l))) (λ k d a l. behind (suc k) d (omega (arith, a)) (omega (arith, l))))
+    rw here (between p xs i n (λ k d a l. before (suc k) d (omega (arith, a)) (omega (arith, l))) (λ k d a b l. inside (suc k) d (omega (arith, a)) (omega (arith, b)) (omega (arith, l))) (λ k d a l. following (suc k) d (omega (arith, a)) (omega (arith, l))))
 
 -- one element more, where one that passes q has none after it that passes p
 joined_one : {X : Type 0} (p q r : X → Bool) (x : X) (xs : List X) (a b : Bool) → p x ≡ a → q x ≡ b → r x ≡ (a || b)

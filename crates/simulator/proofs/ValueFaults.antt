@@ -7,7 +7,7 @@ use Rattle.hex.specs.declared.error.FromHexError.{FromHexError}
 use Rattle.simulator.specs.Course.{Run, start, taken}
 use Rattle.simulator.specs.Limits.{farthest_back, farthest}
 use Rattle.simulator.specs.Passing.{passed}
-use Rattle.simulator.specs.declared.asked.Asked.{Asked}
+use Rattle.simulator.specs.declared.asked.StepKind.{StepKind}
 use Rattle.simulator.specs.declared.balise.Balise.{Balise}
 use Rattle.driver.specs.declared.action.Action.{Action}
 use Rattle.driver.specs.declared.action.Action.TheVariants.{Start, ChooseShunting, LeaveShunting, Override, CloseDesk}
@@ -216,7 +216,7 @@ of_flush : (v : Data) → Fits (flush v)
 unfolding flush
 of_flush v = bind _ _ (of_shaped (as_bool v)) (λ wanted. bind _ _ (of_given wanted Shape tt) (λ u. of_ok _))
 
-or_other : (o : Option Data) (this : Data → Result Asked ScenarioFault) (other : Result Asked ScenarioFault) → ((v : Data) → Fits (this v)) → Fits other → Fits (or_else o this other)
+or_other : (o : Option Data) (this : Data → Result StepKind ScenarioFault) (other : Result StepKind ScenarioFault) → ((v : Data) → Fits (this v)) → Fits other → Fits (or_else o this other)
 or_other (Some v) this other one rest = one v
 or_other None this other one rest = rest
 

@@ -8,8 +8,8 @@ use Rattle.events.specs.declared.step.Step.{Step}
 use Rattle.events.specs.declared.step.Step.TheVariants.{Accept, Flush}
 use Rattle.simulator.specs.Numbers.{natural}
 use Rattle.simulator.specs.declared.balise.Balise.{Balise}
-use Rattle.simulator.specs.declared.asked.Asked.{Asked}
-use Rattle.simulator.specs.declared.asked.Asked.TheVariants as an_asked
+use Rattle.simulator.specs.declared.asked.StepKind.{StepKind}
+use Rattle.simulator.specs.declared.asked.StepKind.TheVariants as an_asked
 use Rattle.simulator.specs.declared.driving.Course.{Course}
 
 -- where the front is, how many events are pending, and the steps so far
@@ -86,7 +86,7 @@ driven ahead cm speed r =
 -- ---- a life
 
 -- what becomes of a step that is asked for, where `ahead` reports the balises that a way leads over
-abbrev pub taken : (ℤ → ℕ → List Balise) → Asked → Run → Run
+abbrev pub taken : (ℤ → ℕ → List Balise) → StepKind → Run → Run
 taken ahead (an_asked.Drive cm speed) r = driven ahead cm speed r
 taken ahead (an_asked.Happens i) r = accepted i r
 taken ahead an_asked.Flush r = flushed r

@@ -17,4 +17,4 @@ passed bs from (suc n) = passed bs from n ++ filter (lies_at (from +ℤ pos (suc
 pub record AreUpTo (bs : List Balise) (place : ℤ) (i : ℕ) : Type 0 where
   pub inside : i ≤ length bs
   pub before : (k : ℕ) (d : Balise) → k < i → pos (slice_index_or bs k d).at ≤ℤ place
-  pub behind : (k : ℕ) (d : Balise) → i ≤ k → k < length bs → place <ℤ pos (slice_index_or bs k d).at
+  pub following : (k : ℕ) (d : Balise) → i ≤ k → k < length bs → place <ℤ pos (slice_index_or bs k d).at

@@ -9,13 +9,13 @@ use Rattle.simulator.specs.Values.{◌>>=◌, shaped, given, whole, whole_item, 
 use Rattle.json_values.specs.Shapes.{has_members, list_in}
 use Rattle.simulator.specs.Limits.{farthest_back, farthest}
 use Rattle.simulator.specs.Actions as actions
-use Rattle.simulator.specs.declared.asked.Asked.{Asked}
-use Rattle.simulator.specs.declared.asked.Asked.TheVariants.{Drive, Happens, Flush}
+use Rattle.simulator.specs.declared.asked.StepKind.{StepKind}
+use Rattle.simulator.specs.declared.asked.StepKind.TheVariants.{Drive, Happens, Flush}
 use Rattle.simulator.specs.declared.fault.ScenarioFault.{ScenarioFault}
 use Rattle.simulator.specs.declared.fault.ScenarioFault.TheVariants.{Shape, OutOfRange}
 
 -- so many centimetres at a speed
-unfoldable pub drive : Data → Result Asked ScenarioFault
+unfoldable pub drive : Data → Result StepKind ScenarioFault
 drive v = do
   items ← shaped (list_in v)
   _ ← given (length items == 2) Shape
@@ -25,36 +25,36 @@ drive v = do
   speed ← within 0 600_000 mph
   Ok (Drive cm speed)
 
-unfoldable pub telegram : Data → Result Asked ScenarioFault
+unfoldable pub telegram : Data → Result StepKind ScenarioFault
 telegram v = do
   text ← shaped (as_str v)
   bytes ← bytes_in text
   Ok (Happens (Telegram bytes))
 
-unfoldable pub clock : Data → Result Asked ScenarioFault
+unfoldable pub clock : Data → Result StepKind ScenarioFault
 clock v = do
   z ← shaped (whole v)
   ms ← within 0 (longest_life - 1) z
   Ok (Happens (Clock ms))
 
-unfoldable pub driver : Data → Result Asked ScenarioFault
+unfoldable pub driver : Data → Result StepKind ScenarioFault
 driver v = do
   items ← shaped (list_in v)
   action ← actions.action items
   Ok (Happens (Driver action))
 
-unfoldable pub flush : Data → Result Asked ScenarioFault
+unfoldable pub flush : Data → Result StepKind ScenarioFault
 flush v = do
   wanted ← shaped (as_bool v)
   _ ← given wanted Shape
   Ok Flush
 
 -- by the member that is there, or in another way
-abbrev pub or_else : Option Data → (Data → Result Asked ScenarioFault) → Result Asked ScenarioFault → Result Asked ScenarioFault
+abbrev pub or_else : Option Data → (Data → Result StepKind ScenarioFault) → Result StepKind ScenarioFault → Result StepKind ScenarioFault
 or_else (Some v) this other = this v
 or_else None this other = other
 
-unfoldable pub by_key : Data → Result Asked ScenarioFault
+unfoldable pub by_key : Data → Result StepKind ScenarioFault
 by_key d =
     or_else (get (codes "drive") d) drive
     (or_else (get (codes "telegram") d) telegram
@@ -63,5 +63,5 @@ by_key d =
     (or_else (get (codes "flush") d) flush (Err Shape)))))
 
 -- an object of one member, whose key says what is asked
-unfoldable pub asked : Data → Result Asked ScenarioFault
+unfoldable pub asked : Data → Result StepKind ScenarioFault
 asked d = if has_members 1 d then by_key d else Err Shape

@@ -5,7 +5,7 @@ use units::Mph;
 
 /// What a step of a scenario asks for (this project's profile).
 #[derive(Drop)]
-pub enum Asked {
+pub enum StepKind {
     /// The train drives so far, in centimetres, at a speed in metres per hour.
     Drive(Distance, Mph),
     /// This input comes.

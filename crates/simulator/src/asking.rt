@@ -6,7 +6,7 @@ ghost use Rattle.simulator.specs.Steps.{drive, telegram, clock, driver, flush, b
 
 use crate::ScenarioFault;
 use crate::actions::action_of;
-use crate::asked::Asked;
+use crate::asked::StepKind;
 use crate::distance::Distance;
 use crate::telegrams::bytes_of;
 use crate::values::{whole_item, within};
@@ -16,7 +16,7 @@ use std::alloc::Global;
 use units::{LONGEST_LIFE, Mph, Ms};
 
 #[tactic(auto, unfolding(crate::specs::Steps::drive))]
-fn drive_of(value: JsonValue) -> Result<Asked, ScenarioFault>
+fn drive_of(value: JsonValue) -> Result<StepKind, ScenarioFault>
     ensures { result ≡ drive (reported value.entry) }
 {
     let Some(items) = value.into_list() else {
@@ -29,53 +29,53 @@ fn drive_of(value: JsonValue) -> Result<Asked, ScenarioFault>
     let mph = whole_item(&items, 1)?;
     let distance = Distance::new(cm).ok_or(ScenarioFault::OutOfRange)?;
     let speed = Mph::new(within(0, 600_000, mph)? as u32).ok_or(ScenarioFault::OutOfRange)?;
-    Ok(Asked::Drive(distance, speed))
+    Ok(StepKind::Drive(distance, speed))
 }
 
 #[tactic(auto, unfolding(crate::specs::Steps::telegram))]
-fn telegram_of(alloc: Global, value: &JsonValue) -> Result<Asked, ScenarioFault>
+fn telegram_of(alloc: Global, value: &JsonValue) -> Result<StepKind, ScenarioFault>
     ensures ok { IfOk result (λ step. telegram (reported value.now) ≡ Ok step) }
     ensures err { IfErr result (λ fault. (fault ≡ ScenarioFault.NoMemory) ⊎ (telegram (reported value.now) ≡ Err fault)) }
 {
     let text = value.as_str().ok_or(ScenarioFault::Shape)?;
     let bytes = bytes_of(alloc, text)?;
-    Ok(Asked::Happens(Input::Telegram(bytes)))
+    Ok(StepKind::Happens(Input::Telegram(bytes)))
 }
 
 #[tactic(auto, unfolding(crate::specs::Steps::clock))]
-fn clock_of(value: &JsonValue) -> Result<Asked, ScenarioFault>
+fn clock_of(value: &JsonValue) -> Result<StepKind, ScenarioFault>
     ensures { result ≡ clock (reported value.now) }
 {
     let number = value.as_i64().ok_or(ScenarioFault::Shape)?;
     let ms = within(0, LONGEST_LIFE - 1, number)?;
     let moment = Ms::new(ms).ok_or(ScenarioFault::OutOfRange)?;
-    Ok(Asked::Happens(Input::Clock(moment)))
+    Ok(StepKind::Happens(Input::Clock(moment)))
 }
 
 #[tactic(auto, unfolding(crate::specs::Steps::driver))]
-fn driver_of(value: JsonValue) -> Result<Asked, ScenarioFault>
+fn driver_of(value: JsonValue) -> Result<StepKind, ScenarioFault>
     ensures { result ≡ driver (reported value.entry) }
 {
     let Some(items) = value.into_list() else {
         return Err(ScenarioFault::Shape);
     };
     let action = action_of(&items)?;
-    Ok(Asked::Happens(Input::Driver(action)))
+    Ok(StepKind::Happens(Input::Driver(action)))
 }
 
 #[tactic(auto, unfolding(crate::specs::Steps::flush))]
-fn flush_of(value: &JsonValue) -> Result<Asked, ScenarioFault>
+fn flush_of(value: &JsonValue) -> Result<StepKind, ScenarioFault>
     ensures { result ≡ flush (reported value.now) }
 {
     match value.as_bool() {
-        Some(true) => Ok(Asked::Flush),
+        Some(true) => Ok(StepKind::Flush),
         _ => Err(ScenarioFault::Shape),
     }
 }
 
 /// What the one member of an object asks for.
 #[tactic(auto, unfolding(crate::specs::Steps::by_key))]
-fn by_key(alloc: Global, name: &str, value: JsonValue) -> Result<Asked, ScenarioFault>
+fn by_key(alloc: Global, name: &str, value: JsonValue) -> Result<StepKind, ScenarioFault>
     ensures ok { IfOk result (λ step. by_key (object_of_one name.now (reported value.entry)) ≡ Ok step) }
     ensures err { IfErr result
         (λ fault. (fault ≡ ScenarioFault.NoMemory) ⊎ (by_key (object_of_one name.now (reported value.entry)) ≡ Err fault)) }
@@ -97,7 +97,7 @@ fn by_key(alloc: Global, name: &str, value: JsonValue) -> Result<Asked, Scenario
 
 /// What an item of the steps asks for.
 #[tactic(auto, unfolding(crate::specs::Steps::asked))]
-pub(crate) fn asked_of(alloc: Global, value: &JsonValue) -> Result<Asked, ScenarioFault>
+pub(crate) fn asked_of(alloc: Global, value: &JsonValue) -> Result<StepKind, ScenarioFault>
     ensures ok { IfOk result (λ step. asked (reported value.now) ≡ Ok step) }
     ensures err { IfErr result (λ fault. (fault ≡ ScenarioFault.NoMemory) ⊎ (asked (reported value.now) ≡ Err fault)) }
 {

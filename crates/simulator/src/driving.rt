@@ -5,7 +5,7 @@ ghost use Rattle.events.specs.Limits.{most_pending};
 ghost use Rattle.simulator.specs.Numbers.{natural};
 ghost use Rattle.simulator.specs.Passing.{passed};
 
-use crate::asked::Asked;
+use crate::asked::StepKind;
 use crate::balise::Balise;
 use crate::distance::Distance;
 use crate::track::Track;
@@ -173,7 +173,7 @@ impl Course {
 
     /// Takes a step that is asked for, which moves the front by at most 1,000,000 cm. NoMemory where memory was
     /// refused; the course may then have a part of the step. The caller owes a front within 2^99 cm of the start.
-    pub fn take(&mut self, track: &Track, asked: Asked) -> Result<(), NoMemory>
+    pub fn take(&mut self, track: &Track, asked: StepKind) -> Result<(), NoMemory>
         requires low { neg_ℤ (pos (2 ^ 99)) ≤ℤ self.old.front }
         requires high { self.old.front ≤ℤ pos (2 ^ 99) }
         ensures ok { OnOk result (run_of self.new ≡ taken (passed track.now.balises.items) asked (run_of self.old)) }
@@ -181,9 +181,9 @@ impl Course {
         ensures most { OnOk result (self.new.front ≤ℤ (self.old.front +ℤ pos 1_000_000)) }
     {
         match asked {
-            Asked::Drive(distance, speed) => self.drive(track, distance, speed),
-            Asked::Happens(input) => self.accept(input),
-            Asked::Flush => self.flush(),
+            StepKind::Drive(distance, speed) => self.drive(track, distance, speed),
+            StepKind::Happens(input) => self.accept(input),
+            StepKind::Flush => self.flush(),
         }
     }
 }

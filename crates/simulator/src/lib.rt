@@ -20,7 +20,7 @@ mod telegrams;
 mod track;
 mod values;
 
-pub use asked::Asked;
+pub use asked::StepKind;
 pub use balise::Balise;
 pub use distance::Distance;
 pub use driving::Course;

@@ -127,9 +127,9 @@ module _ {G : Type 0} (value : G → ℤ → Option ℤ) where
       lowered_same value (now ++ others) (t ∷ (old ++ others)) course (joined now others (t ∷ old) others h (same others))
 
   -- one more after what is held
-  pub lowered_behind : (old before after : List Target) (t : Target) (course : Course G) → AskTheSame before (t ∷ after) →
+  pub lowered_among : (old before after : List Target) (t : Target) (course : Course G) → AskTheSame before (t ∷ after) →
       lowered_by (value course.gradient) (t ∷ (old ++ after)) course ≡ lowered_by (value course.gradient) (old ++ before) course
-  lowered_behind old before after t course h =
+  lowered_among old before after t course h =
       lowered_same value (t ∷ (old ++ after)) (old ++ before) course
       (through (t ∷ (old ++ after)) (old ++ (t ∷ after)) (old ++ before)
       (back (old ++ (t ∷ after)) (t ∷ (old ++ after)) (moved t old after))
@@ -164,27 +164,27 @@ module _ {G : Type 0} (value : G → ℤ → Option ℤ) where
       let here = slower_fits course.front (value course.gradient) course.brakes t course.speed v below fit in
       h course.front (value course.gradient) course.brakes v ∙ ap (λ (b : Bool). b && all) here
 
-  of_behind : (some others others' : List Target) (course : Course G) → AskTheSameOf (value course.gradient) course others others' →
+  of_beyond : (some others others' : List Target) (course : Course G) → AskTheSameOf (value course.gradient) course others others' →
       AskTheSameOf (value course.gradient) course (some ++ others) (some ++ others')
-  of_behind some others others' course h v below =
+  of_beyond some others others' course h v below =
       let fit = fits_all course.front (value course.gradient) course.brakes in
       fit_both course.front (value course.gradient) course.brakes some others v
       ∙ ap (λ (b : Bool). fit some v && b) (h v below)
       ∙ sym (fit_both course.front (value course.gradient) course.brakes some others' v)
 
   -- where only one asks something
-  pub of_alone : (t : Target) (all behind left : List Target) (course : Course G) →
-      AskTheSameOf (value course.gradient) course all (t ∷ behind) → AskTheSameOf (value course.gradient) course behind left → AskNothing left →
+  pub of_alone : (t : Target) (all beyond left : List Target) (course : Course G) →
+      AskTheSameOf (value course.gradient) course all (t ∷ beyond) → AskTheSameOf (value course.gradient) course beyond left → AskNothing left →
       AskTheSameOf (value course.gradient) course all (t ∷ [])
-  of_alone t all behind left course h k none =
-      of_through all (t ∷ behind) (t ∷ []) course h
-      (of_more t behind [] course (of_through behind left [] course k (of_all left [] course none)))
+  of_alone t all beyond left course h k none =
+      of_through all (t ∷ beyond) (t ∷ []) course h
+      (of_more t beyond [] course (of_through beyond left [] course k (of_all left [] course none)))
 
   -- some of those that come after do for all of them
   pub lowered_ahead : (before all others : List Target) (course : Course G) → AskTheSameOf (value course.gradient) course all others →
       lowered_by (value course.gradient) (before ++ others) course ≡ lowered_by (value course.gradient) (before ++ all) course
   lowered_ahead before all others course h =
-      sym (lowered_of value (before ++ all) (before ++ others) course (of_behind before all others course h))
+      sym (lowered_of value (before ++ all) (before ++ others) course (of_beyond before all others course h))
 
   -- a last one that asks for all that the one before it does
   pub lowered_near : (ahead : List Target) (near far : Target) (start middle end : Course G) → IsNoNearer near far →

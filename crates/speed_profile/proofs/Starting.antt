@@ -124,8 +124,8 @@ module _ (bounds : Bounds) (profile : ℤ → Option CategorySpeeds) (place : �
     nearer = λ t h. let at = over_at (static_targets bounds profile) place greatest_place t h in
         by_lt_z at.0 next
         (λ (before : at.0 <ℤ next). let near = here_nearer at.0 t at.1 (lasts.1 at.0 at.1 before) at.3 in (near.0, inl near.1, near.2))
-        (λ (behind : next ≤ℤ at.0).
-        (t, inr (in_over (static_targets bounds profile) next greatest_place t at.0 behind at.2 at.3), itself t));
+        (λ (farther : next ≤ℤ at.0).
+        (t, inr (in_over (static_targets bounds profile) next greatest_place t at.0 farther at.2 at.3), itself t));
   }
 
   -- a piece asks at its first centimetre

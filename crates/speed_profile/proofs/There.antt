@@ -23,9 +23,9 @@ target_there first end place speed is before within =
     ] in
     cases (int_lt first end) (int_lt greatest_place first) refl refl
 
-pub no_target_behind : (first end : ℤ) (speed : ℕ) → end ≤ℤ first →
+pub no_target_passed : (first end : ℤ) (speed : ℕ) → end ≤ℤ first →
     None ≡ cond (int_lt first end && not (int_lt greatest_place first)) (Some (at_place first speed)) None
-no_target_behind first end speed behind =
+no_target_passed first end speed beyond =
     let cases : (a : Bool) → int_lt first end ≡ a →
     None ≡ cond (a && not (int_lt greatest_place first)) (Some (at_place first speed)) None = elim [
       | true ↦ λ e. absurd (let never : ⊥ = grind (arith, ints) in never)

@@ -27,7 +27,7 @@ none_found {A = A} p (y ∷ xs) h x there e =
       | true ↦ λ f k. (let no : Some y ≡ None = k in cc)
       | false ↦ λ f k. elim there [
         | inl same ↦ (let no : true ≡ false = sym e ∙ ap p same ∙ f in cc)
-        | inr behind ↦ none_found p xs k x behind e
+        | inr following ↦ none_found p xs k x following e
       ]
     ] in
     cases (p y) refl h

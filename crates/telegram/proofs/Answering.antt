@@ -13,23 +13,23 @@ use Rattle.telegram.proofs.PacketsInTurn.{packets_spelled, packets_begin, packet
 
 -- the bits begin with the telegram, and the rest follows its end mark
 pub record BeginsTelegram (t : Telegram) (bits rest : List Bool) : Type 0 where
-  pub behind : List Bool
-  pub header_first : Begins header t.header bits behind
-  pub packets_then : BeginsPackets t.packets.items behind rest
+  pub following : List Bool
+  pub header_first : Begins header t.header bits following
+  pub packets_then : BeginsPackets t.packets.items following rest
 
 pub telegram_once : (t u : Telegram) (bits r s : List Bool) → BeginsTelegram t bits r → BeginsTelegram u bits s → (t ≡ u) × (r ≡ s)
 telegram_once t u bits r s b d =
-    let heads = begins_once header t.header u.header bits b.behind d.behind b.header_first d.header_first in
-    let ps = packets_once t.packets.items u.packets.items b.behind r s b.packets_then (subst (λ (x : List Bool). BeginsPackets u.packets.items x s) (sym heads.1) d.packets_then) in
+    let heads = begins_once header t.header u.header bits b.following d.following b.header_first d.header_first in
+    let ps = packets_once t.packets.items u.packets.items b.following r s b.packets_then (subst (λ (x : List Bool). BeginsPackets u.packets.items x s) (sym heads.1) d.packets_then) in
     ((λ i. record { header = heads.0 i; packets = record { items = ps.0 i } }), ps.1)
 
 telegram_not_refused : (t : Telegram) (e : TelegramFault) (bits rest : List Bool) → BeginsTelegram t bits rest → RefusesTelegram e bits → ⊥
 telegram_not_refused t e bits rest b r =
     elim r [
-      | inl h ↦ begins_not_refused header t.header e bits b.behind b.header_first h
+      | inl h ↦ begins_not_refused header t.header e bits b.following b.header_first h
       | inr h ↦
-          let heads = begins_once header t.header h.0 bits b.behind h.1 b.header_first h.3 in
-          packets_not_refused t.packets.items h.2 e b.behind rest b.packets_then (subst (λ (x : List Bool). RefusesPackets e h.2 x) (sym heads.1) h.4)
+          let heads = begins_once header t.header h.0 bits b.following h.1 b.header_first h.3 in
+          packets_not_refused t.packets.items h.2 e b.following rest b.packets_then (subst (λ (x : List Bool). RefusesPackets e h.2 x) (sym heads.1) h.4)
     ]
 
 telegram_refused_once : (d e : TelegramFault) (bits : List Bool) → RefusesTelegram d bits → RefusesTelegram e bits → d ≡ e
@@ -61,7 +61,7 @@ bytes_refused_once d e bytes r s =
 
 pub carries : (bytes : List ℕ) (t : Telegram) (rest : List Bool) → length bytes ≤ 104 → BeginsTelegram t (bits_of bytes) rest → Carries bytes t
 carries bytes t rest small b =
-    let ps = packets_spelled t.packets.items b.behind rest b.packets_then in
+    let ps = packets_spelled t.packets.items b.following rest b.packets_then in
     record {
       small = small;
       front = b.header_first.front ++ ps.0;
@@ -73,7 +73,7 @@ carries bytes t rest small b =
 -- what spells the telegram begins with it, whatever follows
 pub spelled_begins : (t : Telegram) (front rest : List Bool) → SpellsTelegram t front → BeginsTelegram t (front ++ rest) rest
 spelled_begins t front rest s = record {
-  behind = s.1 ++ rest;
+  following = s.1 ++ rest;
   header_first = record { front = s.0; parts = ap (λ (x : List Bool). x ++ rest) s.2 ∙ append_assoc s.0 s.1 rest; spelled = s.3 };
   packets_then = packets_begin t.packets.items s.1 rest s.4;
 }
@@ -101,8 +101,8 @@ pub packets_refused : (bytes : List ℕ) (rest : List Bool) (h : Header) (e : Te
     → RefusesPackets e ps rest → RefusesBytes e bytes
 packets_refused bytes rest h e ps small first r = inr (small, inr (h, rest, ps, found header _ h rest first, r))
 
-pub read_carries : (bytes : List ℕ) (t : Telegram) (behind rest : List Bool) → length bytes ≤ 104 → read header (bits_of bytes) ≡ Ok (t.header, behind) → BeginsPackets t.packets.items behind rest → Carries bytes t
-read_carries bytes t behind rest small first ps = carries bytes t rest small (record { behind = behind; header_first = found header _ _ _ first; packets_then = ps })
+pub read_carries : (bytes : List ℕ) (t : Telegram) (following rest : List Bool) → length bytes ≤ 104 → read header (bits_of bytes) ≡ Ok (t.header, following) → BeginsPackets t.packets.items following rest → Carries bytes t
+read_carries bytes t following rest small first ps = carries bytes t rest small (record { following = following; header_first = found header _ _ _ first; packets_then = ps })
 
 -- ---- answers
 

@@ -31,10 +31,10 @@ gathered_more [] bytes more packets held last =
     (omega arith, subst (λ (b : List ℕ). HoldPackets packets b) (sym (take_all (length more) more (omega arith))) last, drop_all (length more) more (omega arith))
 gathered_more (extent ∷ extents) bytes more packets held last =
     let front = take-append-le extent.bytes bytes more held.0 in
-    let behind = drop-append-le extent.bytes bytes more held.0 in (
+    let following = drop-append-le extent.bytes bytes more held.0 in (
       omega (arith, held.0, length-append bytes more),
       subst (λ (b : List ℕ). HoldPackets extent.packets b) (sym front) held.1,
-      subst (λ (b : List ℕ). AreGathered (extents ++ one (length more) packets ∷ []) b) (sym behind) (gathered_more extents (drop extent.bytes bytes) more packets held.2 last),
+      subst (λ (b : List ℕ). AreGathered (extents ++ one (length more) packets ∷ []) b) (sym following) (gathered_more extents (drop extent.bytes bytes) more packets held.2 last),
     )
 
 pub each_more : (extents : List Extent) (bytes more : List ℕ) (packets : ℕ) → AreGathered extents bytes
@@ -44,7 +44,7 @@ each_more [] bytes more packets held =
     ∙ ap (λ (b : List ℕ). packets_in packets (drop header_bits (bits_of b)) ∷ []) (take_all (length more) more (omega arith))
 each_more (extent ∷ extents) bytes more packets held =
     let front = take-append-le extent.bytes bytes more held.0 in
-    let behind = drop-append-le extent.bytes bytes more held.0 in
+    let following = drop-append-le extent.bytes bytes more held.0 in
     ap (λ (b : List ℕ). packets_in extent.packets (drop header_bits (bits_of b)) ∷ packets_of_each (extents ++ one (length more) packets ∷ []) (drop extent.bytes (bytes ++ more))) front
-    ∙ ap (λ (b : List ℕ). packets_in extent.packets (drop header_bits (bits_of (take extent.bytes bytes))) ∷ packets_of_each (extents ++ one (length more) packets ∷ []) b) behind
+    ∙ ap (λ (b : List ℕ). packets_in extent.packets (drop header_bits (bits_of (take extent.bytes bytes))) ∷ packets_of_each (extents ++ one (length more) packets ∷ []) b) following
     ∙ ap (λ (ps : List (List Packet)). packets_in extent.packets (drop header_bits (bits_of (take extent.bytes bytes))) ∷ ps) (each_more extents (drop extent.bytes bytes) more packets held.2)

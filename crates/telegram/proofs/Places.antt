@@ -70,9 +70,9 @@ pub all_stand : (bytes : List ℕ) (start : ℕ) (ps : List Packet) (bits rest :
 all_stand bytes start [] bits rest here within b = All-nil StandsInPlace
 all_stand bytes start (p ∷ ps) bits rest here within b =
     let long = length-next_packet p b.1.front b.1.spelled in
-    let behind = ap length here in
+    let following = ap length here in
     let room : start + length_of p ≤ 8 * length bytes =
-    omega (arith, behind, ap length b.1.parts, length-append b.1.front b.0, length-drop start (bits_of bytes), length-bits_of bytes, long) in
+    omega (arith, following, ap length b.1.parts, length-append b.1.front b.0, length-drop start (bits_of bytes), length-bits_of bytes, long) in
     let next : drop (start + length_of p) (bits_of bytes) ≡ b.0 =
     sym (drop-drop (length_of p) start (bits_of bytes)) ∙ ap (drop (length_of p)) (here ∙ b.1.parts) ∙ drop_at b.1.front b.0 (length_of p) long in
     All-cons StandsInPlace (place bytes start p) (located_from bytes (start + length_of p) ps)

@@ -3,7 +3,7 @@ use Rattle.std.proofs.Common.{◌≡◌, ◌↔◌, ℕ, zero, suc, ◌+◌, ◌
 use Rattle.bits.specs.Bits.{bits_of}
 use Rattle.bits.specs.Layout.{read}
 use Rattle.bits.proofs.Bytes.{length-bits_of}
-use Rattle.bits.proofs.Laws.{begun, found}
+use Rattle.bits.proofs.Laws.{initial, found}
 use Rattle.packets.specs.Packets.{length_of}
 use Rattle.packets.specs.declared.packet.Packet.{Packet}
 use Rattle.telegram.specs.Sequences.{BeginsPackets}
@@ -20,7 +20,7 @@ use Rattle.telegram.specs.declared.fault.TelegramFault.{TelegramFault}
 pub packets_in-begins : (ps : List Packet) (bits rest : List Bool) → BeginsPackets ps bits rest → packets_in (length ps) bits ≡ ps
 unfolding packets_in
 packets_in-begins [] bits rest b = refl
-packets_in-begins (p ∷ ps) bits rest b = rw (begun next_packet (Some p) bits b.0 b.1) (ap (λ (t : List Packet). p ∷ t) (packets_in-begins ps b.0 rest b.2))
+packets_in-begins (p ∷ ps) bits rest b = rw (initial next_packet (Some p) bits b.0 b.1) (ap (λ (t : List Packet). p ∷ t) (packets_in-begins ps b.0 rest b.2))
 
 -- the first of so many packets is read, and as many less one are left
 pub packets_in-first : (n : ℕ) (bits next : List Bool) (p : Packet) → 0 < n → read next_packet bits ≡ Ok (Some p, next) → packets_in n bits ≡ p ∷ packets_in (n - 1) next
@@ -79,8 +79,8 @@ located_count bytes start (p ∷ ps) = let more = located_count bytes (start + l
 packets_after : (bytes : List ℕ) (t : Telegram) → Carries bytes t → packets_in (length t.packets.items) (drop header_bits (bits_of bytes)) ≡ t.packets.items
 packets_after bytes t c =
     let b = carried bytes t c in
-    let long = header_takes t.header (bits_of bytes) b.behind b.header_first in
-    rw (after_front b.header_first.front b.behind (bits_of bytes) header_bits b.header_first.parts long) (packets_in-begins t.packets.items b.behind c.rest b.packets_then)
+    let long = header_takes t.header (bits_of bytes) b.following b.header_first in
+    rw (after_front b.header_first.front b.following (bits_of bytes) header_bits b.header_first.parts long) (packets_in-begins t.packets.items b.following c.rest b.packets_then)
 
 pub all_after : (bytes : List ℕ) (t : Telegram) (n : ℕ) → Carries bytes t → n ≡ length t.packets.items → packets_in n (drop header_bits (bits_of bytes)) ≡ t.packets.items
 all_after bytes t n c e = subst (λ (k : ℕ). packets_in k (drop header_bits (bits_of bytes)) ≡ t.packets.items) (sym e) (packets_after bytes t c)
@@ -94,7 +94,7 @@ few_packets bytes t c =
 pub held : (bytes : List ℕ) (t : Telegram) (n : ℕ) → Carries bytes t → n ≡ length t.packets.items → HoldPackets n bytes
 held bytes t n c e =
     let b = carried bytes t c in
-    let long = header_takes t.header (bits_of bytes) b.behind b.header_first in
+    let long = header_takes t.header (bits_of bytes) b.following b.header_first in
     record {
       small = c.small;
       header_first = omega (arith, long, length-bits_of bytes);

@@ -37,8 +37,8 @@ pub record Adds (W : Widths) (t : List FieldValue → List FieldValue) (b : List
 nothing : (W : Widths) → Adds W (λ s. s) (λ s. s)
 nothing W = record { added = []; fields = λ s. sym (append-nil s); widths = tt; bits = λ s. sym (append-nil s) }
 
-behind : (W : Widths) (t u : List FieldValue → List FieldValue) (b v : List Bool → List Bool) → Adds W t b → Adds W u v → Adds W (λ s. u (t s)) (λ s. v (b s))
-behind W t u b v x y = record {
+following : (W : Widths) (t u : List FieldValue → List FieldValue) (b v : List Bool → List Bool) → Adds W t b → Adds W u v → Adds W (λ s. u (t s)) (λ s. v (b s))
+following W t u b v x y = record {
   added = x.added ++ y.added;
   fields = λ s. y.fields (t s) ∙ ap (λ (l : List FieldValue). l ++ y.added) (x.fields s) ∙ append_assoc s x.added y.added;
   widths = each-append (λ f. W f.name f.width) x.added y.added x.widths y.widths;
@@ -51,7 +51,7 @@ each : {D : Type 0} (W : Widths) (w : D → List FieldValue → List FieldValue)
     → Adds W (λ s. each_taken w xs s) (λ s. each_taken v xs s)
 unfolding each_taken
 each W w v [] one = nothing W
-each W w v (x ∷ xs) one = behind W (λ s. w x s) (λ s. each_taken w xs s) (λ s. v x s) (λ s. each_taken v xs s) (one x) (each W w v xs one)
+each W w v (x ∷ xs) one = following W (λ s. w x s) (λ s. each_taken w xs s) (λ s. v x s) (λ s. each_taken v xs s) (one x) (each W w v xs one)
 
 option : {D : Type 0} (W : Widths) (w : D → List FieldValue → List FieldValue) (v : D → List Bool → List Bool) (t : List FieldValue → List FieldValue) (b : List Bool → List Bool) (o : Option D)
     → Adds W t b → ((x : D) → Adds W (λ s. w x s) (λ s. v x s)) → Adds W (λ s. option_map_or (λ x. w x s) o (t s)) (λ s. option_map_or (λ x. v x s) o (b s))
@@ -104,7 +104,7 @@ adds W (reported_as g m) p c = adds W m p c
 adds W (then_ m f) p c =
     option W (λ x s. taken with_field (f x) c (taken with_field m c s)) (λ x s. taken with_bits (f x) c (taken with_bits m c s)) (λ s. taken with_field m c s) (λ s. taken with_bits m c s) (value m c) (adds W m p.0 c)
     (λ x.
-    behind W (λ s. taken with_field m c s) (λ s. taken with_field (f x) c s) (λ s. taken with_bits m c s) (λ s. taken with_bits (f x) c s) (adds W m p.0 c) (adds W (f x) (p.1 x) c))
+    following W (λ s. taken with_field m c s) (λ s. taken with_field (f x) c s) (λ s. taken with_bits m c s) (λ s. taken with_bits (f x) c s) (adds W m p.0 c) (adds W (f x) (p.1 x) c))
 
 pub plain-folded : {F C S : Type 0} (W : Widths) (m : S → Layout F C S) → ((s : S) → Plain W (m s)) → (n : ℕ) (s : S) → Plain W (folded m n s)
 unfolding folded

@@ -46,6 +46,6 @@ laid d p bits s t =
       second_width = refl;
       head = refl;
       widths = sh.widths;
-      behind = sh.behind d t.body;
+      following = sh.following d t.body;
       spelled = taken ∙ sh.bits (number_bits 8 (number_of p)) ∙ sym (append_assoc (number_bits 8 (number_of p)) others sh.body);
     }

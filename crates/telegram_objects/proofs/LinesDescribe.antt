@@ -143,13 +143,13 @@ depth-pairs : (fields : List FieldValue) → items_depth (items_of (map pair_of 
 depth-pairs [] = omega arith
 depth-pairs (f ∷ fields) = omega (arith, depth-pairs fields)
 
-depth-behind : (p : Packet) → members_depth (members_after p) ≡ 0
-depth-behind (packets.NationalValues p) = refl
-depth-behind other = refl
+depth-following : (p : Packet) → members_depth (members_after p) ≡ 0
+depth-following (packets.NationalValues p) = refl
+depth-following other = refl
 
 depth-packets : (ps : List Packet) → items_depth (items_of (map packet_object ps)) ≤ 3
 depth-packets [] = omega arith
-depth-packets (p ∷ ps) = omega (arith, depth-pairs (packet_fields p), depth-behind p, depth-packets ps)
+depth-packets (p ∷ ps) = omega (arith, depth-pairs (packet_fields p), depth-following p, depth-packets ps)
 
 depth-telegram : (t : Telegram) → depth (telegram_object t) ≤ max_depth
 depth-telegram t = omega (arith, depth-members_of (header_fields t.header), depth-packets t.packets.items)

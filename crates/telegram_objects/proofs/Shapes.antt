@@ -127,7 +127,7 @@ pub record Shape (p : Packet) (n : ℕ) : Type 0 where
   pub others : List FieldValue
   pub body : List Bool
   pub widths : HaveWidths others
-  pub behind : (d : Data) → DescribesBody d p → (BeginWithOther others × (body ≡ [])) ⊎ ((others ≡ []) × DescribesBits d body)
+  pub following : (d : Data) → DescribesBody d p → (BeginWithOther others × (body ≡ [])) ⊎ ((others ≡ []) × DescribesBits d body)
   pub fields : (s : List FieldValue) → packet_taken with_field n p s ≡ s ++ direction_field direction ∷ length_field n ∷ others
   pub bits : (s : List Bool) → packet_taken with_bits n p s ≡ s ++ (fields_bits (direction_field direction ∷ length_field n ∷ others) ++ body)
 
@@ -138,7 +138,7 @@ plain-shape p m c n h fields bits = record {
   others = h.others;
   body = [];
   widths = h.widths;
-  behind = λ d t. inl (h.begin, refl);
+  following = λ d t. inl (h.begin, refl);
   fields = λ s. fields s ∙ h.fields s;
   bits = λ s. bits s ∙ h.bits s ∙ ap (λ (t : List Bool). s ++ t) (sym (append-nil (fields_bits (direction_field h.direction ∷ length_field n ∷ h.others))));
 }
@@ -156,7 +156,7 @@ other-shape p n = record {
   others = [];
   body = p.body;
   widths = tt;
-  behind = λ d t. inr (refl, t);
+  following = λ d t. inr (refl, t);
   fields = λ s. two-fields s _ _;
   bits = λ s. two-bits s _ _ p.body;
 }

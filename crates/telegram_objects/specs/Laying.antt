@@ -35,7 +35,7 @@ pub record Lays (d : Data) (bits : List Bool) : Type 0 where
   pub second_width : HasWidth second.name second.width
   pub head : first.width + second.width ≡ 10
   pub widths : HaveWidths others
-  pub behind : (BeginWithOther others × (body ≡ [])) ⊎ ((others ≡ []) × DescribesBits d body)
+  pub following : (BeginWithOther others × (body ≡ [])) ⊎ ((others ≡ []) × DescribesBits d body)
   pub spelled : bits ≡ fields_bits (first ∷ second ∷ length_field (length bits) ∷ others) ++ body
 
 -- Fields of the same variables, one after another, each of fewer than 64 bits.

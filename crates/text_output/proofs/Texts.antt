@@ -13,12 +13,12 @@ texts-flat form (p ∷ ps) = flat_map-cons (text_of form) p ps ∙ ap (λ l. tex
 abbrev pub part_text : Form → Bor (List Piece) → List ℕ
 part_text form part = texts form part.now
 
-behind-flat : (form : Form) (text : List ℕ) (ps : List (Bor (List Piece))) → text ++ flat_map (part_text form) ps ≡ parts_after form text ps
-behind-flat form text [] = append-nil text
-behind-flat form text (p ∷ ps) =
+following-flat : (form : Form) (text : List ℕ) (ps : List (Bor (List Piece))) → text ++ flat_map (part_text form) ps ≡ parts_after form text ps
+following-flat form text [] = append-nil text
+following-flat form text (p ∷ ps) =
     ap (λ l. text ++ l) (flat_map-cons (part_text form) p ps)
-    ∙ sym (append_assoc text (texts form p.now) (flat_map (part_text form) ps)) ∙ behind-flat form (text ++ texts form p.now) ps
+    ∙ sym (append_assoc text (texts form p.now) (flat_map (part_text form) ps)) ∙ following-flat form (text ++ texts form p.now) ps
 
 pub parts-flat : (form : Form) (ps : List (Bor (List Piece))) → flat_map (part_text form) ps ≡ part_texts form ps
 parts-flat form [] = refl
-parts-flat form (p ∷ ps) = flat_map-cons (part_text form) p ps ∙ behind-flat form (texts form p.now) ps
+parts-flat form (p ∷ ps) = flat_map-cons (part_text form) p ps ∙ following-flat form (texts form p.now) ps

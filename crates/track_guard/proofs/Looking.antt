@@ -51,12 +51,12 @@ all_listed (p ∷ ps) (suc n) at all rest lt b =
     let h = headed p bits b.0 first in
     let len = length_of p in
     let front_long : length first.front ≡ len = (spelled-packet p first.front first.spelled).length_is in
-    let behind : b.0 ≡ drop (at + len) all = sym (drop_at first.front b.0 len front_long) ∙ ap (drop len) (sym first.parts) ∙ drop-drop len at all in
+    let following : b.0 ≡ drop (at + len) all = sym (drop_at first.front b.0 len front_long) ∙ ap (drop len) (sym first.parts) ∙ drop-drop len at all in
     let is : listed (suc n) at bits ≡ in_front (place_at at bits) (listed n (at + len) (drop (at + len) all)) =
     packet_listed n at bits h.stands
     ∙ ap (λ k. in_front (place_at at bits) (listed n (at + k) (drop k bits))) h.length_is
     ∙ ap (λ r. in_front (place_at at bits) (listed n (at + len) r)) (drop-drop len at all) in
-    let others = all_listed ps n (at + len) all rest (omega (arith, lt)) (subst (λ (r : List Bool). BeginsPackets ps r rest) behind b.2) in
+    let others = all_listed ps n (at + len) all rest (omega (arith, lt)) (subst (λ (r : List Bool). BeginsPackets ps r rest) following b.2) in
     subst (λ (l : Listing). AllZip (IsPlaceOf all) (p ∷ ps) l.packets.items) (sym is)
     (record { rest = b.0; spelled = first; length = h.length_is }, others)
 
@@ -103,11 +103,11 @@ all_are_looked_at bytes t c =
     let all = bits_of bytes in
     let b = carried bytes t c in
     let h = b.header_first in
-    let takes = header_takes t.header all b.behind h in
-    let front_long : length h.front ≡ 50 = omega (arith, ap length h.parts, length-append h.front b.behind) in
-    let behind : b.behind ≡ drop 50 all = sym (drop_at h.front b.behind 50 front_long) ∙ ap (drop 50) (sym h.parts) in
+    let takes = header_takes t.header all b.following h in
+    let front_long : length h.front ≡ 50 = omega (arith, ap length h.parts, length-append h.front b.following) in
+    let following : b.following ≡ drop 50 all = sym (drop_at h.front b.following 50 front_long) ∙ ap (drop 50) (sym h.parts) in
     let listing : listing_of bytes ≡ listed 34 50 (drop 50 all) = listing_long bytes (omega (arith, takes)) in
-    let zip = all_listed t.packets.items 34 50 all c.rest (omega (arith, few_packets bytes t c)) (subst (λ (r : List Bool). BeginsPackets t.packets.items r c.rest) behind b.packets_then) in
+    let zip = all_listed t.packets.items 34 50 all c.rest (omega (arith, few_packets bytes t c)) (subst (λ (r : List Bool). BeginsPackets t.packets.items r c.rest) following b.packets_then) in
     let looked : (listing_of bytes).packets.items ≡ packets_found bytes =
-    ap (λ x. if x then (listing_of bytes).packets.items else []) (sym (are_known all (known_header t.header all b.behind h))) in
+    ap (λ x. if x then (listing_of bytes).packets.items else []) (sym (are_known all (known_header t.header all b.following h))) in
     subst (λ (qs : List PacketPlace). AllZip (IsPlaceOf all) t.packets.items qs) (ap (λ (l : Listing). l.packets.items) (sym listing) ∙ looked) zip

@@ -66,9 +66,9 @@ packet_here : (at : ℕ) (bits : List Bool) → Stands bits → step_at at bits 
 packet_here at bits s =
     let h = s.head in
     let w = s.whole in
-    let behind : 15 ≤ length (drop 8 bits) = omega (arith, length-drop 8 bits) in
+    let with_earlier : 15 ≤ length (drop 8 bits) = omega (arith, length-drop 8 bits) in
     is_packet (nat_lt (length bits) 8) (number_at bits == 255) (nat_lt (length (drop 8 bits)) 15) (nat_lt (length_at bits) 23) (nat_lt (length bits) (length_at bits)) at (place_at at bits)
-    (le-ltb (length bits) 8 (omega arith)) (ne_eqb (number_at bits) 255 s.no_mark) (le-ltb (length (drop 8 bits)) 15 behind)
+    (le-ltb (length bits) 8 (omega arith)) (ne_eqb (number_at bits) 255 s.no_mark) (le-ltb (length (drop 8 bits)) 15 with_earlier)
     (le-ltb (length_at bits) 23 h) (le-ltb (length bits) (length_at bits) w)
 
 mark_here : (at : ℕ) (bits : List Bool) → Marks bits → step_at at bits ≡ steps.End (EndMark at)
@@ -108,8 +108,8 @@ number_front u v le = ap number (take-append-le 8 u v le)
 
 pub head_front : (u v : List Bool) → 23 ≤ length u → head_at (u ++ v) ≡ head_at u
 head_front u v le =
-    let behind : 15 ≤ length (drop 8 u) = omega (arith, length-drop 8 u) in
-    ap (λ (bits : List Bool). number (take 15 bits)) (drop-append-le 8 u v (omega arith)) ∙ ap number (take-append-le 15 (drop 8 u) v behind)
+    let with_earlier : 15 ≤ length (drop 8 u) = omega (arith, length-drop 8 u) in
+    ap (λ (bits : List Bool). number (take 15 bits)) (drop-append-le 8 u v (omega arith)) ∙ ap number (take-append-le 15 (drop 8 u) v with_earlier)
 
 abbrev by_head : ℕ → ℕ → ℕ → PacketPlace
 by_head at n h = record { number = n; direction = direction_in (direction_of (h / 8192)); start = at; length = h % 8192 }

@@ -1,7 +1,7 @@
 -- The fields of a packet that the kernel uses, by its layout in `packets` (SUBSET-026, 7.4.2), NID_PACKET first. Places
 -- and widths are bits.
 use Rattle.std.specs.Prelude.{ℕ, ◌+◌, List, [], ◌∷◌, ◌++◌, length}
-use Rattle.bits.specs.Writing.{Shown, named, raw}
+use Rattle.bits.specs.Writing.{ListedField, named, raw}
 use Rattle.bits.specs.declared.name.VariableName.TheVariants as names
 use Rattle.packets.specs.Packets.{length_of, number_of, packet_taken}
 use Rattle.packets.specs.declared.packet.Packet.{Packet}
@@ -14,7 +14,7 @@ pub record Shows : Type 0 where
   pub at : ℕ
 
 -- with one more; bits that are skipped have no field
-abbrev pub with_shown : Shows → Shown → Shows
+abbrev pub with_shown : Shows → ListedField → Shows
 with_shown s (named name width v) = record { fields = s.fields ++ record { variable = Shared name; start = s.at; width = width; number = v } ∷ []; at = s.at + width }
 with_shown s (raw bits) = record s { at = s.at + length bits }
 

@@ -56,11 +56,11 @@ ended e = record { packets = record { items = [] }; end = e }
 
 -- a packet in front of those after it
 abbrev pub in_front : PacketPlace → Listing → Listing
-in_front p behind = record { packets = record { items = p ∷ behind.packets.items }; end = behind.end }
+in_front p with_earlier = record { packets = record { items = p ∷ with_earlier.packets.items }; end = with_earlier.end }
 
 abbrev pub gone_on : Step → (PacketPlace → Listing) → Listing
-gone_on (steps.End e) behind = ended e
-gone_on (steps.Packet p) behind = in_front p (behind p)
+gone_on (steps.End e) with_earlier = ended e
+gone_on (steps.Packet p) with_earlier = in_front p (with_earlier p)
 
 -- at most so many packets, the first of them here
 unfoldable pub listed : ℕ → ℕ → List Bool → Listing

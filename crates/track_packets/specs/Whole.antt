@@ -12,8 +12,8 @@ use Rattle.track_packets.specs.declared.layouts.TheConstants.{HEAD}
 use Rattle.track_packets.specs.declared.reading.Field.{Field}
 
 -- a packet before its first field
-abbrev pub begun : List Bool → Reported
-begun bits = record { fields = []; gate = None; qualifier = None; whole = length bits; left = bits }
+abbrev pub initial : List Bool → Reported
+initial bits = record { fields = []; gate = None; qualifier = None; whole = length bits; left = bits }
 
 -- whether the rows of a layout take all bits of the packet
 abbrev pub takes_all : Body → Bool
@@ -37,7 +37,7 @@ finished all t =
 -- The fields of a packet by the rows of its layout, and how many bits are left after them; or the first fault.
 abbrev pub fields_by_rows : ℕ → List Bool → Result (List Field × ℕ) FieldFault
 fields_by_rows number bits =
-    then_read (read_rows 3 0 HEAD (begun bits)) (λ t. then_read (read_rows 3 0 (rows_of number) t) (λ s. finished (takes_all_in (kind_reported number)) s))
+    then_read (read_rows 3 0 HEAD (initial bits)) (λ t. then_read (read_rows 3 0 (rows_of number) t) (λ s. finished (takes_all_in (kind_reported number)) s))
 
 -- whether the fields of a packet of so many bits are reported by `packets`
 abbrev pub by_kernel : Body → ℕ → Bool

@@ -2,7 +2,7 @@
 ghost use Rattle.std.specs.Prelude.{◌≡◌, ◌+◌, ◌≤◌, length as count, take};
 ghost use Rattle.track_packets.specs.Fields.{comes, deeper as deeper_rows, fault_at as fault_of, is_number as has_number, read_row, read_rows, noted, times_reported};
 ghost use Rattle.track_packets.specs.Reading.{Gives};
-ghost use Rattle.track_packets.specs.Whole.{begun, finished};
+ghost use Rattle.track_packets.specs.Whole.{initial, finished};
 
 use crate::fault::{FieldFault, FieldPlace};
 use crate::packet_bits::PacketBits;
@@ -117,7 +117,7 @@ impl<'a> Reading<'a> {
     /// A packet of so many bits, with which the reader begins, before its first field.
     pub(crate) fn new(alloc: Global, reader: &BitReader<'a>, length: u32) -> Self
         requires { length ≤ count reader.now }
-        ensures { result ≡ begun (take length reader.now) }
+        ensures { result ≡ initial (take length reader.now) }
     {
         Reading {
             fields: Vec::new(alloc),

@@ -9,7 +9,7 @@ use Rattle.track_store.specs.Facts.{MarkedFacts, profile_of}
 use Rattle.track_store.specs.Restrictions.{in_force}
 use Rattle.track_picture.specs.declared.happened.Happened.{Happened}
 use Rattle.track_picture.specs.Columns.{TrackReports, StandsForColumns, columns_of, reported_in}
-use Rattle.track_picture.specs.Entry.{Begun}
+use Rattle.track_picture.specs.Entry.{InputEffect}
 use Rattle.track_picture.specs.Happenings.{and_missed, and_moved, and_ticked, happenings}
 use Rattle.track_picture.specs.Live.{Happening}
 use Rattle.track_picture.specs.StandsFor.{KnownTrack, Knowledge, Life, grown_so_far}
@@ -26,23 +26,23 @@ module _ {A : Type 0} (f : TrackReports → A) (by_links : (reported : TrackRepo
   went None hs = refl
   went (Some reading) hs = refl
 
-  begun_same : (begun : Begun) (hs : List Happening) → f (reported_in (and_missed begun.missed (and_moved begun.reading (and_ticked begun.clock hs)))) ≡ f (reported_in hs)
-  begun_same begun hs =
-      ap f (reported_missed begun.missed (and_moved begun.reading (and_ticked begun.clock hs)))
-      ∙ by_links (reported_in (and_moved begun.reading (and_ticked begun.clock hs))) _
-      ∙ went begun.reading (and_ticked begun.clock hs)
-      ∙ ticked begun.clock hs
+  initial_same : (initial : InputEffect) (hs : List Happening) → f (reported_in (and_missed initial.missed (and_moved initial.reading (and_ticked initial.clock hs)))) ≡ f (reported_in hs)
+  initial_same initial hs =
+      ap f (reported_missed initial.missed (and_moved initial.reading (and_ticked initial.clock hs)))
+      ∙ by_links (reported_in (and_moved initial.reading (and_ticked initial.clock hs))) _
+      ∙ went initial.reading (and_ticked initial.clock hs)
+      ∙ ticked initial.clock hs
 
 module _ {G S : Type 0} {stores : Stores G S} {known : Knowledge G S} {parts : KnownTrack} where
-  pub begun_only : (life : Life) (begun : Begun) (happened : Happened) → parts ≡ columns_of (grown_so_far life begun (record { groups = []; happened = happened })) →
-      StandsForColumns stores known life → StandsForColumns stores (record known { parts = parts }) (grown_so_far life begun (record { groups = []; happened = happened }))
-  begun_only life begun happened is s =
+  pub initial_only : (life : Life) (initial : InputEffect) (happened : Happened) → parts ≡ columns_of (grown_so_far life initial (record { groups = []; happened = happened })) →
+      StandsForColumns stores known life → StandsForColumns stores (record known { parts = parts }) (grown_so_far life initial (record { groups = []; happened = happened }))
+  initial_only life initial happened is s =
       let hs = happenings life.entries in
       record {
         parts_are = is;
-        restrictions_are = s.restrictions_are ∙ ap in_force (sym (begun_same (λ reported. reported.restrictions) (λ reported links. refl) (λ reported grants. refl) begun hs));
+        restrictions_are = s.restrictions_are ∙ ap in_force (sym (initial_same (λ reported. reported.restrictions) (λ reported links. refl) (λ reported grants. refl) initial hs));
         gradients_are = s.gradients_are
-            ∙ ap profile_of (sym (begun_same {A = MarkedFacts ℤ} (λ reported. record { mark = reported.mark; facts = reported.gradients }) (λ reported links. refl) (λ reported grants. refl) begun hs));
+            ∙ ap profile_of (sym (initial_same {A = MarkedFacts ℤ} (λ reported. record { mark = reported.mark; facts = reported.gradients }) (λ reported links. refl) (λ reported grants. refl) initial hs));
         speeds_are = s.speeds_are
-            ∙ ap profile_of (sym (begun_same {A = MarkedFacts CategorySpeeds} (λ reported. record { mark = reported.mark; facts = reported.speeds }) (λ reported links. refl) (λ reported grants. refl) begun hs));
+            ∙ ap profile_of (sym (initial_same {A = MarkedFacts CategorySpeeds} (λ reported. record { mark = reported.mark; facts = reported.speeds }) (λ reported links. refl) (λ reported grants. refl) initial hs));
       }

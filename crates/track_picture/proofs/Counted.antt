@@ -84,19 +84,19 @@ came (happening ∷ earlier) fact h =
           one_more happening earlier fact (not-true (ends happening fact) kept.1) (came earlier fact kept.0))
     ]
 
-counts_behind : (later : List Happening) (cause : Happening) (earlier : List Happening) (fact : TrackFact) → IsAmong fact (brought cause) →
+counts_after : (later : List Happening) (cause : Happening) (earlier : List Happening) (fact : TrackFact) → IsAmong fact (brought cause) →
     ((h : Happening) → IsAmong h later → ends h fact ≡ false) → IsAmong fact (live (later ++ (cause ∷ earlier)))
-counts_behind [] cause earlier fact new rest =
+counts_after [] cause earlier fact new rest =
     left_among fact (brought cause) (filter (λ f. not (ends cause f)) (live earlier)) new
-counts_behind (happening ∷ later) cause earlier fact new rest =
+counts_after (happening ∷ later) cause earlier fact new rest =
     let before = live (later ++ (cause ∷ earlier)) in
     right_among fact (brought happening) (filter (λ f. not (ends happening f)) before)
     (stays (λ f. not (ends happening f)) fact before (ap not (rest happening (inl refl)))
-    (counts_behind later cause earlier fact new (λ h among. rest h (inr among))))
+    (counts_after later cause earlier fact new (λ h among. rest h (inr among))))
 
 counts : (all : List Happening) (fact : TrackFact) → CameAndStays fact all → IsAmong fact (live all)
 counts all fact s =
-    subst (λ (hs : List Happening). IsAmong fact (live hs)) (sym s.in_turn) (counts_behind s.later s.cause s.earlier fact s.came s.not_ended)
+    subst (λ (hs : List Happening). IsAmong fact (live hs)) (sym s.in_turn) (counts_after s.later s.cause s.earlier fact s.came s.not_ended)
 
 pub counts_while_not_ended : CountsWhileNotEnded
 counts_while_not_ended all fact = (came all fact, counts all fact)

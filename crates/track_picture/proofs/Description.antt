@@ -30,7 +30,7 @@ use Rattle.track_picture.proofs.OneKind.{fact_with}
 -- what happened up to the groups of an event, and up to its look at the train
 abbrev pub up_to_groups : TrackEntry → List TrackEntry → List Happening
 up_to_groups event earlier =
-    and_closed event.used.groups (and_missed event.begun.missed (and_moved event.begun.reading (and_ticked event.begun.clock (happenings earlier))))
+    and_closed event.used.groups (and_missed event.initial.missed (and_moved event.initial.reading (and_ticked event.initial.clock (happenings earlier))))
 
 abbrev pub up_to_look : TrackEntry → List TrackEntry → List Happening
 up_to_look event earlier = and_seen event.train (up_to_groups event earlier)

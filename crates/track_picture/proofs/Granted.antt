@@ -129,13 +129,13 @@ marked (Some mark) hs t = t
 in_time : (events : List TrackEntry) → IsInTime (happenings events)
 in_time [] = tt
 in_time (e ∷ es) =
-    let ticked_now = and_ticked e.begun.clock (happenings es) in
-    let moved_now = and_moved e.begun.reading ticked_now in
-    let begun = and_missed e.begun.missed moved_now in
-    let closed_now = and_closed e.used.groups begun in
+    let ticked_now = and_ticked e.initial.clock (happenings es) in
+    let moved_now = and_moved e.initial.reading ticked_now in
+    let initial = and_missed e.initial.missed moved_now in
+    let closed_now = and_closed e.used.groups initial in
     let seen_now = and_seen e.train closed_now in
-    marked e.mark (and_entered e.entered seen_now) (entered e.entered seen_now (seen e.train closed_now (closed e.used.groups begun
-    (past_missed IsInTime (λ entry hs t. t) e.begun.missed moved_now (moved e.begun.reading ticked_now (ticked e.begun.clock (happenings es) (in_time es)))))))
+    marked e.mark (and_entered e.entered seen_now) (entered e.entered seen_now (seen e.train closed_now (closed e.used.groups initial
+    (past_missed IsInTime (λ entry hs t. t) e.initial.missed moved_now (moved e.initial.reading ticked_now (ticked e.initial.clock (happenings es) (in_time es)))))))
 
 pub looks_are : (events : List TrackEntry) → value look (happenings events) ≡ sights (reported_in (happenings events)).grants
 looks_are events = looks_in_time (happenings events) (in_time events)

@@ -37,4 +37,4 @@ one_mark (other ∷ hs) = one_mark hs
 
 -- a mark that isn't ahead changes nothing
 pub kept_mark : (mark before : ℤ) → mark ≤ℤ before → int_max mark before ≡ before
-kept_mark mark before behind = grind (arith, ints)
+kept_mark mark before following = grind (arith, ints)

@@ -6,7 +6,7 @@ use Rattle.mode_table.specs.declared.mode.Mode.{Mode}
 use Rattle.mode_table.specs.declared.mode.Mode.TheVariants as mode
 use Rattle.mode_table.specs.declared.statuses.Item.TheVariants as item
 use Rattle.national.specs.InForce as national
-use Rattle.national.specs.InForce.{NationalEntry, waiting, is_reached, start_of, unless_ended_by, in_force, in_force_behind}
+use Rattle.national.specs.InForce.{NationalEntry, waiting, is_reached, start_of, unless_ended_by, in_force, in_force_after}
 use Rattle.national.specs.Values.{ValuesFor}
 use Rattle.packets.specs.declared.packet.Packet.{Packet}
 use Rattle.packets.specs.declared.packet.Packet.TheVariants as packets
@@ -76,10 +76,10 @@ module _ (kept : ValuesFor) where
   reported_holds g p m other es = refl
 
   one_more : (entry : NationalEntry) (hs : List Happening) → in_force_in kept hs ≡ in_force kept (reported_in hs).values →
-      in_force_behind entry (values_in hs) (in_force_in kept hs) ≡ in_force kept (entry ∷ (reported_in hs).values)
+      in_force_after entry (values_in hs) (in_force_in kept hs) ≡ in_force kept (entry ∷ (reported_in hs).values)
   one_more entry hs r =
-      ap (λ w. in_force_behind entry w (in_force_in kept hs)) (values_are hs)
-      ∙ ap (λ v. in_force_behind entry (waiting (reported_in hs).values) v) r
+      ap (λ w. in_force_after entry w (in_force_in kept hs)) (values_are hs)
+      ∙ ap (λ v. in_force_after entry (waiting (reported_in hs).values) v) r
 
   pub in_force_is : (hs : List Happening) → in_force_in kept hs ≡ in_force kept (reported_in hs).values
   in_force_is [] = refl

@@ -88,20 +88,20 @@ placed : (events : List TrackEntry) → IsPlaced (happenings events) (places eve
 placed [] = record { places_are = refl; group_is = refl }
 placed (e ∷ es) =
     let before = group_of_fix es in
-    let ticked_now = and_ticked e.begun.clock (happenings es) in
-    let moved_now = and_moved e.begun.reading ticked_now in
-    let begun = and_missed e.begun.missed moved_now in
-    let closed_now = and_closed e.used.groups begun in
-    let went = with_movement e.begun.reading (places es) in
+    let ticked_now = and_ticked e.initial.clock (happenings es) in
+    let moved_now = and_moved e.initial.reading ticked_now in
+    let initial = and_missed e.initial.missed moved_now in
+    let closed_now = and_closed e.used.groups initial in
+    let went = with_movement e.initial.reading (places es) in
     let now = latest_fixed e.used.groups before in
     let there = with_fixes e.used.groups went in
     marked now e.mark (and_entered e.entered (and_seen e.train closed_now)) there
     (entered now e.entered (and_seen e.train closed_now) there
     (seen now e.train closed_now there
-    (closed e.used.groups before begun went
-    (passed before e.begun.missed moved_now went
-    (moved before e.begun.reading ticked_now (places es)
-    (ticked before e.begun.clock (happenings es) (places es) (placed es)))))))
+    (closed e.used.groups before initial went
+    (passed before e.initial.missed moved_now went
+    (moved before e.initial.reading ticked_now (places es)
+    (ticked before e.initial.clock (happenings es) (places es) (placed es)))))))
 
 pub place_is_read : PlaceIsRead
 place_is_read events = (ap odometry.known (placed events).places_are, (placed events).group_is)

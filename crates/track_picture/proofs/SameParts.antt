@@ -12,7 +12,7 @@ use Rattle.linking.specs.Linking.{is_passed_by, misses}
 use Rattle.national.specs.InForce as national
 use Rattle.odometry.specs.Place as odometry
 use Rattle.track_store.specs.Facts as profiles
-use Rattle.track_picture.specs.Entry.{TrackEntry, Begun, nothing}
+use Rattle.track_picture.specs.Entry.{TrackEntry, InputEffect, nothing}
 use Rattle.track_picture.specs.Happenings.{happenings}
 use Rattle.track_picture.specs.Parts.{newest, granted_in, looks_in, looked, acceptance, authorities_in}
 use Rattle.track_picture.specs.History.{place_of, group_of_fix, speed_of, groups_of, moment_of, happened_of, is_stopped}
@@ -34,25 +34,25 @@ use Rattle.track_picture.proofs.Zones.{areas_are}
 
 -- ---- the authority: what its entries report is the authority that counts, with what its timers have seen
 
-accepted_behind : (looks : List Sight) (granted : Option authority.Fact) → accepted (looked looks (acceptance granted)) ≡ granted
-accepted_behind [] None = refl
-accepted_behind [] (Some fact) = refl
-accepted_behind (look ∷ looks) granted = accepted_behind looks granted
+accepted_after : (looks : List Sight) (granted : Option authority.Fact) → accepted (looked looks (acceptance granted)) ≡ granted
+accepted_after [] None = refl
+accepted_after [] (Some fact) = refl
+accepted_after (look ∷ looks) granted = accepted_after looks granted
 
-seen_behind : (looks : List Sight) (granted : Option authority.Fact) → sights (looked looks (acceptance granted)) ≡ looks
-seen_behind [] None = refl
-seen_behind [] (Some fact) = refl
-seen_behind (look ∷ looks) granted = ap (λ xs. look ∷ xs) (seen_behind looks granted)
+seen_after : (looks : List Sight) (granted : Option authority.Fact) → sights (looked looks (acceptance granted)) ≡ looks
+seen_after [] None = refl
+seen_after [] (Some fact) = refl
+seen_after (look ∷ looks) granted = ap (λ xs. look ∷ xs) (seen_after looks granted)
 
 pub same_accepted : (events : List TrackEntry) → accepted (picture.authorities events) ≡ accepted (description_of events).grants
 unfolding authorities_in
 same_accepted events =
-    accepted_behind (looks_in (happenings events)) (granted_in (happenings events))
+    accepted_after (looks_in (happenings events)) (granted_in (happenings events))
     ∙ (ap newest (grants_are (happenings events)) ∙ newest_listed (accepted (description_of events).grants))
 
 same_sights : (events : List TrackEntry) → sights (picture.authorities events) ≡ sights (description_of events).grants
 unfolding authorities_in
-same_sights events = seen_behind (looks_in (happenings events)) (granted_in (happenings events)) ∙ looks_are events
+same_sights events = seen_after (looks_in (happenings events)) (granted_in (happenings events)) ∙ looks_are events
 
 same_now : (events : List TrackEntry) → now_of (picture.authorities events) ≡ now_of (description_of events).grants
 unfolding authorities_in
@@ -125,7 +125,7 @@ module _ {G S : Type 0} {stores : Stores G S} {known : Knowledge G S} where
 
 pub same_moved : (events : List TrackEntry) (reading : Reading) → sentences.moved events reading ≡ columns.moved events reading
 same_moved events reading =
-    let went : Begun = with_path events (record nothing { reading = Some reading }) in
+    let went : InputEffect = with_path events (record nothing { reading = Some reading }) in
     (λ i. record went { missed = filter (is_passed_by (odometry.min_front (place_of (alone went ∷ events)))) (links_are (happenings events) i).left })
 
 pub same_happened : (events : List TrackEntry) (reading : Reading) →

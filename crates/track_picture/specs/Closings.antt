@@ -17,9 +17,9 @@ use Rattle.track_picture.specs.declared.closings.Closing.TheVariants as closing
 use Rattle.track_picture.specs.declared.closings.Closings.{Closings}
 use Rattle.track_picture.specs.declared.closings.MessageOutcome.{MessageOutcome}
 use Rattle.track_picture.specs.declared.closings.MessageOutcome.TheVariants as reported
-use Rattle.track_picture.specs.Entry.{TrackEntry, Begun, Outcome, blank, nothing_happened}
+use Rattle.track_picture.specs.Entry.{TrackEntry, InputEffect, Outcome, blank, nothing_happened}
 use Rattle.track_picture.specs.History.{links_of}
-use Rattle.track_picture.specs.Sentences.{begun, used_by, group_read, outcome_at_first}
+use Rattle.track_picture.specs.Sentences.{initial, used_by, group_read, outcome_at_first}
 
 -- ---- one group, by what it did and by the links that were left before it
 
@@ -37,18 +37,18 @@ closing_of links (Outcome.Accepted message announced fix facts) = closing.Whole 
 
 -- ---- all groups of an event, each by the links that those before it have left
 
-abbrev pub links_after : List TrackEntry → Begun → List Outcome → KnownLinks
-links_after entries begun outcomes =
-    links_of (record blank { begun = begun; used = record { groups = outcomes; happened = nothing_happened } } ∷ entries)
+abbrev pub links_after : List TrackEntry → InputEffect → List Outcome → KnownLinks
+links_after entries initial outcomes =
+    links_of (record blank { initial = initial; used = record { groups = outcomes; happened = nothing_happened } } ∷ entries)
 
-abbrev pub closings_in : List TrackEntry → Begun → List Outcome → List Closing
-closings_in entries begun [] = []
-closings_in entries begun (outcome ∷ earlier) =
-    closings_in entries begun earlier ++ closing_of (links_after entries begun earlier) outcome ∷ []
+abbrev pub closings_in : List TrackEntry → InputEffect → List Outcome → List Closing
+closings_in entries initial [] = []
+closings_in entries initial (outcome ∷ earlier) =
+    closings_in entries initial earlier ++ closing_of (links_after entries initial earlier) outcome ∷ []
 
 -- those that an input closes as the next event, in a mode
 abbrev pub closings_by : Mode → List TrackEntry → Input → List Closing
-closings_by mode entries input = closings_in entries (begun entries input) (used_by mode entries input).groups
+closings_by mode entries input = closings_in entries (initial entries input) (used_by mode entries input).groups
 
 -- the one that the input ended, if it ended one, and after it its own
 abbrev pub listed : Option Closing → List Closing

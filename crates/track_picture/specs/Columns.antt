@@ -35,7 +35,7 @@ use Rattle.track_store.specs.Facts as profiles
 use Rattle.track_store.specs.Restrictions as track
 use Rattle.track_picture.specs.declared.happened.Happened.{Happened}
 use Rattle.track_picture.specs.Announcing.{announcements_of}
-use Rattle.track_picture.specs.Entry.{TrackEntry, Begun, Used, Fact, nothing}
+use Rattle.track_picture.specs.Entry.{TrackEntry, InputEffect, Used, Fact, nothing}
 use Rattle.track_picture.specs.Live.{Happening, deleting, restriction_of}
 use Rattle.track_picture.specs.Happenings.{happenings}
 use Rattle.track_picture.specs.History.{place_of, group_of_fix, speed_of, groups_of, moment_of, happened_of, is_stopped}
@@ -225,10 +225,10 @@ StandsForColumns stores known life = StandsForReported stores known life (descri
 abbrev pub links_left : List TrackEntry → linking.KnownLinks
 links_left entries = linking.known (description_of entries).links
 
-abbrev pub passed : List TrackEntry → Begun → List Announcement
-passed entries begun = filter (is_passed_by (odometry.min_front (place_of (alone begun ∷ entries)))) (links_left entries).left
+abbrev pub passed : List TrackEntry → InputEffect → List Announcement
+passed entries initial = filter (is_passed_by (odometry.min_front (place_of (alone initial ∷ entries)))) (links_left entries).left
 
-abbrev pub moved : List TrackEntry → Reading → Begun
+abbrev pub moved : List TrackEntry → Reading → InputEffect
 moved entries reading =
     let went = with_path entries (record nothing { reading = Some reading }) in record went { missed = passed entries went }
 

@@ -39,7 +39,7 @@ facts_in (Outcome.Rejected message a) = []
 facts_in (Outcome.Accepted message announced fix facts) = facts
 
 -- what the input itself did
-pub record Begun : Type 0 where
+pub record InputEffect : Type 0 where
   pub clock : Option ℕ  -- the moment that the clock reported
   pub reading : Option Reading  -- what the odometer reported
   pub heard : Option groups.GroupEntry  -- a telegram that was read, or the path that the life has come to
@@ -51,7 +51,7 @@ pub record Used : Type 0 where
   pub happened : Happened
 
 pub record TrackEntry : Type 0 where
-  pub begun : Begun
+  pub initial : InputEffect
   pub used : Used
   pub train : Option Span  -- where the train stands once the groups are used
   pub entered : Option Mode  -- the mode that was entered, if another one was
@@ -78,8 +78,8 @@ added outcome used = record used { groups = outcome ∷ used.groups }
 
 -- ---- an event of which no column is written yet
 
-abbrev pub nothing : Begun
+abbrev pub nothing : InputEffect
 nothing = record { clock = None; reading = None; heard = None; missed = [] }
 
 abbrev pub blank : TrackEntry
-blank = record { begun = nothing; used = no_groups; train = None; entered = None; mark = None }
+blank = record { initial = nothing; used = no_groups; train = None; entered = None; mark = None }

@@ -82,4 +82,4 @@ happenings (event ∷ earlier) =
     and_marked event.mark
     (and_entered event.entered
     (and_seen event.train
-    (and_closed event.used.groups (and_missed event.begun.missed (and_moved event.begun.reading (and_ticked event.begun.clock (happenings earlier)))))))
+    (and_closed event.used.groups (and_missed event.initial.missed (and_moved event.initial.reading (and_ticked event.initial.clock (happenings earlier)))))))

@@ -62,13 +62,13 @@ speeds_of entries =
 
 abbrev pub moment_of : List TrackEntry → ℕ
 moment_of [] = 0
-moment_of (entry ∷ entries) = unwrap_or entry.begun.clock (moment_of entries)
+moment_of (entry ∷ entries) = unwrap_or entry.initial.clock (moment_of entries)
 
 -- ---- the speed: that of the last reading, 0 before the first
 
 abbrev pub speed_of : List TrackEntry → ℕ
 speed_of [] = 0
-speed_of (entry ∷ entries) = option_map_or (λ reading. reading.speed) entry.begun.reading (speed_of entries)
+speed_of (entry ∷ entries) = option_map_or (λ reading. reading.speed) entry.initial.reading (speed_of entries)
 
 -- ---- the place: movements, and after them the fixes of the groups
 
@@ -92,7 +92,7 @@ with_fixes (outcome ∷ outcomes) entries = with_fix (fix_in outcome) (with_fixe
 
 abbrev pub places : List TrackEntry → List odometry.PlaceEntry
 places [] = []
-places (entry ∷ entries) = with_fixes entry.used.groups (with_movement entry.begun.reading (places entries))
+places (entry ∷ entries) = with_fixes entry.used.groups (with_movement entry.initial.reading (places entries))
 
 abbrev pub place_of : List TrackEntry → odometry.KnownPlace
 place_of entries = odometry.known (places entries)
@@ -121,7 +121,7 @@ with_heard (Some heard) entries = heard ∷ entries
 
 abbrev pub all_heard : List TrackEntry → List groups.GroupEntry
 all_heard [] = []
-all_heard (entry ∷ entries) = with_heard entry.begun.heard (all_heard entries)
+all_heard (entry ∷ entries) = with_heard entry.initial.heard (all_heard entries)
 
 abbrev pub groups_of : List TrackEntry → groups.KnownGroups
 groups_of entries = groups.known (all_heard entries)

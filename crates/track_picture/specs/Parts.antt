@@ -163,9 +163,9 @@ values_in happenings = newest (filter_map as_values (live happenings))
 abbrev pub in_force_in : ValuesFor → List Happening → ValuesFor
 in_force_in kept [] = kept
 in_force_in kept (Happening.Accepted group ∷ earlier) =
-    national.in_force_behind (national.NationalEntry.Entered group.country) (values_in earlier) (in_force_in kept earlier)
+    national.in_force_after (national.NationalEntry.Entered group.country) (values_in earlier) (in_force_in kept earlier)
 in_force_in kept (Happening.Seen sight ∷ earlier) =
-    national.in_force_behind (national.NationalEntry.Reached sight.train.max_front) (values_in earlier) (in_force_in kept earlier)
+    national.in_force_after (national.NationalEntry.Reached sight.train.max_front) (values_in earlier) (in_force_in kept earlier)
 in_force_in kept (happening ∷ earlier) = in_force_in kept earlier
 
 abbrev pub national_in : ValuesFor → List Happening → national.KnownValues

@@ -39,36 +39,36 @@ use Rattle.events.specs.declared.input.Reading.{Reading}
 use Rattle.track_picture.specs.Bytes.{telegram_in}
 use Rattle.track_store.specs.Profiles.{is_known}
 use Rattle.authority.specs.Entries.{accepted as granted}
-use Rattle.track_picture.specs.Entry.{TrackEntry, Begun, Used, Outcome, Fact, nothing, blank, nothing_happened, asking_for, added}
+use Rattle.track_picture.specs.Entry.{TrackEntry, InputEffect, Used, Outcome, Fact, nothing, blank, nothing_happened, asking_for, added}
 use Rattle.track_picture.specs.Entry.Outcome.{Broken, Ignored, Rejected, Accepted}
 use Rattle.track_picture.specs.History.{place_of, groups_of, links_of, moment_of, authorities, gradients_of, speeds_of}
 
 -- ---- first what the input itself does: a movement, then the path and the announced groups that the train has passed;
 -- or a telegram; or a moment
 
-abbrev pub alone : Begun → TrackEntry
-alone begun = record blank { begun = begun }
+abbrev pub alone : InputEffect → TrackEntry
+alone initial = record blank { initial = initial }
 
-abbrev pub with_path : List TrackEntry → Begun → Begun
-with_path entries begun = record begun { heard = Some (Went (place_of (alone begun ∷ entries)).sums.path) }
+abbrev pub with_path : List TrackEntry → InputEffect → InputEffect
+with_path entries initial = record initial { heard = Some (Went (place_of (alone initial ∷ entries)).sums.path) }
 
 -- the announced groups left that the train has passed
-abbrev pub passed : List TrackEntry → Begun → List Announcement
-passed entries begun = filter (is_passed_by (odometry.min_front (place_of (alone begun ∷ entries)))) (links_of entries).left
+abbrev pub passed : List TrackEntry → InputEffect → List Announcement
+passed entries initial = filter (is_passed_by (odometry.min_front (place_of (alone initial ∷ entries)))) (links_of entries).left
 
-abbrev pub moved : List TrackEntry → Reading → Begun
+abbrev pub moved : List TrackEntry → Reading → InputEffect
 moved entries reading =
     let went = with_path entries (record nothing { reading = Some reading }) in record went { missed = passed entries went }
 
-abbrev pub heard : List TrackEntry → List ℕ → Begun
+abbrev pub heard : List TrackEntry → List ℕ → InputEffect
 heard entries bytes =
     record nothing { heard = option_map (λ t. Read (record { telegram = t; sums = (place_of entries).sums })) (telegram_in bytes) }
 
-abbrev pub begun : List TrackEntry → inputs.Input → Begun
-begun entries (Telegram bytes) = heard entries bytes
-begun entries (Odometer reading) = moved entries reading
-begun entries (Clock moment) = record nothing { clock = Some moment }
-begun entries (Driver action) = nothing
+abbrev pub initial : List TrackEntry → inputs.Input → InputEffect
+initial entries (Telegram bytes) = heard entries bytes
+initial entries (Odometer reading) = moved entries reading
+initial entries (Clock moment) = record nothing { clock = Some moment }
+initial entries (Driver action) = nothing
 
 -- what a movement brings about: it is an overrun where it has no room, and the missed groups ask for something
 abbrev pub happened_by : List TrackEntry → Reading → Happened
@@ -187,21 +187,21 @@ outcome mode now message (Accept announced) = accepted mode now message announce
 outcome mode now message Ignore = Ignored message
 outcome mode now message (Reaction a) = Rejected message a
 
-abbrev pub after_judgement : Mode → List TrackEntry → Begun → Used → Message → Judgement → Used
-after_judgement mode entries begun used message j =
+abbrev pub after_judgement : Mode → List TrackEntry → InputEffect → Used → Message → Judgement → Used
+after_judgement mode entries initial used message j =
     let asking = asking_for j.effect used in
-    let now = record blank { begun = begun; used = added (outcome_at_first message j.verdict) asking } ∷ entries in
+    let now = record blank { initial = initial; used = added (outcome_at_first message j.verdict) asking } ∷ entries in
     added (outcome mode now message j.verdict) asking
 
-abbrev pub after_group : Mode → List TrackEntry → Begun → Used → Closed → Used
-after_group mode entries begun used (closed.Broken b) =
-    added (Broken b) (asking_for (broken_effect (links_of (record blank { begun = begun; used = used } ∷ entries)) b.group b.linked) used)
-after_group mode entries begun used (closed.Whole message) =
-    after_judgement mode entries begun used message (judged (record blank { begun = begun; used = used } ∷ entries) message)
+abbrev pub after_group : Mode → List TrackEntry → InputEffect → Used → Closed → Used
+after_group mode entries initial used (closed.Broken b) =
+    added (Broken b) (asking_for (broken_effect (links_of (record blank { initial = initial; used = used } ∷ entries)) b.group b.linked) used)
+after_group mode entries initial used (closed.Whole message) =
+    after_judgement mode entries initial used message (judged (record blank { initial = initial; used = used } ∷ entries) message)
 
-abbrev pub with_closed : Mode → List TrackEntry → Begun → Option Closed → Used → Used
-with_closed mode entries begun None used = used
-with_closed mode entries begun (Some group) used = after_group mode entries begun used group
+abbrev pub with_closed : Mode → List TrackEntry → InputEffect → Option Closed → Used → Used
+with_closed mode entries initial None used = used
+with_closed mode entries initial (Some group) used = after_group mode entries initial used group
 
 -- what was heard closes at most two groups
 abbrev pub closed_by : groups.KnownGroups → Option groups.GroupEntry → Taken
@@ -209,17 +209,17 @@ closed_by known None = record { ended = None; whole = None }
 closed_by known (Some (Read reading)) = groups.taken_by reading known
 closed_by known (Some (Went path)) = record { ended = groups.ended_by path known; whole = None }
 
-abbrev pub with_groups : Mode → List TrackEntry → Begun → Happened → Used
-with_groups mode entries begun happened =
-    let closed = closed_by (groups_of entries) begun.heard in
-    with_closed mode entries begun closed.whole (with_closed mode entries begun closed.ended (record { groups = []; happened = happened }))
+abbrev pub with_groups : Mode → List TrackEntry → InputEffect → Happened → Used
+with_groups mode entries initial happened =
+    let closed = closed_by (groups_of entries) initial.heard in
+    with_closed mode entries initial closed.whole (with_closed mode entries initial closed.ended (record { groups = []; happened = happened }))
 
 abbrev pub used_by : Mode → List TrackEntry → inputs.Input → Used
-used_by mode entries input = with_groups mode entries (begun entries input) (happened_first entries input)
+used_by mode entries input = with_groups mode entries (initial entries input) (happened_first entries input)
 
 -- what an input brings, in a mode
 abbrev pub received : Mode → List TrackEntry → inputs.Input → TrackEntry
-received mode entries input = record blank { begun = begun entries input; used = used_by mode entries input }
+received mode entries input = record blank { initial = initial entries input; used = used_by mode entries input }
 
 -- ---- then the timers of the authority see where the train is, and national values and the level that are announced
 -- come into force where the maximum safe front has reached their places
@@ -231,9 +231,9 @@ span_with length entries = odometry.stretch (place_of entries) length
 -- ---- at last, once the mode is known, the track is forgotten that lies more than a kilometre behind the minimum safe
 -- rear
 
-abbrev pub mark_behind : Span → ℤ
-mark_behind train = train.rear -ℤ pos 100_000
+abbrev pub forgetting_mark : Span → ℤ
+forgetting_mark train = train.rear -ℤ pos 100_000
 
 -- a power-up is an exact fix at 0, and the track is forgotten behind the minimum safe rear there too
 abbrev pub powered_up : ℕ → TrackEntry
-powered_up length = record blank { mark = Some (mark_behind (span_with length [])) }
+powered_up length = record blank { mark = Some (forgetting_mark (span_with length [])) }

@@ -11,7 +11,7 @@ use Rattle.odometry.specs.Place as odometry
 use Rattle.track_store.specs.Restrictions as track
 use Rattle.vars.specs.declared.group.GroupIdentity.{GroupIdentity}
 use Rattle.track_picture.specs.declared.happened.Happened.{Happened}
-use Rattle.track_picture.specs.Entry.{TrackEntry, Begun, Used, blank}
+use Rattle.track_picture.specs.Entry.{TrackEntry, InputEffect, Used, blank}
 use Rattle.track_picture.specs.History.{place_of, group_of_fix, speed_of, groups_of, links_of, restrictions_of, moment_of, authority_of, areas_of, announced_level, gradients_of, speeds_of, happened_of, is_stopped}
 use Rattle.track_picture.specs.Happenings.{happenings}
 use Rattle.track_picture.specs.Parts.{national_in}
@@ -93,5 +93,5 @@ abbrev pub grown : Life → TrackEntry → Life
 grown life entry = record life { entries = entry ∷ life.entries }
 
 -- .. up to the groups that closed
-abbrev pub grown_so_far : Life → Begun → Used → Life
-grown_so_far life begun used = grown life (record blank { begun = begun; used = used })
+abbrev pub grown_so_far : Life → InputEffect → Used → Life
+grown_so_far life initial used = grown life (record blank { initial = initial; used = used })

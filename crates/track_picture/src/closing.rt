@@ -7,7 +7,7 @@ ghost use Rattle.balise_groups.specs.Rooms.{packets_of_closed};
 ghost use Rattle.linking.specs.declared.announcement.Announcement.{Announcement};
 ghost use Rattle.linking.specs.Judging.{judgement, broken_effect};
 ghost use Rattle.odometry.specs.declared.fix.Fix.{Fix};
-ghost use Rattle.track_picture.specs.Entry.{Begun, Used, added, asking_for, blank};
+ghost use Rattle.track_picture.specs.Entry.{InputEffect, Used, added, asking_for, blank};
 ghost use Rattle.track_picture.specs.Entry.Outcome.{Accepted, Broken as NoMessage};
 ghost use Rattle.track_picture.specs.Sentences.{group_read, accepted, outcome_at_first, outcome, after_group, with_closed};
 ghost use Rattle.track_picture.specs.Steps.{facts};
@@ -40,9 +40,9 @@ impl Parts {
     // country.
     fn judge(&mut self, message: &Message) -> Verdict
         ensures answer { result ≡ (judgement self.old.links (group_read self.old.place message.now)).verdict }
-        ensures stands { (life : Life) (begun : Begun) (used : Used) (reported : TrackReports) → self.old ≡ known_by (grown_so_far life begun used) reported
+        ensures stands { (life : Life) (initial : InputEffect) (used : Used) (reported : TrackReports) → self.old ≡ known_by (grown_so_far life initial used) reported
             → (let j = judgement self.old.links (group_read self.old.place message.now) in
-            self.new ≡ known_by (grown_so_far life begun (added (outcome_at_first message.now j.verdict) (asking_for j.effect used)))
+            self.new ≡ known_by (grown_so_far life initial (added (outcome_at_first message.now j.verdict) (asking_for j.effect used)))
             (after_judging j.verdict message.now reported)) }
     {
         let group = self.group_read(message);
@@ -56,8 +56,8 @@ impl Parts {
 
     // A broken group: what linking asks for it.
     fn give_up(&mut self, group: &Broken)
-        ensures { (life : Life) (begun : Begun) (used : Used) (reported : TrackReports) → self.old ≡ known_by (grown_so_far life begun used) reported
-            → self.new ≡ known_by (grown_so_far life begun (added (NoMessage group.now)
+        ensures { (life : Life) (initial : InputEffect) (used : Used) (reported : TrackReports) → self.old ≡ known_by (grown_so_far life initial used) reported
+            → self.new ≡ known_by (grown_so_far life initial (added (NoMessage group.now)
             (asking_for (broken_effect self.old.links group.now.group group.now.linked) used))) (after_breaking self.old.links group.now reported) }
     {
         let asked = self.links.broken(group.group, group.linked);
@@ -71,9 +71,9 @@ impl<T: ProfileStores> TracksideOver<T> {
     // up to `close`.
     fn take_packets(&mut self, packets: &GroupPackets, used: &Use)
         requires { length packets.now ≤ room_in T.stores self.old }
-        ensures stands { (life : Life) (begun : Begun) (groups : Used) (message : Message) (announced : Option Announcement) (fix : Option Fix)
-            → StandsForColumns T.stores self.old (grown_so_far life begun (added (Accepted message announced fix []) groups))
-            → StandsForColumns T.stores self.new (grown_so_far life begun (added (Accepted message announced fix (facts used.now packets.now)) groups)) }
+        ensures stands { (life : Life) (initial : InputEffect) (groups : Used) (message : Message) (announced : Option Announcement) (fix : Option Fix)
+            → StandsForColumns T.stores self.old (grown_so_far life initial (added (Accepted message announced fix []) groups))
+            → StandsForColumns T.stores self.new (grown_so_far life initial (added (Accepted message announced fix (facts used.now packets.now)) groups)) }
         ensures room { room_in T.stores self.old ≤ room_in T.stores self.new + length packets.now }
         ensures idle { length packets.now ≡ 0 → SameTrack self.old self.new }
     {
@@ -85,10 +85,10 @@ impl<T: ProfileStores> TracksideOver<T> {
     // An accepted group is used.
     fn accept(&mut self, mode: Mode, message: &Message, announced: &Option<Announcement>)
         requires { length message.now.packets ≤ room_in T.stores self.old }
-        ensures stands { (life : Life) (begun : Begun) (used : Used)
-            → (let judged_only = record blank { begun = begun; used = added (Accepted message.now announced.now None []) used } in
+        ensures stands { (life : Life) (initial : InputEffect) (used : Used)
+            → (let judged_only = record blank { initial = initial; used = added (Accepted message.now announced.now None []) used } in
             StandsForColumns T.stores self.old (grown life judged_only)
-            → StandsForColumns T.stores self.new (grown_so_far life begun (added (accepted mode (judged_only ∷ life.entries) message.now announced.now) used))) }
+            → StandsForColumns T.stores self.new (grown_so_far life initial (added (accepted mode (judged_only ∷ life.entries) message.now announced.now) used))) }
         ensures room { room_in T.stores self.old ≤ room_in T.stores self.new + length message.now.packets }
         ensures idle { length message.now.packets ≡ 0 → SameTrack self.old self.new }
     {
@@ -107,10 +107,10 @@ impl<T: ProfileStores> TracksideOver<T> {
     // A whole group that was judged: one that is accepted is used.
     fn follow(&mut self, mode: Mode, message: &Message, verdict: Verdict)
         requires { length message.now.packets ≤ room_in T.stores self.old }
-        ensures stands { (life : Life) (begun : Begun) (used : Used)
-            → (let judged_only = record blank { begun = begun; used = added (outcome_at_first message.now verdict) used } in
+        ensures stands { (life : Life) (initial : InputEffect) (used : Used)
+            → (let judged_only = record blank { initial = initial; used = added (outcome_at_first message.now verdict) used } in
             StandsForColumns T.stores self.old (grown life judged_only)
-            → StandsForColumns T.stores self.new (grown_so_far life begun (added (outcome mode (judged_only ∷ life.entries) message.now verdict) used))) }
+            → StandsForColumns T.stores self.new (grown_so_far life initial (added (outcome mode (judged_only ∷ life.entries) message.now verdict) used))) }
         ensures room { room_in T.stores self.old ≤ room_in T.stores self.new + length message.now.packets }
         ensures idle { length message.now.packets ≡ 0 → SameTrack self.old self.new }
     {
@@ -123,8 +123,8 @@ impl<T: ProfileStores> TracksideOver<T> {
     // A whole group.
     fn close_whole(&mut self, mode: Mode, message: &Message)
         requires { length message.now.packets ≤ room_in T.stores self.old }
-        ensures stands { (life : Life) (begun : Begun) (used : Used) → StandsForColumns T.stores self.old (grown_so_far life begun used)
-            → StandsForColumns T.stores self.new (grown_so_far life begun (after_group mode life.entries begun used (closed.Whole message.now))) }
+        ensures stands { (life : Life) (initial : InputEffect) (used : Used) → StandsForColumns T.stores self.old (grown_so_far life initial used)
+            → StandsForColumns T.stores self.new (grown_so_far life initial (after_group mode life.entries initial used (closed.Whole message.now))) }
         ensures room { room_in T.stores self.old ≤ room_in T.stores self.new + length message.now.packets }
         ensures idle { length message.now.packets ≡ 0 → SameTrack self.old self.new }
     {
@@ -136,8 +136,8 @@ impl<T: ProfileStores> TracksideOver<T> {
     #[inline(never)]
     fn close_one(&mut self, mode: Mode, group: &Closed)
         requires { packets_of_closed (Some group.now) ≤ room_in T.stores self.old }
-        ensures stands { (life : Life) (begun : Begun) (used : Used) → StandsForColumns T.stores self.old (grown_so_far life begun used)
-            → StandsForColumns T.stores self.new (grown_so_far life begun (after_group mode life.entries begun used group.now)) }
+        ensures stands { (life : Life) (initial : InputEffect) (used : Used) → StandsForColumns T.stores self.old (grown_so_far life initial used)
+            → StandsForColumns T.stores self.new (grown_so_far life initial (after_group mode life.entries initial used group.now)) }
         ensures room { room_in T.stores self.old ≤ room_in T.stores self.new + packets_of_closed (Some group.now) }
         ensures idle { packets_of_closed (Some group.now) ≡ 0 → SameTrack self.old self.new }
     {
@@ -150,8 +150,8 @@ impl<T: ProfileStores> TracksideOver<T> {
     /// A group that closed, if one did.
     pub(crate) fn close(&mut self, mode: Mode, group: &Option<Closed>)
         requires { packets_of_closed group.now ≤ room_in T.stores self.old }
-        ensures stands { (life : Life) (begun : Begun) (used : Used) → StandsForColumns T.stores self.old (grown_so_far life begun used)
-            → StandsForColumns T.stores self.new (grown_so_far life begun (with_closed mode life.entries begun group.now used)) }
+        ensures stands { (life : Life) (initial : InputEffect) (used : Used) → StandsForColumns T.stores self.old (grown_so_far life initial used)
+            → StandsForColumns T.stores self.new (grown_so_far life initial (with_closed mode life.entries initial group.now used)) }
         ensures room { room_in T.stores self.old ≤ room_in T.stores self.new + packets_of_closed group.now }
         ensures idle { packets_of_closed group.now ≡ 0 → SameTrack self.old self.new }
     {

@@ -8,7 +8,7 @@ ghost use Rattle.track_picture.specs.Closings.{why_rejected, closing_as, closing
 ghost use Rattle.track_picture.specs.Columns.{StandsForColumns, columns_of, moved, happened_by};
 ghost use Rattle.track_picture.specs.declared.closings.Closing.TheVariants as closing;
 ghost use Rattle.track_picture.specs.declared.happened.Happened.{Happened as HasHappened};
-ghost use Rattle.track_picture.specs.Entry.{Begun, Used, nothing_happened};
+ghost use Rattle.track_picture.specs.Entry.{InputEffect, Used, nothing_happened};
 ghost use Rattle.track_picture.specs.Sentences.{heard, with_closed, with_groups};
 ghost use Rattle.track_picture.specs.StandsFor.{Life, StandsForLife, grown_so_far, room_in, size_in};
 ghost use Rattle.track_picture.specs.Steps.{HasRoomFor};
@@ -128,11 +128,11 @@ impl<T: ProfileStores> TracksideOver<T> {
         packets: usize,
     ) -> Result<Self, NoMemory>
         requires { packets_of_closed ended.now ≤ packets }
-        ensures stands { IfOk result (λ next. (life : Life) (begun : Begun) (happened : HasHappened)
+        ensures stands { IfOk result (λ next. (life : Life) (initial : InputEffect) (happened : HasHappened)
             → StandsForColumns T.stores self.now life
-            → parts ≡ columns_of (grown_so_far life begun (record { groups = []; happened = happened }))
+            → parts ≡ columns_of (grown_so_far life initial (record { groups = []; happened = happened }))
             → StandsForColumns T.stores next
-            (grown_so_far life begun (with_closed mode life.entries begun ended.now (record { groups = []; happened = happened })))) }
+            (grown_so_far life initial (with_closed mode life.entries initial ended.now (record { groups = []; happened = happened })))) }
         ensures quiet { size_in T.stores self.now ≡ 0 → packets ≤ room_in T.stores self.now → IsOk result }
     {
         let mut next = self.copy(alloc)?;
@@ -154,12 +154,12 @@ impl<T: ProfileStores> TracksideOver<T> {
         packets: usize,
     ) -> Result<Closings, NoMemory>
         requires { packets_of_closed ended ≤ packets }
-        ensures closings { IfOk result (λ closings. (life : Life) (begun : Begun) (happened : HasHappened)
+        ensures closings { IfOk result (λ closings. (life : Life) (initial : InputEffect) (happened : HasHappened)
             → StandsForColumns T.stores self.now life
             → (let first : Used = record { groups = []; happened = happened } in
-            parts ≡ columns_of (grown_so_far life begun first)
-            → all_of closings ≡ closings_in life.entries begun
-            (with_closed mode life.entries begun whole (with_closed mode life.entries begun ended first)).groups)) }
+            parts ≡ columns_of (grown_so_far life initial first)
+            → all_of closings ≡ closings_in life.entries initial
+            (with_closed mode life.entries initial whole (with_closed mode life.entries initial ended first)).groups)) }
         ensures quiet { size_in T.stores self.now ≡ 0 → packets ≤ room_in T.stores self.now → IsOk result }
     {
         let Some(second) = whole else {

@@ -1,6 +1,6 @@
 //! The fix of a group that was accepted.
 ghost use Rattle.std.specs.Prelude.{◌≡◌, not, ◌&&◌, ◌∷◌, [], None};
-ghost use Rattle.track_picture.specs.Entry.{Begun, Used, added, blank};
+ghost use Rattle.track_picture.specs.Entry.{InputEffect, Used, added, blank};
 ghost use Rattle.track_picture.specs.Entry.Outcome.{Accepted};
 ghost use Rattle.track_picture.specs.History.{place_of};
 ghost use Rattle.track_picture.specs.Sentences.{own_place, place_by, is_free, fix_of};
@@ -34,14 +34,14 @@ impl Parts {
         announced: &Option<Announcement>,
         free: bool,
     ) -> GroupPlace
-        ensures answer { (life : Life) (begun : Begun) (used : Used) (reported : TrackReports)
-            → self.old ≡ known_by (grown_so_far life begun (added (Accepted message.now announced.now None []) used)) reported
-            → (let here = place_of (record blank { begun = begun; used = added (Accepted message.now announced.now None []) used } ∷ life.entries) in
+        ensures answer { (life : Life) (initial : InputEffect) (used : Used) (reported : TrackReports)
+            → self.old ≡ known_by (grown_so_far life initial (added (Accepted message.now announced.now None []) used)) reported
+            → (let here = place_of (record blank { initial = initial; used = added (Accepted message.now announced.now None []) used } ∷ life.entries) in
             result ≡ place_by (own_place here message.now) (fix_of here free message.now announced.now)) }
-        ensures stands { (life : Life) (begun : Begun) (used : Used) (reported : TrackReports)
-            → self.old ≡ known_by (grown_so_far life begun (added (Accepted message.now announced.now None []) used)) reported
-            → (let here = place_of (record blank { begun = begun; used = added (Accepted message.now announced.now None []) used } ∷ life.entries) in
-            self.new ≡ known_by (grown_so_far life begun (added (Accepted message.now announced.now (fix_of here free message.now announced.now) []) used)) reported) }
+        ensures stands { (life : Life) (initial : InputEffect) (used : Used) (reported : TrackReports)
+            → self.old ≡ known_by (grown_so_far life initial (added (Accepted message.now announced.now None []) used)) reported
+            → (let here = place_of (record blank { initial = initial; used = added (Accepted message.now announced.now None []) used } ∷ life.entries) in
+            self.new ≡ known_by (grown_so_far life initial (added (Accepted message.now announced.now (fix_of here free message.now announced.now) []) used)) reported) }
     {
         let own = self.place.place_at(&message.sums).estimate;
         let Some(wanted) = fix_wanted(free, own, announced) else {

@@ -4,7 +4,7 @@ ghost use Rattle.units.specs.Limits.{HasReach};
 ghost use Rattle.areas.specs.Levels.{coming};
 ghost use Rattle.track_picture.specs.Entry.{TrackEntry};
 ghost use Rattle.track_picture.specs.History.{announced_level};
-ghost use Rattle.track_picture.specs.Sentences.{span_with, mark_behind};
+ghost use Rattle.track_picture.specs.Sentences.{span_with, forgetting_mark};
 ghost use Rattle.track_picture.specs.StandsFor.{Life, StandsForLife, grown, size_in};
 ghost use Rattle.track_picture.specs.Columns.{TrackReports, StandsForColumns, known_by, after_look};
 
@@ -19,9 +19,9 @@ use units::{Cm, Length, Stretch};
 const REMEMBERED: i64 = 100_000;
 
 // The track before this place is forgotten, where the train covers this stretch.
-fn mark_behind(train: &Stretch) -> Cm
+fn forgetting_mark(train: &Stretch) -> Cm
     requires { HasReach train.now.rear }
-    ensures { result ≡ mark_behind train.now }
+    ensures { result ≡ forgetting_mark train.now }
 {
     Cm::new(train.rear().get() - REMEMBERED).unwrap()
 }
@@ -65,10 +65,10 @@ impl<T: ProfileStores> TracksideOver<T> {
         ensures size { size_in T.stores self.new ≤ size_in T.stores self.old }
     {
         let moves = self.restrictions.mark() < mark;
-        self.restrictions.drop_behind(mark);
+        self.restrictions.drop_before(mark);
         if moves {
-            self.gradients.drop_behind(mark);
-            self.speeds.drop_behind(mark);
+            self.gradients.drop_before(mark);
+            self.speeds.drop_before(mark);
         }
     }
 
@@ -78,10 +78,10 @@ impl<T: ProfileStores> TracksideOver<T> {
         ensures stands { (life : Life) (event : TrackEntry)
             → (let now = grown life (record event { mark = None }) in
             StandsForLife T.stores self.old now
-            → StandsForLife T.stores self.new (grown life (record event { mark = Some (mark_behind (span_with length now.entries)) }))) }
+            → StandsForLife T.stores self.new (grown life (record event { mark = Some (forgetting_mark (span_with length now.entries)) }))) }
         ensures size { size_in T.stores self.new ≤ size_in T.stores self.old }
     {
         let stretch = self.parts.place.stretch(length);
-        self.forget_before(mark_behind(&stretch));
+        self.forget_before(forgetting_mark(&stretch));
     }
 }

@@ -5,7 +5,7 @@ ghost use Rattle.balise_groups.specs.Rooms.{packets_in, packets_of_closed};
 ghost use Rattle.track_picture.specs.Bytes.{telegram_in};
 ghost use Rattle.track_picture.specs.Entry.{nothing_happened, no_groups, nothing};
 ghost use Rattle.track_picture.specs.History.{groups_of};
-ghost use Rattle.track_picture.specs.Sentences.{heard, begun, closed_by, with_groups, used_by, received};
+ghost use Rattle.track_picture.specs.Sentences.{heard, initial, closed_by, with_groups, used_by, received};
 ghost use Rattle.track_picture.specs.StandsFor.{Life, StandsForLife, SameTrack, grown, grown_so_far, room_in, size_in};
 ghost use Rattle.events.specs.declared.input.Input.TheVariants as inputs;
 ghost use Rattle.track_picture.specs.Columns.{StandsForColumns, columns_of, moved, happened_by, left_by, known_moved, still_reading};

@@ -119,9 +119,9 @@ pub trait Walk<T> {
     fn take(state: &mut T, packet: &Packet<'_>, used: &Use)
         requires { (left : ℕ) × HasRoom (left + 1) 0 state.old }
         ensures reported { (reported : Reported) → IsReported state.old reported → IsReported state.new (after (fact_of used.now packet.now) reported) }
-        ensures room { (left behind : ℕ) → HasRoom (left + 1) behind state.old → HasRoom left behind state.new };
+        ensures room { (left following : ℕ) → HasRoom (left + 1) following state.old → HasRoom left following state.new };
 
-    ghost less: { (left behind : ℕ) (state : T) → HasRoom (left + 1) behind state → HasRoom left behind state };
+    ghost less: { (left following : ℕ) (state : T) → HasRoom (left + 1) following state → HasRoom left following state };
 }
 
 // One packet of a walk.
@@ -129,7 +129,7 @@ fn take_one<T, W: Walk<T>>(state: &mut T, packet: &Packet<'_>, used: &Use)
     requires { (left : ℕ) × W.HasRoom (left + 1) 0 state.old }
     ensures reported { (reported : W.Reported) → W.IsReported state.old reported
         → W.IsReported state.new (if is_used used.now.mode used.now.direction packet.now then W.after (fact_of used.now packet.now) reported else reported) }
-    ensures room { (left behind : ℕ) → W.HasRoom (left + 1) behind state.old → W.HasRoom left behind state.new }
+    ensures room { (left following : ℕ) → W.HasRoom (left + 1) following state.old → W.HasRoom left following state.new }
 {
     if is_used(packet, used) {
         W::take(state, packet, used);
@@ -141,7 +141,7 @@ fn take_one<T, W: Walk<T>>(state: &mut T, packet: &Packet<'_>, used: &Use)
 pub fn take_all<T, W: Walk<T>>(state: &mut T, packets: &GroupPackets, used: &Use) -> bool
     requires { W.HasRoom (length packets.now) 0 state.old }
     ensures reported { (reported : W.Reported) → W.IsReported state.old reported → W.IsReported state.new (after_facts W.after (facts used.now packets.now) reported) }
-    ensures room { (behind : ℕ) → W.HasRoom (length packets.now) behind state.old → W.HasRoom 0 behind state.new }
+    ensures room { (following : ℕ) → W.HasRoom (length packets.now) following state.old → W.HasRoom 0 following state.new }
     ensures later { result ≡ list_any comes_later packets.now }
     ensures none { length packets.now ≡ 0 → state.new ≡ state.old }
 {
@@ -186,11 +186,11 @@ impl<T: ProfileStores> Walk<TracksideOver<T>> for Earlier {
 
     ghost IsReported = { λ state reported. IsAllReported T.stores state reported };
 
-    ghost HasRoom = { λ left behind state. left + behind ≤ room_in T.stores state };
+    ghost HasRoom = { λ left following state. left + following ≤ room_in T.stores state };
 
     ghost after = { after_earlier };
 
-    ghost less = { λ left behind state room. omega arith };
+    ghost less = { λ left following state room. omega arith };
 
     fn take(state: &mut TracksideOver<T>, packet: &Packet<'_>, used: &Use) {
         let mark = state.restrictions.mark();
@@ -210,11 +210,11 @@ impl<T: ProfileStores> Walk<TracksideOver<T>> for Later {
 
     ghost IsReported = { λ state reported. IsAllReported T.stores state reported };
 
-    ghost HasRoom = { λ left behind state. behind ≤ room_in T.stores state };
+    ghost HasRoom = { λ left following state. following ≤ room_in T.stores state };
 
     ghost after = { after_later };
 
-    ghost less = { λ left behind state room. room };
+    ghost less = { λ left following state room. room };
 
     fn take(state: &mut TracksideOver<T>, packet: &Packet<'_>, used: &Use) {
         state.parts.describe_later(packet, used);

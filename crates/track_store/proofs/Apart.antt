@@ -6,26 +6,26 @@ use Rattle.std.specs.Int.{int_max}
 use Rattle.std.proofs.lemmas.Int.{ints, by_lt_z}
 use Rattle.track_store.specs.declared.segments.Segment.{Segment}
 use Rattle.track_store.specs.Facts.{from_mark}
-use Rattle.track_store.specs.Segments.{value_among, value_of_segments, value_behind, IsRisingFrom, IsRising, AreApart, IsKept, IsKeptBehind, is_first_passed, first_cut}
+use Rattle.track_store.specs.Segments.{value_among, value_of_segments, value_at_end, IsRisingFrom, IsRising, AreApart, IsKept, IsKeptAfterFirst, is_first_passed, first_cut}
 use Rattle.track_store.proofs.Segmenting.{below, not_below, before_rising, rising_cut, rising_of}
 
 module _ {A : Type 0} where
   -- the value after all starts is that of the last segment
-  pub behind_last : (otherwise : Option A) (segments : List (Segment A)) (i : ℕ) (d : Segment A) → i + 1 ≡ length segments →
-      value_behind otherwise segments ≡ (get_or segments i d).value
-  behind_last otherwise [] i d h = absurd (omega arith)
-  behind_last otherwise (s ∷ []) zero d h = refl
-  behind_last otherwise (s ∷ []) (suc i) d h = absurd (omega arith)
-  behind_last otherwise (s ∷ t ∷ segments) zero d h = absurd (omega arith)
-  behind_last otherwise (s ∷ t ∷ segments) (suc i) d h = behind_last s.value (t ∷ segments) i d (omega arith)
+  pub beyond_last : (otherwise : Option A) (segments : List (Segment A)) (i : ℕ) (d : Segment A) → i + 1 ≡ length segments →
+      value_at_end otherwise segments ≡ (get_or segments i d).value
+  beyond_last otherwise [] i d h = absurd (omega arith)
+  beyond_last otherwise (s ∷ []) zero d h = refl
+  beyond_last otherwise (s ∷ []) (suc i) d h = absurd (omega arith)
+  beyond_last otherwise (s ∷ t ∷ segments) zero d h = absurd (omega arith)
+  beyond_last otherwise (s ∷ t ∷ segments) (suc i) d h = beyond_last s.value (t ∷ segments) i d (omega arith)
 
   -- of segments that rise, those that start below a place are the first ones
   none_before : (place low : ℤ) (segments : List (Segment A)) → place ≤ℤ low → IsRisingFrom low segments →
       filter (λ s. int_lt s.start place) segments ≡ []
   none_before place low [] h r = refl
   none_before place low (s ∷ segments) h r =
-      let behind : place ≤ℤ s.start = omega (arith, ints, h, r.0) in
-      rw (not_below s.start place behind) (none_before place s.start segments behind r.1)
+      let beyond : place ≤ℤ s.start = omega (arith, ints, h, r.0) in
+      rw (not_below s.start place beyond) (none_before place s.start segments beyond r.1)
 
   apart_front : (place : ℤ) (before : Option A) (segments : List (Segment A)) → IsRising segments → AreApart before segments →
       AreApart before (filter (λ s. int_lt s.start place) segments)
@@ -63,7 +63,7 @@ module _ {A : Type 0} where
       cases (int_lt s.start place) refl
 
   apart_append : (before : Option A) (segments : List (Segment A)) (s : Segment A) → AreApart before segments →
-      value_behind before segments ≢ s.value → AreApart before (segments ++ s ∷ [])
+      value_at_end before segments ≢ s.value → AreApart before (segments ++ s ∷ [])
   apart_append before [] s a other = (other, tt)
   apart_append before (t ∷ segments) s a other = (a.0, apart_append t.value segments s a.1 other)
 
@@ -72,7 +72,7 @@ module _ {A : Type 0} where
   kept_front place segments k = (rising_front place segments k.0, apart_front place None segments k.0 k.1)
 
   pub kept_cut : (place : ℤ) (value : Option A) (segments : List (Segment A)) → IsKept segments →
-      value_behind None (filter (λ s. int_lt s.start place) segments) ≢ value →
+      value_at_end None (filter (λ s. int_lt s.start place) segments) ≢ value →
       IsKept (filter (λ s. int_lt s.start place) segments ++ record { start = place; value = value } ∷ [])
   kept_cut place value segments k other = (
     rising_cut place value segments k.0,
@@ -87,19 +87,19 @@ module _ {A : Type 0} where
   value_of_rest mark (first ∷ second ∷ segments) h place =
       by_lt_z place mark
       (λ (k : place <ℤ mark). rw (below place mark k))
-      (λ (k : mark ≤ℤ place). (let behind : second.start ≤ℤ place = grind (arith, ints) in
-      let rest : value_among None (second ∷ segments) place ≡ value_among second.value segments place = rw (not_below place second.start behind) in
-      let all : value_among None (first ∷ second ∷ segments) place ≡ value_among second.value segments place = rw (not_below place second.start behind) in
+      (λ (k : mark ≤ℤ place). (let beyond : second.start ≤ℤ place = grind (arith, ints) in
+      let rest : value_among None (second ∷ segments) place ≡ value_among second.value segments place = rw (not_below place second.start beyond) in
+      let all : value_among None (first ∷ second ∷ segments) place ≡ value_among second.value segments place = rw (not_below place second.start beyond) in
       rw (not_below place mark k) (rest ∙ sym all)))
 
-  pub kept_rest : (segments : List (Segment A)) → IsKeptBehind segments → IsKeptBehind (remove segments 0)
+  pub kept_rest : (segments : List (Segment A)) → IsKeptAfterFirst segments → IsKeptAfterFirst (remove segments 0)
   kept_rest [] k = tt
   kept_rest (first ∷ []) k = tt
   kept_rest (first ∷ second ∷ segments) k = (k.0.1, k.1.1)
 
-  pub kept_behind : (segments : List (Segment A)) → IsKept segments → IsKeptBehind segments
-  kept_behind [] k = tt
-  kept_behind (first ∷ segments) k = (k.0, k.1.1)
+  pub kept_after_first : (segments : List (Segment A)) → IsKept segments → IsKeptAfterFirst segments
+  kept_after_first [] k = tt
+  kept_after_first (first ∷ segments) k = (k.0, k.1.1)
 
   -- what follows the first segment starts after a mark before which it doesn't lie wholly
   rest_ahead : (mark : ℤ) (first : Segment A) (segments : List (Segment A)) → is_first_passed mark (first ∷ segments) ≡ false →
@@ -116,8 +116,8 @@ module _ {A : Type 0} where
     r.1,
   )
 
-  pub kept_first_cut : (mark : ℤ) (segments : List (Segment A)) → is_first_passed mark segments ≡ false → IsKeptBehind segments →
-      IsKeptBehind (first_cut mark segments)
+  pub kept_first_cut : (mark : ℤ) (segments : List (Segment A)) → is_first_passed mark segments ≡ false → IsKeptAfterFirst segments →
+      IsKeptAfterFirst (first_cut mark segments)
   kept_first_cut mark [] h k = tt
   kept_first_cut mark (first ∷ segments) h k =
       (rest_ahead_of_both first.start mark segments k.0 (rest_ahead mark first segments h k.0), k.1)
@@ -126,7 +126,7 @@ module _ {A : Type 0} where
   none_from mark place value is = by_lt_z place mark (λ h. rw (below place mark h) is) (λ h. rw (not_below place mark h) is)
 
   -- the first segment cut off at the mark, all counts from there on
-  pub value_of_first_cut : (mark : ℤ) (segments : List (Segment A)) → is_first_passed mark segments ≡ false → IsKeptBehind segments → (place : ℤ) →
+  pub value_of_first_cut : (mark : ℤ) (segments : List (Segment A)) → is_first_passed mark segments ≡ false → IsKeptAfterFirst segments → (place : ℤ) →
       value_of_segments (first_cut mark segments) place ≡ from_mark mark (value_of_segments segments) place
   value_of_first_cut mark [] h k place = none_from mark place None refl
   value_of_first_cut mark (first ∷ segments) h k place =

@@ -30,9 +30,9 @@ all_forgotten mark (fact ∷ facts) place =
     (value_remembered (map (forgotten mark) facts) place) (value_remembered facts place) (given_by fact.steps place)
     (all_forgotten mark facts place) (below_either place fact.mark mark)
 
-nothing_behind : {A : Type 0} (xs : List A) → xs ++ [] ≡ xs
-nothing_behind [] = refl
-nothing_behind (x ∷ xs) = ap (λ ys. x ∷ ys) (nothing_behind xs)
+nothing_after : {A : Type 0} (xs : List A) → xs ++ [] ≡ xs
+nothing_after [] = refl
+nothing_after (x ∷ xs) = ap (λ ys. x ∷ ys) (nothing_after xs)
 
 pub taken_front : {A : Type 0} (xs ys : List A) (n : ℕ) → length xs ≡ n → take n (xs ++ ys) ≡ xs
 taken_front xs ys n is = take-append-le n xs ys (omega arith) ∙ take_all n xs (omega arith)
@@ -55,4 +55,4 @@ module _ {A : Type 0} (f : A → A) (initial : List A) where
       take n (xs ++ ys) ≡ map f initial
   all_changed xs ys i n all is so_far =
       taken_front xs ys n is
-      ∙ sym (ap (λ zs. zs ++ map f (drop i xs)) (take_all i xs all) ∙ ap (λ zs. xs ++ map f zs) (drop_all i xs all) ∙ nothing_behind xs) ∙ so_far
+      ∙ sym (ap (λ zs. zs ++ map f (drop i xs)) (take_all i xs all) ∙ ap (λ zs. xs ++ map f zs) (drop_all i xs all) ∙ nothing_after xs) ∙ so_far

@@ -79,8 +79,8 @@ module _ (value : ℤ → Option ℕ) (limit : ℕ) (place to : ℤ) (here : pla
       by_lt_z at.0 next
       (λ (before : at.0 <ℤ next). let here : IsIn v (listed (value place)) = rw (same at.0 at.1 before) at at.3 in
       omega (arith, least_below now rest, lesser_below_it limit (value place) v here))
-      (λ (behind : next ≤ℤ at.0).
-      least_below_each now rest v (in_over (λ c. listed (value c)) next to v at.0 behind at.2 at.3)))
+      (λ (farther : next ≤ℤ at.0).
+      least_below_each now rest v (in_over (λ c. listed (value c)) next to v at.0 farther at.2 at.3)))
       (elim (least_one_of now rest) [
         | inl e ↦ elim (lesser_one_of limit (value place)) [
           | inl k ↦ inl (e ∙ k)
@@ -144,7 +144,7 @@ module _ {A : Type 0} (value : ℤ → Option A) (place to : ℤ) (here : place 
       (λ v given. let at = over_at (λ c. listed (value c)) place to v given in
       by_lt_z at.0 next
       (λ (before : at.0 <ℤ next). absurd (none_listed (value place) v none (rw (same at.0 at.1 before) at at.3)))
-      (λ (behind : next ≤ℤ at.0). in_over (λ c. listed (value c)) next to v at.0 behind at.2 at.3))
+      (λ (farther : next ≤ℤ at.0). in_over (λ c. listed (value c)) next to v at.0 farther at.2 at.3))
 
   -- and where it lasts, nothing does
   pub nowhere : ((later : ℤ) → place ≤ℤ later → value later ≡ value place) → is_some (value place) ≡ false →

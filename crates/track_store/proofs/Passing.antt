@@ -3,7 +3,7 @@ use Rattle.std.proofs.Common.{◌≡◌, ℕ, zero, suc, ◌-◌, drop, ℤ, ◌
 use Rattle.std.proofs.lemmas.Int.{ints}
 use Rattle.track_store.specs.declared.segments.Segment.{Segment}
 use Rattle.track_store.specs.Facts.{from_mark}
-use Rattle.track_store.specs.Segments.{value_of_segments, IsStarted, IsKeptBehind, is_first_passed}
+use Rattle.track_store.specs.Segments.{value_of_segments, IsStarted, IsKeptAfterFirst, is_first_passed}
 use Rattle.track_store.proofs.Apart.{value_of_rest, kept_rest}
 
 module _ {A : Type 0} where
@@ -31,7 +31,7 @@ module _ {A : Type 0} where
       value_of_others mark segments count (one_fewer mark first segments (suc count) started) place
       ∙ value_of_rest mark (first ∷ segments) (passed mark (first ∷ segments) count started) place
 
-  pub kept_others : (segments : List (Segment A)) (count : ℕ) → IsKeptBehind segments → IsKeptBehind (drop count segments)
+  pub kept_others : (segments : List (Segment A)) (count : ℕ) → IsKeptAfterFirst segments → IsKeptAfterFirst (drop count segments)
   kept_others segments zero kept = kept
   kept_others [] (suc count) kept = tt
   kept_others (first ∷ segments) (suc count) kept = kept_others segments count (kept_rest (first ∷ segments) kept)

@@ -8,12 +8,12 @@ use Rattle.track_store.specs.Segments.{value_among, value_of_segments, IsRisingF
 use Rattle.track_store.proofs.Segmenting.{below, not_below}
 
 module _ {A : Type 0} where
-  behind_low : (low : ℤ) (segments : List (Segment A)) (j : ℕ) (d : Segment A) → IsRisingFrom low segments → j < length segments →
+  beyond_low : (low : ℤ) (segments : List (Segment A)) (j : ℕ) (d : Segment A) → IsRisingFrom low segments → j < length segments →
       low <ℤ (get_or segments j d).start
-  behind_low low [] j d r h = absurd (omega arith)
-  behind_low low (s ∷ segments) zero d r h = r.0
-  behind_low low (s ∷ segments) (suc j) d r h =
-      let later : s.start <ℤ (get_or segments j d).start = behind_low s.start segments j d r.1 (omega arith) in
+  beyond_low low [] j d r h = absurd (omega arith)
+  beyond_low low (s ∷ segments) zero d r h = r.0
+  beyond_low low (s ∷ segments) (suc j) d r h =
+      let later : s.start <ℤ (get_or segments j d).start = beyond_low s.start segments j d r.1 (omega arith) in
       omega (arith, ints, later, r.0)
 
   rising_from : (low : ℤ) (segments : List (Segment A)) → IsRisingFrom low segments → IsRising segments
@@ -26,7 +26,7 @@ module _ {A : Type 0} where
   in_order [] i j d e r a h = absurd (omega arith)
   in_order (s ∷ segments) zero zero d e r a h = omega (arith, ints)
   in_order (s ∷ segments) zero (suc j) d e r a h =
-      let later : s.start <ℤ (get_or segments j e).start = behind_low s.start segments j e r (omega arith) in
+      let later : s.start <ℤ (get_or segments j e).start = beyond_low s.start segments j e r (omega arith) in
       omega (arith, ints, later)
   in_order (s ∷ segments) (suc i) zero d e r a h = absurd (omega arith)
   in_order (s ∷ segments) (suc i) (suc j) d e r a h =
@@ -48,23 +48,23 @@ module _ {A : Type 0} where
   none_below : (place : ℤ) (segments : List (Segment A)) →
       ((k : ℕ) (d : Segment A) → k < length segments → int_lt (get_or segments k d).start place ≡ false) →
       filter (λ (s : Segment A). int_lt s.start place) segments ≡ []
-  none_below place [] behind = refl
-  none_below place (s ∷ segments) behind =
-      let here : int_lt s.start place ≡ false = behind 0 s (omega arith) in
-      rw here (none_below place segments (λ k d a. behind (suc k) d (omega arith)))
+  none_below place [] beyond = refl
+  none_below place (s ∷ segments) beyond =
+      let here : int_lt s.start place ≡ false = beyond 0 s (omega arith) in
+      rw here (none_below place segments (λ k d a. beyond (suc k) d (omega arith)))
 
   pub below_front : (place : ℤ) (segments : List (Segment A)) (count : ℕ) → count ≤ length segments →
       ((k : ℕ) (d : Segment A) → k < count → int_lt (get_or segments k d).start place ≡ true) →
       ((k : ℕ) (d : Segment A) → count ≤ k → k < length segments → int_lt (get_or segments k d).start place ≡ false) →
       filter (λ (s : Segment A). int_lt s.start place) segments ≡ take count segments
-  below_front place [] zero within front behind = refl
-  below_front place [] (suc n) within front behind = absurd (omega arith)
-  below_front place (s ∷ segments) zero within front behind =
-      none_below place (s ∷ segments) (λ k d a. behind k d (omega arith) a)
-  below_front place (s ∷ segments) (suc n) within front behind =
+  below_front place [] zero within front beyond = refl
+  below_front place [] (suc n) within front beyond = absurd (omega arith)
+  below_front place (s ∷ segments) zero within front beyond =
+      none_below place (s ∷ segments) (λ k d a. beyond k d (omega arith) a)
+  below_front place (s ∷ segments) (suc n) within front beyond =
       let here : int_lt s.start place ≡ true = front 0 s (omega arith) in
       rw here (ap (λ (rest : List (Segment A)). s ∷ rest)
-      (below_front place segments n (omega arith) (λ k d a. front (suc k) d (omega arith)) (λ k d a h. behind (suc k) d (omega arith) (omega arith))))
+      (below_front place segments n (omega arith) (λ k d a. front (suc k) d (omega arith)) (λ k d a h. beyond (suc k) d (omega arith) (omega arith))))
 
   -- segments ahead of a place don't count there
   pub all_ahead : (otherwise : Option A) (place : ℤ) (segments : List (Segment A)) (d : Segment A) →
@@ -78,22 +78,22 @@ module _ {A : Type 0} where
       ((k : ℕ) → k ≤ i → (get_or segments k d).start ≤ℤ place) →
       ((k : ℕ) → i < k → k < length segments → place <ℤ (get_or segments k d).start) →
       value_among otherwise segments place ≡ (get_or segments i d).value
-  last_among otherwise place [] i d h behind ahead = absurd (omega arith)
-  last_among otherwise place (s ∷ segments) zero d h behind ahead =
-      let here : int_lt place s.start ≡ false = not_below place s.start (behind 0 (omega arith)) in
+  last_among otherwise place [] i d h beyond ahead = absurd (omega arith)
+  last_among otherwise place (s ∷ segments) zero d h beyond ahead =
+      let here : int_lt place s.start ≡ false = not_below place s.start (beyond 0 (omega arith)) in
       rw here (all_ahead s.value place segments d (λ k a. ahead (suc k) (omega arith) (omega arith)))
-  last_among otherwise place (s ∷ segments) (suc i) d h behind ahead =
-      let here : int_lt place s.start ≡ false = not_below place s.start (behind 0 (omega arith)) in
-      rw here (last_among s.value place segments i d (omega arith) (λ k a. behind (suc k) (omega arith)) (λ k a b. ahead (suc k) (omega arith) (omega arith)))
+  last_among otherwise place (s ∷ segments) (suc i) d h beyond ahead =
+      let here : int_lt place s.start ≡ false = not_below place s.start (beyond 0 (omega arith)) in
+      rw here (last_among s.value place segments i d (omega arith) (λ k a. beyond (suc k) (omega arith)) (λ k a b. ahead (suc k) (omega arith) (omega arith)))
 
   pub first_among : (place : ℤ) (segments : List (Segment A)) (i : ℕ) (d : Segment A) → i < length segments →
       ((k : ℕ) → k < i → (get_or segments k d).start ≤ℤ place) → place <ℤ (get_or segments i d).start →
       next_among place segments ≡ Some (get_or segments i d).start
-  first_among place [] i d h behind here = absurd (omega arith)
-  first_among place (s ∷ segments) zero d h behind here = rw (below place s.start here)
-  first_among place (s ∷ segments) (suc i) d h behind here =
-      let first : int_lt place s.start ≡ false = not_below place s.start (behind 0 (omega arith)) in
-      rw first (first_among place segments i d (omega arith) (λ k a. behind (suc k) (omega arith)) here)
+  first_among place [] i d h beyond here = absurd (omega arith)
+  first_among place (s ∷ segments) zero d h beyond here = rw (below place s.start here)
+  first_among place (s ∷ segments) (suc i) d h beyond here =
+      let first : int_lt place s.start ≡ false = not_below place s.start (beyond 0 (omega arith)) in
+      rw first (first_among place segments i d (omega arith) (λ k a. beyond (suc k) (omega arith)) here)
 
   pub none_among : (place : ℤ) (segments : List (Segment A)) (d : Segment A) →
       ((k : ℕ) → k < length segments → (get_or segments k d).start ≤ℤ place) → next_among place segments ≡ None
@@ -123,7 +123,7 @@ module _ {A : Type 0} where
       (get_or segments i d).start <ℤ (get_or segments j e).start
   apart [] i j d e r a h = absurd (omega arith)
   apart (s ∷ segments) zero zero d e r a h = absurd (omega arith)
-  apart (s ∷ segments) zero (suc j) d e r a h = behind_low s.start segments j e r (omega arith)
+  apart (s ∷ segments) zero (suc j) d e r a h = beyond_low s.start segments j e r (omega arith)
   apart (s ∷ segments) (suc i) zero d e r a h = absurd (omega arith)
   apart (s ∷ segments) (suc i) (suc j) d e r a h =
       apart segments i j d e (rising_from s.start segments r) (omega arith) (omega arith)

@@ -8,7 +8,7 @@ use Rattle.track_store.specs.declared.profile.Step.{Step}
 use Rattle.track_store.specs.declared.segments.Segment.{Segment}
 use Rattle.track_store.specs.Facts.{passed, last_value, replaced}
 use Rattle.track_store.specs.Profiles.{Lasts}
-use Rattle.track_store.specs.Segments.{value_among, value_of_segments, value_behind, IsRisingFrom, IsRising, next_among}
+use Rattle.track_store.specs.Segments.{value_among, value_of_segments, value_at_end, IsRisingFrom, IsRising, next_among}
 
 pub below : (a b : ℤ) → a <ℤ b → int_lt a b ≡ true
 below a b h = grind (arith, ints)
@@ -16,8 +16,8 @@ below a b h = grind (arith, ints)
 pub not_below : (a b : ℤ) → b ≤ℤ a → int_lt a b ≡ false
 not_below a b h = grind (arith, ints)
 
-behind_start : (start first at place : ℤ) → first ≡ int_max start at → start ≤ℤ place → int_lt place first ≡ int_lt place at
-behind_start start first at place is h = grind (arith, ints)
+after_start : (start first at place : ℤ) → first ≡ int_max start at → start ≤ℤ place → int_lt place first ≡ int_lt place at
+after_start start first at place is h = grind (arith, ints)
 
 before_start : (start first at place : ℤ) → first ≡ int_max start at → place <ℤ start → int_lt place first ≡ true
 before_start start first at place is h = grind (arith, ints)
@@ -56,11 +56,11 @@ module _ {A : Type 0} where
 
   -- .. or followed by none: the value after them
   front_from : (place there : ℤ) (otherwise : Option A) (segments : List (Segment A)) → place ≤ℤ there →
-      value_among otherwise (filter (λ s. int_lt s.start place) segments) there ≡ value_behind otherwise (filter (λ s. int_lt s.start place) segments)
+      value_among otherwise (filter (λ s. int_lt s.start place) segments) there ≡ value_at_end otherwise (filter (λ s. int_lt s.start place) segments)
   front_from place there otherwise [] h = refl
   front_from place there otherwise (s ∷ segments) h =
       let rest = filter (λ s. int_lt s.start place) segments in
-      let cases : (b : Bool) → int_lt s.start place ≡ b → value_among otherwise (cond b (s ∷ rest) rest) there ≡ value_behind otherwise (cond b (s ∷ rest) rest) =
+      let cases : (b : Bool) → int_lt s.start place ≡ b → value_among otherwise (cond b (s ∷ rest) rest) there ≡ value_at_end otherwise (cond b (s ∷ rest) rest) =
       elim [
         | true ↦ λ e. (let k : s.start ≤ℤ there = grind (arith, ints) in
             ap (λ c. value_among (cond c otherwise s.value) rest there) (not_below there s.start k) ∙ front_from place there s.value segments h)
@@ -82,7 +82,7 @@ module _ {A : Type 0} where
       cases (int_lt s.start place) refl
 
   pub value_of_front : (place : ℤ) (value : Option A) (segments : List (Segment A)) (there : ℤ) →
-      value_behind None (filter (λ s. int_lt s.start place) segments) ≡ value →
+      value_at_end None (filter (λ s. int_lt s.start place) segments) ≡ value →
       value_of_segments (filter (λ s. int_lt s.start place) segments) there ≡ cond (int_lt there place) (value_of_segments segments there) value
   value_of_front place value segments there is =
       by_lt_z there place
@@ -148,13 +148,13 @@ module _ {A : Type 0} where
             (before_rising otherwise s.start later segments r (omega (arith, ints, b))
             ∙ sym (before_rising otherwise s.start place segments r (omega (arith, ints, h)))),
       ) in
-      let behind : s.start ≤ℤ place → Lasts (value_among otherwise (s ∷ segments)) place (next_among place segments) =
+      let beyond : s.start ≤ℤ place → Lasts (value_among otherwise (s ∷ segments)) place (next_among place segments) =
       λ h. lasts_along (value_among s.value segments) (value_among otherwise (s ∷ segments)) place (next_among place segments)
       (λ later a. (let k : s.start ≤ℤ later = omega (arith, ints, a, h) in rw (not_below later s.start k)))
       (lasts_among s.value place segments (rising_of s.start segments r)) (omega (arith, ints)) in
       by_lt_z place s.start
       (λ (h : place <ℤ s.start). rw (below place s.start h) (ahead h))
-      (λ (h : s.start ≤ℤ place). rw (not_below place s.start h) (behind h))
+      (λ (h : s.start ≤ℤ place). rw (not_below place s.start h) (beyond h))
 
   pub lasts_kept : (place : ℤ) (segments kept : List (Segment A)) (next : Option ℤ) → segments ≡ kept → IsRising segments →
       next ≡ next_among place segments → Lasts (value_of_segments kept) place next
@@ -174,7 +174,7 @@ module _ {A : Type 0} where
       start ≤ℤ place → new ≡ cond (int_lt place first) old step.value → last_value old (passed place (step ∷ steps)) ≡ all →
       last_value new (passed place steps) ≡ all
   one_step start first place old new all step steps top h is so_far =
-      ap (λ (v : Option A). last_value v (passed place steps)) (is ∙ ap (λ (b : Bool). cond b old step.value) (behind_start start first step.place place top h))
+      ap (λ (v : Option A). last_value v (passed place steps)) (is ∙ ap (λ (b : Bool). cond b old step.value) (after_start start first step.place place top h))
       ∙ sym (last_passed place old step steps) ∙ so_far
 
   pub unchanged_below : (start first at place : ℤ) (old new value : Option A) → first ≡ int_max start at → place <ℤ start →
@@ -201,4 +201,4 @@ module _ {A : Type 0} where
       by_lt_z place start
       (λ (h : place <ℤ start). rw (below place start h) (is ∙ ap (λ (b : Bool). cond b held None) (before_start start first end place top h) ∙ under h))
       (λ (h : start ≤ℤ place). rw (not_below place start h, ends)
-      (is ∙ ap (λ (b : Bool). cond b held None) (behind_start start first end place top h) ∙ cases (int_lt place end) refl h))
+      (is ∙ ap (λ (b : Bool). cond b held None) (after_start start first end place top h) ∙ cases (int_lt place end) refl h))

@@ -72,14 +72,14 @@ abbrev pub IsKept : {A : Type 0} → List (Segment A) → Type 0
 IsKept segments = IsRising segments × AreApart None segments
 
 -- .. or the first may have none
-abbrev pub IsKeptBehind : {A : Type 0} → List (Segment A) → Type 0
-IsKeptBehind [] = Unit {0}
-IsKeptBehind (segment ∷ segments) = IsRisingFrom segment.start segments × AreApart segment.value segments
+abbrev pub IsKeptAfterFirst : {A : Type 0} → List (Segment A) → Type 0
+IsKeptAfterFirst [] = Unit {0}
+IsKeptAfterFirst (segment ∷ segments) = IsRisingFrom segment.start segments × AreApart segment.value segments
 
 -- the value after all starts; without one, another value
-abbrev pub value_behind : {A : Type 0} → Option A → List (Segment A) → Option A
-value_behind otherwise [] = otherwise
-value_behind otherwise (segment ∷ segments) = value_behind segment.value segments
+abbrev pub value_at_end : {A : Type 0} → Option A → List (Segment A) → Option A
+value_at_end otherwise [] = otherwise
+value_at_end otherwise (segment ∷ segments) = value_at_end segment.value segments
 
 -- the first segment starts at a mark, if it would start before it
 abbrev pub first_cut : {A : Type 0} → ℤ → List (Segment A) → List (Segment A)

@@ -3,7 +3,7 @@ ghost use Rattle.std.specs.Prelude.{◌≡◌, ℕ, IsTrue, IsSome, IfSome, ◌+
 ghost use Rattle.std.specs.List.{AllWithin, list_any};
 ghost use Rattle.track_store.specs.Facts.{from_mark, passed, replaced};
 ghost use Rattle.track_store.specs.Profiles.{HoldsOver, IsKnownThroughout};
-ghost use Rattle.track_store.specs.Segments.{value_of_segments, value_behind, next_among, IsRising, IsStarted, IsStartedBelow, IsKept, IsKeptBehind, is_first_passed, first_cut, is_reached};
+ghost use Rattle.track_store.specs.Segments.{value_of_segments, value_at_end, next_among, IsRising, IsStarted, IsStartedBelow, IsKept, IsKeptAfterFirst, is_first_passed, first_cut, is_reached};
 
 use crate::{Piece, PieceBefore, Same, Step};
 use units::Cm;
@@ -37,9 +37,9 @@ fn piece_in<T: Copy>(segments: &[Segment<T>], place: Cm, index: usize) -> Option
     }
     let near = index + 1;
     match segments.get(near) {
-        Some(behind) if place < behind.start => Some(Piece {
+        Some(beyond) if place < beyond.start => Some(Piece {
             value: segment.value,
-            next: Some(behind.start),
+            next: Some(beyond.start),
             near,
         }),
         Some(_) => None,
@@ -60,7 +60,7 @@ fn last_value<T: Copy>(segments: &[Segment<T>], count: usize) -> Option<T>
 }
 
 // The start of the first segment after so many.
-fn start_behind<T: Copy>(segments: &[Segment<T>], count: usize) -> Option<Cm>
+fn start_beyond<T: Copy>(segments: &[Segment<T>], count: usize) -> Option<Cm>
     ensures { (place : ℤ) → IsStarted place segments.now count → result ≡ next_among place segments.now }
 {
     let next = segments.get(count)?;
@@ -80,7 +80,7 @@ pub(crate) fn next_start<T: Copy>(segments: &[Segment<T>], place: Cm) -> Option<
     requires { IsRising segments.now }
     ensures { result ≡ next_among place segments.now }
 {
-    start_behind(segments, started(segments, place))
+    start_beyond(segments, started(segments, place))
 }
 
 /// Both. It tries the segment at an index first, and searches only where the place lies in another one.
@@ -95,14 +95,14 @@ pub(crate) fn piece_at<T: Copy>(segments: &[Segment<T>], place: Cm, near: usize)
     let count = started(segments, place);
     Piece {
         value: last_value(segments, count),
-        next: start_behind(segments, count),
+        next: start_beyond(segments, count),
         near: count,
     }
 }
 
 // The value after all starts.
-fn value_behind<T: Copy>(segments: &[Segment<T>]) -> Option<T>
-    ensures { result ≡ value_behind None segments.now }
+fn value_at_end<T: Copy>(segments: &[Segment<T>]) -> Option<T>
+    ensures { result ≡ value_at_end None segments.now }
 {
     segments.last()?.value
 }
@@ -253,7 +253,7 @@ fn hold_from<T: Copy + Same>(segments: &mut Vec<Segment<T>>, place: Cm, value: O
     ensures capacity { vec_capacity segments.new ≡ vec_capacity segments.old }
 {
     drop_from(segments, place);
-    if !is_same(&value_behind(segments), &value) {
+    if !is_same(&value_at_end(segments), &value) {
         segments.push_reserved(Segment {
             start: place,
             value,
@@ -335,10 +335,10 @@ fn drop_front<T: Copy>(segments: &mut Vec<Segment<T>>, count: usize)
 // Drops the segments that lie wholly before a mark. Where the mark follows the train there are none or one mostly, so it
 // searches only where there is one.
 fn drop_passed<T: Copy>(segments: &mut Vec<Segment<T>>, mark: Cm)
-    requires { IsKeptBehind segments.old.items }
+    requires { IsKeptAfterFirst segments.old.items }
     ensures value { (place : ℤ) → from_mark mark (value_of_segments segments.new.items) place
         ≡ from_mark mark (value_of_segments segments.old.items) place }
-    ensures kept { IsKeptBehind segments.new.items }
+    ensures kept { IsKeptAfterFirst segments.new.items }
     ensures len { vec_len segments.new ≤ vec_len segments.old }
     ensures capacity { vec_capacity segments.new ≡ vec_capacity segments.old }
     ensures none { is_first_passed mark segments.new.items ≡ false }
@@ -360,7 +360,7 @@ fn cut_first<T: Copy>(segments: &mut [Segment<T>], mark: Cm)
 
 // Drops the first segment where it has no value.
 fn drop_gap<T: Copy>(segments: &mut Vec<Segment<T>>)
-    requires { IsKeptBehind segments.old.items }
+    requires { IsKeptAfterFirst segments.old.items }
     ensures value { (place : ℤ) → value_of_segments segments.new.items place ≡ value_of_segments segments.old.items place }
     ensures kept { IsKept segments.new.items }
     ensures len { vec_len segments.new ≤ vec_len segments.old }

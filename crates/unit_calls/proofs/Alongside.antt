@@ -165,13 +165,13 @@ module _ (whole_from sectors : ℕ) (handed : List EtcsOutput) (medium : Platter
       → IsAhead durable accepted it.unit.life → IsOpen next.unit.journal (account_of whole_from accepted) (request_state next.reading.disk) × IsAhead accepted accepted next.unit.life in
       let moments = turned_to Moments it before.moored after.moored next there sized.1 its.any_moment in
       let flushed = turned_to Flushed it before.moored after.moored next there sized.1 its.flushed in
-      let behind = flushed whole_from floats.durable floats.accepted floats.opened floats.ahead in (
+      let following = flushed whole_from floats.durable floats.accepted floats.opened floats.ahead in (
         next,
         sized.1,
         floats_as whole_from sectors handed medium carried next.reading.disk next.reading.disk next.unit.journal next.unit.journal next.unit.life next.unit.life it.unit.life.pairs after.outputs 0 after.done
-            refl refl refl (at_some (λ m. after.outputs ≡ m.unit.life.pairs) it before.moored there its.pending) its.begun
+            refl refl refl (at_some (λ m. after.outputs ≡ m.unit.life.pairs) it before.moored there its.pending) its.initial
             (prepares whole_from sectors handed medium carried it.reading.disk it.unit.journal it.unit.life before.outputs before.done floats
-            (omega (arith, least)) next.reading.disk next.unit.journal next.unit.life sized.2 (moments whole_from floats.durable floats.accepted floats.opened floats.ahead) behind.0 behind.1),
+            (omega (arith, least)) next.reading.disk next.unit.journal next.unit.life sized.2 (moments whole_from floats.durable floats.accepted floats.opened floats.ahead) following.0 following.1),
       )
 
   pub says_on : (count : ℕ) (before after : Opened) (status : Status) → Says count before after status → (status ≡ a_status.Done → count ≤ carried) → Under before.unit → Under after.unit

@@ -5,7 +5,7 @@ use Rattle.std.proofs.lemmas.Bool.{cases_lt}
 use Rattle.std.proofs.lemmas.Bool.Decides.{nat_tests}
 use Rattle.blocks.specs.FirstSector.{sectors_of, first_sector}
 use Rattle.blocks.specs.Layout.{written}
-use Rattle.unit_calls.specs.Formatting.{Asked, Writing, asked_at, asked_last, carried, after_first, FormatEmpties}
+use Rattle.unit_calls.specs.Formatting.{FormatRequest, Writing, asked_at, asked_last, carried, after_first, FormatEmpties}
 
 -- a request by its place
 gate_asked : (slots index : ℕ) → index < slots → asked_at slots index ≡ Writing (sectors_of index) (replicate 512 0)
@@ -34,7 +34,7 @@ zeros_after slots zero slot image most less = absurd (omega (arith, less))
 zeros_after slots (suc below) slot image most less =
     let asked : asked_at slots below ≡ Writing (sectors_of below) (replicate 512 0) = gate_asked slots below (omega (arith, most)) in
     let before : ℕ → List ℕ = after_first slots image below in
-    ap (λ (a : Asked). carried a before (sectors_of slot)) asked
+    ap (λ (a : FormatRequest). carried a before (sectors_of slot)) asked
     ∙ ⊎_elim
     (λ (lt : slot < below). put_other (sectors_of below) (sectors_of slot) (replicate 512 0) before (grind (arith, nat_tests)) ∙ zeros_after slots below slot image (omega (arith, most)) lt)
     (λ (ge : below ≤ slot).
@@ -44,8 +44,8 @@ zeros_after slots (suc below) slot image most less =
     (cases_lt slot below)
 
 -- a request after the gates
-last_behind : (slots k s : ℕ) (image : ℕ → List ℕ) → after_first slots image (suc (slots + k)) s ≡ carried (asked_last slots k) (after_first slots image (slots + k)) s
-last_behind slots k s image = ap (λ (a : Asked). carried a (after_first slots image (slots + k)) s) (after_gates slots k)
+last_following : (slots k s : ℕ) (image : ℕ → List ℕ) → after_first slots image (suc (slots + k)) s ≡ carried (asked_last slots k) (after_first slots image (slots + k)) s
+last_following slots k s image = ap (λ (a : FormatRequest). carried a (after_first slots image (slots + k)) s) (after_gates slots k)
 
 all_after : (slots s : ℕ) (image : ℕ → List ℕ) → after_first slots image (slots + 3) s
     ≡ carried (Writing 0 (written first_sector slots)) (after_first slots image (slots + 1)) s
@@ -53,16 +53,16 @@ all_after slots s image =
     let third : slots + 3 ≡ suc (slots + 2) = omega arith in
     let second : slots + 2 ≡ suc (slots + 1) = omega arith in
     ap (λ (n : ℕ). after_first slots image n s) third
-    ∙ last_behind slots 2 s image
+    ∙ last_following slots 2 s image
     ∙ ap (λ (n : ℕ). after_first slots image n s) second
-    ∙ last_behind slots 1 s image
+    ∙ last_following slots 1 s image
 
 first_after : (slots s : ℕ) (image : ℕ → List ℕ) → after_first slots image (slots + 1) s ≡ after_first slots image slots s
 first_after slots s image =
     let one : slots + 1 ≡ suc (slots + 0) = omega arith in
     let none : slots + 0 ≡ slots = omega arith in
     ap (λ (n : ℕ). after_first slots image n s) one
-    ∙ last_behind slots 0 s image
+    ∙ last_following slots 0 s image
     ∙ ap (λ (n : ℕ). after_first slots image n s) none
 
 pub format_empties : FormatEmpties

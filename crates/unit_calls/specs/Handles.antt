@@ -91,7 +91,7 @@ pub record IsPrepared (before after : Relayed) (reported : Result ⊤ PrepareErr
   -- what is held back is what was pending, all of it
   pub pending : OnOk reported (IfSome before.moored (λ it. after.outputs ≡ it.unit.life.pairs))
   -- none of the requests is done yet
-  pub begun : OnOk reported (after.done ≡ 0)
+  pub initial : OnOk reported (after.done ≡ 0)
   -- a refusal holds nothing more back, and what was said of the requests stays
   pub held : OnErr reported ((after.outputs ≡ before.outputs) × (after.done ≡ before.done))
   -- and it leaves the unit and the disk as they were, but that a sector may be wanted

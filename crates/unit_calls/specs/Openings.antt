@@ -5,7 +5,7 @@ use Rattle.disk.specs.State.{sector_of}
 use Rattle.c_numbers.specs.Numbers.{this_abi}
 use Rattle.mode_table.specs.declared.statuses.Cold.{Cold}
 use Rattle.request_disk.specs.Requesting.{knows, with_sector}
-use Rattle.relayed_unit.specs.Openings.{Opening, begun, still_needed, IsGoing, IsWanted}
+use Rattle.relayed_unit.specs.Openings.{Opening, initial, still_needed, IsGoing, IsWanted}
 use Rattle.unit_calls.specs.Requests.{Where}
 use Rattle.unit_calls.specs.Words.{word_by}
 use Rattle.unit_calls.specs.declared.status.Status.{Status}
@@ -32,7 +32,7 @@ OnPlaceInto AsTheyWere (Some before) (Some after) status So = So before after st
 abbrev pub Begins : List ℕ → ℕ → Option Cold → Option Opening → Status → Type 0
 Begins medium sectors None after status = (status ≡ a_status.OutOfRange) × (after ≡ None)
 Begins medium sectors (Some cold) None status = status ≡ a_status.OpenNoMemory
-Begins medium sectors (Some cold) (Some it) status = (status ≡ a_status.Done) × (it ≡ begun medium sectors cold)
+Begins medium sectors (Some cold) (Some it) status = (status ≡ a_status.Done) × (it ≡ initial medium sectors cold)
     × IsGoing medium it
 
 -- the same into any handle: one that is under way stays as it is

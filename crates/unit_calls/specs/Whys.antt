@@ -80,12 +80,12 @@ target_speed (Some target) = target.speed
 
 abbrev pub waiting_number : Waiting → ℕ
 waiting_number waits.Nothing = 0
-waiting_number waits.Asked = 1
+waiting_number waits.Requested = 1
 waiting_number (waits.Owed left) = 2
 
 abbrev pub time_left : Waiting → ℕ
 time_left waits.Nothing = 0
-time_left waits.Asked = 0
+time_left waits.Requested = 0
 time_left (waits.Owed left) = left
 
 -- ---- what is left of an override: of its time, 0 where that has no end; of its distance; and whether its time ends

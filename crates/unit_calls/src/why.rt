@@ -11,7 +11,7 @@ use crate::outputs::{EtcsOutput, output_reported};
 use braking::Target;
 use c_numbers::{flag, limit_number, or_zero, place_or_zero};
 use driver::OverrideLeft;
-use kernel::{BrakeCause, BrakeCauses, Motion, Shown, State, Waiting};
+use kernel::{BrakeCause, BrakeCauses, Motion, DisplayValues, State, Waiting};
 use reasons::{LimitReport, limit_reported};
 use speed_supervision::{LimitCause, SpeedCause};
 use units::{Cm, Mph};
@@ -95,7 +95,7 @@ pub struct Reported {
     /// Whether a release speed does.
     pub releases: bool,
     /// What a display shows.
-    pub shown: Shown,
+    pub shown: DisplayValues,
     /// Which causes of a brake hold.
     pub holds: [u8; 10],
 }
@@ -185,7 +185,7 @@ fn waiting_number(waiting: Waiting) -> u8
 {
     match waiting {
         Waiting::Nothing => 0,
-        Waiting::Asked => 1,
+        Waiting::Requested => 1,
         Waiting::Owed(_) => 2,
     }
 }
@@ -194,7 +194,7 @@ fn time_left(waiting: Waiting) -> u64
     ensures { result ≡ time_left waiting }
 {
     match waiting {
-        Waiting::Nothing | Waiting::Asked => 0,
+        Waiting::Nothing | Waiting::Requested => 0,
         Waiting::Owed(left) => left,
     }
 }

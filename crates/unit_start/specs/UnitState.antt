@@ -23,8 +23,8 @@ pub record UnitState (D : Type 0) : Type 0 where
   pub life : LifeState
 
 -- a life after its power-up: nothing is pending
-abbrev pub begun : Knowledge (Segmented ℤ) (Segmented CategorySpeeds) → ℕ → LifeState
-begun state events = record { state = state; events = events; moment = 0; records = []; pairs = [] }
+abbrev pub initial : Knowledge (Segmented ℤ) (Segmented CategorySpeeds) → ℕ → LifeState
+initial state events = record { state = state; events = events; moment = 0; records = []; pairs = [] }
 
 -- what a unit has along with its disk
 pub record PartsState : Type 0 where

@@ -8,5 +8,5 @@ mod starting;
 
 pub use apart::UnitParts;
 pub use errors::OpenError;
-pub use records::{kept_behind, no_moment, place_after, power_up_record, recorded};
+pub use records::{kept_after, no_moment, place_after, power_up_record, recorded};
 pub use starting::{Started, refused, start};

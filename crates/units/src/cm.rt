@@ -85,7 +85,7 @@ impl Cm {
     }
 
     /// The place so far after. The caller owes a place so far within the limits that any `Reach` from it is a `Cm`.
-    pub fn behind(self, by: Reach) -> Cm
+    pub fn back(self, by: Reach) -> Cm
         requires { HasReach self }
         ensures { result ≡ self -ℤ pos by }
     {

@@ -20,8 +20,8 @@ use Rattle.unit_start.proofs.Opening.{ready_after}
 in_front : (pair : Released) (xs ys : List Released) → StandsIn pair xs → StandsIn pair (xs ++ ys)
 in_front pair xs ys (before, after, is) = (before, after ++ ys, ap (λ (l : List Released). l ++ ys) is ∙ append_assoc before (pair ∷ after) ys)
 
-behind : (pair : Released) (xs ys : List Released) → StandsIn pair ys → StandsIn pair (xs ++ ys)
-behind pair xs ys (before, after, is) = (xs ++ before, after, ap (λ (l : List Released). xs ++ l) is ∙ sym (append_assoc xs before (pair ∷ after)))
+following : (pair : Released) (xs ys : List Released) → StandsIn pair ys → StandsIn pair (xs ++ ys)
+following pair xs ys (before, after, is) = (xs ++ before, after, ap (λ (l : List Released). xs ++ l) is ∙ sym (append_assoc xs before (pair ∷ after)))
 
 in_none : (pair : Released) (before after : List Released) → [] ≡ before ++ pair ∷ after → ⊥
 in_none pair [] after is = absurd cc
@@ -115,7 +115,7 @@ module _ (whole_from : ℕ) (d a p : List Event) (cold word : Cold) (steps : Lis
         goes_on = on.1;
         held = λ pair stands.
             let S : List Released → Type 0 = λ l. StandsIn pair l in
-            let there : StandsIn pair (pairs_of (durable_by power_up first)) = subst S (sym reached.released_is) (behind pair (pairs_of power_up) reached.released_by_then (subst S its_are stands)) in
+            let there : StandsIn pair (pairs_of (durable_by power_up first)) = subst S (sym reached.released_is) (following pair (pairs_of power_up) reached.released_by_then (subst S its_are stands)) in
             still_in pair (durable_by power_up first) held.0 held.3 held.4 there;
       }
 
@@ -124,7 +124,7 @@ module _ (whole_from : ℕ) (d a p : List Event) (cold word : Cold) (steps : Lis
   all_held pair stands = ⊎_elim
       (λ (left : LeftUnopened d a p word it.durable_at_end it.accepted_at_end it.released). absurd (in_none pair stands.0 stands.1 (sym left.0 ∙ stands.2)))
       (λ (ran : WasOpened whole_from d a p word steps it.steps_taken old new it.durable_at_end it.accepted_at_end it.released).
-      let S : List Released → Type 0 = λ l. StandsIn pair l in subst S (sym ran.released_is) (behind pair (pairs_of power_up) it.released stands))
+      let S : List Released → Type 0 = λ l. StandsIn pair l in subst S (sym ran.released_is) (following pair (pairs_of power_up) it.released stands))
       it.unopened_or_opened
 
   -- the disk was handed back

@@ -98,16 +98,16 @@ module _ (whole_from : ℕ) (s : List Event) (steps : List Step) (i : ℕ) (belo
   held : (j : ℕ) → j ≤ i → (c : ℕ → List ℕ) → IsOfStep whole_from mid.sectors x going.durable here c → IsHeld whole_from old.sectors s steps (durable_by s (take j steps)) c
   held j most c (inl is) =
       let T : ℕ → Type 0 = λ n. Describes whole_from n going.durable c in
-      let begun = going.begun j most in
-      (going.durable, all_durable s steps i going.durable going.one_of, subst T sectors is, begun.0, begun.1)
+      let extends = going.extends j most in
+      (going.durable, all_durable s steps i going.durable going.one_of, subst T sectors is, extends.0, extends.1)
   held j most c (inr (flush, is)) =
       let T : ℕ → Type 0 = λ n. Describes whole_from n here c in
-      let begun = going.begun j most in (
+      let extends = going.extends j most in (
         here,
         all_durable s steps (i + 1) here (at_flush flush),
         subst T sectors is,
-        going.ahead.more ++ begun.0,
-        going.ahead.accepted_is ∙ ap (λ (l : List Event). going.ahead.more ++ l) begun.1 ∙ sym (append_assoc going.ahead.more begun.0 (durable_by s (take j steps))),
+        going.ahead.more ++ extends.0,
+        going.ahead.accepted_is ∙ ap (λ (l : List Event). going.ahead.more ++ l) extends.1 ∙ sym (append_assoc going.ahead.more extends.0 (durable_by s (take j steps))),
       )
 
   still : (new : State) → IsStepped whole_from x going.durable here mid new → (given' its : List Released) → given' ≡ given ++ its → (j : ℕ) → j ≤ i
@@ -177,11 +177,11 @@ module _ (whole_from : ℕ) (s : List Event) (steps : List Step) (i : ℕ) (belo
             (durable_by s next, all_durable s steps (i + 1) (durable_by s next) one, subst T same (rest_describes whole_from journal' (durable_by s next) new opened c end), [], refl);
       }
 
-  begun_now : (y : Step) (j : ℕ) → j ≤ i → (more : List Event) × (flush_one going.durable here y ≡ more ++ durable_by s (take j steps))
-  begun_now (Accept input) j most = going.begun j most
-  begun_now Flush j most =
-      let begun = going.begun j most in
-      (going.ahead.more ++ begun.0, going.ahead.accepted_is ∙ ap (λ (l : List Event). going.ahead.more ++ l) begun.1 ∙ sym (append_assoc going.ahead.more begun.0 (durable_by s (take j steps))))
+  extends_now : (y : Step) (j : ℕ) → j ≤ i → (more : List Event) × (flush_one going.durable here y ≡ more ++ durable_by s (take j steps))
+  extends_now (Accept input) j most = going.extends j most
+  extends_now Flush j most =
+      let extends = going.extends j most in
+      (going.ahead.more ++ extends.0, going.ahead.accepted_is ∙ ap (λ (l : List Event). going.ahead.more ++ l) extends.1 ∙ sym (append_assoc going.ahead.more extends.0 (durable_by s (take j steps))))
 
   -- a step was taken
   pub stepped : (new : State) (journal' : Journal) (life' : LifeState) (its : List Released) → new.sectors ≡ mid.sectors
@@ -201,8 +201,8 @@ module _ (whole_from : ℕ) (s : List Event) (steps : List Step) (i : ℕ) (belo
         opened = took.opened;
         ahead = subst A now_accepted took.ahead;
         released_is = released;
-        begun = λ j most. ⊎_elim
-            (λ (lt : j < i + 1). begun_now x j (omega (arith, lt)))
+        extends = λ j most. ⊎_elim
+            (λ (lt : j < i + 1). extends_now x j (omega (arith, lt)))
             (λ (ge : i + 1 ≤ j). let last : j ≡ i + 1 = omega (arith, most, ge) in ([], now_durable ∙ ap (λ (n : ℕ). durable_by s (take n steps)) (sym last)))
             (cases_lt j (i + 1));
         reached = λ j most. ⊎_elim

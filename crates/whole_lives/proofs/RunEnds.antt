@@ -69,7 +69,7 @@ going_first whole_from s steps disk journal life opened ahead =
       opened = opened;
       ahead = ahead;
       released_is = none;
-      begun = λ j most. (let zero_is : j ≡ 0 = omega (arith, most) in ([], ap (λ (n : ℕ). durable_by s (take n steps)) (sym zero_is)));
+      extends = λ j most. (let zero_is : j ≡ 0 = omega (arith, most) in ([], ap (λ (n : ℕ). durable_by s (take n steps)) (sym zero_is)));
       reached = λ j most. (let zero_is : j ≡ 0 = omega (arith, most) in subst R (sym zero_is) first);
     }
 

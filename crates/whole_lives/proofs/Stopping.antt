@@ -25,7 +25,7 @@ use Rattle.journal.specs.JournalState.{JournalState}
 use Rattle.onboard.specs.Answers.{refusal_of, may_add, HasRoom, RoomForOthers, flush_refusal, flush_failed}
 use Rattle.onboard.specs.declared.released.Released.{Released}
 use Rattle.whole_lives.specs.Runs.{NothingReleased}
-use Rattle.onboard.specs.Progress.{Progress, progress_of, begun_with, go_on}
+use Rattle.onboard.specs.Progress.{Progress, progress_of, starting_with, go_on}
 use Rattle.whole_lives.specs.Stops.{Stands, AllStand, StopsAt, Stopped, step_of, AreAfter, IsDone}
 
 -- ---- room in memory
@@ -136,9 +136,9 @@ module _ (from so : Progress) (steps : List Step) (k : ℕ) (below : k < length 
 
 pub done_before : (s : List Event) (steps : List Step) (k : ℕ) (e : LiveError) (taken : ℕ) (before after : List Event) (given : List Released) → step_of e ≡ Some k → taken ≡ k → AreAfter s (take k steps) before after given
     → MatchOption (step_of e) (NothingReleased given × ⊥) (λ n. (taken ≡ n) × AreAfter s (take n steps) before after given)
-done_before s steps k e taken before after given named all behind =
+done_before s steps k e taken before after given named all following =
     let M : Option ℕ → Type 0 = λ o. MatchOption o (NothingReleased given × ⊥) (λ n. (taken ≡ n) × AreAfter s (take n steps) before after given) in
-    subst M (sym named) (all, behind)
+    subst M (sym named) (all, following)
 
 opened_by : (o : Option ℕ) (U : Type 0) (P : ℕ → Type 0) (given : List Released) → MatchOption o (NothingReleased given × ⊥) P → MatchOption o (NothingReleased given × U) P
 opened_by None U P given is = (is.0, absurd is.1)
@@ -165,5 +165,5 @@ not_opening r e named is = (let R : Result (Unit {0}) LiveError → Type 0 = λ 
 
 -- ---- how far other calls go on
 
-pub begins : (journal : JournalState) (life : LifeState) → life.records ≡ [] → life.moment ≡ 0 → journal.failed ≡ false → progress_of journal life ≡ begun_with journal.newest
+pub begins : (journal : JournalState) (life : LifeState) → life.records ≡ [] → life.moment ≡ 0 → journal.failed ≡ false → progress_of journal life ≡ starting_with journal.newest
 begins journal life records moment failed = λ i. record { failed = failed i; pending = length (records i); moment = moment i; newest = journal.newest }

@@ -109,9 +109,9 @@ module _ (whole_from : ℕ) (d a p : List Event) (cold word : Cold) (steps : Lis
       let first = take k steps in
       let R : ℕ → Type 0 = λ n. AtEachMoment mid new (IsOfRun whole_from n (PowerUp word ∷ p) first) × EachImage new (Describes whole_from n durable) in
       let both = subst R sectors (so full k named) in
-      let begun = weaken old mid (IsOfOpening whole_from old.sectors d a p word) (IsOfLife whole_from old.sectors d a p word first) (of_opening_first first) opens.at_each_moment in
+      let extends = weaken old mid (IsOfOpening whole_from old.sectors d a p word) (IsOfLife whole_from old.sectors d a p word first) (of_opening_first first) opens.at_each_moment in
       let more = weaken mid new (IsOfRun whole_from old.sectors (PowerUp word ∷ p) first) (IsOfLife whole_from old.sectors d a p word first) (λ c is. inr is) both.0 in
-      (run_on old mid new (IsOfLife whole_from old.sectors d a p word first) begun more, both.1)
+      (run_on old mid new (IsOfLife whole_from old.sectors d a p word first) extends more, both.1)
 
 pub on_ok : {X E : Type 0} (r : Result X E) (P Q : Type 0) → (P → Q) → OnOk r P → OnOk r Q
 on_ok (Ok x) P Q so is = so is

@@ -184,7 +184,7 @@ pub record Going (whole_from : ℕ) (initial : List Event) (steps : List Step) (
   -- what was released is, in order, each output of what is durable after `initial`
   pub released_is : pairs_of durable ≡ pairs_of initial ++ released
   -- what fewer steps made durable is a beginning of it
-  pub begun : (count : ℕ) → count ≤ taken → (more : List Event) × (durable ≡ more ++ durable_by initial (take count steps))
+  pub extends : (count : ℕ) → count ≤ taken → (more : List Event) × (durable ≡ more ++ durable_by initial (take count steps))
   -- for each number of steps: when they were done, what was released by then, and that it stays
   pub reached : (count : ℕ) → count ≤ taken → Reached whole_from (IsOfRun whole_from old.sectors initial (take count steps)) initial steps (take count steps) old new released
 

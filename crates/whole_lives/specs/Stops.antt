@@ -19,7 +19,7 @@ use Rattle.whole_lives.specs.Answers.{is_full}
 use Rattle.onboard.specs.declared.released.Released.{Released}
 use Rattle.unit_start.specs.Events.{pairs_of}
 use Rattle.mode_table.specs.declared.statuses.Cold.{Cold}
-use Rattle.onboard.specs.Progress.{Progress, begun_with, go_on}
+use Rattle.onboard.specs.Progress.{Progress, starting_with, go_on}
 use Rattle.unit_start.specs.Lives.{Describes, IsOpenRefusal, IsOfOpening, IsNextNumber}
 use Rattle.whole_lives.specs.Runs.{accepted_by, durable_by, NothingReleased}
 
@@ -73,7 +73,7 @@ IsUnopened old ended = (error : OpenError) × (ended ≡ Err (a_live.Open error)
 -- It wasn't opened; or the power-up came into the next block, and the steps ended so.
 abbrev pub LifeEnds : {T : Type 0} → State → List Step → Result T LiveError → Type 0
 LifeEnds old steps ended = IsUnopened old ended
-    ⊎ ((newest : ℕ) × (IsTrue old.honest → IsNextNumber old.sectors (contents_of old) newest) × StepsEnd (begun_with newest) steps ended)
+    ⊎ ((newest : ℕ) × (IsTrue old.honest → IsNextNumber old.sectors (contents_of old) newest) × StepsEnd (starting_with newest) steps ended)
 
 -- ---- what was carried out
 

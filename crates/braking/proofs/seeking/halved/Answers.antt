@@ -9,8 +9,8 @@ next_fails P least end high close next below holds =
     let is : least + 1 ≡ end = omega (arith, there.0) in
     there.1 (subst P is holds)
 
-pub returns-in-Some-begun_at-clause-next : goal.returns-in-Some-begun_at-clause-next
-returns-in-Some-begun_at-clause-next c =
+pub returns-in-Some-starting_at-clause-next : goal.returns-in-Some-starting_at-clause-next
+returns-in-Some-starting_at-clause-next c =
     let none : c.loop-middle.end ≤ c.loop-middle.least + 1 = rw c.in_default.is at c.halfway.ensures in
     next_fails (λ v. IsEnough c.args.front c.args.brakes.now c.args.target.now c.args.stretch.now v)
     c.loop-middle.least c.loop-middle.end c.args.high none c.loop-middle.invariant.next

@@ -5,7 +5,7 @@ use Rattle.track_store.proofs.Jumps.{natural_is}
 use Rattle.brakes.specs.Brakes.{reaction_way}
 use Rattle.braking.specs.declared.summed.Summed.{Summed}
 use Rattle.braking.proofs.Naturals.{parts}
-use Rattle.braking.proofs.Braked.{begun_summed}
+use Rattle.braking.proofs.Braked.{initial_summed}
 use Rattle.braking.proofs.Slower.{way_less}
 use Rattle.braking.proofs.Bounding.{order, root_most, IsKnownBefore, acts_first, known_greatest, found_greatest}
 use Rattle.braking.proofs.seeking.sought.Goals as goal
@@ -28,12 +28,12 @@ returns-in_default-clause-speed g c =
 
 pub loop-start-init : goal.loop-start-init
 loop-start-init g c =
-    let behind = c.before-last.ensures.behind in
-    let off : c.before-last.result.sum.taken_off ≡ c.args.sum.now.taken_off = ap (λ (s : Summed). s.taken_off) behind in
-    let from : c.before-last.result.sum.from ≡ c.args.sum.now.from = ap (λ (s : Summed). s.from) behind in
+    let earlier = c.before-last.ensures.earlier in
+    let off : c.before-last.result.sum.taken_off ≡ c.args.sum.now.taken_off = ap (λ (s : Summed). s.taken_off) earlier in
+    let from : c.before-last.result.sum.from ≡ c.args.sum.now.from = ap (λ (s : Summed). s.from) earlier in
     let early = c.in-Some.ensures.found.0 refl in
     record {
-      to = ap (λ (s : Summed). s.to) behind ∙ c.requires.whole.to;
+      to = ap (λ (s : Summed). s.to) earlier ∙ c.requires.whole.to;
       stretch = c.before-last.ensures.stretch;
       within = c.before-last.ensures.within;
       more = omega (arith, off);
@@ -47,23 +47,23 @@ pub before-last-requires-in-loop-start-clause-near : goal.before-last-requires-i
 before-last-requires-in-loop-start-clause-near g c =
     let last = c.loop-start.last in
     let kept = c.loop-start.invariant in
-    let to : last.begun.to ≡ c.args.target.now.place = kept.stretch.begun.to ∙ kept.to in
+    let to : last.initial.to ≡ c.args.target.now.place = kept.stretch.initial.to ∙ kept.to in
     let ahead : c.args.front ≤ℤ c.in-Some.start = omega (arith, ints, c.in-Some.ensures.value) in
-    let before : c.in-Some.start ≤ℤ last.begun.to = omega (arith, ints, kept.within, kept.stretch.summed.0) in
-    let near : natural (last.begun.to -ℤ c.args.front) ≤ 2 ^ 43 = rw to c.requires.near in
-    omega (arith, parts c.args.front c.in-Some.start last.begun.to ahead before, near)
+    let before : c.in-Some.start ≤ℤ last.initial.to = omega (arith, ints, kept.within, kept.stretch.summed.0) in
+    let near : natural (last.initial.to -ℤ c.args.front) ≤ 2 ^ 43 = rw to c.requires.near in
+    omega (arith, parts c.args.front c.in-Some.start last.initial.to ahead before, near)
 
 pub loop-start-smaller : goal.loop-start-smaller
 loop-start-smaller g c =
     let later = c.before-last-in-loop-start in
-    let from : ℤ = later.result.begun.from in
+    let from : ℤ = later.result.initial.from in
     let ahead : c.args.front ≤ℤ from = omega (arith, ints, c.in-Some.ensures.value, later.ensures.within) in
-    let less : from <ℤ c.loop-start.last.begun.from = omega (arith, ints, later.ensures.stretch.before, ap (λ (s : Summed). s.from) later.ensures.behind) in
+    let less : from <ℤ c.loop-start.last.initial.from = omega (arith, ints, later.ensures.stretch.before, ap (λ (s : Summed). s.from) later.ensures.earlier) in
     omega (
       arith,
       ints,
       natural_is (from -ℤ c.args.front) (omega (arith, ints, ahead)),
-      natural_is (c.loop-start.last.begun.from -ℤ c.args.front) (omega (arith, ints, ahead, less)),
+      natural_is (c.loop-start.last.initial.from -ℤ c.args.front) (omega (arith, ints, ahead, less)),
       less,
     )
 
@@ -71,14 +71,14 @@ pub loop-start-preserved : goal.loop-start-preserved
 loop-start-preserved g c =
     let later = c.before-last-in-loop-start in
     let kept = c.loop-start.invariant in
-    let behind = later.ensures.behind in
-    let off : later.result.sum.taken_off ≡ c.loop-start.last.begun.taken_off = ap (λ (s : Summed). s.taken_off) behind in
-    let from : later.result.sum.from ≡ c.loop-start.last.begun.from = ap (λ (s : Summed). s.from) behind in
+    let earlier = later.ensures.earlier in
+    let off : later.result.sum.taken_off ≡ c.loop-start.last.initial.taken_off = ap (λ (s : Summed). s.taken_off) earlier in
+    let from : later.result.sum.from ≡ c.loop-start.last.initial.from = ap (λ (s : Summed). s.from) earlier in
     record {
-      to = ap (λ (s : Summed). s.to) behind ∙ kept.stretch.begun.to ∙ kept.to;
+      to = ap (λ (s : Summed). s.to) earlier ∙ kept.stretch.initial.to ∙ kept.to;
       stretch = later.ensures.stretch;
       within = later.ensures.within;
-      more = omega (arith, off, kept.stretch.begun.taken_off, kept.more);
+      more = omega (arith, off, kept.stretch.initial.taken_off, kept.more);
       acts = λ v within enough. inr (omega (arith, ints, from, c.is_too_fast.ensures.sooner c.loop-start-test.true v within (omega (arith, enough, off))));
     }
 
@@ -91,8 +91,8 @@ pub halved-requires-clause-ordered : goal.halved-requires-clause-ordered
 halved-requires-clause-ordered g c =
     let low = c.root-low.ensures in
     let more : c.root-low.result ≤ c.root-high.result =
-    root_most c.args.target.now.speed c.loop-start.last.begun.taken_off c.args.limit c.root-high.result c.root-low.result c.root-high.ensures
-    low.within (omega (arith, low.below, c.loop-start.invariant.stretch.begun.taken_off)) in
+    root_most c.args.target.now.speed c.loop-start.last.initial.taken_off c.args.limit c.root-high.result c.root-low.result c.root-high.ensures
+    low.within (omega (arith, low.below, c.loop-start.invariant.stretch.initial.taken_off)) in
     elim (order c.args.limit c.root-high.result) [
       | inl most ↦ omega (arith, c.above.ensures.last most, low.within)
       | inr less ↦ omega (arith, c.above.ensures.next less, more)
@@ -104,9 +104,9 @@ returns-clause-speed g c =
     let kept = c.loop-start.invariant in
     let last = c.loop-start.last in
     let known : IsKnownBefore gradient c.args.brakes.now.deceleration c.args.target.now c.args.limit last.sum c.root-low.result =
-    record { summed = kept.stretch.behind; to = kept.to; root = c.root-low.ensures } in
-    let more : IsKnownBefore gradient c.args.brakes.now.deceleration c.args.target.now c.args.limit last.begun c.root-high.result =
-    record { summed = kept.stretch.summed; to = kept.stretch.begun.to ∙ kept.to; root = c.root-high.ensures } in
+    record { summed = kept.stretch.earlier; to = kept.to; root = c.root-low.ensures } in
+    let more : IsKnownBefore gradient c.args.brakes.now.deceleration c.args.target.now c.args.limit last.initial c.root-high.result =
+    record { summed = kept.stretch.summed; to = kept.stretch.initial.to ∙ kept.to; root = c.root-high.ensures } in
     found_greatest c.args.front gradient c.args.brakes.now c.args.target.now c.args.limit last c.root-low.result c.root-high.result
     kept.stretch known more (c.is_too_fast.ensures.enough c.loop-start-test.false)
     c.above.result c.above.ensures.next c.above.ensures.last c.requires.fails
@@ -117,5 +117,5 @@ pub returns-clause-summed : goal.returns-clause-summed
 returns-clause-summed g c =
     let stretch = c.loop-start.invariant.stretch in
     let last = c.loop-start.last in
-    begun_summed (g.P.Profile.value c.args.gradient.now) c.args.brakes.now.deceleration last.begun.from last.slowing last.sum c.halved.result.1
-    stretch.behind stretch.even stretch.may_begin.small c.halved.ensures.from c.halved.ensures.begun
+    initial_summed (g.P.Profile.value c.args.gradient.now) c.args.brakes.now.deceleration last.initial.from last.slowing last.sum c.halved.result.1
+    stretch.earlier stretch.even stretch.may_begin.small c.halved.ensures.from c.halved.ensures.initial

@@ -9,7 +9,7 @@ abbrev pub invariant-loop-start : goal.invariant-loop-start
 invariant-loop-start g l = record {
   to : l.last.sum.to ≡ l.target.place;
   stretch : IsStretch (g.P.Profile.value l.gradient) l.brakes.deceleration l.last;
-  within : l.start ≤ℤ l.last.begun.from;
+  within : l.start ≤ℤ l.last.initial.from;
   more : l.sum.taken_off ≤ l.last.sum.taken_off;
   acts : (v : ℕ) → v ≤ l.limit → v * v ≤ l.target.speed * l.target.speed + l.last.sum.taken_off
       → (v ≤ l.target.speed) ⊎ ((l.front +ℤ pos (reaction_way l.brakes.reaction v)) ≤ℤ l.last.sum.from);
@@ -17,4 +17,4 @@ invariant-loop-start g l = record {
 
 -- how far from the front on it isn't gone back yet
 abbrev pub decreases-loop-start : goal.decreases-loop-start
-decreases-loop-start g l = natural (l.last.begun.from -ℤ l.front)
+decreases-loop-start g l = natural (l.last.initial.from -ℤ l.front)

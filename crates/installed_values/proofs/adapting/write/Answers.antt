@@ -10,14 +10,14 @@ returns-clause-written c =
     let place = c.args.place in
     let n = c.args.countries in
     let bits = c.fork-reader.result in
-    let behind = c.write_front.new.reader in
+    let following = c.write_front.new.reader in
     let whole : 23 + (153 + 10 * n) ≡ place.length = omega (arith, c.requires.length) in
     let same : c.write_rest.new.writer ≡ adapted_bits n place c.args.bits.now =
     c.write_rest.ensures
     ∙ ap (λ w. w ++ c.keep_all.new.reader) c.keep_all.ensures.written
-    ∙ ap (λ w. (w ++ kept n (rows_of 3) behind) ++ c.keep_all.new.reader) (c.write_front.ensures.written ∙ ap (λ w. w ++ front place bits) c.new-writer.ensures)
-    ∙ append_assoc (front place bits) (kept n (rows_of 3) behind) c.keep_all.new.reader
-    ∙ ap (λ r. front place bits ++ (kept n (rows_of 3) behind ++ r)) c.keep_all.ensures.rest
+    ∙ ap (λ w. (w ++ kept n (rows_of 3) following) ++ c.keep_all.new.reader) (c.write_front.ensures.written ∙ ap (λ w. w ++ front place bits) c.new-writer.ensures)
+    ∙ append_assoc (front place bits) (kept n (rows_of 3) following) c.keep_all.new.reader
+    ∙ ap (λ r. front place bits ++ (kept n (rows_of 3) following ++ r)) c.keep_all.ensures.rest
     ∙ ap (λ r. front place bits ++ (kept n (rows_of 3) r ++ drop (153 + 10 * n) r)) c.write_front.ensures.rest
     ∙ ap (λ r. front place bits ++ (kept n (rows_of 3) (drop 23 (drop place.start bits)) ++ r)) (drop-drop (153 + 10 * n) 23 (drop place.start bits) ∙ ap (λ k. drop k (drop place.start bits)) whole)
     ∙ ap (λ all. adapted_bits n place all) c.fork-reader.ensures in

@@ -8,7 +8,7 @@ use Rattle.mode_control.specs.Life.{Life, grown}
 use Rattle.mode_control.specs.Sentences.{entry_of}
 use Rattle.kernel.proofs.receiving.sight_of.Goals as goal
 
-reading_is : (life : Life) (input : Input) → (entry_of life input).track.begun.reading ≡ reading_of input
+reading_is : (life : Life) (input : Input) → (entry_of life input).track.initial.reading ≡ reading_of input
 reading_is life (Telegram bytes) = refl
 reading_is life other = refl
 

@@ -7,4 +7,4 @@ pub returns : goal.returns
 returns c = λ form.
     let it = c.args.survey in
     ap (λ slots. sizes_text form c.args.bytes it.sectors slots it.whole c.after_of.result) (c.known.ensures form)
-    ∙ ap (λ behind. sizes_text form c.args.bytes it.sectors (known_text form it.slots) it.whole behind) c.after_of.ensures
+    ∙ ap (λ following. sizes_text form c.args.bytes it.sectors (known_text form it.slots) it.whole following) c.after_of.ensures

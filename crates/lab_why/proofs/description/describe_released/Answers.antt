@@ -13,7 +13,7 @@ use Rattle.lab_why.specs.Ends.{step_at}
 use Rattle.lab_why.specs.Playing.{input_steps, AreLines}
 use Rattle.lab_why.proofs.Counting.{after_ended, step_later}
 use Rattle.lab_why.proofs.OneMore.{up_to_here, all_after, one_on, input_step, all_reported, none_left, one_line}
-use Rattle.lab_why.proofs.Releasing.{begun, its_release}
+use Rattle.lab_why.proofs.Releasing.{initial, its_release}
 use Rattle.lab_why.proofs.description.describe_released.Goals as goal
 
 pub loop-place-init : goal.loop-place-init
@@ -35,7 +35,7 @@ loop-place-preserved-in_default g c =
     let same : c.as_slice-steps.result.now ≡ steps = c.as_slice-steps.ensures.value in
     let at : x ≡ get_or steps place x = c.index-steps-place.is ∙ ap (λ (l : List Step). get_or l place x) same in
     let below : place < length steps = omega (arith, ap length same, c.loop-place-test.true) in
-    let on : accepted_by (begun life.cold) (take (place + 1) steps) ≡ up_to_here life.cold steps place =
+    let on : accepted_by (initial life.cold) (take (place + 1) steps) ≡ up_to_here life.cold steps place =
     one_on life.cold steps place x x below at ∙ ap (accept_one (up_to_here life.cold steps place)) c.in_default.is in
     record {
       reasons = subst (λ (l : List Event). Reasons (story_of l) c.loop-place.reasoning) (sym on) before.reasons;
@@ -70,7 +70,7 @@ loop-place-preserved g c =
     let at : x ≡ get_or steps place x = c.index-steps-place.is ∙ ap (λ (l : List Step). get_or l place x) same in
     let at_input : Accept input ≡ get_or steps place x = sym c.in-Accept.is ∙ at in
     let up : List Event = up_to_here life.cold steps place in
-    let on : accepted_by (begun life.cold) (take (place + 1) steps) ≡ an_event.Input input ∷ up =
+    let on : accepted_by (initial life.cold) (take (place + 1) steps) ≡ an_event.Input input ∷ up =
     one_on life.cold steps place x x below at ∙ ap (accept_one up) c.in-Accept.is in
     let long = ap length on in
     let some : c.loop-place.reported < length c.args.released.now = omega (arith, before.within, c.if-reported-released.false) in

@@ -7,17 +7,17 @@ use Rattle.whole_lives.specs.Runs.{accepted_by}
 use Rattle.reasons.specs.Reported.{Reasons}
 use Rattle.lab_why.specs.Ends.{step_at}
 use Rattle.lab_why.specs.Playing.{input_steps, AreLines}
-use Rattle.lab_why.proofs.Releasing.{begun}
+use Rattle.lab_why.proofs.Releasing.{initial}
 use Rattle.lab_why.proofs.description.describe_released.Given as goal
 
 abbrev pub invariant-loop-place : goal.invariant-loop-place
 invariant-loop-place g l = record {
-  reasons : Reasons (story_of (accepted_by (begun l.fn.life.cold) (take l.place l.fn.life.steps.items))) l.reasoning;
-  count : length (accepted_by (begun l.fn.life.cold) (take l.place l.fn.life.steps.items)) ≡ suc l.reported;
+  reasons : Reasons (story_of (accepted_by (initial l.fn.life.cold) (take l.place l.fn.life.steps.items))) l.reasoning;
+  count : length (accepted_by (initial l.fn.life.cold) (take l.place l.fn.life.steps.items)) ≡ suc l.reported;
   within : l.reported ≤ length l.released;
   stepped : l.step ≤ step_at l.fn.life.ends.items l.place;
-  lines : (durable more : List Event) → accepted_by (begun l.fn.life.cold) l.fn.life.steps.items ≡ more ++ durable
-      → pairs_of durable ≡ pairs_of (begun l.fn.life.cold) ++ l.released
-      → (lines : List ℕ) × AreLines (input_steps l.fn.life) (accepted_by (begun l.fn.life.cold) (take l.place l.fn.life.steps.items)) lines
+  lines : (durable more : List Event) → accepted_by (initial l.fn.life.cold) l.fn.life.steps.items ≡ more ++ durable
+      → pairs_of durable ≡ pairs_of (initial l.fn.life.cold) ++ l.released
+      → (lines : List ℕ) × AreLines (input_steps l.fn.life) (accepted_by (initial l.fn.life.cold) (take l.place l.fn.life.steps.items)) lines
       × Appends (g.W.Write.contents l.fn.out) (g.W.Write.contents l.out) lines;
 }

@@ -9,7 +9,7 @@ use Rattle.whole_lives.specs.Stops.{OnlyOpens}
 use Rattle.whole_lives.specs.declared.errors.LiveError.{LiveError}
 use Rattle.lab_why.specs.Playing.{carried_out, PlayEnds}
 use Rattle.lab_why.proofs.Living.{ready, ends, word_or_nothing, releases}
-use Rattle.lab_why.proofs.Releasing.{begun}
+use Rattle.lab_why.proofs.Releasing.{initial}
 use Rattle.lab_why.proofs.playing.run_life.Goals as goal
 
 pub returns-clause-released : goal.returns-clause-released
@@ -24,9 +24,9 @@ returns-clause-released c =
     let all = releases life.cold it.1 it.0 c.as_slice-steps.result.now c.live-disk.result.1
     (OnlyOpens 0 [] [] it.0 it.1 (memory_state disk) (memory_state c.live-disk.result.0))
     it.2.steps_taken it.2.durable_at_end it.2.accepted_at_end it.2.released c.live-disk.new.out.items none out word it.3 in
-    subst (λ (s : Option LiveError). pairs_of (durable_by (begun life.cold) (carried_out life.steps.items s)) ≡ pairs_of (begun life.cold) ++ c.live-disk.new.out.items)
+    subst (λ (s : Option LiveError). pairs_of (durable_by (initial life.cold) (carried_out life.steps.items s)) ≡ pairs_of (initial life.cold) ++ c.live-disk.new.out.items)
     (sym c.err-stopped.ensures.value)
-    (subst (λ (l : List Step). pairs_of (durable_by (begun life.cold) (carried_out l (result_err c.live-disk.result.1))) ≡ pairs_of (begun life.cold) ++ c.live-disk.new.out.items)
+    (subst (λ (l : List Step). pairs_of (durable_by (initial life.cold) (carried_out l (result_err c.live-disk.result.1))) ≡ pairs_of (initial life.cold) ++ c.live-disk.new.out.items)
     c.as_slice-steps.ensures.value all)
 
 pub returns-clause-ends : goal.returns-clause-ends

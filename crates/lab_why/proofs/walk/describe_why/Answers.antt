@@ -13,7 +13,7 @@ returns-in-Ok-clause-lines g c = λ honest.
       last = c.walk.new.visitor;
       mid = c.walk.new.out;
       steps = subst (λ (x : Course). IsWalked (λ step old out next after. AddsStep step old next (contents out) (contents after)) (λ _. false) before.sectors (contents_of before) x c.args.out.now c.walk.new.visitor c.walk.new.out)
-          c.begun-course.ensures (c.in_ok-walk.ensures.reported honest);
+          c.initial-course.ensures (c.in_ok-walk.ensures.reported honest);
       left = c.in-Ok.ensures;
       lines_are = refl;
       whole_is = refl;

@@ -20,11 +20,11 @@ use Rattle.mode_control.specs.History.{tracks, deeds, on_sight_of, shunting_of, 
 use Rattle.mode_control.specs.Life.{Life, left_at_power_up}
 use Rattle.mode_control.specs.Sentences.{values_of}
 use Rattle.speed_supervision.specs.Limit.{limit}
-use Rattle.kernel.specs.Brake.{train_stood, was_within_limit, is_above_limit_by, service_brake_requested, rolled_backward, has_begun, is_in, is_not_revalidated, owes_trip, has_rolled_too_far, must_stand, owes_too_long}
+use Rattle.kernel.specs.Brake.{train_stood, was_within_limit, is_above_limit_by, service_brake_requested, rolled_backward, has_started, is_in, is_not_revalidated, owes_trip, has_rolled_too_far, must_stand, owes_too_long}
 use Rattle.kernel.specs.Lives.{life_of}
 use Rattle.kernel.proofs.Items.{trip_so}
 use Rattle.safety_laws.specs.Brakes.{since_standstill, speed_at}
-use Rattle.safety_laws.proofs.Commanding.{any_of, begun_now}
+use Rattle.safety_laws.proofs.Commanding.{any_of, starting_now}
 use Rattle.safety_laws.proofs.unbraked.no_brake_only_where.Goals as goal
 
 -- ---- no row holds
@@ -45,10 +45,10 @@ none_of test xs none x there = false_from_ne_true (test x) (λ is. both_ways (li
 still : (a b : Bool) (speed : ℕ) → ((a || b) && nat_lt 0 speed) ≡ false → (a ≡ true) ⊎ (b ≡ true) → speed ≡ 0
 still a b speed none either = grind (arith, nat_tests)
 
-slow_now : (life : Life) → has_begun (is_above_limit_by 5_000) was_within_limit life ≡ false → speed_of (tracks life.entries) ≤ limit life + 5_000
+slow_now : (life : Life) → has_started (is_above_limit_by 5_000) was_within_limit life ≡ false → speed_of (tracks life.entries) ≤ limit life + 5_000
 slow_now life none =
     elim (cases_lt (limit life + 5_000) (speed_of (tracks life.entries))) [
-      | inl fast ↦ absurd (both_ways (has_begun (is_above_limit_by 5_000) was_within_limit life) none (begun_now 5_000 was_within_limit life life.entries fast))
+      | inl fast ↦ absurd (both_ways (has_started (is_above_limit_by 5_000) was_within_limit life) none (starting_now 5_000 was_within_limit life life.entries fast))
       | inr slow ↦ slow
     ]
 
@@ -62,10 +62,10 @@ returns c events none =
     let r2 = not_emergency (is_in Trip life) _ r1.1 in
     let r3 = not_emergency (is_in SystemFailure life) _ r2.1 in
     let r4 = not_emergency (owes_trip life) _ r3.1 in
-    let r5 = not_emergency (has_begun (is_above_limit_by 10_000) train_stood life) _ r4.1 in
+    let r5 = not_emergency (has_started (is_above_limit_by 10_000) train_stood life) _ r4.1 in
     let r6 = not_emergency (has_rolled_too_far life) _ r5.1 in
-    let r7 = not_service (has_begun service_brake_requested train_stood life) _ r6.1 in
-    let r8 = not_service (has_begun (is_above_limit_by 5_000) was_within_limit life) _ r7.1 in
+    let r7 = not_service (has_started service_brake_requested train_stood life) _ r6.1 in
+    let r8 = not_service (has_started (is_above_limit_by 5_000) was_within_limit life) _ r7.1 in
     let r9 = not_service (must_stand life) _ r8.1 in
     let r10 = not_service (owes_too_long life) _ r9.1 in
     let now = moment_of (tracks life.entries) in

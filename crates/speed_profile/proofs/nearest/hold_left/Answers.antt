@@ -1,6 +1,6 @@
 use Rattle.std.proofs.Common.{refl, ◌∙◌, arith}
 use Rattle.speed_profile.specs.Targets.{held}
-use Rattle.speed_profile.proofs.Held.{lowered_behind, lowered_at_end}
+use Rattle.speed_profile.proofs.Held.{lowered_among, lowered_at_end}
 use Rattle.speed_profile.proofs.nearest.hold_left.Goals as goal
 
 pub loop-target-init : goal.loop-target-init
@@ -14,7 +14,7 @@ loop-target-preserved g c =
     record {
       length = omega (arith, c.take.ensures.length, c.loop-target.invariant.length);
       asked = c.take.ensures.asked after
-          ∙ lowered_behind g.G.Profile.value (held c.loop-target.nearest) before after c.in-Some.target old c.in-Some.ensures.steps
+          ∙ lowered_among g.G.Profile.value (held c.loop-target.nearest) before after c.in-Some.target old c.in-Some.ensures.steps
           ∙ c.loop-target.invariant.asked;
     }
 

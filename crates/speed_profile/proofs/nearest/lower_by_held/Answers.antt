@@ -3,7 +3,7 @@ use Rattle.braking.specs.declared.target.Target.{Target}
 use Rattle.braking.specs.Approaches.{lowered_by}
 use Rattle.speed_profile.specs.Targets.{held}
 use Rattle.speed_profile.proofs.Asking.{same, through, joined, turned, lowered_same, lowered_before}
-use Rattle.speed_profile.proofs.Held.{lowered_behind}
+use Rattle.speed_profile.proofs.Held.{lowered_among}
 use Rattle.speed_profile.proofs.nearest.lower_by_held.Goals as goal
 
 pub returns : goal.returns
@@ -18,9 +18,9 @@ returns g c =
     let some = held c.hold_left.new.nearest in
     let deciding = held (drop c.gather_deciding-first.result c.gather_deciding-first.new.nearest) in
     let taken = c.take-3.ensures.asked left
-    ∙ lowered_behind value (held c.take-2.new.nearest) two left c.args.third.now c.take-2.new.approach (same two)
+    ∙ lowered_among value (held c.take-2.new.nearest) two left c.args.third.now c.take-2.new.approach (same two)
     ∙ c.take-2.ensures.asked two
-    ∙ lowered_behind value (held c.take.new.nearest) three two c.args.second.now c.take.new.approach (same three)
+    ∙ lowered_among value (held c.take.new.nearest) three two c.args.second.now c.take.new.approach (same three)
     ∙ c.take.ensures.asked three
     ∙ ap (λ (places : List Target). lowered_by (value old.gradient) (c.args.first.now ∷ (places ++ three)) old) c.requires.none in
     c.lower_each.ensures

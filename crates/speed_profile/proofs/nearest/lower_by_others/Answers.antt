@@ -32,9 +32,9 @@ returns-in-Some-next_to_brake_for g c =
     let now = c.args.approach.now in
     let first = c.in-Some.first in
     let all = c.args.others.now.targets in
-    let behind = c.next_to_brake_for.new.others.targets in
+    let beyond = c.next_to_brake_for.new.others.targets in
     let left = c.in-Some-next_to_brake_for.second ∷ c.next_to_brake_for-2.new.others.targets in
     c.lower_by_more.ensures
     ∙ lowered_ahead value c.args.speeds.now.targets all (first ∷ left) now
-    (of_through value all (first ∷ behind) (first ∷ left) now c.in-Some.ensures.asked
-    (of_more value first behind left now c.in-Some-next_to_brake_for.ensures.asked))
+    (of_through value all (first ∷ beyond) (first ∷ left) now c.in-Some.ensures.asked
+    (of_more value first beyond left now c.in-Some-next_to_brake_for.ensures.asked))

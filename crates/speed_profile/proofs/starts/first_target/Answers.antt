@@ -4,7 +4,7 @@ use Rattle.std.proofs.lemmas.Int.{ints, clamps}
 use Rattle.units.specs.Limits.{IsCm}
 use Rattle.restriction.specs.Covering.{end_of}
 use Rattle.speed_profile.specs.Ahead.{greatest_place}
-use Rattle.speed_profile.proofs.There.{at_place, target_there, no_target_behind, no_target_beyond}
+use Rattle.speed_profile.proofs.There.{at_place, target_there, no_target_passed, no_target_beyond}
 use Rattle.speed_profile.proofs.starts.first_target.Goals as goal
 use Rattle.speed_profile.proofs.starts.first_target.Goals.{in_default-via-in-Some+else-first-get, in_default-via-in_default}
 
@@ -29,7 +29,7 @@ returns-in_default c =
     let low : neg_ℤ (pos (2 ^ 42)) ≤ℤ first = omega (arith, ints, clamps, c.first_covered-first.ensures) in
     let none : None ≡ cond (int_lt first end && not (int_lt greatest_place first)) (Some (at_place first speed)) None =
     elim c.in_default.branch [
-      | in_default-via-in-Some+else-first-get w ↦ no_target_behind first end speed (omega (arith, ints))
+      | in_default-via-in-Some+else-first-get w ↦ no_target_passed first end speed (omega (arith, ints))
       | in_default-via-in_default w ↦ no_target_beyond first end speed c.new.result w.in_default.is found low
     ] in
     none ∙ ap (λ (x : ℤ). cond (int_lt x end && not (int_lt greatest_place x)) (Some (at_place x speed)) None) c.first_covered-first.ensures

@@ -12,11 +12,11 @@ use Rattle.telegram.proofs.laws.packets_stand_in_place.Goals as goal
 stand : (bytes : List ℕ) (w : Walk) → IsWalkOf bytes w → All StandsInPlace w.items
 stand bytes w h =
     let b = carried bytes h.0 h.1 in
-    let long = header_takes h.0.header (bits_of bytes) b.behind b.header_first in
-    let here : drop 50 (bits_of bytes) ≡ b.behind = after_front b.header_first.front b.behind (bits_of bytes) 50 b.header_first.parts long in
+    let long = header_takes h.0.header (bits_of bytes) b.following b.header_first in
+    let here : drop 50 (bits_of bytes) ≡ b.following = after_front b.header_first.front b.following (bits_of bytes) 50 b.header_first.parts long in
     let within : 50 ≤ 8 * length bytes = omega (arith, long, length-bits_of bytes) in
     All-same StandsInPlace w.items (located_from bytes 50 h.0.packets.items) (ap (λ (v : Walk). v.items) h.2)
-    (all_stand bytes 50 h.0.packets.items b.behind h.1.rest here within b.packets_then)
+    (all_stand bytes 50 h.0.packets.items b.following h.1.rest here within b.packets_then)
 
 pub returns : goal.returns
 returns c = stand

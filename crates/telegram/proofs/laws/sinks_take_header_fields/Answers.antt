@@ -1,4 +1,4 @@
-use Rattle.bits.proofs.Shown.{taken-shown}
+use Rattle.bits.proofs.ListedField.{taken-shown}
 use Rattle.telegram.specs.Telegrams.{header}
 use Rattle.telegram.proofs.laws.sinks_take_header_fields.Goals as goal
 

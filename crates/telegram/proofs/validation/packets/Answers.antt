@@ -15,8 +15,8 @@ use Rattle.telegram.proofs.Walking.{packets_in-all, walk_found, walk_refused}
 use Rattle.telegram.proofs.validation.packets.Goals as goal
 
 -- what is read of the header
-behind_header : (bytes : List ℕ) (h : Header) (rest : List Bool) → read header (bits_of bytes) ≡ Ok (h, rest) → 50 + length rest ≡ 8 * length bytes
-behind_header bytes h rest first = omega (arith, header_takes _ _ _ (found header _ _ _ first), length-bits_of bytes)
+bits_after_header : (bytes : List ℕ) (h : Header) (rest : List Bool) → read header (bits_of bytes) ≡ Ok (h, rest) → 50 + length rest ≡ 8 * length bytes
+bits_after_header bytes h rest first = omega (arith, header_takes _ _ _ (found header _ _ _ first), length-bits_of bytes)
 
 pub returns-in_err-header-clause-found : goal.returns-in_err-header-clause-found
 returns-in_err-header-clause-found c =
@@ -33,7 +33,7 @@ returns-in_err-header-clause-fault c =
 pub count_packets-requires : goal.count_packets-requires
 count_packets-requires c =
     let first : read header (bits_of c.args.bytes.now) ≡ Ok (c.in_ok-header.header, c.read_header.new.reader) = rw c.new-reader.ensures at c.in_ok-header.ensures in
-    record { small = omega (arith, behind_header _ _ _ first, c.if-bytes-gt-TELEGRAM_BYTES.false) }
+    record { small = omega (arith, bits_after_header _ _ _ first, c.if-bytes-gt-TELEGRAM_BYTES.false) }
 
 pub returns-in_err-left-clause-found : goal.returns-in_err-left-clause-found
 returns-in_err-left-clause-found c =
@@ -54,7 +54,7 @@ invariant_of-result c =
     let first : read header (bits_of c.args.bytes.now) ≡ Ok (c.in_ok-header.header, c.read_header.new.reader) = rw c.new-reader.ensures at c.in_ok-header.ensures in
     let ps = c.in_ok-left.ensures.ok in
     let all = packets_in-all ps.0 _ _ _ ps.1 ps.2 in
-    rw c.fork-first.ensures (c.if-bytes-gt-TELEGRAM_BYTES.false, behind_header _ _ _ first, ap length all ∙ ps.1)
+    rw c.fork-first.ensures (c.if-bytes-gt-TELEGRAM_BYTES.false, bits_after_header _ _ _ first, ap length all ∙ ps.1)
 
 abbrev telegram_of : Header → List Packet → Telegram
 telegram_of h ps = record { header = h; packets = record { items = ps } }

@@ -17,7 +17,7 @@ returns-then-is_empty c = λ bits lays others.
     let none = eqb-true _ 0 (sym c.is_empty.ensures ∙ c.if-is_empty.true) in
     let same = sym (length-map lays.others pair_of) ∙ ap length (sym others) ∙ length-map c.args.others.now view in
     let unwrap : Option ℕ → ℕ = λ o. unwrap_or o 0 in
-    c.unwrap_or.ensures ∙ ap unwrap (c.number_at.ensures.each (length lays.body) (elim (lays.behind) [
+    c.unwrap_or.ensures ∙ ap unwrap (c.number_at.ensures.each (length lays.body) (elim (lays.following) [
       | inl h ↦ absurd (none_begin lays.others (same ∙ none) h.0)
       | inr h ↦ h.1.count
     ]))
@@ -26,7 +26,7 @@ pub returns-else-is_empty : goal.returns-else-is_empty
 returns-else-is_empty c = λ bits lays others.
     let some = eqb-false _ 0 (sym c.is_empty.ensures ∙ c.if-is_empty.false) in
     let same = sym (length-map c.args.others.now view) ∙ ap length others ∙ length-map lays.others pair_of in
-    elim (lays.behind) [
+    elim (lays.following) [
       | inl h ↦ sym (ap length h.1)
       | inr h ↦ absurd (some (same ∙ ap length h.0))
     ]

@@ -11,7 +11,7 @@ returns-then-put_pairs c = λ bits lays others count room.
     let long : length c.put_pairs.new.writer ≡ length c.args.writer.now + fields_size lays.others =
     omega (arith, ap length one.1, length-append c.args.writer.now (fields_bits lays.others), length-fields_bits lays.others) in
     let body_room : length c.put_pairs.new.writer + length lays.body ≤ 832 = omega arith in
-    let two = body_put (view c.args.value.now) lays.others lays.body c.put_pairs.new.writer c.put_body.new.writer c.put_body.result c.args.count lays.behind count body_room c.put_body.ensures.some c.put_body.ensures.none in
+    let two = body_put (view c.args.value.now) lays.others lays.body c.put_pairs.new.writer c.put_body.new.writer c.put_body.result c.args.count lays.following count body_room c.put_body.ensures.some c.put_body.ensures.none in
     (two.0, two.1 ∙ ap (λ (t : List Bool). t ++ lays.body) one.1)
 
 pub returns-else-put_pairs : goal.returns-else-put_pairs

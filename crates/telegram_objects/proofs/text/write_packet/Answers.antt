@@ -17,8 +17,8 @@ returns g c =
     let rest = items_text false (items_of (map pair_of fields)) ++ members_text true (members_after p) in
     let front = rw (c.from-number.ensures, c.get.ensures, c.number.ensures) at c.front_pieces.ensures rest in
     let pairs = rw (c.as_slice.ensures.value, c.fields_of_packet-list.ensures) at c.in_ok-write_pairs.ensures in
-    on_ok_weaker c.write_after.result (λ behind. (
-      appended _ _ _ _ rest _ c.in_ok-write_pieces.ensures (Appends-trans _ _ _ _ _ pairs.0 behind)
+    on_ok_weaker c.write_after.result (λ following. (
+      appended _ _ _ _ rest _ c.in_ok-write_pieces.ensures (Appends-trans _ _ _ _ _ pairs.0 following)
           (front ∙ ap (λ (t : List ℕ). comma_if c.args.later ++ t) (packet_text (number_of p) fields (members_after p))),
       pairs.1,
     )) c.write_after.ensures

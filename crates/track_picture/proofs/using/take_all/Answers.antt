@@ -40,8 +40,8 @@ packets-preserved g c =
                 ∙ sym (ap (λ (ps : List Packet). after_facts g.W.Walk.after (facts used ps) before.0) next)
                 ∙ before.2,
           )),
-      λ behind room. c.take_one.ensures.room (length c.next_into.new.self) behind
-          (subst (λ (n : ℕ). g.W.Walk.HasRoom n behind c.packets.state) one (c.packets.invariant.1 behind room)),
+      λ following room. c.take_one.ensures.room (length c.next_into.new.self) following
+          (subst (λ (n : ℕ). g.W.Walk.HasRoom n following c.packets.state) one (c.packets.invariant.1 following room)),
       (let rest = c.next_into.new.self in
           let packet = c.packet-in-packets.result.now in
           c.packets.invariant.2

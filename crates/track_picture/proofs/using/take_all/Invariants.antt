@@ -12,7 +12,7 @@ abbrev pub invariant-packets : goal.invariant-packets
 invariant-packets g l =
     ((reported : g.W.Walk.Reported) → g.W.Walk.IsReported l.fn.state reported → (now : g.W.Walk.Reported) × (g.W.Walk.IsReported l.state now)
     × (after_facts g.W.Walk.after (facts l.used l.walk) now ≡ after_facts g.W.Walk.after (facts l.used l.fn.packets) reported))
-    × ((behind : ℕ) → g.W.Walk.HasRoom (length l.fn.packets) behind l.fn.state → g.W.Walk.HasRoom (length l.walk) behind l.state)
+    × ((following : ℕ) → g.W.Walk.HasRoom (length l.fn.packets) following l.fn.state → g.W.Walk.HasRoom (length l.walk) following l.state)
     × (list_any comes_later l.fn.packets ≡ (l.later || list_any comes_later l.walk))
     × (length l.walk ≤ length l.fn.packets)
     × (length l.fn.packets ≡ 0 → l.state ≡ l.fn.state)

@@ -1,6 +1,6 @@
 use Rattle.std.proofs.Common.{ap, sym, subst, ◌∙◌}
 use Rattle.track_store.specs.Facts.{from_mark}
-use Rattle.track_store.specs.Segments.{value_of_segments, IsStarted, IsKeptBehind, is_first_passed}
+use Rattle.track_store.specs.Segments.{value_of_segments, IsStarted, IsKeptAfterFirst, is_first_passed}
 use Rattle.track_store.proofs.Passing.{value_of_left, kept_others, none_left}
 use Rattle.track_store.proofs.segments.drop_passed.Goals as goal
 
@@ -13,7 +13,7 @@ returns-then-is_first_passed-clause-value g c place =
 
 pub returns-then-is_first_passed-clause-kept : goal.returns-then-is_first_passed-clause-kept
 returns-then-is_first_passed-clause-kept g c =
-    subst IsKeptBehind (sym c.drop_front.ensures.items) (kept_others c.args.segments.now.items c.saturating_sub-passed.result c.requires)
+    subst IsKeptAfterFirst (sym c.drop_front.ensures.items) (kept_others c.args.segments.now.items c.saturating_sub-passed.result c.requires)
 
 pub returns-then-is_first_passed-clause-none : goal.returns-then-is_first_passed-clause-none
 returns-then-is_first_passed-clause-none g c =

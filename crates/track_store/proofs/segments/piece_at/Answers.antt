@@ -10,4 +10,4 @@ pub returns-clause-value : goal.returns-clause-value
 returns-clause-value g c = c.last_value.ensures c.args.place c.started-count.ensures
 
 pub returns-clause-next : goal.returns-clause-next
-returns-clause-next g c = c.start_behind.ensures c.args.place c.started-count.ensures
+returns-clause-next g c = c.start_beyond.ensures c.args.place c.started-count.ensures

@@ -73,7 +73,7 @@ returns-in-Err-clause-nothing_added g c = λ honest e is none.
     c.in-Err.ensures.nothing_added honest (subst N (sym same) none)
 
 pub returns-in-Ok-clause-no_cause : goal.returns-in-Ok-clause-no_cause
-returns-in-Ok-clause-no_cause g c = λ honest begun. c.in-Ok.ensures.no_cause honest
+returns-in-Ok-clause-no_cause g c = λ honest extends. c.in-Ok.ensures.no_cause honest
 
 pub returns-in-Err-clause-no_cause : goal.returns-in-Err-clause-no_cause
-returns-in-Err-clause-no_cause g c = λ honest begun. absurd (begun c.in-Err.error refl)
+returns-in-Err-clause-no_cause g c = λ honest extends. absurd (extends c.in-Err.error refl)

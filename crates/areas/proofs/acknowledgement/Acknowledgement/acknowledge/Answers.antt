@@ -1,5 +1,5 @@
 use Rattle.std.proofs.Common.{rules}
 use Rattle.areas.proofs.acknowledgement.Acknowledgement.acknowledge.Goals as goal
 
-pub returns-in-Asked : goal.returns-in-Asked
-returns-in-Asked c = search rules
+pub returns-in-Requested : goal.returns-in-Requested
+returns-in-Requested c = search rules

@@ -7,7 +7,7 @@ use Rattle.braking.specs.Braking.{IsSummed}
 use Rattle.braking.specs.Sums.{IsEvenBefore}
 use Rattle.braking.specs.declared.summed.Summed.{Summed}
 use Rattle.braking.proofs.Naturals.{parts}
-use Rattle.braking.proofs.Braked.{IsEven, begun_summed, begun_little}
+use Rattle.braking.proofs.Braked.{IsEven, initial_summed, initial_little}
 use Rattle.braking.proofs.stretch.Stretch.before.Goals as goal
 
 -- a stretch after a place that lies near enough may be begun
@@ -16,10 +16,10 @@ may_begin : (gradient : ℤ → Option ℤ) (deceleration slowing : ℕ) (sum : 
 may_begin gradient deceleration slowing sum least from summed small within before near =
     let ordered : from ≤ℤ sum.from = omega (arith, ints, before) in
     let few : natural (sum.to -ℤ from) ≤ 2 ^ 43 = omega (arith, parts least from sum.to within (omega (arith, ints, ordered, summed.0)), near) in
-    record { small = small; ordered = ordered; little = begun_little gradient deceleration from slowing sum summed ordered small few }
+    record { small = small; ordered = ordered; little = initial_little gradient deceleration from slowing sum summed ordered small few }
 
-pub begun_evenly-requires : goal.begun_evenly-requires
-begun_evenly-requires g c =
+pub starts_evenly-requires : goal.starts_evenly-requires
+starts_evenly-requires g c =
     may_begin (g.P.Profile.value c.args.gradient.now) c.args.deceleration c.slowing-slowing.result c.args.sum.now c.args.least c.piece_before-here.result.from
     c.requires.summed c.slowing-slowing.ensures.small c.piece_before-here.ensures.within c.piece_before-here.ensures.before c.requires.near
 
@@ -27,18 +27,18 @@ pub returns-clause-stretch : goal.returns-clause-stretch
 returns-clause-stretch g c =
     let gradient = g.P.Profile.value c.args.gradient.now in
     let here = c.piece_before-here in
-    let begun = c.begun_evenly in
+    let initial = c.starts_evenly in
     let slows = c.slowing-slowing.ensures in
-    let even : IsEven gradient c.args.deceleration c.slowing-slowing.result begun.result.from c.args.sum.now.from = λ place a b.
-    ap (slowing_on c.args.deceleration) (here.ensures.value place (omega (arith, ints, begun.ensures.from, a)) b) ∙ sym slows.value in
-    let before : begun.result.from <ℤ c.args.sum.now.from = omega (arith, ints, here.ensures.before, begun.ensures.from) in
+    let even : IsEven gradient c.args.deceleration c.slowing-slowing.result initial.result.from c.args.sum.now.from = λ place a b.
+    ap (slowing_on c.args.deceleration) (here.ensures.value place (omega (arith, ints, initial.ensures.from, a)) b) ∙ sym slows.value in
+    let before : initial.result.from <ℤ c.args.sum.now.from = omega (arith, ints, here.ensures.before, initial.ensures.from) in
     record {
-      behind = c.requires.summed;
+      earlier = c.requires.summed;
       even = even;
       before = before;
-      may_begin = may_begin gradient c.args.deceleration c.slowing-slowing.result c.args.sum.now c.args.least begun.result.from c.requires.summed slows.small
-          (omega (arith, ints, here.ensures.within, begun.ensures.from)) before c.requires.near;
-      begun = begun.ensures.begun;
-      summed = begun_summed gradient c.args.deceleration begun.result.from c.slowing-slowing.result c.args.sum.now begun.result c.requires.summed even
-          slows.small (omega (arith, ints)) begun.ensures.begun;
+      may_begin = may_begin gradient c.args.deceleration c.slowing-slowing.result c.args.sum.now c.args.least initial.result.from c.requires.summed slows.small
+          (omega (arith, ints, here.ensures.within, initial.ensures.from)) before c.requires.near;
+      initial = initial.ensures.initial;
+      summed = initial_summed gradient c.args.deceleration initial.result.from c.slowing-slowing.result c.args.sum.now initial.result c.requires.summed even
+          slows.small (omega (arith, ints)) initial.ensures.initial;
     }

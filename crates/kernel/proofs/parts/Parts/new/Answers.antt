@@ -10,9 +10,9 @@ returns-clause-before c =
     let position = c.met_by.ensures ∙ ap (λ (f : Fate). met_by f c.args.kept.now.position) c.power_up_status.ensures in
     λ i. record { window = window i; limit = limit i; position = position i }
 
-pub returns-clause-begun : goal.returns-clause-begun
-returns-clause-begun c =
-    let window = c.new.ensures.begun c.args.kept.now c.args.cold in
+pub returns-clause-initial : goal.returns-clause-initial
+returns-clause-initial c =
+    let window = c.new.ensures.initial c.args.kept.now c.args.cold in
     let limit = c.no_speed.ensures in
     let position = c.met_by.ensures ∙ ap (λ (f : Fate). met_by f c.args.kept.now.position) c.power_up_status.ensures in
     λ i. record { window = window i; limit = limit i; position = position i }

@@ -1,7 +1,7 @@
 use Rattle.std.proofs.Common.{ap, ◌∙◌}
 use Rattle.events.specs.declared.kept.Kept.{Kept}
 use Rattle.events.specs.declared.input.Event.TheVariants as event
-use Rattle.mode_control.specs.Sentences.{begun_life}
+use Rattle.mode_control.specs.Sentences.{initial_life}
 use Rattle.kernel.specs.declared.counts.Counts.{Counts}
 use Rattle.kernel.specs.Lives.{counted, counts_in, kept_by}
 use Rattle.kernel.proofs.Leaving.{left_alike, answered_alike}
@@ -18,5 +18,5 @@ returns-clause-stands g c kept cold events waits same =
 
 pub returns-clause-output : goal.returns-clause-output
 returns-clause-output g c kept cold events waits same =
-    c.output.ensures (begun_life kept cold) (c.set_out.ensures.life kept cold waits)
+    c.output.ensures (initial_life kept cold) (c.set_out.ensures.life kept cold waits)
     ∙ answered_alike cold kept (kept_by events) same

@@ -17,7 +17,7 @@ returns c life reported deed level s path =
     let mode = c.mode_after-self-inside.ensures ∙ ap (λ (k : KnownModes). mode_after k.mode entered) parts in
     let staff = c.staff_from-self-inside.ensures ∙ (λ i. cond (enters_staff entered) (path i) (parts i).staff_from) in
     let answered : Call → Bool → Acknowledgement → Acknowledgement =
-    λ call left before. after_event (entered_at call.turned ∷ only call.asks Happening.Asked ∷ only (deletes entered) Happening.Deleted ∷ only (not left) Happening.Settled ∷ []) before in
+    λ call left before. after_event (entered_at call.turned ∷ only call.asks Happening.Requested ∷ only (deletes entered) Happening.Deleted ∷ only (not left) Happening.Settled ∷ []) before in
     let calls = c.args.calls.now in
     let left = c.args.left.now in
     let on_sight = c.answer.ensures ∙ ap (λ (k : KnownModes). answered calls.on_sight left.on_sight k.on_sight) parts in

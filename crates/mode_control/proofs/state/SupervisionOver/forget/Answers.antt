@@ -1,5 +1,5 @@
 use Rattle.std.proofs.Common.{ℕ, ◌∷◌, Some, ap, subst, ◌∙◌}
-use Rattle.track_picture.specs.Sentences.{span_with, mark_behind}
+use Rattle.track_picture.specs.Sentences.{span_with, forgetting_mark}
 use Rattle.mode_control.specs.History.{tracks}
 use Rattle.mode_control.specs.Life.{track_of, length_by, grown}
 use Rattle.mode_control.specs.StandsFor.{KnownModes, Knowledge, StandsForLife}
@@ -13,7 +13,7 @@ returns-clause-stands g c life event s =
     let all = event.track ∷ tracks life.entries in
     let known : Knowledge g.row.T-Gradients.Denot g.row.T-Speeds.Denot = record { parts = c.self.inside.parts; track = c.forget.new.self } in
     subst (λ (n : ℕ). StandsForLife g.T.ProfileStores.stores known
-    (grown life (record event { track = record event.track { mark = Some (mark_behind (span_with n all)) } })))
+    (grown life (record event { track = record event.track { mark = Some (forgetting_mark (span_with n all)) } })))
     length
     (record {
       parts_are = before.parts_are;

@@ -1,7 +1,7 @@
 use Rattle.std.proofs.Common.{Option, Some, [], ◌∷◌, sym, subst}
 use Rattle.mode_table.specs.declared.level.TrainLevel.{TrainLevel}
 use Rattle.units.specs.Stretches.{Span}
-use Rattle.mode_control.specs.Entry.{SupervisionEntry, begun}
+use Rattle.mode_control.specs.Entry.{SupervisionEntry, initial}
 use Rattle.mode_control.specs.Life.{Life, grown}
 use Rattle.mode_control.specs.Sentences.{reported, deed_of, the_train_is_seen, the_mode_changes, the_calls_are_settled, written}
 use Rattle.mode_control.specs.StandsFor.{StandsForLife}
@@ -18,7 +18,7 @@ pub returns-clause-stands : goal.returns-clause-stands
 returns-clause-stands g c life s =
     let t = reported life c.args.input.now in
     let deed = deed_of life c.args.input.now in
-    let event : SupervisionEntry = begun t deed in
+    let event : SupervisionEntry = initial t deed in
     let began = c.in_ok-begin.ensures.stands life s in
     let train = c.see-seen.ensures.train life event began in
     let level = c.see-seen.ensures.level life t deed began in

@@ -4,7 +4,7 @@ use Rattle.areas.specs.Levels.{coming}
 use Rattle.track_picture.specs.Entry.{TrackEntry}
 use Rattle.track_picture.specs.History.{announced_level}
 use Rattle.track_picture.specs.Sentences.{span_with}
-use Rattle.mode_control.specs.Entry.{begun}
+use Rattle.mode_control.specs.Entry.{initial}
 use Rattle.mode_control.specs.History.{tracks}
 use Rattle.mode_control.specs.Life.{track_of, length_by, grown}
 use Rattle.mode_control.specs.StandsFor.{KnownModes, StandsForLife}
@@ -28,7 +28,7 @@ returns-clause-stands g c life reported deed s =
     ∙ ap (λ (n : ℕ). coming (span_with n all).max_front (announced_level all)) length in
     subst (λ (x : ℕ × Option TrainLevel). StandsForLife g.T.ProfileStores.stores
     (record { parts = c.come_in.new.self; track = c.look-level.new.self })
-    (grown life (record (begun (record reported { train = Some (span_with x.0 all); entered = None }) deed) { level = x.1 })))
+    (grown life (record (initial (record reported { train = Some (span_with x.0 all); entered = None }) deed) { level = x.1 })))
     (λ i. (length i, level i))
     (record {
       parts_are = c.come_in.ensures life reported (Some (span_with c.length-length.result all)) deed before.parts_are;

@@ -1,6 +1,6 @@
 use Rattle.std.proofs.Common.{◌≡◌, false, rules, sym, ap, ◌∙◌}
 use Rattle.units.specs.Stretches.{Span}
-use Rattle.mode_control.specs.Entry.{SupervisionEntry, begun}
+use Rattle.mode_control.specs.Entry.{SupervisionEntry, initial}
 use Rattle.mode_control.specs.History.{mode_of}
 use Rattle.mode_control.specs.Life.{Life, grown}
 use Rattle.mode_control.specs.Sentences.{reported, deed_of, the_train_is_seen}
@@ -14,7 +14,7 @@ pub returns-clause-cause : goal.returns-clause-cause
 returns-clause-cause g c life s =
     let t = reported life c.args.input.now in
     let deed = deed_of life c.args.input.now in
-    let event : SupervisionEntry = begun t deed in
+    let event : SupervisionEntry = initial t deed in
     let began = c.in_ok-begin.ensures.stands life (seen c.in_ok-next.ensures.value s) in
     let now : Life = grown life (the_train_is_seen (grown life event) event) in
     c.trip_in.ensures now (c.see-seen.ensures.stands life t deed began)

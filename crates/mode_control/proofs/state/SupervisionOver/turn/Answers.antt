@@ -4,7 +4,7 @@ use Rattle.track_picture.specs.Entry.{TrackEntry}
 use Rattle.track_picture.specs.StandsFor.{KnownTrack, grown as track_grown}
 use Rattle.mode_control.specs.declared.calls.Calls.{Calls}
 use Rattle.mode_control.specs.declared.calls.Left.{Left}
-use Rattle.mode_control.specs.Entry.{SupervisionEntry, begun}
+use Rattle.mode_control.specs.Entry.{SupervisionEntry, initial}
 use Rattle.mode_control.specs.History.{tracks}
 use Rattle.mode_control.specs.Life.{Life, track_of, grown}
 use Rattle.mode_control.specs.Sentences.{calls_in, left_in}
@@ -18,7 +18,7 @@ returns-clause-stands g c life reported deed s =
     let train = c.args.seen.now.train in
     let level = c.args.seen.now.level in
     let looked : TrackEntry = record reported { train = Some train } in
-    let event : SupervisionEntry = record (begun (record looked { entered = None }) deed) { level = level } in
+    let event : SupervisionEntry = record (initial (record looked { entered = None }) deed) { level = level } in
     let here : Life = grown life event in
     let mode = c.entered-entered.result in
     let after : TrackEntry = record looked { entered = mode } in

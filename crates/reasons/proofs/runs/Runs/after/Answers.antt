@@ -13,8 +13,8 @@ Afterwards before held number result story event =
 
 pub returns-in-PowerUp : goal.returns-in-PowerUp
 returns-in-PowerUp c = λ story.
-    subst (Afterwards c.args.self.now (marked c.args.causes.now) c.args.number c.begun.result story) (sym c.in-PowerUp.is)
-    (λ before held number. c.begun.ensures story c.in-PowerUp.field-0 held number)
+    subst (Afterwards c.args.self.now (marked c.args.causes.now) c.args.number c.initial.result story) (sym c.in-PowerUp.is)
+    (λ before held number. c.initial.ensures story c.in-PowerUp.field-0 held number)
 
 pub returns-in-Input : goal.returns-in-Input
 returns-in-Input c = λ story.

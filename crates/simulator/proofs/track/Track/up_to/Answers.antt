@@ -15,5 +15,5 @@ returns c =
     record {
       inside = rw same at c.partition_point.ensures.bound;
       before = λ k d a. let low = here.0 k d (omega arith) a in grind (arith, ints);
-      behind = λ k d a b. let high = here.1 k d a b in grind (arith, ints);
+      following = λ k d a b. let high = here.1 k d a b in grind (arith, ints);
     }

@@ -13,7 +13,7 @@ use Rattle.track_picture.proofs.Judging.{not_entered, is_judged}
 use Rattle.track_picture.proofs.parts.Parts.judge.Goals as goal
 
 pub returns-in-Accept-clause-stands : goal.returns-in-Accept-clause-stands
-returns-in-Accept-clause-stands c life begun used reported s =
+returns-in-Accept-clause-stands c life initial used reported s =
     let m = c.args.message.now in
     let parts = c.self.view_is ∙ s in
     let it = c.judge-judgement.result in
@@ -26,8 +26,8 @@ returns-in-Accept-clause-stands c life begun used reported s =
     ∙ ap (λ (v : Verdict). national.known life.kept (after_country v m reported.values)) (sym c.in-Accept.is) in
     let happened = c.asking-self-inside.ensures ∙ ap (λ (k : KnownTrack). asking k.happened it.effect) parts in
     (λ i. record (parts i) { links = left i; national = values i; happened = happened i })
-    ∙ is_judged life begun used reported it.effect m it.verdict
-    ∙ ap (λ (x : Judgement). known_by (grown_so_far life begun (added (outcome_at_first m x.verdict) (asking_for x.effect used))) (after_judging x.verdict m reported)) found
+    ∙ is_judged life initial used reported it.effect m it.verdict
+    ∙ ap (λ (x : Judgement). known_by (grown_so_far life initial (added (outcome_at_first m x.verdict) (asking_for x.effect used))) (after_judging x.verdict m reported)) found
 
 pub returns-in_default : goal.returns-in_default
 returns-in_default c =
@@ -38,7 +38,7 @@ returns-in_default c =
     ∙ ap (λ (k : KnownTrack). judgement k.links (group_read c.args.self.now.place m)) c.self.view_is in
     record {
       answer = ap (λ (x : Judgement). x.verdict) found;
-      stands = λ life begun used reported s. (
+      stands = λ life initial used reported s. (
           let parts = c.self.view_is ∙ s in
           let left = c.judge-judgement.ensures.stands reported.links (ap (λ (k : KnownTrack). k.links) parts)
           ∙ ap (λ (x : Judgement). known_links (after_verdict x.verdict reported.links)) (sym c.judge-judgement.ensures.answer) in
@@ -46,6 +46,6 @@ returns-in_default c =
           ∙ ap (national.known life.kept) (sym (not_entered it.verdict m reported.values c.in_default.not-Accept)) in
           let happened = c.asking-self-inside.ensures ∙ ap (λ (k : KnownTrack). asking k.happened it.effect) parts in
           (λ i. record (parts i) { links = left i; national = values i; happened = happened i })
-          ∙ is_judged life begun used reported it.effect m it.verdict
-          ∙ ap (λ (x : Judgement). known_by (grown_so_far life begun (added (outcome_at_first m x.verdict) (asking_for x.effect used))) (after_judging x.verdict m reported)) found);
+          ∙ is_judged life initial used reported it.effect m it.verdict
+          ∙ ap (λ (x : Judgement). known_by (grown_so_far life initial (added (outcome_at_first m x.verdict) (asking_for x.effect used))) (after_judging x.verdict m reported)) found);
     }

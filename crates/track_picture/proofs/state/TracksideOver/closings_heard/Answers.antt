@@ -11,7 +11,7 @@ use Rattle.track_picture.specs.declared.closings.Closings.{Closings}
 use Rattle.track_picture.specs.declared.happened.Happened.{Happened}
 use Rattle.track_picture.specs.Closings.{closings_in, all_of}
 use Rattle.track_picture.specs.Columns.{StandsForColumns, columns_of}
-use Rattle.track_picture.specs.Entry.{TrackEntry, Begun, nothing, nothing_happened}
+use Rattle.track_picture.specs.Entry.{TrackEntry, InputEffect, nothing, nothing_happened}
 use Rattle.track_picture.specs.History.{place_of}
 use Rattle.track_picture.specs.Sentences.{heard, with_closed, with_groups}
 use Rattle.track_picture.specs.StandsFor.{Life, Knowledge, grown_so_far, room_in}
@@ -19,7 +19,7 @@ use Rattle.track_picture.proofs.Carrying.{carried_in, refused_none}
 use Rattle.track_picture.proofs.Standing.{seen_columns as seen}
 use Rattle.track_picture.proofs.state.TracksideOver.closings_heard.Goals as goal
 
-abbrev with_telegram : List TrackEntry → Option Telegram → Begun
+abbrev with_telegram : List TrackEntry → Option Telegram → InputEffect
 with_telegram entries o = record nothing { heard = option_map (λ t. Read (record { telegram = t; sums = (place_of entries).sums })) o }
 
 abbrev closed_with : Mode → List TrackEntry → Option Telegram → List Closing
@@ -34,20 +34,20 @@ returns-in_default-clause-closings g c life s =
 pub returns-clause-closings : goal.returns-clause-closings
 returns-clause-closings g c =
     IfOk-weaker c.closings_of.result
-    (λ (closings : Closings). (life : Life) (begun : Begun) (happened : Happened) → StandsForColumns g.T.ProfileStores.stores c.args.self.now life
-    → c.hear.new.self ≡ columns_of (grown_so_far life begun (record { groups = []; happened = happened }))
-    → all_of closings ≡ closings_in life.entries begun (with_closed c.args.mode life.entries begun c.hear.new.whole (with_closed c.args.mode life.entries begun c.hear.new.ended (record { groups = []; happened = happened }))).groups)
+    (λ (closings : Closings). (life : Life) (initial : InputEffect) (happened : Happened) → StandsForColumns g.T.ProfileStores.stores c.args.self.now life
+    → c.hear.new.self ≡ columns_of (grown_so_far life initial (record { groups = []; happened = happened }))
+    → all_of closings ≡ closings_in life.entries initial (with_closed c.args.mode life.entries initial c.hear.new.whole (with_closed c.args.mode life.entries initial c.hear.new.ended (record { groups = []; happened = happened }))).groups)
     (λ (closings : Closings). (life : Life) → StandsForColumns g.T.ProfileStores.stores c.args.self.now life
     → all_of closings ≡ closings_in life.entries (heard life.entries c.args.bytes.now) (with_groups c.args.mode life.entries (heard life.entries c.args.bytes.now) nothing_happened).groups)
     (λ closings reported life s. (let mode = c.args.mode in
     let bytes = c.args.bytes.now in
-    let begun = heard life.entries bytes in
+    let initial = heard life.entries bytes in
     let at = c.copy-parts.ensures ∙ (seen c.self.view_is s).parts_are in
     let carried = carried_in _ _ ((c.in-Ok.ensures.found _).0 refl) in
     let ended = c.hear.ensures.ended life bytes at carried in
     let whole = c.hear.ensures.whole life bytes at carried in
-    reported life begun nothing_happened s (c.hear.ensures.stands life bytes at carried)
-    ∙ (λ i. closings_in life.entries begun (with_closed mode life.entries begun (whole i) (with_closed mode life.entries begun (ended i) (record { groups = []; happened = nothing_happened }))).groups)))
+    reported life initial nothing_happened s (c.hear.ensures.stands life bytes at carried)
+    ∙ (λ i. closings_in life.entries initial (with_closed mode life.entries initial (whole i) (with_closed mode life.entries initial (ended i) (record { groups = []; happened = nothing_happened }))).groups)))
     c.closings_of.ensures.closings
 
 pub returns-clause-quiet : goal.returns-clause-quiet

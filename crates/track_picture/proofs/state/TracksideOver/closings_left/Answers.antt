@@ -16,12 +16,12 @@ returns g c life mode s =
     let reading = c.args.reading.now in
     let at = c.copy-parts.ensures ∙ (seen c.self.view_is s).parts_are in
     let went = c.go.ensures.moved life at in
-    let begun = moved life.entries reading in
+    let initial = moved life.entries reading in
     let happened = happened_by life.entries reading in
     let left = c.leave-ended.ensures.stands life reading went
-    ∙ ap (known_by (grown_so_far life begun (after_moving life.entries reading))) (sym (reported_missed begun.missed (Happening.Moved reading.movement ∷ happenings life.entries))) in
+    ∙ ap (known_by (grown_so_far life initial (after_moving life.entries reading))) (sym (reported_missed initial.missed (Happening.Moved reading.movement ∷ happenings life.entries))) in
     alone c.closing_if.result
     ∙ ap listed c.closing_if.ensures
-    ∙ one_if mode life begun happened c.leave-ended.new.self c.leave-ended.result left
-    ∙ ap (λ (group : Option Closed). closings_in life.entries begun (with_closed mode life.entries begun group (record { groups = []; happened = happened })).groups)
+    ∙ one_if mode life initial happened c.leave-ended.new.self c.leave-ended.result left
+    ∙ ap (λ (group : Option Closed). closings_in life.entries initial (with_closed mode life.entries initial group (record { groups = []; happened = happened })).groups)
     (c.leave-ended.ensures.answer life reading went)

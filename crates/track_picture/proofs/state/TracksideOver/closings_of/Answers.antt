@@ -18,34 +18,34 @@ none_if None is = refl
 none_if (Some a) is = cc
 
 pub returns-in_default-clause-closings : goal.returns-in_default-clause-closings
-returns-in_default-clause-closings g c life begun happened s is =
+returns-in_default-clause-closings g c life initial happened s is =
     let mode = c.args.mode in
     let first : Used = record { groups = []; happened = happened } in
     alone c.closing_if.result
     ∙ ap listed c.closing_if.ensures
-    ∙ one_if mode life begun happened c.args.parts c.args.ended is
-    ∙ ap (λ (group : Option Closed). closings_in life.entries begun (with_closed mode life.entries begun group (with_closed mode life.entries begun c.args.ended first)).groups)
+    ∙ one_if mode life initial happened c.args.parts c.args.ended is
+    ∙ ap (λ (group : Option Closed). closings_in life.entries initial (with_closed mode life.entries initial group (with_closed mode life.entries initial c.args.ended first)).groups)
     (sym (none_of c.args.whole c.in_default.not-Some))
 
 pub returns-then-is_none-clause-closings : goal.returns-then-is_none-clause-closings
-returns-then-is_none-clause-closings g c life begun happened s is =
+returns-then-is_none-clause-closings g c life initial happened s is =
     let mode = c.args.mode in
     let first : Used = record { groups = []; happened = happened } in
     let none = none_if c.args.ended (c.is_none.ensures ∙ ap not c.if-is_none.true) in
     ap (λ (one : Closing). one ∷ []) c.closing.ensures
-    ∙ one_if mode life begun happened c.args.parts (Some c.in-Some.second) is
-    ∙ (λ i. closings_in life.entries begun (with_closed mode life.entries begun (sym c.in-Some.is i) (with_closed mode life.entries begun (sym none i) first)).groups)
+    ∙ one_if mode life initial happened c.args.parts (Some c.in-Some.second) is
+    ∙ (λ i. closings_in life.entries initial (with_closed mode life.entries initial (sym c.in-Some.is i) (with_closed mode life.entries initial (sym none i) first)).groups)
 
 -- the second group is judged by what the first has left
 pub returns-clause-closings : goal.returns-clause-closings
-returns-clause-closings g c life begun happened s is =
+returns-clause-closings g c life initial happened s is =
     let mode = c.args.mode in
     let first : Used = record { groups = []; happened = happened } in
-    let used = with_closed mode life.entries begun c.args.ended first in
-    let behind = seen c.next.view_is (c.in_ok-next.ensures.stands life begun happened s (c.copy.ensures ∙ is)) in
+    let used = with_closed mode life.entries initial c.args.ended first in
+    let following = seen c.next.view_is (c.in_ok-next.ensures.stands life initial happened s (c.copy.ensures ∙ is)) in
     let parts = c.next.inside.parts in
     let second = c.in-Some.second in
     (λ i. listed (c.closing_if-2.ensures i) ++ c.closing-2.ensures i ∷ [])
-    ∙ ap (λ (closings : List Closing). closings ++ closing_as parts.links parts.place second ∷ []) (one_if mode life begun happened c.args.parts c.args.ended is)
-    ∙ one_more mode life begun used parts second behind.parts_are
-    ∙ ap (λ (group : Option Closed). closings_in life.entries begun (with_closed mode life.entries begun group used).groups) (sym c.in-Some.is)
+    ∙ ap (λ (closings : List Closing). closings ++ closing_as parts.links parts.place second ∷ []) (one_if mode life initial happened c.args.parts c.args.ended is)
+    ∙ one_more mode life initial used parts second following.parts_are
+    ∙ ap (λ (group : Option Closed). closings_in life.entries initial (with_closed mode life.entries initial group used).groups) (sym c.in-Some.is)

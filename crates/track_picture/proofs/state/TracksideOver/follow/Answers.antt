@@ -7,8 +7,8 @@ use Rattle.track_picture.specs.Columns.{StandsForColumns}
 use Rattle.track_picture.proofs.state.TracksideOver.follow.Goals as goal
 
 pub returns-in-Accept-clause-stands : goal.returns-in-Accept-clause-stands
-returns-in-Accept-clause-stands g c life begun used s =
+returns-in-Accept-clause-stands g c life initial used s =
     let m = c.args.message.now in
-    subst (λ (v : Verdict). StandsForColumns g.T.ProfileStores.stores c.args.self.now (grown life (record blank { begun = begun; used = added (outcome_at_first m v) used }))
-    → StandsForColumns g.T.ProfileStores.stores c.accept.new.self (grown_so_far life begun (added (outcome c.args.mode (record blank { begun = begun; used = added (outcome_at_first m v) used } ∷ life.entries) m v) used)))
-    (sym c.in-Accept.is) (c.accept.ensures.stands life begun used) s
+    subst (λ (v : Verdict). StandsForColumns g.T.ProfileStores.stores c.args.self.now (grown life (record blank { initial = initial; used = added (outcome_at_first m v) used }))
+    → StandsForColumns g.T.ProfileStores.stores c.accept.new.self (grown_so_far life initial (added (outcome c.args.mode (record blank { initial = initial; used = added (outcome_at_first m v) used } ∷ life.entries) m v) used)))
+    (sym c.in-Accept.is) (c.accept.ensures.stands life initial used) s

@@ -22,13 +22,13 @@ returns-then-moves-clause-stands g c life event s =
     let speeds_before = sym (speeds_as are _ ∙ g.met.T.Speeds.ProfileStore.profile_is c.self.inside.speeds) ∙ before.speeds_are in
     record {
       parts_are = before.parts_are;
-      restrictions_are = c.drop_behind.ensures.track (description_of all).restrictions before.restrictions_are;
+      restrictions_are = c.drop_before.ensures.track (description_of all).restrictions before.restrictions_are;
       gradients_are = gradients_as are _ ∙ g.met.T.Gradients.ProfileStore.profile_is _
-          ∙ marked_at (profile_with g.T.Gradients.Profile.value c.self.inside.gradients) (profile_with g.T.Gradients.Profile.value c.drop_behind-then-moves.new.self)
-          (record { mark = (description_of all).mark; facts = (description_of all).gradients }) gradients_before c.args.mark c.drop_behind-then-moves.ensures.value;
+          ∙ marked_at (profile_with g.T.Gradients.Profile.value c.self.inside.gradients) (profile_with g.T.Gradients.Profile.value c.drop_before-then-moves.new.self)
+          (record { mark = (description_of all).mark; facts = (description_of all).gradients }) gradients_before c.args.mark c.drop_before-then-moves.ensures.value;
       speeds_are = speeds_as are _ ∙ g.met.T.Speeds.ProfileStore.profile_is _
-          ∙ marked_at (profile_with g.T.Speeds.Profile.value c.self.inside.speeds) (profile_with g.T.Speeds.Profile.value c.drop_behind-then-moves-2.new.self)
-          (record { mark = (description_of all).mark; facts = (description_of all).speeds }) speeds_before c.args.mark c.drop_behind-then-moves-2.ensures.value;
+          ∙ marked_at (profile_with g.T.Speeds.Profile.value c.self.inside.speeds) (profile_with g.T.Speeds.Profile.value c.drop_before-then-moves-2.new.self)
+          (record { mark = (description_of all).mark; facts = (description_of all).speeds }) speeds_before c.args.mark c.drop_before-then-moves-2.ensures.value;
     }
 
 -- the mark stays
@@ -37,12 +37,12 @@ returns-else-moves-clause-stands g c life event s =
     let entry : TrackEntry = record event { mark = None } in
     let all = entry ∷ life.entries in
     let before = seen c.self.view_is s in
-    let behind : c.args.mark ≤ℤ c.self.inside.restrictions.track.mark = grind (arith, ints) in
+    let following : c.args.mark ≤ℤ c.self.inside.restrictions.track.mark = grind (arith, ints) in
     let own = ap (λ (t : InForce). t.mark) before.restrictions_are ∙ one_mark (happenings all) in
-    let stays : int_max c.args.mark (description_of all).mark ≡ (description_of all).mark = kept_mark c.args.mark _ (subst (λ (z : ℤ). c.args.mark ≤ℤ z) own behind) in
+    let stays : int_max c.args.mark (description_of all).mark ≡ (description_of all).mark = kept_mark c.args.mark _ (subst (λ (z : ℤ). c.args.mark ≤ℤ z) own following) in
     record {
       parts_are = before.parts_are;
-      restrictions_are = c.drop_behind.ensures.track (description_of all).restrictions before.restrictions_are;
+      restrictions_are = c.drop_before.ensures.track (description_of all).restrictions before.restrictions_are;
       gradients_are = before.gradients_are ∙ ap (λ (mark : ℤ). profile_of (record { mark = mark; facts = (description_of all).gradients })) (sym stays);
       speeds_are = before.speeds_are ∙ ap (λ (mark : ℤ). profile_of (record { mark = mark; facts = (description_of all).speeds })) (sym stays);
     }

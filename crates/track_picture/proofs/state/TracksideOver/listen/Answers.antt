@@ -4,7 +4,7 @@ use Rattle.std.proofs.lemmas.Result.{on_ok_weaker}
 use Rattle.telegram.specs.declared.message.Telegram.{Telegram}
 use Rattle.balise_groups.specs.Groups.GroupEntry.{Read}
 use Rattle.balise_groups.specs.Rooms.{packets_in}
-use Rattle.track_picture.specs.Entry.{Begun, nothing_happened, nothing}
+use Rattle.track_picture.specs.Entry.{InputEffect, nothing_happened, nothing}
 use Rattle.track_picture.specs.History.{place_of}
 use Rattle.track_picture.specs.Sentences.{with_groups}
 use Rattle.track_picture.specs.StandsFor.{Life, grown_so_far, room_in}
@@ -32,7 +32,7 @@ returns-in-Ok-clause-idle g c none =
     c.read.ensures.idle
     (subst (λ (o : Option Telegram). option_map_or (λ t. packets + length t.packets.items) o 0 ≡ 0) (carried_in _ _ ((c.in-Ok.ensures.found _).0 refl)) none)
 
-abbrev with_telegram : Life → Option Telegram → Begun
+abbrev with_telegram : Life → Option Telegram → InputEffect
 with_telegram life o = record nothing { heard = option_map (λ t. Read (record { telegram = t; sums = (place_of life.entries).sums })) o }
 
 pub returns-in-Err-clause-stands : goal.returns-in-Err-clause-stands

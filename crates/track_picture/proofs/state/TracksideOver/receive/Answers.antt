@@ -3,7 +3,7 @@ use Rattle.std.proofs.lemmas.Result.{on_ok_weaker}
 use Rattle.events.specs.declared.input.Input.{Input}
 use Rattle.events.specs.declared.input.Input.TheVariants as inputs
 use Rattle.track_picture.specs.declared.happened.Happened.{Happened}
-use Rattle.track_picture.specs.Entry.{Begun}
+use Rattle.track_picture.specs.Entry.{InputEffect}
 use Rattle.track_picture.specs.Sentences.{with_groups, received}
 use Rattle.track_picture.specs.StandsFor.{StandsForLife, grown, grown_so_far}
 use Rattle.track_picture.specs.Columns.{StandsForColumns}
@@ -28,7 +28,7 @@ returns-in-Odometer-clause-stands g c =
     (λ taken life s. subst (λ (x : Input). StandsForLife g.T.ProfileStores.stores c.move_by.new.self (grown life (received c.args.mode life.entries x)))
     (sym c.in-Odometer.is)
     (by_facts (grown life (received c.args.mode life.entries (inputs.Odometer reading)))
-    (subst (λ (x : Begun × Happened). StandsForColumns g.T.ProfileStores.stores c.move_by.new.self (grown_so_far life x.0 (with_groups c.args.mode life.entries x.0 x.1)))
+    (subst (λ (x : InputEffect × Happened). StandsForColumns g.T.ProfileStores.stores c.move_by.new.self (grown_so_far life x.0 (with_groups c.args.mode life.entries x.0 x.1)))
     (λ i. (sym (same_moved life.entries reading) i, sym (same_happened life.entries reading) i))
     (taken life (by_columns life s)))))
     c.move_by.ensures.stands

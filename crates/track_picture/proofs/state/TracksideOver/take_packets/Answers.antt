@@ -3,7 +3,7 @@ use Rattle.std.specs.List.{list_any}
 use Rattle.linking.specs.declared.announcement.Announcement.{Announcement}
 use Rattle.balise_groups.specs.declared.message.Message.{Message}
 use Rattle.odometry.specs.declared.fix.Fix.{Fix}
-use Rattle.track_picture.specs.Entry.{TrackEntry, Begun, Used, Fact, blank, added}
+use Rattle.track_picture.specs.Entry.{TrackEntry, InputEffect, Used, Fact, blank, added}
 use Rattle.track_picture.specs.Entry.Outcome.{Accepted}
 use Rattle.track_picture.specs.Columns.{after_facts, StandsForColumns, description_of}
 use Rattle.track_picture.specs.Steps.{facts}
@@ -34,30 +34,30 @@ module _ {G S : Type 0} (stores : Stores G S) (known : Knowledge G S) (life : Li
   }
 
   -- after both walks
-  stands : (reported : List Fact) (begun : Begun) (groups : Used) (message : Message) (announced : Option Announcement) (fix : Option Fix) →
-      IsReported stores known (after_facts after_later reported (after_facts after_earlier reported (before life (record blank { begun = begun; used = added (Accepted message announced fix []) groups })))) →
-      StandsForColumns stores known (grown_so_far life begun (added (Accepted message announced fix reported) groups))
-  stands reported begun groups message announced fix t =
-      let entry : TrackEntry = record blank { begun = begun; used = added (Accepted message announced fix []) groups } in
+  stands : (reported : List Fact) (initial : InputEffect) (groups : Used) (message : Message) (announced : Option Announcement) (fix : Option Fix) →
+      IsReported stores known (after_facts after_later reported (after_facts after_earlier reported (before life (record blank { initial = initial; used = added (Accepted message announced fix []) groups })))) →
+      StandsForColumns stores known (grown_so_far life initial (added (Accepted message announced fix reported) groups))
+  stands reported initial groups message announced fix t =
+      let entry : TrackEntry = record blank { initial = initial; used = added (Accepted message announced fix []) groups } in
       let is = both_walks reported (before life entry) (happenings (entry ∷ life.entries)) refl in
       let after = subst (IsReported stores known) is t in
       record { parts_are = after.parts_are; restrictions_are = after.restrictions_are; gradients_are = after.gradients_are; speeds_are = after.speeds_are }
 
 pub returns-then-take_all-clause-stands : goal.returns-then-take_all-clause-stands
-returns-then-take_all-clause-stands g c life begun groups message announced fix s =
+returns-then-take_all-clause-stands g c life initial groups message announced fix s =
     let reported = facts c.args.used.now c.args.packets.now in
-    let entry : TrackEntry = record blank { begun = begun; used = added (Accepted message announced fix []) groups } in
+    let entry : TrackEntry = record blank { initial = initial; used = added (Accepted message announced fix []) groups } in
     let first = c.take_all.ensures.reported (before life entry) (stood _ _ life entry s) in
-    stands _ _ life reported begun groups message announced fix (c.take_all-then-take_all.ensures.reported _ first)
+    stands _ _ life reported initial groups message announced fix (c.take_all-then-take_all.ensures.reported _ first)
 
 -- the first walk met no packet for the second
 pub returns-else-take_all-clause-stands : goal.returns-else-take_all-clause-stands
-returns-else-take_all-clause-stands g c life begun groups message announced fix s =
+returns-else-take_all-clause-stands g c life initial groups message announced fix s =
     let reported = facts c.args.used.now c.args.packets.now in
-    let entry : TrackEntry = record blank { begun = begun; used = added (Accepted message announced fix []) groups } in
+    let entry : TrackEntry = record blank { initial = initial; used = added (Accepted message announced fix []) groups } in
     let first = c.take_all.ensures.reported (before life entry) (stood _ _ life entry s) in
     let none : list_any comes_later c.args.packets.now ≡ false = sym c.take_all.ensures.later ∙ c.if-take_all.false in
-    stands _ _ life reported begun groups message announced fix
+    stands _ _ life reported initial groups message announced fix
     (subst (IsReported g.T.ProfileStores.stores c.take_all.new.state) (sym (none_later c.args.used.now c.args.packets.now _ none)) first)
 
 -- the first walk takes no more room than for its packets, the second none

@@ -1,7 +1,7 @@
 use Rattle.std.proofs.Common.{ap, ◌∙◌, arith}
 use Rattle.track_store.specs.Segments.{Segmented, value_kept, size_of}
 use Rattle.track_store.specs.Facts.{from_mark}
-use Rattle.track_store.proofs.segment_store.SegmentStoreProfileStore.drop_behind.Goals as goal
+use Rattle.track_store.proofs.segment_store.SegmentStoreProfileStore.drop_before.Goals as goal
 
 pub drop_below-requires : goal.drop_below-requires
 drop_below-requires g c = c.self.invariant.0

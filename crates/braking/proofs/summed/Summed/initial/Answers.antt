@@ -3,7 +3,7 @@ use Rattle.std.proofs.lemmas.Int.{ints, by_lt_z}
 use Rattle.units.specs.Stretches.{natural}
 use Rattle.braking.proofs.Naturals.{parts}
 use Rattle.braking.proofs.Braked.{braked_over, summed_little, reached_whole, taken_off_is}
-use Rattle.braking.proofs.summed.Summed.begun.Goals as goal
+use Rattle.braking.proofs.summed.Summed.initial.Goals as goal
 
 pub gone_on-before-requires-clause-near : goal.gone_on-before-requires-clause-near
 gone_on-before-requires-clause-near g c =

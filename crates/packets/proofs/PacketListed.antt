@@ -1,13 +1,13 @@
 -- Whatever takes a packet takes the list of its fields.
 use Rattle.std.proofs.Common.{◌≡◌, ℕ}
-use Rattle.bits.specs.Writing.{Shown, each_field}
-use Rattle.bits.proofs.Shown.{taken-shown}
+use Rattle.bits.specs.Writing.{ListedField, each_field}
+use Rattle.bits.proofs.ListedField.{taken-shown}
 use Rattle.packets.specs.Layouts.{national_values_description, linking_description, movement_authority_description, gradients_description, static_speeds_description, level_transition_description, speed_restriction_description, restriction_revocation_description, mode_profile_description, skipped_description}
 use Rattle.packets.specs.Packets.{packet_taken, packet_shown}
 use Rattle.packets.specs.declared.packet.Packet.{Packet}
 use Rattle.packets.specs.declared.packet.Packet.TheVariants as packets
 
-pub packet_is_shown : {S : Type 0} (t : S → Shown → S) (reported : ℕ) (p : Packet) (s : S) → packet_taken t reported p s ≡ each_field t (packet_shown reported p) s
+pub packet_is_shown : {S : Type 0} (t : S → ListedField → S) (reported : ℕ) (p : Packet) (s : S) → packet_taken t reported p s ≡ each_field t (packet_shown reported p) s
 packet_is_shown t reported (packets.NationalValues p) s = taken-shown t (national_values_description (λ _. reported)) p s
 packet_is_shown t reported (packets.Linking p) s = taken-shown t (linking_description (λ _. reported)) p s
 packet_is_shown t reported (packets.MovementAuthority p) s = taken-shown t (movement_authority_description (λ _. reported)) p s

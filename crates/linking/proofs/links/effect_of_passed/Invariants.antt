@@ -1,7 +1,7 @@
 use Rattle.std.proofs.Common.{◌≡◌, drop}
 use Rattle.linking.specs.Linking.{is_passed_by}
 use Rattle.linking.proofs.Missing.{counted}
-use Rattle.linking.proofs.links.effect_behind.Given as goal
+use Rattle.linking.proofs.links.effect_of_passed.Given as goal
 
 abbrev pub invariant-loop-announcement : goal.invariant-loop-announcement
 invariant-loop-announcement l =

@@ -6,7 +6,7 @@ use Rattle.blocks.specs.declared.records.BlockRecord.{BlockRecord}
 use Rattle.events.specs.declared.input.Event.{Event}
 use Rattle.events.specs.declared.input.Event.TheVariants.{PowerUp, Input}
 use Rattle.events.specs.declared.kept.Kept.{Kept}
-use Rattle.lives.specs.Steps.{Step, whole_valid_at, known_before, step_by, record_step, record_steps, follows_on, slot_steps, behind, block_at, steps_from, steps_of, before_number, steps_since, number_of_life}
+use Rattle.lives.specs.Steps.{Step, whole_valid_at, known_before, step_by, record_step, record_steps, follows_on, slot_steps, kept_before_next, block_at, steps_from, steps_of, before_number, steps_since, number_of_life}
 use Rattle.lives.specs.declared.visit.Unknown.{Unknown}
 use Rattle.lives.specs.declared.visit.Unknown.TheVariants.{BeforeOldest, Gap, WithinBlock}
 use Rattle.lives.proofs.Places.{at_number}
@@ -23,12 +23,12 @@ abbrev IsOfHead : Result Kept Unknown → Type 0
 IsOfHead (Err WithinBlock) = ⊥
 IsOfHead _ = Unit {0}
 
-of_behind : (o : Option Block) → IsOfHead (behind o)
-of_behind None = tt
-of_behind (Some b) = tt
+of_kept_before_next : (o : Option Block) → IsOfHead (kept_before_next o)
+of_kept_before_next None = tt
+of_kept_before_next (Some b) = tt
 
-of_before : (slots : ℕ) (valids : ℕ → Option Valid) (from : ℕ) (later : Bool) → IsOfHead (if later then behind (block_at slots valids (from - 1)) else Err BeforeOldest)
-of_before slots valids from true = of_behind (block_at slots valids (from - 1))
+of_before : (slots : ℕ) (valids : ℕ → Option Valid) (from : ℕ) (later : Bool) → IsOfHead (if later then kept_before_next (block_at slots valids (from - 1)) else Err BeforeOldest)
+of_before slots valids from true = of_kept_before_next (block_at slots valids (from - 1))
 of_before slots valids from false = tt
 
 -- ---- what a life after a power-up hangs on
@@ -97,13 +97,13 @@ module _ (number event : ℕ) where
     -- what the head before the next number says, after so many numbers
     abbrev after_numbers : ℕ → ℕ → Result Kept Unknown → Result Kept Unknown
     after_numbers zero k before = before
-    after_numbers (suc m) k before = after_numbers m (suc k) (behind (block_at slots valids k))
+    after_numbers (suc m) k before = after_numbers m (suc k) (kept_before_next (block_at slots valids k))
 
-    after_some : (m k : ℕ) (before : Result Kept Unknown) → after_numbers (suc m) k before ≡ behind (block_at slots valids (k + m))
-    after_some zero k before = let same : k ≡ k + 0 = omega arith in ap (λ (n : ℕ). behind (block_at slots valids n)) same
+    after_some : (m k : ℕ) (before : Result Kept Unknown) → after_numbers (suc m) k before ≡ kept_before_next (block_at slots valids (k + m))
+    after_some zero k before = let same : k ≡ k + 0 = omega arith in ap (λ (n : ℕ). kept_before_next (block_at slots valids n)) same
     after_some (suc m) k before =
         let same : suc k + m ≡ k + suc m = omega arith in
-        after_some m (suc k) (behind (block_at slots valids k)) ∙ ap (λ (n : ℕ). behind (block_at slots valids n)) same
+        after_some m (suc k) (kept_before_next (block_at slots valids k)) ∙ ap (λ (n : ℕ). kept_before_next (block_at slots valids n)) same
 
     earlier : (m n k : ℕ) (before : Result Kept Unknown) (at : Option Lived) → k + m ≤ number
         → (life : Option Lived) × (later_life (up_to is (steps_from slots valids (m + n) k before)) at
@@ -115,7 +115,7 @@ module _ (number event : ℕ) where
     earlier (suc m) n k before at low =
         let size : suc m + n ≡ suc (m + n) = omega arith in
         let place : suc k + m ≡ k + suc m = omega arith in
-        let next : Result Kept Unknown = behind (block_at slots valids k) in
+        let next : Result Kept Unknown = kept_before_next (block_at slots valids k) in
         let other = (λ (b : Block) (is_there : block_at slots valids k ≡ Some b). (let mine : b.number ≡ k = own k b is_there in let e : (b.number == number) ≡ false = grind (arith, mine, low) in e)) in
         let it = earlier m n (suc k) next (later_life (slot_steps k before (block_at slots valids k)) at) (omega (arith, low)) in (
           it.0,
@@ -164,10 +164,10 @@ module _ (number event : ℕ) where
         let head : Result Kept Unknown = before_number slots valids 1 from in
         let later : nat_lt 1 from ≡ true = grind (arith, some) in
         let after : after_numbers (suc m) 1 (Err BeforeOldest) ≡ head =
-        after_some m 1 (Err BeforeOldest) ∙ ap (λ (i : ℕ). behind (block_at slots valids i)) prior
-        ∙ sym (ap (λ (b : Bool). if b then behind (block_at slots valids (from - 1)) else Err BeforeOldest) later) in
+        after_some m 1 (Err BeforeOldest) ∙ ap (λ (i : ℕ). kept_before_next (block_at slots valids i)) prior
+        ∙ sym (ap (λ (b : Bool). if b then kept_before_next (block_at slots valids (from - 1)) else Err BeforeOldest) later) in
         let it = earlier (suc m) (suc n) 1 (Err BeforeOldest) None low in
-        let anyhow = fresh_slot from head (block_at slots valids from) (steps_from slots valids n (suc from) (behind (block_at slots valids from))) it.0 begins (of_before slots valids from (nat_lt 1 from)) in
+        let anyhow = fresh_slot from head (block_at slots valids from) (steps_from slots valids n (suc from) (kept_before_next (block_at slots valids from))) it.0 begins (of_before slots valids from (nat_lt 1 from)) in
         ap (λ (i : ℕ). later_life (up_to is (steps_from slots valids i from head)) None) left
         ∙ sym anyhow
         ∙ sym (ap (λ (b : Result Kept Unknown). later_life (up_to is (steps_from slots valids (suc n) from b)) it.0) after)

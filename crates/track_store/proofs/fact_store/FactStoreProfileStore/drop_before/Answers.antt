@@ -2,7 +2,7 @@ use Rattle.std.proofs.Common.{◌<◌, ◌≤◌, ◌≡◌, length, get_or, ap,
 use Rattle.track_store.specs.Facts.{from_mark}
 use Rattle.track_store.specs.Remembered.{forgotten, value_remembered, Listed}
 use Rattle.track_store.proofs.Forgetting.{one_changed, all_changed, all_forgotten}
-use Rattle.track_store.proofs.fact_store.FactStoreProfileStore.drop_behind.Goals as goal
+use Rattle.track_store.proofs.fact_store.FactStoreProfileStore.drop_before.Goals as goal
 
 pub loop-fact-preserved : goal.loop-fact-preserved
 loop-fact-preserved g c =

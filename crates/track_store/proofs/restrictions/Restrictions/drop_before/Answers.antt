@@ -2,7 +2,7 @@ use Rattle.std.proofs.Common.{◌≤ℤ◌, ◌∙◌, ap, subst, arith, ℤ}
 use Rattle.std.proofs.lemmas.Int.{ints}
 use Rattle.track_store.specs.Restrictions.{Held}
 use Rattle.track_store.proofs.Standing.{one_mark, same_mark}
-use Rattle.track_store.proofs.restrictions.Restrictions.drop_behind.Goals as goal
+use Rattle.track_store.proofs.restrictions.Restrictions.drop_before.Goals as goal
 
 pub returns-then-lt-clause-track : goal.returns-then-lt-clause-track
 returns-then-lt-clause-track c entries is =

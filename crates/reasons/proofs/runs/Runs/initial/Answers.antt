@@ -1,6 +1,6 @@
 use Rattle.std.proofs.Common.{◌∙◌}
 use Rattle.reasons.specs.Runs.{no_runs, runs_held}
-use Rattle.reasons.proofs.runs.Runs.begun.Goals as goal
+use Rattle.reasons.proofs.runs.Runs.initial.Goals as goal
 
 pub returns : goal.returns
 returns c story word held number = c.held.ensures ∙ (λ i. runs_held no_runs (held i) (number i))

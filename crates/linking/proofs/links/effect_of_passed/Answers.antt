@@ -2,7 +2,7 @@ use Rattle.std.proofs.Common.{sym, ◌∙◌}
 use Rattle.linking.specs.Linking.{is_passed_by}
 use Rattle.std.proofs.lemmas.List.{at_drop_all}
 use Rattle.linking.proofs.Missing.{counted, counted_is}
-use Rattle.linking.proofs.links.effect_behind.Goals as goal
+use Rattle.linking.proofs.links.effect_of_passed.Goals as goal
 
 pub returns : goal.returns
 returns c =

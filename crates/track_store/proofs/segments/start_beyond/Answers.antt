@@ -2,7 +2,7 @@ use Rattle.std.proofs.Common.{◌≡◌, ◌<◌, ◌≤◌, ltb-true, ltb-false
 use Rattle.std.specs.Prelude.{None, Some}
 use Rattle.track_store.specs.declared.segments.Segment.{Segment}
 use Rattle.track_store.proofs.Searching.{first_among, none_among}
-use Rattle.track_store.proofs.segments.start_behind.Goals as goal
+use Rattle.track_store.proofs.segments.start_beyond.Goals as goal
 
 pub returns-in_err-next : goal.returns-in_err-next
 returns-in_err-next g c place s =

@@ -1,6 +1,6 @@
 use Rattle.std.proofs.Common.{◌≡◌, ◌++◌, map, take, drop}
 use Rattle.track_store.specs.Remembered.{forgotten}
-use Rattle.track_store.proofs.fact_store.FactStoreProfileStore.drop_behind.Given as goal
+use Rattle.track_store.proofs.fact_store.FactStoreProfileStore.drop_before.Given as goal
 
 -- those that were passed are forgotten
 abbrev pub invariant-loop-fact : goal.invariant-loop-fact

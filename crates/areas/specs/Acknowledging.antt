@@ -31,7 +31,7 @@ line was_nothing was_asked was_done was_owed state.Done = was_done
 line was_nothing was_asked was_done was_owed (state.Owed since) = was_owed
 
 abbrev pub table : Happening → Acknowledgement → Next
--- in each line, by what it was before: Nothing, Asked, Done, Owed
+-- in each line, by what it was before: Nothing, Requested, Done, Owed
 table Happening.Acknowledged = line Next.Same Next.Done Next.Same Next.Nothing  -- 5.7, 5.9, 5.10
 table (Happening.Entered now) = line (Next.Owed now) (Next.Owed now) Next.Nothing (Next.Owed now)  -- 5.7, 5.9, 5.10
 table Happening.Requested = line Next.Requested Next.Same Next.Same Next.Same  -- 5.7, 5.9, 5.10

@@ -51,7 +51,7 @@ impl Acknowledgement {
         };
     }
 
-    /// An area or an announcement of the kind asks for it: from Nothing it becomes Asked.
+    /// An area or an announcement of the kind asks for it: from Nothing it becomes Requested.
     pub fn ask(&mut self)
         ensures { self.new ≡ after Happening.Requested self.old }
     {

@@ -143,7 +143,7 @@ impl Assembler {
         self.join(reading, whole);
     }
 
-    /// Whether the group being read is left at a path of the life, in centimetres: beyond 1,300 cm beyond its last
+    /// Whether the group being read is left at a path of the life, in centimetres: more than 1,300 cm beyond its last
     /// telegram. While it isn't, `moved` answers None and changes nothing; its answer has room for a whole message, so
     /// who asks at each movement asks this first.
     pub fn is_leaving(&self, path: Length) -> bool

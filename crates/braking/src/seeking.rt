@@ -64,7 +64,13 @@ fn sought<P: Profile<Permille>>(
     };
     let mut last = Stretch::before(sum, gradient, brakes.deceleration, start, 0);
     while is_too_fast(front, limit, target, brakes, &last.initial) {
-        last = Stretch::before(&last.initial, gradient, brakes.deceleration, start, last.near);
+        last = Stretch::before(
+            &last.initial,
+            gradient,
+            brakes.deceleration,
+            start,
+            last.near,
+        );
     }
     let low = root(target.speed, last.sum.taken_off, limit, least);
     let high = root(target.speed, last.initial.taken_off, limit, low);

@@ -73,13 +73,13 @@ pub fn summed_before<P: Profile<Permille>>(
 {
     let place = target.place;
     let start = brakes_act(front, reaction_way(brakes.reaction, speed), place)?;
-    let initial = if start <= summed.from && summed.to <= place {
+    let from_start = if start <= summed.from && summed.to <= place {
         summed.initial(gradient, brakes.deceleration, start)
     } else {
         Summed::none(start)
     };
     let enough = lacking(speed, target.speed);
-    Some(initial.gone_on(gradient, brakes.deceleration, place, enough))
+    Some(from_start.gone_on(gradient, brakes.deceleration, place, enough))
 }
 
 /// Whether a train comes to a stop within what is summed, from a speed in metres per hour, with its maximum safe front

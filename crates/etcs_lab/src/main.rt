@@ -1,4 +1,4 @@
-//! The program `etcs_lab`: reports an investigator what an image of a journal holds, what of it is lost, and whether the
+//! The program `etcs_lab`: prints what an image of a journal holds, what of it is lost, and whether the
 //! kernel answers so; and a laboratory what a telegram carries, and how one is written.
 #![tactic(auto)]
 

@@ -29,6 +29,6 @@ pub use laws::{
     trips_have_causes,
 };
 pub use mode_control::TripCause;
-pub use showing::{Acknowledgements, Motion, DisplayValues, Waiting};
+pub use showing::{Acknowledgements, DisplayValues, Motion, Waiting};
 pub use state::{State, StateOver};
 pub use steps::step;

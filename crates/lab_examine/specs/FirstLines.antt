@@ -20,7 +20,7 @@ some_if false slots = None
 abbrev pub slots_by_size : ℕ → Option ℕ
 slots_by_size sectors = some_if (is_size sectors ((sectors - 1) / 6)) ((sectors - 1) / 6)
 
--- the first sector says the slots that the image is read to have, and its size is theirs
+-- the first sector has the number of slots that the image is read with, and its size is theirs
 abbrev pub is_plain : FirstSector → Option ℕ → Option ℕ → Bool
 is_plain Missing slots by_size = false
 is_plain (Unreadable fault) slots by_size = false

@@ -33,7 +33,7 @@ fn slots_by_size(sectors: u64) -> Option<u64>
     some_if(is_size(sectors, slots), slots)
 }
 
-// Whether the first sector says the slots that the image is read to have, and its size is theirs.
+// Whether the first sector has the number of slots that the image is read with, and its size is theirs.
 fn is_plain(seen: FirstSector, slots: Option<u64>, by_size: Option<u64>) -> bool
     ensures { result ≡ is_plain seen slots by_size }
 {

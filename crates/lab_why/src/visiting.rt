@@ -7,7 +7,9 @@ ghost use Rattle.text_output.specs.declared.piece.Form.{Form as a_form};
 ghost use Rattle.reasons.specs.Reported.{Reasons};
 ghost use Rattle.lab_why.specs.Courses.{line_at, lost_in, AddsLine, Follows, Begins, Describes, AddsStep};
 
-use crate::course::{Course, Explanation, begin_after, finish, has_line, leave_out, pass_gap, shown_in};
+use crate::course::{
+    Course, Explanation, begin_after, finish, has_line, leave_out, pass_gap, shown_in,
+};
 use crate::lines::{description_of, write_line};
 use crate::played::answer_in;
 use blocks::Block;

@@ -54,7 +54,14 @@ fn describe_read(
         fate: fate_of(packet, mode, direction, is_after_infill),
     });
     let is_after_infill = is_after_infill || number == INFILL;
-    describe_read(others, mode, direction, is_after_infill, start + length, reported);
+    describe_read(
+        others,
+        mode,
+        direction,
+        is_after_infill,
+        start + length,
+        reported,
+    );
 }
 
 /// Reports the packets of a telegram that is refused.

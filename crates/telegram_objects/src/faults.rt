@@ -1,4 +1,4 @@
-//! Why an object says no telegram, and at which place.
+//! Why an object is no telegram, and at which place.
 
 use crate::repeated::RepeatedName;
 use arrayvec::ArrayVec;
@@ -126,7 +126,7 @@ impl fmt::Display for Ranges {
     }
 }
 
-/// Why an object says no telegram.
+/// Why an object is no telegram.
 #[derive(Drop)]
 pub enum Reason {
     /// The bytes are no JSON value: line and column where that was seen.
@@ -164,7 +164,7 @@ impl fmt::Display for Reason {
     }
 }
 
-/// Why an object says no telegram, and at which place.
+/// Why an object is no telegram, and at which place.
 #[derive(Drop)]
 pub struct ObjectFault {
     /// The first place that has a fault.

@@ -1,4 +1,4 @@
-//! The first fault of an object that says no telegram, in the object's order, the header before the packets.
+//! The first fault of an object that is no telegram, in the object's order, the header before the packets.
 
 use crate::drafts::MOST_BITS;
 use crate::faults::{ObjectFault, Place, Ranges, Reason};
@@ -44,7 +44,7 @@ fn test_object(object: &Value) -> Result<(), ObjectFault> {
     Ok(())
 }
 
-/// The first fault of an object that says no telegram.
+/// The first fault of an object that is no telegram.
 pub(crate) fn fault_of(object: &Value) -> ObjectFault {
     match test_object(object) {
         Ok(()) => ObjectFault::new(Place::Whole, Reason::Wants("a telegram")),

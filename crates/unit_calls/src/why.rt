@@ -11,7 +11,7 @@ use crate::outputs::{EtcsOutput, output_reported};
 use braking::Target;
 use c_numbers::{flag, limit_number, or_zero, place_or_zero};
 use driver::OverrideLeft;
-use kernel::{BrakeCause, BrakeCauses, Motion, DisplayValues, State, Waiting};
+use kernel::{BrakeCause, BrakeCauses, DisplayValues, Motion, State, Waiting};
 use reasons::{LimitReport, limit_reported};
 use speed_supervision::{LimitCause, SpeedCause};
 use units::{Cm, Mph};

@@ -75,7 +75,7 @@ impl Cm {
         Cm::new(self.cm - other.cm)
     }
 
-    /// The place so far ahead. The caller owes a place so far within the limits that any `Reach` from it is a `Cm`.
+    /// The place `by` ahead. The caller owes a place so far within the limits that any `Reach` from it is a `Cm`.
     pub fn ahead(self, by: Reach) -> Cm
         requires { HasReach self }
         ensures value { result ≡ self +ℤ pos by }
@@ -84,7 +84,7 @@ impl Cm {
         Cm::new(self.cm + i64::from(by.get())).unwrap()
     }
 
-    /// The place so far after. The caller owes a place so far within the limits that any `Reach` from it is a `Cm`.
+    /// The place `by` back. The caller owes a place so far within the limits that any `Reach` from it is a `Cm`.
     pub fn back(self, by: Reach) -> Cm
         requires { HasReach self }
         ensures { result ≡ self -ℤ pos by }

@@ -22,8 +22,8 @@ returns-clause-sum g c =
     let gradient = g.P.Profile.value c.args.gradient.now in
     let sum = c.gone_on.result in
     let begins : sum.from ≡ c.in_ok-start.start = elim c.if-le.branch [
-      | then-le+then-le-2 w ↦ omega (arith, ints, c.gone_on.ensures.from, ap (λ (s : Summed). s.from) w.initial-is, w.initial-initial.ensures.from)
-      | else-le w ↦ omega (arith, ints, c.gone_on.ensures.from, ap (λ (s : Summed). s.from) w.initial-is, w.none-initial.ensures.from)
+      | then-le+then-le-2 w ↦ omega (arith, ints, c.gone_on.ensures.from, ap (λ (s : Summed). s.from) w.from_start-is, w.initial-from_start.ensures.from)
+      | else-le w ↦ omega (arith, ints, c.gone_on.ensures.from, ap (λ (s : Summed). s.from) w.from_start-is, w.none-from_start.ensures.from)
     ] in
     record {
       summed = c.gone_on.ensures.summed;

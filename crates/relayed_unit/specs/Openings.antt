@@ -1,12 +1,14 @@
 -- A power-up that is under way over a medium that isn't copied (this project's profile). Sectors have 512 bytes and are
 -- numbered from 0.
-use Rattle.std.specs.Prelude.{◌≡◌, ℕ, ◌<◌, ◌≤◌, Bool, true, false, List, Option, Some, None, IfSome}
+use Rattle.std.specs.Prelude.{◌≡◌, ℕ, ◌+◌, ◌-◌, ◌/◌, ◌<◌, ◌≤◌, true, false, List, length, Option, Some, None, IfSome}
 use Rattle.blocks.specs.FirstSector.{sectors_of}
 use Rattle.disk.specs.State.{State, contents_of, Touches, IsSynced}
 use Rattle.journal.specs.UnderWay.{IsUnderWay}
 use Rattle.mode_table.specs.declared.statuses.Cold.{Cold}
+use Rattle.request_disk.specs.Handed.{is_one_of, handed_last}
 use Rattle.request_disk.specs.Requesting.{Requesting, nothing_of, request_state, request_reserve, knows}
 use Rattle.ring.specs.ScanState.{ScanState}
+use Rattle.relayed_unit.specs.Needs.{needed, needed_later}
 
 -- The disk that hands out its requests, what was found of the slots (None before the first sector was read), and the word
 -- on movements without power that was handed in.
@@ -27,10 +29,10 @@ medium_state medium sectors = request_state (nothing_of medium sectors)
 abbrev pub IsSized : ℕ → Option ScanState → Type 0
 IsSized sectors scan = IfSome scan (λ it. sectors ≡ sectors_of it.slots)
 
--- whether slots are left
-pub record IsLeft (more : Bool) (scan : ScanState) : Type 0 where
-  pub some : more ≡ true → scan.next < scan.slots
-  pub none : more ≡ false → scan.next ≡ scan.slots
+-- so many slots were looked at
+pub record IsLooked (slots : ℕ) (scan : ScanState) : Type 0 where
+  pub looked : scan.next ≡ slots
+  pub order : scan.next ≤ scan.slots
 
 -- There is room for what is to come: a power-up takes ten units, and the sync before it one.
 abbrev pub HasUnits : Option ScanState → ℕ → Type 0
@@ -38,16 +40,17 @@ HasUnits None units = 11 < units
 HasUnits (Some scan) units = 10 < units
 
 -- it can go on on this disk, from what was found of the slots
-pub record CanGoOn (disk : Requesting) (scan : Option ScanState) (more : Bool) : Type 0 where
+pub record CanGoOn (disk : Requesting) (scan : Option ScanState) (slots : ℕ) : Type 0 where
   pub size : IsSized disk.sectors scan
-  pub left : IfSome scan (IsLeft more)
+  pub looked : IfSome scan (IsLooked slots)
   pub units : HasUnits scan (request_reserve disk)
 
--- what was found of the slots goes on from there: it is of the same slots, and of no fewer of them
+-- what was found of the slots goes on from there: it is of the same slots, and of no fewer of them, and where no slot more
+-- was looked at it is the same
 abbrev pub IsFurther : Option ScanState → Option ScanState → Type 0
 IsFurther None new = Unit {0}
 IsFurther (Some old) None = ⊥
-IsFurther (Some old) (Some new) = (new.slots ≡ old.slots) × (old.next ≤ new.next)
+IsFurther (Some old) (Some new) = (new.slots ≡ old.slots) × (old.next ≤ new.next) × (new.next ≡ old.next → new ≡ old)
 
 -- what was found of the slots so far is what this image has
 abbrev pub IsFoundOf : ℕ → (ℕ → List ℕ) → Option ScanState → Type 0
@@ -61,8 +64,18 @@ pub record IsGoing (medium : List ℕ) (o : Opening) : Type 0 where
   pub synced : IsSynced (request_state o.disk)
   pub found : IsFoundOf o.disk.sectors (contents_of (medium_state medium o.disk.sectors)) o.scan
 
--- it wants this sector: one that the medium has, and that isn't known
+-- it wants this sector: one of the next step, that the medium has, and that isn't known
 pub record IsWanted (o : Opening) (s : ℕ) : Type 0 where
   pub reported : o.disk.wanted ≡ Some s
+  pub needed : is_one_of (needed o.scan) s ≡ true
   pub below : s < o.disk.sectors
   pub unknown : knows s o.disk ≡ false
+
+-- how many slots a medium of so many sectors has
+abbrev pub slots_in : ℕ → ℕ
+slots_in sectors = (sectors - 1) / 6
+
+-- How many sectors it wants at most, until it is open or refused: those of the next step that weren't handed in last, and
+-- those of the steps after it.
+abbrev pub still_needed : Opening → ℕ
+still_needed o = (length (needed o.scan) - handed_last (needed o.scan) o.disk.known) + needed_later (slots_in o.disk.sectors) o.scan

@@ -1,3 +1,4 @@
+pub mod Handed
 pub mod Held
 pub mod Known
 pub mod Lent

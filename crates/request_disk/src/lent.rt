@@ -1,18 +1,22 @@
-//! The disk, lent for reading alone.
-ghost use Rattle.std.specs.Prelude.{◌≡◌, ◌+◌, ◌*◌, ◌/◌, ◌%◌, ◌^◌, ◌<◌, length, true, Some, None, OnOk, OnErr, is_err};
+//! The disk, lent for reading some of its sectors.
+ghost use Rattle.std.specs.Prelude.{◌≡◌, ℕ, ◌+◌, ◌*◌, ◌/◌, ◌%◌, ◌^◌, ◌<◌, ◌≤◌, length, true, Some, None, IfErr, IfSome, OnOk, OnErr, is_err};
 ghost use Rattle.disk.specs.State.{contents_of, AreSectors, Counted, Touches, Holds, AreOpen, OpenOrSame, SameOpenOutside, SameOpen, IsSynced};
 ghost use Rattle.disk.specs.Reserve.{Spends};
 ghost use Rattle.request_disk.specs.Lent.{lent_state};
 
 use crate::requesting::RequestDisk;
-use disk::{Disk, DiskFault, WriteDisk};
+use disk::{Disk, DiskFault, SECTOR_BYTES, WriteDisk};
 use std::marker::Model;
 
-/// A disk that is lent for reading alone: a read of a sector that isn't known answers DiskFault, and wants it here, so
-/// that the disk beneath stays as it is. Each write fails.
+/// A disk of which some sectors are lent for reading: a read of one of them that isn't known answers DiskFault, and wants
+/// it here, so that the disk beneath stays as it is. A sector that wasn't lent, and isn't known, reads as zeros: a call is
+/// lent the sectors that it needs, and what it says is said of these. Each write fails.
 #[derive(Drop)]
 pub struct LentDisk<'a> {
     disk: &'a RequestDisk,
+    // The first sector that is lent, and how many are.
+    first: u64,
+    count: u64,
     faults: u64,
     wanted: Option<u64>,
     // The first sector of the first write that was tried.
@@ -24,35 +28,46 @@ impl<'a> Model for LentDisk<'a> {
 
     ghost Value = { Lent };
 
-    ghost view = { λ r. record { disk = r.disk.now; faults = r.faults; wanted = r.wanted; tried = r.tried } };
+    ghost view = { λ r. record { disk = r.disk.now; first = r.first; count = r.count; faults = r.faults; wanted = r.wanted; tried = r.tried } };
 
-    ghost invariant = { λ r. DescribesMissing (record { disk = r.disk.now; faults = r.faults; wanted = r.wanted; tried = r.tried }) };
+    ghost invariant = { λ r. DescribesMissing (record { disk = r.disk.now; first = r.first; count = r.count; faults = r.faults; wanted = r.wanted; tried = r.tried }) };
 }
 
 impl<'a> LentDisk<'a> {
-    ghost use Rattle.request_disk.specs.Lent.{lent_of, WantsMissing};
+    ghost use Rattle.request_disk.specs.Lent.{lent_of, is_lent, lent_contents, WantsMissing, IsMissing};
     ghost use Rattle.request_disk.specs.Requesting.{Requesting};
 
-    /// Lends a disk.
-    pub fn of(disk: &'a RequestDisk) -> LentDisk<'a>
-        ensures { result ≡ lent_of disk.now }
+    /// Lends so many sectors of a disk, from `first` on.
+    pub fn of(disk: &'a RequestDisk, first: u64, count: u64) -> LentDisk<'a>
+        ensures { result ≡ lent_of disk.now first count }
     {
         LentDisk {
             disk,
+            first,
+            count,
             faults: 0,
             wanted: None,
             tried: None,
         }
     }
 
-    /// The sector that the last read wanted that failed. Where calls that only read failed since a disk was lent, it is
-    /// one that the disk has, and that isn't known.
+    /// The sector that the last read wanted that failed. Where calls that only read failed since sectors were lent, it is
+    /// one of them that the disk has, and that isn't known.
     pub fn wanted(&self) -> Option<u64>
         ensures exact { result ≡ self.now.wanted }
-        ensures missing { (disk : Requesting) → Counted true (lent_state (lent_of disk)) (lent_state self.now) →
-            Touches 0 0 (lent_state (lent_of disk)) (lent_state self.now) → WantsMissing disk result }
+        ensures missing { (disk : Requesting) (first count : ℕ) →
+            Counted true (lent_state (lent_of disk first count)) (lent_state self.now) →
+            Touches 0 0 (lent_state (lent_of disk first count)) (lent_state self.now) →
+            WantsMissing disk first count result }
     {
         self.wanted
+    }
+
+    // Whether a sector was lent.
+    fn lends(&self, sector: u64) -> bool
+        ensures { result ≡ is_lent self.now.first self.now.count sector }
+    {
+        sector >= self.first && sector - self.first < self.count
     }
 
     // Counts a failure.
@@ -62,6 +77,45 @@ impl<'a> LentDisk<'a> {
     {
         self.faults = self.faults.wrapping_add(1);
         DiskFault
+    }
+
+    // What it holds of a sector, None where a read of it fails.
+    fn held(&self, sector: u64) -> Option<&[u8]>
+        requires { sector < self.now.disk.sectors }
+        ensures size { IfSome result (λ bytes. length bytes.now ≡ 512) }
+        ensures bytes { IfSome result (λ bytes.
+            bytes.now ≡ lent_contents self.now.disk self.now.first self.now.count sector) }
+        ensures missing { result ≡ None → IsMissing self.now.disk self.now.first self.now.count sector }
+    {
+        match self.disk.sector(sector) {
+            Some(bytes) => Some(bytes),
+            None => {
+                if self.lends(sector) {
+                    return None;
+                }
+                Some(&[0; SECTOR_BYTES])
+            }
+        }
+    }
+
+    // What it holds of these sectors; else one of them at which a read fails.
+    fn copy(&self, first: u64, out: &mut [u8]) -> Result<(), u64>
+        requires whole { length out.old % 512 ≡ 0 }
+        requires within { 512 * first + length out.old ≤ 512 * self.now.disk.sectors }
+        ensures bytes { OnOk result (Holds (lent_contents self.now.disk self.now.first self.now.count) first out.new) }
+        ensures missing { IfErr result (IsMissing self.now.disk self.now.first self.now.count) }
+    {
+        // That a sector's number fits its type.
+        let _sectors = self.disk.sectors();
+        for i in 0..out.len() / SECTOR_BYTES {
+            let at = SECTOR_BYTES * i;
+            let sector = first + i as u64;
+            match self.held(sector) {
+                Some(bytes) => out[at..at + SECTOR_BYTES].copy_from_slice(bytes),
+                None => return Err(sector),
+            }
+        }
+        Ok(())
     }
 }
 
@@ -108,8 +162,6 @@ impl<'a> WriteDisk for LentDisk<'a> {
 }
 
 impl<'a> Disk for LentDisk<'a> {
-    ghost use Rattle.request_disk.specs.Requesting.{KnowsAll};
-
     fn read(&mut self, first: u64, bytes: &mut [u8]) -> Result<(), DiskFault>
         requires { AreSectors first (length bytes.old) (lent_state self.old).sectors }
         ensures counted { Counted (is_err result) (lent_state self.old) (lent_state self.new) }
@@ -117,11 +169,8 @@ impl<'a> Disk for LentDisk<'a> {
         ensures moments { Touches 0 0 (lent_state self.old) (lent_state self.new) }
         ensures same_open { SameOpen (lent_state self.old) (lent_state self.new) }
         ensures bytes { OnOk result (Holds (contents_of (lent_state self.old)) first bytes.new) }
-
-        // It succeeds exactly where all sectors are known.
-        ensures known { OnOk result (KnowsAll first (length bytes.old) self.old.disk) }
     {
-        match self.disk.copy(first, bytes) {
+        match self.copy(first, bytes) {
             Ok(()) => Ok(()),
             Err(sector) => {
                 self.wanted = Some(sector);

@@ -1,12 +1,12 @@
 -- What going on with a power-up leaves in its handle and in that of the unit (this project's profile).
-use Rattle.std.specs.Prelude.{◌≡◌, ◌⊎◌, ℕ, ◌<◌, List, [], Option, Some, None, Result, Ok, Err, IfOk, IfErr, IfSome, MatchResult, false}
+use Rattle.std.specs.Prelude.{◌≡◌, ◌⊎◌, ℕ, ◌<◌, ◌≤◌, List, [], Option, Some, None, Result, Ok, Err, IfOk, IfErr, IfSome, MatchResult, false}
 use Rattle.disk.specs.State.{contents_of}
 use Rattle.unit_start.specs.Answers.{is_device}
 use Rattle.unit_start.specs.Lives.{IsOpenRefusal, HasNoCause}
 use Rattle.unit_start.specs.declared.errors.OpenError.{OpenError}
 use Rattle.unit_start.specs.declared.errors.OpenError.TheVariants as an_open
 use Rattle.relayed_unit.specs.Goings.{OnWants, OnOpen}
-use Rattle.relayed_unit.specs.Openings.{Opening, medium_state, IsGoing, IsWanted, IsFurther}
+use Rattle.relayed_unit.specs.Openings.{Opening, medium_state, still_needed, IsGoing, IsWanted, IsFurther}
 use Rattle.relayed_unit.specs.Relayed.{WantsNothing}
 use Rattle.relayed_unit.specs.declared.powering_up.Going.{Going}
 use Rattle.relayed_unit.specs.declared.powering_up.Going.TheVariants as a_going
@@ -18,11 +18,13 @@ use Rattle.unit_calls.specs.declared.status.Status.TheVariants as a_status
 
 -- what `UnitOpening::go_on` promises of an answer
 pub record IsGoneOn (before : Opening) (reported : Result Going OpenError) : Type 0 where
-  -- a sector is wanted that the medium has, and that isn't known
+  -- a sector of the next step is wanted, that the medium has, and that isn't known
   pub wanted : IfOk reported (λ g. OnWants g (λ it. (s : ℕ) × IsWanted it s))
   -- it goes on over the same medium
   pub going : (medium : List ℕ) → IsGoing medium before → IfOk reported (λ g. OnWants g (IsGoing medium))
   pub same : IfOk reported (λ g. OnWants g (λ it. (it.disk.sectors ≡ before.disk.sectors) × (it.cold ≡ before.cold)))
+  -- while a sector is wanted some are needed, and no more of them than before
+  pub nearer : IfOk reported (λ g. OnWants g (λ it. (0 < still_needed it) × (still_needed it ≤ still_needed before)))
   -- what was found of the slots is never given up
   pub further : IfOk reported (λ g. OnWants g (λ it. IsFurther before.scan it.scan))
   -- nothing is pending, there is no moment yet, and no flush failed

@@ -1,11 +1,11 @@
 -- What the calls do to what the handle of a power-up holds (this project's profile): None where none is under way. Sectors
 -- have 512 bytes and are numbered from 0.
-use Rattle.std.specs.Prelude.{◌≡◌, ℕ, ◌==◌, ◌&&◌, nat_lt, true, List, length, Option, Some, None, MatchOption}
+use Rattle.std.specs.Prelude.{◌≡◌, ℕ, ◌<◌, ◌==◌, ◌&&◌, nat_lt, true, List, length, Option, Some, None, MatchOption}
 use Rattle.disk.specs.State.{sector_of}
 use Rattle.c_numbers.specs.Numbers.{this_abi}
 use Rattle.mode_table.specs.declared.statuses.Cold.{Cold}
 use Rattle.request_disk.specs.Requesting.{knows, with_sector}
-use Rattle.relayed_unit.specs.Openings.{Opening, initial, IsGoing}
+use Rattle.relayed_unit.specs.Openings.{Opening, initial, still_needed, IsGoing, IsWanted}
 use Rattle.unit_calls.specs.Requests.{Where}
 use Rattle.unit_calls.specs.Words.{word_by}
 use Rattle.unit_calls.specs.declared.status.Status.{Status}
@@ -59,6 +59,8 @@ pub record IsProvided (sector : ℕ) (bytes : List ℕ) (before after : Opening)
   pub exact : after ≡ record before { disk = with_sector sector bytes before.disk }
   -- the sector is known then
   pub known : knows sector after.disk ≡ true
+  -- where it is the sector that is wanted, fewer are needed then
+  pub nearer : IsWanted before sector → still_needed after < still_needed before
   -- where its bytes are what the medium holds, it is under way over that medium as before
   pub going : (medium : List ℕ) → IsGoing medium before → bytes ≡ sector_of medium sector → IsGoing medium after
 

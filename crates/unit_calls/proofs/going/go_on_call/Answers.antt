@@ -13,6 +13,7 @@ returns c =
       wanted = e.wanted;
       going = e.going;
       same = e.same;
+      nearer = e.nearer;
       further = e.further;
       fresh_unit = e.fresh_unit;
       wants_nothing = e.wants_nothing;

@@ -13,5 +13,6 @@ returns-then-provide c =
       exact = c.provide.ensures.exact c.if-provide.true
           ∙ ap (λ (bytes : List ℕ). record before { disk = with_sector c.args.sector bytes before.disk }) chunk.same;
       known = c.provide.ensures.known c.if-provide.true;
+      nearer = c.provide.ensures.nearer;
       going = λ medium going is. c.provide.ensures.going medium going (chunk.same ∙ is);
     })

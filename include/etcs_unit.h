@@ -72,7 +72,7 @@
  *   medium holds then, of which each request that was said to be done was carried out, and nobody but this unit writes
  *   there while it, or its opening, is open;
  * - requests are carried out in their order, each whole before the next one, and are said to be done only then;
- * - the word on movements without power is true (ETCS_COLD_UNKNOWN in doubt).
+ * - the value on movements without power is true (ETCS_COLD_UNKNOWN in doubt, and where a unit is opened after a fault).
  *
  * A unit is for one call at a time. It may be handed from one task to another, as from the one that opens it to a cyclic
  * one, where a lock (or a queue, or the start of the task) orders their calls: the library keeps nothing except its units

@@ -10,9 +10,11 @@
  * gets outputs:
  *
  *     etcs_unit unit = {0};
- *     etcs_unit_output outputs[ETCS_UNIT_OUTPUTS], command = {0};
+ *     etcs_unit_output outputs[ETCS_UNIT_OUTPUTS];
+ *     etcs_unit_output command = {0, 0, ETCS_STAND_BY, ETCS_LEVEL_INVALID, ETCS_BRAKE_EMERGENCY, ETCS_SHOWS_NOT_REVALIDATED};
  *     uint32_t count;
  *
+ *     obey(&command);
  *     if (etcs_unit_open(&unit, image, size, ETCS_COLD_UNKNOWN) != ETCS_UNIT_OK || !carry_out(&unit)
  *         || etcs_unit_release(&unit, outputs, ETCS_UNIT_OUTPUTS, &count) != ETCS_UNIT_OK) {
  *         brake();
@@ -31,7 +33,8 @@
  *     etcs_unit_close(&unit);
  *
  * where carry_out takes request after request, 0 and on, until one answers ETCS_UNIT_NO_SUCH_REQUEST, and then calls
- * etcs_unit_done with their number, or etcs_unit_fail where the medium failed. etcs_file.h has one for a POSIX file.
+ * etcs_unit_done with their number, or etcs_unit_fail where the medium failed. etcs_file.h has one for a POSIX file. The
+ * release of a power-up hands out no output: until the first one, obey the emergency brake, with which `command` begins.
  *
  * A unit that holds no copy of its medium takes as much memory whatever the medium's size. It is powered up in steps, each
  * as far as sectors are known; the maker reads the sector that is wanted, and hands it in:
@@ -54,8 +57,9 @@
  * handed in by etcs_unit_provide, and etcs_unit_prepare is called again. All else is as over a copy.
  *
  * ANY ANSWER BUT ETCS_UNIT_OK MEANS THE EMERGENCY BRAKE, unless it is a mistake that is put right before the next
- * output is due: etcs_status_classify sorts the answers. A compiler warns where such an answer is dropped
- * (ETCS_MUST_USE); gcc does so even after a cast to void. An output reaches the train from etcs_unit_release alone.
+ * output is due: etcs_status_classify sorts the answers. Hold that brake, whatever is released, until the unit was closed
+ * and opened again (docs/explain/integration.md, 13). A compiler warns where such an answer is dropped (ETCS_MUST_USE);
+ * gcc does so even after a cast to void. An output reaches the train only from etcs_unit_release.
  *
  * Every call returns, whatever numbers it is handed, and answers a number of enum etcs_unit_status. A null pointer is
  * answered with ETCS_UNIT_NULL_POINTER. What no call can test, the caller owes:
@@ -68,7 +72,7 @@
  *   medium holds then, of which each request that was said to be done was carried out, and nobody but this unit writes
  *   there while it, or its opening, is open;
  * - requests are carried out in their order, each whole before the next one, and are said to be done only then;
- * - the word on movements without power is true (ETCS_COLD_UNKNOWN in doubt).
+ * - the value on movements without power is true (ETCS_COLD_UNKNOWN in doubt, and where a unit is opened after a fault).
  *
  * A unit is for one call at a time. It may be handed from one task to another, as from the one that opens it to a cyclic
  * one, where a lock (or a queue, or the start of the task) orders their calls: the library keeps nothing except its units
@@ -692,9 +696,10 @@ static inline uint32_t etcs_status_classify(uint32_t status, uint32_t source) {
 }
 
 /** Powers up a unit on the bytes of its medium: `len` bytes, all of it, of which the unit keeps a copy. Call it after each
- * power-up. Then carry out the requests in the list, say that they are done, and release; no output is held back. Returns
- * OK, IS_OPEN, OTHER_ABI, OUT_OF_RANGE (`cold`), or a status of opening. After any answer but OK the unit is as before. It
- * takes memory for the copy, some 9 kB of requests, and the unit. */
+ * power-up, and after a failure. Then carry out the requests in the list, say that they are done, and release: that hands
+ * out no output, so obey the emergency brake until the next release. Returns OK, IS_OPEN, OTHER_ABI, OUT_OF_RANGE (`cold`),
+ * or a status of opening. After any answer but OK the unit is as before. It takes memory for the copy, some 9 kB of
+ * requests, and the unit. */
 ETCS_MUST_USE
 static inline uint32_t etcs_unit_open(etcs_unit *unit, const uint8_t *image, size_t len, uint32_t cold) {
     return ((unit != NULL) && (image != NULL)) ? etcs_unit_open_(unit, image, len, cold, ETCS_UNIT_ABI) : (uint32_t)ETCS_UNIT_NULL_POINTER;
@@ -826,8 +831,8 @@ static inline uint32_t etcs_unit_request(etcs_unit *unit, uint32_t index, etcs_u
     return ((unit != NULL) && (request != NULL) && (bytes != NULL)) ? etcs_unit_request_(unit, index, request, bytes, room) : (uint32_t)ETCS_UNIT_NULL_POINTER;
 }
 
-/** Reports that this many requests, from the first on, are carried out. Call it after the last one, or after each. Returns
- * OK, NOT_OPEN or WRONG_COUNT. */
+/** Reports that this many requests, counted from the first one of the list, are carried out. Call it after the last one
+ * with their number, or after each with 1, 2, and so on. Returns OK, NOT_OPEN or WRONG_COUNT. */
 ETCS_MUST_USE
 static inline uint32_t etcs_unit_done(etcs_unit *unit, uint32_t count) {
     return (unit != NULL) ? etcs_unit_done_(unit, count) : (uint32_t)ETCS_UNIT_NULL_POINTER;
@@ -859,7 +864,7 @@ static inline uint32_t etcs_unit_release(etcs_unit *unit, etcs_unit_output *outp
 /** Merges the outputs of one release into what the equipment obeys until the next one: the newest output, with the most
  * restrictive brake of them all (docs/explain/integration.md, 12). Call it after each release, with what that wrote. Answers OK, or
  * OUT_OF_RANGE where `count` is above ETCS_UNIT_OUTPUTS or a brake is none of enum etcs_brake; then, and where `count` is 0,
- * `command` stays as it was. */
+ * `command` stays as it was. So set it to the emergency brake before each opening, whose release has no output. */
 ETCS_MUST_USE
 static inline uint32_t etcs_unit_command(const etcs_unit_output *outputs, uint32_t count, etcs_unit_output *command) {
     uint32_t status = (uint32_t)ETCS_UNIT_NULL_POINTER;
@@ -887,9 +892,10 @@ static inline uint32_t etcs_unit_state(etcs_unit *unit, etcs_unit_state_info *st
 }
 
 /** Explains the newest released output, and gives what a display shows with it. Call it after a release; it takes no memory
- * and changes nothing. After the release of the opening it explains the power-up, whose output no release hands out. Since
- * when a cause holds, and why a trip was entered, etcs_image_why finds in the bytes of the medium. Returns OK, NOT_OPEN, or
- * NOT_RELEASED, exactly while an input is pending or requests aren't released; `why` is written only with OK. */
+ * and changes nothing. It doesn't explain a brake that etcs_unit_command took from an earlier output of the release. After
+ * the release of the opening it explains the power-up, whose output no release hands out. Since when a cause holds, and why
+ * a trip was entered, etcs_image_why finds in the bytes of the medium. Returns OK, NOT_OPEN, or NOT_RELEASED, exactly while
+ * an input is pending or requests aren't released; `why` is written only with OK. */
 static inline uint32_t etcs_unit_why(etcs_unit *unit, etcs_unit_why_info *why) {
     return ((unit != NULL) && (why != NULL)) ? etcs_unit_why_(unit, why) : (uint32_t)ETCS_UNIT_NULL_POINTER;
 }

@@ -17,8 +17,8 @@ enum { CYCLE_MS = 100, MOST_CYCLES = 2000, SLOTS = 64, SECTORS = 1 + 6 * SLOTS, 
  * the slots, it holds 16 sectors. */
 static _Alignas(16) uint8_t memory[ETCS_MEMORY_BYTES(0, 16, 32, 100, 100)];
 
-/* The medium: memory that keeps what it has where the board is reset. A driver of a flash stands in its place, by which a
- * sector is read before it is handed in. */
+/* The medium: memory that keeps what it has where the board is reset, and whose reads can't fail. Equipment has a driver of a
+ * flash in its place; examples/embedding/flash.c shows what to do where a read fails. */
 static uint8_t (*const medium)[ETCS_UNIT_SECTOR] = (uint8_t (*)[ETCS_UNIT_SECTOR])UINT64_C(0x4A000000);
 
 typedef struct {
@@ -125,7 +125,9 @@ static uint32_t format(void) {
     etcs_unit_request_info request;
     uint32_t index = 0, status;
     while ((status = etcs_unit_format_request(SLOTS, index, &request, bytes, sizeof bytes)) == ETCS_UNIT_OK) {
-        (void)carries_out(&request, bytes);
+        if (carries_out(&request, bytes) == 0) {
+            return ETCS_UNIT_FAILED;
+        }
         index++;
     }
     return (status == ETCS_UNIT_NO_SUCH_REQUEST) ? (uint32_t)ETCS_UNIT_OK : status;

@@ -1,7 +1,8 @@
-/* The journal on a flash after a driver of the maker's own, without a file and without memory of the C library's own use.
- * The unit holds no copy of it: the driver reads the sectors that are wanted.
+/* The journal on a flash, by a driver of the maker's own, without a file. The unit holds no copy of it: the driver reads the
+ * sectors that are wanted. Memory is that of malloc (libetcs_unit.a); examples/bare_metal has a static buffer.
  * Power is lost after each number of requests of a flush, and the next power-up goes on from what is on the flash: either
- * all of the batch is there, or nothing of it, and none of its outputs reached the train before all of it was.
+ * all of the batch is there, or nothing of it, and none of its outputs reached the train before all of it was. Then a read
+ * fails, in a flush and in a power-up.
  *
  *     flash */
 #include <inttypes.h>
@@ -10,7 +11,7 @@
 
 #include "etcs_unit.h"
 
-enum { SLOTS = 8, SECTORS = 1 + 6 * SLOTS, BATCH = 3, MOST_REQUESTS = 32 };
+enum { SLOTS = 32, SECTORS = 1 + 6 * SLOTS, BATCH = 3, MOST_REQUESTS = 32 };
 
 /* ---- the driver */
 
@@ -28,8 +29,11 @@ static int has_power(void) {
     return 1;
 }
 
-static void flash_read(uint64_t sector, uint8_t *bytes) {
+static int flash_read(uint64_t sector, uint8_t *bytes) {
+    if (!has_power() || sector >= SECTORS)
+        return 0;
     memcpy(bytes, cells + sector * ETCS_UNIT_SECTOR, ETCS_UNIT_SECTOR);
+    return 1;
 }
 
 static int flash_write(uint64_t sector, const uint8_t *bytes, uint64_t sectors) {
@@ -80,7 +84,8 @@ static uint32_t release(etcs_unit *unit, etcs_unit_output *outputs, uint32_t *co
     return status == ETCS_UNIT_OK ? etcs_unit_release(unit, outputs, ETCS_UNIT_OUTPUTS, count) : status;
 }
 
-/* Goes on as far as it is known what the flash holds, and reads the sector that is wanted. */
+/* Goes on as far as it is known what the flash holds, and reads the sector that is wanted. Where that fails the opening is
+ * given up: no unit is open, and nothing was written. */
 static uint32_t open_by_sectors(etcs_unit *unit) {
     etcs_opening opening = {0};
     uint8_t bytes[ETCS_UNIT_SECTOR];
@@ -90,10 +95,8 @@ static uint32_t open_by_sectors(etcs_unit *unit) {
         return status;
     while ((status = etcs_opening_go_on(&opening, unit)) == ETCS_UNIT_SECTOR_WANTED) {
         status = etcs_opening_wanted(&opening, &sector);
-        if (status == ETCS_UNIT_OK) {
-            flash_read(sector, bytes);
-            status = etcs_opening_provide(&opening, sector, bytes, sizeof bytes);
-        }
+        if (status == ETCS_UNIT_OK)
+            status = flash_read(sector, bytes) ? etcs_opening_provide(&opening, sector, bytes, sizeof bytes) : (uint32_t)ETCS_UNIT_FAILED;
         if (status != ETCS_UNIT_OK)
             break;
     }
@@ -102,17 +105,20 @@ static uint32_t open_by_sectors(etcs_unit *unit) {
     return status;
 }
 
-/* The same of a flush: it has to be known whether the gate of the next slot is closed. */
+/* The same of a flush: it has to be known whether the gate of the next slot is closed. Where the read fails, the unit has
+ * failed, as after a write. */
 static uint32_t prepare(etcs_unit *unit) {
     uint8_t bytes[ETCS_UNIT_SECTOR];
     uint64_t sector;
     uint32_t status;
     while ((status = etcs_unit_prepare(unit)) == ETCS_UNIT_SECTOR_WANTED) {
         status = etcs_unit_wanted(unit, &sector);
-        if (status == ETCS_UNIT_OK) {
-            flash_read(sector, bytes);
-            status = etcs_unit_provide(unit, sector, bytes, sizeof bytes);
+        if (status == ETCS_UNIT_OK && !flash_read(sector, bytes)) {
+            etcs_unit_fail(unit);
+            return ETCS_UNIT_FAILED;
         }
+        if (status == ETCS_UNIT_OK)
+            status = etcs_unit_provide(unit, sector, bytes, sizeof bytes);
         if (status != ETCS_UNIT_OK)
             break;
     }
@@ -169,25 +175,59 @@ static uint32_t second_life(uint64_t *event) {
     return status == ETCS_UNIT_OK && count != 1 ? (uint32_t)ETCS_UNIT_FAILED : status;
 }
 
-int main(void) {
+/* Loses power after each number of requests of a flush, until none is left; 0 where something else comes than is expected. */
+static int loses_power(void) {
     for (int requests = 0; requests <= MOST_REQUESTS; requests++) {
         uint32_t released = 0;
         uint64_t event = 0;
         if (format() != ETCS_UNIT_NO_SUCH_REQUEST)
-            return 1;
+            return 0;
         const uint32_t answer = first_life(requests, &released);
         if (answer != ETCS_UNIT_OK && answer != ETCS_UNIT_FAILED)
-            return 1;
+            return 0;
         if (second_life(&event) != ETCS_UNIT_OK)
-            return 1;
+            return 0;
         /* events 0, 1 to BATCH, the second power-up, and then this one; or without the batch */
         const int is_there = event == BATCH + 2;
         if ((!is_there && event != 2) || (answer == ETCS_UNIT_OK && !is_there) || released != (answer == ETCS_UNIT_OK ? BATCH : 0))
-            return 1;
+            return 0;
         printf("power lost after %d requests: %" PRIu32 " outputs released; then %s of the batch on the flash\n", requests, released,
                is_there ? "all" : "nothing");
         if (answer == ETCS_UNIT_OK)
-            return 0;
+            return 1;
     }
+    return 0;
+}
+
+/* Flushes until a read is wanted, which fails; then closes the unit, and opens it again. */
+static int fails_to_read(void) {
+    etcs_unit unit = {0};
+    etcs_unit_output outputs[ETCS_UNIT_OUTPUTS];
+    uint32_t count, status = power_up(&unit);
+    for (uint64_t moment = 100; status == ETCS_UNIT_OK && moment <= 100 * SLOTS; moment += 100) {
+        status = etcs_unit_clock(&unit, moment);
+        calls_left = 0;
+        if (status == ETCS_UNIT_OK)
+            status = prepare(&unit);
+        calls_left = -1;
+        if (status == ETCS_UNIT_OK)
+            status = release(&unit, outputs, &count);
+    }
+    const uint32_t input = etcs_unit_clock(&unit, 100 * SLOTS + 100);
+    printf("a read failed in a flush: prepare %s, the next input %s\n", etcs_status_name(status), etcs_status_name(input));
+    etcs_unit_close(&unit);
+    calls_left = 0;
+    const uint32_t closed = power_up(&unit);
+    calls_left = -1;
+    const uint32_t opened = power_up(&unit);
+    printf("a read failed in a power-up: %s; the next one: %s\n", etcs_status_name(closed), etcs_status_name(opened));
+    etcs_unit_close(&unit);
+    return status == ETCS_UNIT_FAILED && input == ETCS_UNIT_INPUT_FAILED && closed == ETCS_UNIT_FAILED && opened == ETCS_UNIT_OK;
+}
+
+int main(void) {
+    if (loses_power() && fails_to_read())
+        return 0;
+    puts("flash: an answer that wasn't expected; is the program linked with libetcs_unit.a?");
     return 1;
 }

@@ -44,15 +44,20 @@ class Names(unittest.TestCase):
                 self.assertTrue(name.endswith(f"_{member.name}"), name)
 
     def test_the_texts_of_statuses(self) -> None:
-        """The header's text of each status is its name, and docs/reference/refusals.md explains each."""
+        """The header's text of each status is its name, and docs/reference/refusals.md has each with its kind."""
         text = HEADER.read_text()
         texts = dict(re.findall(r'case \(uint32_t\)ETCS_UNIT_(\w+): text = "(\w+)";', text))
         self.assertEqual(texts, {one.name: one.name for one in Status})
         page = (INCLUDE.parent / "docs/reference/refusals.md").read_text()
         part = page[page.index("## The unit from C"):page.index("## The program")]
-        rows = re.findall(r"^\| (\d+) \| ([A-Z_]+) \|(?:[^|\n]*\|){3}$", part, re.MULTILINE)
-        self.assertEqual({(int(number), name) for number, name in rows},
+        rows = re.findall(r"^\| (\d+) \| ([A-Z_]+) \|(?:[^|\n]*\|){2} ?([^|\n]*)\|$", part, re.MULTILINE)
+        self.assertEqual({(int(number), name) for number, name, _ in rows},
                          {(one.value, one.name) for one in Status})
+        classify = text[text.index("uint32_t etcs_status_classify"):]
+        mistakes = re.findall(r"case \(uint32_t\)ETCS_UNIT_(\w+):$", classify[:classify.index("\n}")], re.MULTILINE)
+        kinds = {name: re.match(r"[a-z]*", then)[0] for number, name, then in rows
+                 if int(number) and not 31 <= int(number) <= 39}
+        self.assertEqual(kinds, {name: "mistake" if name in mistakes else "fault" for name in kinds})
 
 
 class Failing(MemoryMedium):

@@ -183,5 +183,5 @@ int main(void) {
     slots();
     refusals();
     written();
-    return told("starts of slots", 3000);
+    return report("starts of slots", 3000);
 }

@@ -139,7 +139,7 @@ class Briefs(unittest.TestCase):
         sample.replay, sample.why = [], []
         top, _, rest = report.page(sample).partition("<details><summary>2 power-ups, each")
         self.assertIn('<a href="#r0">0</a>–0', rest.partition("</details>")[0])
-        self.assertIn("2 power-ups aren't counted", top)
+        self.assertIn("2 power-ups not counted", top)
 
     def test_lives_newest_first(self) -> None:
         lives = [re.findall(r'<tr><td class="n">(\d)</td>', report.page(tripped(), is_newest_first=newest)) for newest in (False, True)]

@@ -1,5 +1,5 @@
 // What an image comes to, for who reads no further: whether all is whole, the last life, the last intervention with all
-// its causes, the trips, and which outputs perhaps never left the unit. As the report of `lab report` has it.
+// its causes, the trips, and which outputs left the unit, and of which this isn't known. As the report of `lab report` has it.
 import {Records} from "./calls";
 import {Child, make} from "./dom";
 import {Block, POWER_UP, Replay, Why} from "./layouts";
@@ -154,11 +154,14 @@ function released({ records, newest, unwritten, isWhole }: Known): Child[] {
     if (isWhole === null) return [BRIEF.notYet];
     if (!newest) return [strong(BRIEF.notKnown)];
     const { number, firstEvent, events, lives } = newest, only = records.find(firstEvent);
+    const before = firstEvent > 0 ? records.find(firstEvent - 1) : null;
+    const isLeft = before !== null && records.kind(before) !== POWER_UP && records.life(before) === lives;
     const isPowerUp = events - firstEvent === 1 && only !== null && records.kind(only) === POWER_UP;
     const says: Child[] = isPowerUp ? [BRIEF.powerUp(count(number))]
         : unwritten?.life === lives
         ? [BRIEF.released(count(number))]
-        : [strong(BRIEF.perhapsNot), BRIEF.perhaps(count(number), count(firstEvent), count(events - 1))];
+        : [isLeft && BRIEF.left(lives, count(firstEvent - 1)), strong(BRIEF.outputsNotKnown),
+            BRIEF.outputs(count(number), count(firstEvent), count(events - 1))];
     return unwritten ? [
         ...says, ". ",
         strong(BRIEF.unwritten(count(unwritten.number), count(unwritten.firstEvent), count(unwritten.events - 1)))

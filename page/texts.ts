@@ -210,8 +210,10 @@ export const BRIEF = {
         `block ${block}, the newest, holds only a power-up, whose output is never released`,
     released: (block: string): string => `the outputs of block ${block}, the newest, had left the unit: ` +
         "it had begun to write a further block of the same life",
-    perhapsNot: "perhaps not",
-    perhaps: (block: string, first: string, last: string): string => `: the outputs of block ${
+    left: (life: number, event: string): string =>
+        `the outputs of life ${life} after its power-up, up to event ${event}, had left the unit; `,
+    outputsNotKnown: "not known",
+    outputs: (block: string, first: string, last: string): string => `: the outputs of block ${
         block}, the newest, of events ${first} to ${last}; nothing in the image shows that they left the unit`,
     unwritten: (block: string, first: string, last: string): string =>
         `None of the outputs of block ${block}, events ${first} to ${last}, left the unit: it was being written`,

@@ -19,7 +19,7 @@ from pathlib import Path
 TOP = Path(__file__).resolve().parents[1]
 PROGRAMS = {name: Path(os.environ.get(name.upper()) or TOP / f"crates/{name}/out/{name}").resolve()
             for name in ("etcs", "etcs_lab")}
-COMMANDS = {"start/c": 9, "start/code": 8, "start/investigate": 8, "start/tests": 6, "howto/c-display": 2,
+COMMANDS = {"start/c": 9, "start/code": 8, "start/investigate": 10, "start/tests": 6, "howto/c-display": 2,
             "howto/c-flash": 2, "howto/c-guard": 2, "howto/c-installed-tracks": 2, "howto/c-journal": 6,
             "howto/c-loop": 2, "howto/c-static-memory": 2, "howto/closed-loop": 9, "howto/compare-images": 8,
             "howto/coverage": 9, "howto/cpp": 2, "howto/damaged-image": 20, "howto/lint": 10,

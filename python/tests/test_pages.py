@@ -134,6 +134,13 @@ class Briefs(unittest.TestCase):
         self.assertNotIn('<a href="#r4">', rest.partition("</details>")[0])
         self.assertIn("1 power-up", page.partition("<h2>What was read")[0])
 
+    def test_power_ups_without_known_causes_are_folded(self) -> None:
+        sample = tripped()
+        sample.replay, sample.why = [], []
+        top, _, rest = report.page(sample).partition("<details><summary>2 power-ups, each")
+        self.assertIn('<a href="#r0">0</a>–0', rest.partition("</details>")[0])
+        self.assertIn("2 power-ups not counted", top)
+
     def test_lives_newest_first(self) -> None:
         lives = [re.findall(r'<tr><td class="n">(\d)</td>', report.page(tripped(), is_newest_first=newest)) for newest in (False, True)]
         self.assertEqual(lives, [["1", "2"], ["2", "1"]])
@@ -150,8 +157,17 @@ class Briefs(unittest.TestCase):
             assert found
             self.assertEqual((found.is_released, found.unwritten and found.unwritten["first_event"]), wanted)
             page = report.page(sample)
-            self.assertEqual("<b>perhaps not</b>: the outputs of block 1, the newest, of events 0 to 4" in page, not wanted[0])
+            self.assertEqual("<dt>Released</dt><dd><b>not known</b>: the outputs of block 1, the newest, of events 0 to 4" in page, not wanted[0])
             self.assertEqual("<b>None</b> of the outputs of block 2, events 5 to 6" in page, wanted[1] is not None)
+
+    def test_what_left_the_unit_before_the_newest_block(self) -> None:
+        block = {"slot": 0, "state": "block", "block": 2, "life": 1, "first_event": 3, "last_event": 4, "gate_is_own": True, "in_journal": True}
+        for kinds, left in ((("powerup", "clock", "clock"), "the outputs of life 1 after its power-up, up to event 2, had left the unit; "),
+                            (("clock", "clock", "powerup"), ""), ((), "")):
+            older = [record(event, kind, block=1) for event, kind in enumerate(kinds)]
+            sample = journal(*older, record(3, block=2), record(4, block=2), slots=[block])
+            sample.examination["journal"]["newest_block"] = 2
+            self.assertIn(f"<dt>Released</dt><dd>{left}<b>not known</b>: the outputs of block 2, the newest, of events 3 to 4;", report.page(sample))
 
     def test_a_power_up_alone_releases_nothing(self) -> None:
         block = {"slot": 0, "state": "block", "block": 1, "life": 1, "first_event": 0, "last_event": 0, "gate_is_own": True, "in_journal": True}

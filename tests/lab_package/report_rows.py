@@ -83,7 +83,7 @@ def examples(rows):
         rows.same(f"{name}, the same page twice", rows.page(name, charts=charts), first)
     rows.page("trip", charts=2, text=["the mode is Trip: since event 10", "not stood since: since event 8, no longer after event", "15.0 km/h", "event 8", "the driver starts (not accepted)", "300.00 – 327.00", "end announced by event 1",
               "the train was tripped: the minimum safe front was past the end of authority (event 10, 4.6.3)",
-              "life 1, event 10, at 325.00 m", "perhaps not: the outputs of block", "1 power-up, each with the emergency brake"])
+              "life 1, event 10, at 325.00 m", "the outputs of life 1 after its power-up, up to event 8, had left the unit; not known: the outputs of block 3, the newest, of events 9 to 16", "1 power-up, each with the emergency brake"])
     row = next(row for row in csv.DictReader(io.StringIO(rows.lab("table", "trip"))) if row["event"] == "11")
     rows.same("the cause of a trip in the table", (row["mode"], row["trip_cause"], row["trip_cause_event"]), ("TR", "end_passed", "10"))
     rows.page("trip", "--from", "8", "--to", "11", charts=1, text=["from 8 to 11"])

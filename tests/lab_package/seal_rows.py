@@ -41,7 +41,7 @@ from replay_rows import examples  # noqa: E402
 LEAST = 300
 SLOW = 3
 """The least number of altered bags, and the greatest processor time of an answer in seconds. A missing answer ends the test."""
-UNSIGNED = "the bag isn't signed by any of the named signers"
+UNSIGNED = "no named signer signed the bag, so nothing is shown about who sealed it"
 AUTHORITY = """
 [req]
 distinguished_name = name
@@ -342,7 +342,8 @@ def timed(folder, trusted):
     """What isn't as it was sealed, and the seconds of a processor that the answer took, with those of the programs that were asked."""
     begun = sum(os.times()[:4])
     signal.alarm(120)
-    faults = seal.verify(folder, trusted).faults
+    found = seal.verify(folder, trusted)
+    faults = found.faults + found.unsigned
     signal.alarm(0)
     return faults, sum(os.times()[:4]) - begun
 
@@ -410,7 +411,7 @@ def whole_bag(count, room, image):
     seen = seal.verify(room / "bag", Trust())
     count.same("the bag, with no trusted signer", (seen.faults, len(seen.shown), len(seen.not_shown)), ([], 4 + is_proved, 5 - is_proved))
     seen = seal.verify(room / "bag", trust(room, "other"))
-    count.same("the bag, where others are trusted", sorted(line.split(":")[0] for line in seen.faults),
+    count.same("the bag, where others are trusted", sorted(line.split(":")[0] for line in seen.faults + seen.unsigned),
                sorted([*LATER, UNSIGNED]))
     events = [json.loads(line) for line in (room / "bag/data/events.jsonl").open()]
     rows = [line.split(",") for line in (room / "bag/data/digests.csv").read_text().splitlines()]
@@ -447,11 +448,16 @@ def at_the_edges(count, room, image):
         count.unless(bool(odd), f"{name}: nothing is said of it")
         count.same(f"{name}: a report", (room / f"bag-{name}/data/report.html").exists(), status == 4)
     unsigned = seal.verify(room / "bag-cut", trust(room))
-    count.same("not signed", [line.split(":")[0] for line in unsigned.faults], [UNSIGNED, signing.ANSWER])
+    count.same("not signed", ([line.split(":")[0] for line in unsigned.faults], unsigned.unsigned), ([signing.ANSWER], [UNSIGNED]))
+    done = subprocess.run([TOP / "lab", "verify", room / "bag-cut", "--signers", room / "signers-one"], capture_output=True, text=True, stdin=subprocess.DEVNULL)
+    text = done.stdout
+    count.same("an unaltered bag without a signature, signers named", (done.returncode, text.splitlines()[0], text.splitlines()[-1], "altered:" in text),
+               (4, f"unsigned: {UNSIGNED}", "whether the bag is as it was sealed isn't shown", False))
     seal.seal(image, room / "bag-ssh", seal.Sealing(keys=keys(room)[:1]))
     for name, trusted, wanted in (("signers", Trust(signers=room / "signers-one"), []), ("both", Trust(room / "signers-one", room / "one.gpg"), []),
                                   ("keyring", Trust(keyring=room / "one.gpg"), [UNSIGNED])):
-        count.same(f"signed by OpenSSH alone, {name} named", seal.verify(room / "bag-ssh", trusted).faults, wanted)
+        seen = seal.verify(room / "bag-ssh", trusted)
+        count.same(f"signed by OpenSSH alone, {name} named", (seen.faults, seen.unsigned), ([], wanted))
 
 
 def killed(count, room, image):

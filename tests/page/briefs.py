@@ -1,5 +1,6 @@
 """The summary: the page says at the top of an image what the report says there, and opens at the last intervention."""
 import random
+import re
 from pathlib import Path
 from typing import Any
 
@@ -37,7 +38,10 @@ def said_of(newest: summary.Newest | None) -> str:
         return "not known"
     if newest.is_power_up:
         return f"block {newest.block:,}, the newest, holds only a power-up"
-    return f"the outputs of block {newest.block:,}, the newest, had left the unit" if newest.is_released else "perhaps not"
+    if newest.is_released:
+        return f"the outputs of block {newest.block:,}, the newest, had left the unit"
+    left = "" if newest.left_to is None else f"the outputs of life {newest.life} after its power-up, up to event {newest.left_to:,}, had left the unit; "
+    return f"{left}not known: the outputs of block {newest.block:,}, the newest, of events {newest.first_event:,} to {newest.last_event:,};"
 
 
 def in_brief(browser: Browser, _page: Path, folder: Path) -> int:
@@ -59,7 +63,7 @@ def in_brief(browser: Browser, _page: Path, folder: Path) -> int:
         for event, _ in trips[-12:]:
             assert f"event {event:,}" in rows["Trips"], (number, rows["Trips"])
         braked, tripped, count = braked + bool(one and causes), tripped + bool(trips), count + 1
-        said.add(rows["Released"][:12])
+        said.add(re.sub(r"\d", "", rows["Released"])[:20])
     assert braked >= 20 and tripped >= 10 and len(said) >= 3, (count, braked, tripped, said)
     return count
 
@@ -74,6 +78,7 @@ def by_hand(browser: Browser, _page: Path, folder: Path) -> int:
                  "above the limit by more than 5 km/h", "the mode is Trip", "past the end of authority (4.6.3)", "end of authority: 0.0 km/h at 300.00 m"):
         assert says in rows["Last intervention"], (says, rows["Last intervention"])
     assert rows["Trips"].startswith("life 3, event 26, at ") and rows["Power-ups"].startswith("3; after each"), rows
+    assert rows["Released"].startswith("the outputs of life 3 after its power-up, up to event 24, had left the unit; not known: the outputs of block"), rows
     assert browser.run("return document.querySelectorAll('#interventions tbody tr').length") == 1
     assert browser.text("event-said").startswith("Event 24 of life 3")
     return 10

@@ -27,10 +27,12 @@ def verify_bag(given: SimpleNamespace, progress: Progress) -> int:
     """Runs `lab verify`."""
     from ..evidence import seal, signing
     found = seal.verify(given.folder, signing.Trust(given.signers, given.keyring, given.authority))
-    for word, lines in (("altered", found.faults), ("shown", found.shown), ("not shown", found.not_shown)):
+    for word, lines in (("altered", found.faults), ("unsigned", found.unsigned), ("shown", found.shown), ("not shown", found.not_shown)):
         sys.stdout.writelines(f"{shown(f'{word}: {line}')}\n" for line in lines)
-    sys.stdout.write("the bag is not as it was sealed\n" if found.faults else "the bag is as it was sealed\n")
-    return FOUND if found.faults else 0
+    verdict = ("the bag is not as it was sealed" if found.faults else
+               "whether the bag is as it was sealed isn't shown" if found.unsigned else "the bag is as it was sealed")
+    sys.stdout.write(f"{verdict}\n")
+    return FOUND if found.faults or found.unsigned else 0
 
 
 def show_difference(given: SimpleNamespace, progress: Progress) -> int:

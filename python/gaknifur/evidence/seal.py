@@ -223,11 +223,13 @@ SCHEMA = formats.Members({
 
 @dataclass
 class Verification:
-    """What a bag shows, what it doesn't show, and what isn't as it was sealed, one sentence each."""
+    """What a bag shows, what it doesn't show, and what isn't as it was sealed or signed, one sentence each."""
 
     shown: list[str] = field(default_factory=list)
     not_shown: list[str] = field(default_factory=list)
     faults: list[str] = field(default_factory=list)
+    unsigned: list[str] = field(default_factory=list)
+    """That no named signer signed it: this is no alteration."""
 
 
 def seal_of(folder: Path, found: Verification) -> Json | None:
@@ -323,7 +325,7 @@ def vouched(signatures: dict[str, signing.Signature], stamp: signing.Stamp, trus
     found.faults += [f"{seen.name}: {seen.fault}" for seen in signatures.values() if seen.fault]
     is_signed = any(seen.signer for seen in signatures.values())
     if trust.needs_signature and not is_signed:
-        found.faults.append("the bag isn't signed by any of the named signers")
+        found.unsigned.append("no named signer signed the bag, so nothing is shown about who sealed it")
     found.faults += [stamp.fault] if stamp.fault else []
     return is_signed or stamp.is_shown or not (trust.needs_signature or trust.authority)
 

@@ -182,9 +182,9 @@ def environment() -> jinja2.Environment:
 
 
 def is_usual(one: Any) -> bool:
-    """Whether an intervention is the one that follows every power-up until the driver has revalidated."""
+    """Whether an intervention is the one that follows every power-up until the driver has revalidated, and no other cause is known."""
     causes_held = {held.cause for held in one["causes"]}
-    return bool(one["kind"] == "powerup" and causes_held == {"not_revalidated"})
+    return bool(one["kind"] == "powerup" and causes_held <= {"not_revalidated"})
 
 
 def in_order(rows: pd.DataFrame, is_newest_first: bool) -> pd.DataFrame:

@@ -80,6 +80,9 @@ class Newest:
     last_event: int
     is_released: bool
     """Whether the image shows that its outputs left the unit: the unit began to write another block of the same life."""
+    life: int
+    left_to: int | None
+    """The last event of the life before the block, whose outputs all left the unit except for that of its power-up; None if there is none."""
     is_power_up: bool
     """Whether it contains only a power-up, whose output is never released."""
     unwritten: Json | None
@@ -97,7 +100,10 @@ def newest(journal: Journal, table: pd.DataFrame) -> Newest | None:
     is_released = following is not None and following.get("life") == slot.get("life")
     is_listed = table["block"] == number
     kinds = list(table["kind"][is_listed if "source" not in table else is_listed & (table["source"] == "journal")])
-    return Newest(number, slot["first_event"], slot["last_event"], is_released, kinds == ["powerup"], following)
+    before = slot["first_event"] - 1
+    is_left = (table["event"] == before) & (table["life"] == slot["life"]) & (table["kind"] != "powerup")
+    left_to = before if bool(is_left.any()) else None
+    return Newest(number, slot["first_event"], slot["last_event"], is_released, slot["life"], left_to, kinds == ["powerup"], following)
 
 
 @dataclass

@@ -55,7 +55,7 @@ class Names(unittest.TestCase):
                          {(one.value, one.name) for one in Status})
         classify = text[text.index("uint32_t etcs_status_classify"):]
         mistakes = re.findall(r"case \(uint32_t\)ETCS_UNIT_(\w+):$", classify[:classify.index("\n}")], re.MULTILINE)
-        kinds = {name: re.match(r"[a-z]*", then)[0] for number, name, then in rows
+        kinds = {name: re.findall("^[a-z]*", then)[0] for number, name, then in rows
                  if int(number) and not 31 <= int(number) <= 39}
         self.assertEqual(kinds, {name: "mistake" if name in mistakes else "fault" for name in kinds})
 

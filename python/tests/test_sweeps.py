@@ -6,7 +6,7 @@ from decimal import Decimal
 from pathlib import Path
 from unittest.mock import patch
 
-from gaknifur import files
+from gaknifur import files, program
 from gaknifur.program import Failed
 from gaknifur.testing import case_runner, sweep_tables, sweeps
 from gaknifur.testing.case_runner import Missed, Played, with_speeds
@@ -127,6 +127,7 @@ class Sweeps(unittest.TestCase):
         page = sweep_tables.as_page(sweep, results)
         self.assertTrue(files.REPORT.is_own(page.encode()[:files.FIRST_BYTES]))
         self.assertIn("at 1 points expected results didn&#39;t come", page.replace("didn't", "didn&#39;t"))
+        self.assertIn(f"which isn't proved. {program.reader()}.</p>", page)
         for word in ("<script", "http://", "https://", "src="):
             self.assertNotIn(word, page)
 

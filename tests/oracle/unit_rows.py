@@ -13,6 +13,7 @@ import subprocess
 import sys
 import tempfile
 import time
+import xml.etree.ElementTree
 from concurrent.futures import ThreadPoolExecutor
 from pathlib import Path
 
@@ -105,13 +106,15 @@ expected:
 
 
 def tested(unit):
-    """A case against a unit that reports little: what it reports is judged, and the rest is skipped with a message."""
+    """A case against a unit that reports little: what it reports is judged, the rest is skipped with a message, and JUnit names the unit."""
     with tempfile.TemporaryDirectory() as room:
         (Path(room) / "case.yaml").write_text(CASE)
-        done = subprocess.run([TOP / "lab", "test", room, "-rs", "--against", shlex.quote(str(unit))], capture_output=True, text=True)
-    said = done.stdout + done.stderr
+        command, results = shlex.quote(str(unit)), Path(room) / "results.xml"
+        done = subprocess.run([TOP / "lab", "test", room, "-rs", f"--junitxml={results}", "--against", command], capture_output=True, text=True)
+        named = [one.get("value") for one in xml.etree.ElementTree.parse(results).iter("property") if one.get("name") == "other_unit"]
+    said = done.stdout + done.stderr + f"other_unit: {sorted(set(named))}, {len(named)} times"
     wanted = ("1 failed, 3 passed, 1 skipped", "the unit doesn't report limit_kmh", "found:    mode SB", "the proved unit misses it too")
-    return done.returncode == 4 and all(one in said for one in wanted), said
+    return done.returncode == 4 and named == [command] * 5 and all(one in said for one in wanted), said
 
 
 def left():

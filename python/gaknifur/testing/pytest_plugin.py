@@ -192,6 +192,8 @@ class Item(pytest.Item):
         self.sections = expected.sections if expected else case.sections
         self.user_properties += [("case", case.name), ("feature", case.feature), ("sections", " ".join(
             section.replace(" packet ", "/") for section in self.sections)), ("programs", program.PROOF[program.reader_is_proved()])]
+        if player.against:
+            self.user_properties.append(("other_unit", player.against))
 
     def runtest(self) -> None:
         """Judges the expected result."""

@@ -7,6 +7,7 @@ from decimal import Decimal
 
 import jinja2
 
+from .. import program
 from .sweeps import Cell, Point, Sweep, PointResult
 
 MISSED, FAULT = "missed", "fault"
@@ -131,5 +132,5 @@ def as_page(sweep: Sweep, results: Sequence[PointResult]) -> str:
                               undefined=jinja2.StrictUndefined)
     head, *others = rows(sweep, results)
     return environment.get_template("sweep.html.j2").render(
-        sweep=sweep, file=sweep.at.path.name, maps=maps(sweep, results), head=head, rows=others, points=len(results),
+        sweep=sweep, file=sweep.at.path.name, reader=program.reader(), maps=maps(sweep, results), head=head, rows=others, points=len(results),
         missed=[one for one in results if one.missed], faults=[one for one in results if one.fault])

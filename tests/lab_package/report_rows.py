@@ -183,7 +183,7 @@ def braked(rows):
     took = processor_seconds() - begun
     # 101 interventions: that of the power-up has one cause, and each other one both speeds
     rows.same("a page of 3,000 events has each cause", (page.count("the train has not stood since: since"), page.count("not within it since: since"),
-                                                       "not known" in page), (100, 100, False))
+                                                       "Cause not known" in page), (100, 100, False))
     rows.same(f"a report of 3,000 events takes less than {MOST_SECONDS} s of processor time", took < MOST_SECONDS, True)
 
 

@@ -1,18 +1,18 @@
-"""The state of an acknowledgement: nothing, asked, done, or owed since a moment (SUBSET-026, 5.7, 5.9 and 5.10; the table is this
+"""The state of an acknowledgement: nothing, requested, done, or owed since a moment (SUBSET-026, 5.7, 5.9 and 5.10; the table is this
 project's)."""
 from collections import namedtuple
 
-NONE, ASKED, DONE, OWED = "nothing", "asked", "done", "owed"
+NONE, REQUESTED, DONE, OWED = "nothing", "requested", "done", "owed"
 BRAKES_AFTER_MS = 5000
 
 # What becomes of it, by what it was before. What is owed is owed from the moment of the event on.
 BECOMES = """
-              nothing  asked    done     owed
-acknowledged  same     done     same     nothing
-entered       owed     owed     nothing  owed
-asked         asked    same     same     same
-deleted       nothing  nothing  nothing  nothing
-settled       nothing  nothing  nothing  same
+              nothing    requested  done     owed
+acknowledged  same       done       same     nothing
+entered       owed       owed       nothing  owed
+requested     requested  same       same     same
+deleted       nothing    nothing    nothing  nothing
+settled       nothing    nothing    nothing  same
 """
 
 
@@ -30,7 +30,7 @@ class Acknowledgement(namedtuple("Acknowledgement", "state since")):
     __slots__ = ()
 
     def waits(self):
-        return self.state in (ASKED, OWED)
+        return self.state in (REQUESTED, OWED)
 
     def brakes(self, now):
         return self.state == OWED and now - self.since >= BRAKES_AFTER_MS
@@ -46,8 +46,8 @@ class Acknowledgement(namedtuple("Acknowledgement", "state since")):
         """The transition: its mode is entered, or an announced level 0 comes into force."""
         return self.after("entered", now)
 
-    def asked(self):
-        return self.after("asked")
+    def requested(self):
+        return self.after("requested")
 
     def deleted(self):
         """A mode is entered that deletes it."""

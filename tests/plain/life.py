@@ -126,7 +126,7 @@ class Life(History):
             if KIND_OF_ROW.get(row) == kind or (kind == "level-0" and self.now.came_in == 0):
                 state = state.turned(self.moment())
             if self.asks(kind, here) and mode != {"on-sight": "OS", "shunting": "SH"}.get(kind):
-                state = state.asked()
+                state = state.requested()
             states[kind] = state
         return states
 

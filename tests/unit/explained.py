@@ -53,7 +53,7 @@ def waiting(life, kind):
     state = life.acknowledgement(kind)
     if state.state == "owed":
         return ["owed", max(0, state.since + OWED_MS - life.moment())]
-    return ["asked" if state.state == "asked" else "none", 0]
+    return ["asked" if state.state == "requested" else "none", 0]
 
 
 def overriding(life):

@@ -18,7 +18,7 @@ from .track_messages import ALWAYS, NOW, Known, Link, Message, Packet, Walk
 
 LEVEL_OF = {0: 0, 2: 1}
 """M_LEVELTR of the levels that the train can run in."""
-WAITING = ("asked", "owed")
+WAITING = ("requested", "owed")
 MODE_OF = {"on_sight": "OS", "shunting": "SH"}
 AREA_OF = {"on_sight": 0, "shunting": 1}
 AREAS = {"on_sight": "on sight area", "shunting": "shunting area"}
@@ -331,7 +331,7 @@ class Follow(Walk):
         if by_area or kind not in AREA_OF and came_in == 0:
             yield "entered"
         if asks and record["mode"] != MODE_OF.get(kind):
-            yield "asked"
+            yield "requested"
         if entered and coverage_sets.deletes("acknowledgements", entered):
             yield "deleted"
         if not self.is_left(kind, record):

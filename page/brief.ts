@@ -1,5 +1,5 @@
-// What an image comes to, for who reads no further: whether all is whole, the last life, the last intervention with all
-// its causes, the trips, and which outputs left the unit, and of which this isn't known. As the report of `lab report` has it.
+// What an image says, for who reads no further: whether all is whole, the last life, the last intervention with all its
+// causes, the trips, which outputs left the unit, and of which this isn't known. As the report of `lab report` has it.
 import {Records} from "./calls";
 import {Child, make} from "./dom";
 import {Block, POWER_UP, Replay, Why} from "./layouts";

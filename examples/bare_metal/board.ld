@@ -14,7 +14,7 @@ SECTIONS
     stack_guard = .;
     . = . + 0x1000;
     stack_end = .;
-    . = . + 0x20000;
+    . = . + 0x40000; /* etcs_image_why takes most of it */
     stack_top = .;
     . = . + 0x1000;
     brake_stack_top = .;

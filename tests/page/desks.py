@@ -354,7 +354,7 @@ def motion(browser: Browser, _page: Path, _folder: Path) -> int:
         train = Train(numbers[0], numbers[1], numbers[2], int(numbers[3]), int(numbers[4]), Fraction(1))
         it, wanted = driving.Motion(train), []
         for step, (braking, power) in enumerate(asked):
-            it.ask(200 * step, braking)
+            it.command(200 * step, braking)
             it.move(200 * step, 200, power)
             wanted.append([it.place, it.speed, it.braking, it.stands, round(it.m_per_h)])
         found = browser.run("""const { Motion, round } = window.gaknifur.parts, [n, asked] = arguments, result = [];

@@ -40,7 +40,7 @@ PLANTED = [
     ("modes.py", '"SH": (3, 65, 66)', '"SH": (3, 41, 65, 66)'),
     ("modes.py", '"TR": (3, 65, 66)', '"TR": (3, 66)'),
     ("acknowledgements.py", "BRAKES_AFTER_MS = 5000", "BRAKES_AFTER_MS = 5001"),
-    ("acknowledgements.py", "entered       owed     owed     nothing  owed", "entered       owed     owed     owed     owed"),
+    ("acknowledgements.py", "entered       owed       owed       nothing  owed", "entered       owed       owed       owed     owed"),
     ("driver.py", 'return mode == "SH" and stands', 'return mode == "SH"'),
     ("driver.py", "return mode in (\"TR\", \"SB\") and stands and", "return mode in (\"TR\", \"SB\") and"),
     ("driver.py", 'mode in ("SB", "PT") and stands and len(valid) == 3 and not life.is_tripped()', 'mode in ("SB", "PT") and stands and len(valid) == 3'),

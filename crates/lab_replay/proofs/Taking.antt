@@ -10,7 +10,7 @@ use Rattle.lives.specs.Walks.{IsWalked, Walked, StopsBy, StopsIn, IsStoppedWalk}
 use Rattle.lab_replay.specs.Courses.{at_start, outcome_of}
 use Rattle.lab_replay.specs.Lines.{end_line}
 use Rattle.lab_replay.specs.Replays.{IsReplay, IsNotOfSink, IsCutReplay}
-use Rattle.lab_replay.specs.Sinks.{TakesAll, TakesSome, FailsIn}
+use Rattle.line_sinks.specs.Sinks.{TakesAll, TakesSome, FailsIn}
 use Rattle.lab_replay.specs.Steps.{StepLines, AllLines, IsMemory, StepBegins, AllBegin, left_and}
 use Rattle.lab_replay.specs.declared.course.Course.{Course}
 use Rattle.lab_replay.specs.declared.line.Outcome.{Outcome}

@@ -1,5 +1,4 @@
 pub mod Courses
 pub mod Lines
 pub mod Replays
-pub mod Sinks
 pub mod Steps

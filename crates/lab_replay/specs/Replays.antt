@@ -9,7 +9,7 @@ use Rattle.ring.specs.Scans.{IsScanned}
 use Rattle.ring.specs.Slots.{IsFormatted, IsBlockAt, valid_at}
 use Rattle.lab_replay.specs.Courses.{at_start, outcome_of}
 use Rattle.lab_replay.specs.Lines.{end_line}
-use Rattle.lab_replay.specs.Sinks.{TakesSome, FailsIn}
+use Rattle.line_sinks.specs.Sinks.{TakesSome, FailsIn}
 use Rattle.lab_replay.specs.Steps.{AllLines, AllBegin, left_and}
 use Rattle.lab_replay.specs.declared.course.Course.{Course}
 use Rattle.lab_replay.specs.declared.line.Outcome.{Outcome}

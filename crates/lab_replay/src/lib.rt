@@ -3,10 +3,8 @@
 #![tactic(auto)]
 
 mod course;
-mod describing;
 mod line;
 mod serializing;
-mod sink;
 mod text;
 mod visiting;
 mod walk;
@@ -15,5 +13,4 @@ pub use line::{
     Answer, EndLine, HeadLine, LostBlock, Outcome, RecordLine, ReplayLine, StretchLine, Verdict,
 };
 pub use lives::WalkError;
-pub use sink::{JsonLines, LineSink, TextLines};
 pub use walk::replay;

@@ -2,13 +2,11 @@
 ghost use Rattle.std.specs.Prelude.{◌≡◌};
 ghost use Rattle.lab_replay.specs.Lines.{answer_of, stretch_line, record_line, head_line};
 
-use crate::serializing::{
-    write_brake, write_indications, write_kept, write_kept_field, write_level, write_mode,
-    write_reason, write_record_field,
-};
+use crate::serializing::{write_kept, write_kept_field, write_reason, write_record_field};
 use blocks::{Block, BlockRecord};
 use events::{Brake, Indications, Kept};
 use lab_events::{Reason, Stretch};
+use line_sinks::{write_brake, write_indications, write_level, write_mode};
 use mode_table::{Mode, TrainLevel};
 use replaying::{Found, HeadFound, Judged, KeptField, RecordField};
 use serde::Serialize;

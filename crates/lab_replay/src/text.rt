@@ -1,5 +1,5 @@
 //! The lines for people.
-use crate::describing::describe_value;
+use line_sinks::describe_value;
 use crate::line::{HeadLine, Outcome, RecordLine, ReplayLine, StretchLine};
 use crate::serializing::{KeptObject, kept_field_word, record_field_word};
 use lab_events::Reason;

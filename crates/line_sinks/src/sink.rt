@@ -1,6 +1,6 @@
 //! Takers of lines: one prints them as JSON, the other for people.
 ghost use Rattle.std.specs.Prelude.{OnOk, OnErr, ⊤};
-ghost use Rattle.lab_replay.specs.Sinks.{AddsJson};
+ghost use Rattle.line_sinks.specs.Sinks.{AddsJson};
 
 use lives::LateError;
 use serde::Serialize;

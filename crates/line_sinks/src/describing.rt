@@ -205,7 +205,7 @@ impl<W: fmt::Write> Serializer for Describer<'_, W> {
 
 /// Prints the members of a value, with commas between them, and what is inside one in parentheses. Names of variants are
 /// printed without the case of `rename_all`; a value with a float, a map, bytes or a flattened member is an error.
-pub(crate) fn describe_value<T: Serialize, W: fmt::Write>(
+pub fn describe_value<T: Serialize, W: fmt::Write>(
     value: &T,
     f: &mut fmt::Formatter<W>,
 ) -> fmt::Result {

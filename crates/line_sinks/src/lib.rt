@@ -1,0 +1,10 @@
+//! Takers of typed lines: one prints each line as JSON by `serde_json`, the other for people (this project's profile).
+#![tactic(auto)]
+
+mod describing;
+mod sink;
+mod values;
+
+pub use describing::describe_value;
+pub use sink::{JsonLines, LineSink, TextLines};
+pub use values::{level_number, write_brake, write_indications, write_level, write_mode};

@@ -1,12 +1,18 @@
 -- What contracts see of a unit that hands out its requests (this project's profile). Requests are counted from the
 -- first of the list.
-use Rattle.std.specs.Prelude.{◌≡◌, ℕ, ◌+◌, ◌%◌, ◌≤◌, Bool, true, false, not, ◌&&◌, ◌||◌, nat_lt, if◌then◌else◌, List, [], length, Option, Some, None, option_map, Result, Ok, Err}
+use Rattle.std.specs.Prelude.{◌≡◌, ℕ, ◌+◌, ◌%◌, ◌≤◌, Bool, true, false, not, ◌&&◌, ◌||◌, nat_lt, if◌then◌else◌, List, [], ◌∷◌, length, Option, Some, None, option_map, Result, Ok, Err}
 use Rattle.disk.specs.State.{contents_of}
 use Rattle.disk.specs.declared.record.Call.{Call}
+use Rattle.events.specs.declared.input.Event.{Event}
+use Rattle.events.specs.declared.input.Event.TheVariants.{PowerUp}
+use Rattle.mode_table.specs.declared.statuses.Cold.{Cold}
 use Rattle.request_disk.specs.Requests.{ends_in_sync}
 use Rattle.request_disk.specs.Requesting.{request_state, knows}
 use Rattle.onboard.specs.Answers.{flush_refusal, puts_block}
+use Rattle.unit_start.specs.Events.{record_of, IsAhead}
+use Rattle.unit_start.specs.Lives.{IsWord}
 use Rattle.unit_start.specs.Releases.{Release}
+use Rattle.unit_start.specs.Written.{HasNewest}
 use Rattle.onboard.specs.declared.errors.FlushError.{FlushError}
 use Rattle.onboard.specs.declared.errors.FlushError.TheVariants as a_flush
 use Rattle.relayed_unit.specs.declared.errors.PrepareError.{PrepareError}
@@ -55,6 +61,18 @@ abbrev pub Turns : Option Moored → Option Moored → (Moored → Moored → Ty
 Turns None after So = Unit {0}
 Turns (Some before) None So = ⊥
 Turns (Some before) (Some after) So = So before after
+
+-- ---- what a power-up puts on the disk
+
+-- It was powered up with this word after what an image of so many sectors has: the newest block of its disk is of format 3,
+-- and has just the power-up's record and what is kept after it. The word that is recorded is the one that the image
+-- leaves.
+abbrev pub HasPowerUp : ℕ → (ℕ → List ℕ) → Cold → Moored → Type 0
+HasPowerUp sectors image cold it = (found : List Event) × (power_up_word : Cold)
+    × IsAhead (PowerUp power_up_word ∷ found) (PowerUp power_up_word ∷ found) it.unit.life
+    × HasNewest it.reading.disk.sectors (record_of found (PowerUp power_up_word) ∷ []) (PowerUp power_up_word ∷ found)
+    (contents_of (request_state it.reading.disk))
+    × IsWord sectors image cold power_up_word
 
 -- ---- the gate that a flush has to know
 

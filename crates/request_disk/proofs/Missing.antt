@@ -87,3 +87,12 @@ zeros_of false false content zeros lent unknown = refl
 -- a sector that wasn't lent, and isn't known, has zeros
 pub unlent : (d : Requesting) (first count s : ℕ) → is_lent first count s ≡ false → knows s d ≡ false → replicate 512 0 ≡ lent_contents d first count s
 unlent d first count s lent unknown = zeros_of (is_lent first count s) (knows s d) (contents_of (request_state d) s) (replicate 512 0) lent unknown
+
+-- a sector is handed out exactly where a read of it doesn't fail
+pub fails_where : (fails : Bool) → not fails ≡ false → fails ≡ true
+fails_where true is = refl
+fails_where false is = absurd cc
+
+pub reads_where : (fails : Bool) → not fails ≡ true → fails ≡ false
+reads_where true is = absurd cc
+reads_where false is = refl

@@ -1,6 +1,6 @@
 -- What contracts see of a disk that is lent for reading some of its sectors (this project's profile). Sectors have 512
 -- bytes and are numbered from 0.
-use Rattle.std.specs.Prelude.{◌≡◌, ℕ, suc, zero, ◌+◌, ◌-◌, ◌<◌, ◌≤◌, ◌==◌, nat_le, nat_lt, ◌&&◌, not, Bool, true, false, if◌then◌else◌, List, [], ◌∷◌, replicate, Option, Some, None}
+use Rattle.std.specs.Prelude.{◌≡◌, ℕ, suc, zero, ◌+◌, ◌-◌, ◌*◌, ◌%◌, ◌^◌, ◌<◌, ◌≤◌, ◌==◌, nat_le, nat_lt, ◌&&◌, not, Bool, true, false, if◌then◌else◌, List, [], ◌∷◌, replicate, Option, Some, None}
 use Rattle.disk.specs.State.{State, Platter, contents_of}
 use Rattle.request_disk.specs.Requesting.{Requesting, request_state, knows}
 
@@ -36,6 +36,22 @@ pub record IsMissing (d : Requesting) (first count s : ℕ) : Type 0 where
 abbrev pub WantsMissing : Requesting → ℕ → ℕ → Option ℕ → Type 0
 WantsMissing d first count None = ⊥
 WantsMissing d first count (Some s) = IsMissing d first count s
+
+-- a read of none of the sectors from `first` on fails that so many bytes fill
+abbrev pub ReadsAll : ℕ → ℕ → Lent → Type 0
+ReadsAll first bytes r = (i : ℕ) → 512 * i < bytes → fails_at r.disk r.first r.count (first + i) ≡ false
+
+-- sector s is the first of these at which a read fails
+pub record IsFirstMissing (first bytes : ℕ) (r : Lent) (s : ℕ) : Type 0 where
+  pub from : first ≤ s
+  pub below : 512 * s < 512 * first + bytes
+  pub fails : fails_at r.disk r.first r.count s ≡ true
+  pub before : (t : ℕ) → first ≤ t → t < s → fails_at r.disk r.first r.count t ≡ false
+
+-- the first of these at which a read fails is wanted, a failure was counted, and all else is as it was
+abbrev pub Misses : ℕ → ℕ → Lent → Lent → Type 0
+Misses first bytes old new = (s : ℕ) × IsFirstMissing first bytes old s
+    × (new ≡ record old { faults = (old.faults + 1) % 2 ^ 64; wanted = Some s })
 
 -- where no write was tried a call that failed was a read, and a sector is wanted that is missing
 abbrev pub DescribesMissing : Lent → Type 0

@@ -1,5 +1,5 @@
 //! The disk, lent for reading some of its sectors.
-ghost use Rattle.std.specs.Prelude.{◌≡◌, ℕ, ◌+◌, ◌*◌, ◌/◌, ◌%◌, ◌^◌, ◌<◌, ◌≤◌, length, true, Some, None, IfErr, IfSome, OnOk, OnErr, is_err};
+ghost use Rattle.std.specs.Prelude.{◌≡◌, ℕ, ◌+◌, ◌*◌, ◌/◌, ◌%◌, ◌^◌, ◌<◌, ◌≤◌, length, true, Some, None, IfErr, IfSome, OnOk, OnErr, is_err, is_some, not};
 ghost use Rattle.disk.specs.State.{contents_of, AreSectors, Counted, Touches, Holds, AreOpen, OpenOrSame, SameOpenOutside, SameOpen, IsSynced};
 ghost use Rattle.disk.specs.Reserve.{Spends};
 ghost use Rattle.request_disk.specs.Lent.{lent_state};
@@ -34,7 +34,7 @@ impl<'a> Model for LentDisk<'a> {
 }
 
 impl<'a> LentDisk<'a> {
-    ghost use Rattle.request_disk.specs.Lent.{lent_of, is_lent, lent_contents, WantsMissing, IsMissing};
+    ghost use Rattle.request_disk.specs.Lent.{lent_of, is_lent, fails_at, lent_contents, WantsMissing, IsMissing, ReadsAll, IsFirstMissing};
     ghost use Rattle.request_disk.specs.Requesting.{Requesting};
 
     /// Lends so many sectors of a disk, from `first` on.
@@ -85,6 +85,7 @@ impl<'a> LentDisk<'a> {
         ensures size { IfSome result (λ bytes. length bytes.now ≡ 512) }
         ensures bytes { IfSome result (λ bytes.
             bytes.now ≡ lent_contents self.now.disk self.now.first self.now.count sector) }
+        ensures fails { is_some result ≡ not (fails_at self.now.disk self.now.first self.now.count sector) }
         ensures missing { result ≡ None → IsMissing self.now.disk self.now.first self.now.count sector }
     {
         match self.disk.sector(sector) {
@@ -98,11 +99,13 @@ impl<'a> LentDisk<'a> {
         }
     }
 
-    // What it holds of these sectors; else one of them at which a read fails.
+    // What it holds of these sectors; else the first of them at which a read fails.
     fn copy(&self, first: u64, out: &mut [u8]) -> Result<(), u64>
         requires whole { length out.old % 512 ≡ 0 }
         requires within { 512 * first + length out.old ≤ 512 * self.now.disk.sectors }
         ensures bytes { OnOk result (Holds (lent_contents self.now.disk self.now.first self.now.count) first out.new) }
+        ensures all { OnOk result (ReadsAll first (length out.old) self.now) }
+        ensures first { IfErr result (IsFirstMissing first (length out.old) self.now) }
         ensures missing { IfErr result (IsMissing self.now.disk self.now.first self.now.count) }
     {
         // That a sector's number fits its type.
@@ -162,6 +165,8 @@ impl<'a> WriteDisk for LentDisk<'a> {
 }
 
 impl<'a> Disk for LentDisk<'a> {
+    ghost use Rattle.request_disk.specs.Lent.{ReadsAll, Misses};
+
     fn read(&mut self, first: u64, bytes: &mut [u8]) -> Result<(), DiskFault>
         requires { AreSectors first (length bytes.old) (lent_state self.old).sectors }
         ensures counted { Counted (is_err result) (lent_state self.old) (lent_state self.new) }
@@ -169,6 +174,12 @@ impl<'a> Disk for LentDisk<'a> {
         ensures moments { Touches 0 0 (lent_state self.old) (lent_state self.new) }
         ensures same_open { SameOpen (lent_state self.old) (lent_state self.new) }
         ensures bytes { OnOk result (Holds (contents_of (lent_state self.old)) first bytes.new) }
+
+        // It succeeds exactly where each sector is known or wasn't lent, and then nothing changes; else the first of the
+        // others is wanted.
+        ensures still { OnOk result (self.new ≡ self.old) }
+        ensures known { OnOk result (ReadsAll first (length bytes.old) self.old) }
+        ensures wanted { OnErr result (Misses first (length bytes.old) self.old self.new) }
     {
         match self.copy(first, bytes) {
             Ok(()) => Ok(()),

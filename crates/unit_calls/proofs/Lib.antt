@@ -1,6 +1,7 @@
 pub mod Alongside
 pub mod Carrying
 pub mod Emptying
+pub mod Ending
 pub mod Floating
 pub mod Goings
 pub mod HeldValues

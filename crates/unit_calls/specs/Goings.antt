@@ -1,13 +1,14 @@
 -- What going on with a power-up leaves in its handle and in that of the unit (this project's profile).
 use Rattle.std.specs.Prelude.{◌≡◌, ◌⊎◌, ℕ, ◌<◌, ◌≤◌, List, [], Option, Some, None, Result, Ok, Err, IfOk, IfErr, IfSome, MatchResult, false}
 use Rattle.disk.specs.State.{contents_of}
+use Rattle.events.specs.declared.input.Event.{Event}
 use Rattle.unit_start.specs.Answers.{is_device}
-use Rattle.unit_start.specs.Lives.{IsOpenRefusal, HasNoCause}
+use Rattle.unit_start.specs.Lives.{IsReady, IsOpenRefusal, HasNoCause}
 use Rattle.unit_start.specs.declared.errors.OpenError.{OpenError}
 use Rattle.unit_start.specs.declared.errors.OpenError.TheVariants as an_open
 use Rattle.relayed_unit.specs.Goings.{OnWants, OnOpen}
 use Rattle.relayed_unit.specs.Openings.{Opening, medium_state, still_needed, IsGoing, IsWanted, IsFurther}
-use Rattle.relayed_unit.specs.Relayed.{WantsNothing}
+use Rattle.relayed_unit.specs.Relayed.{HasPowerUp, WantsNothing}
 use Rattle.relayed_unit.specs.declared.powering_up.Going.{Going}
 use Rattle.relayed_unit.specs.declared.powering_up.Going.TheVariants as a_going
 use Rattle.unit_calls.specs.Handles.{IsLeft}
@@ -35,6 +36,11 @@ pub record IsGoneOn (before : Opening) (reported : Result Going OpenError) : Typ
   -- the unit was powered up over a disk that holds what the medium held
   pub up : (medium : List ℕ) → IsGoing medium before →
       IfOk reported (λ g. OnOpen g (IsUp (before_any medium before.disk.sectors) before.cold))
+  -- the newest block is then that of the power-up's record and of what is kept after it
+  pub last : (medium : List ℕ) (whole_from : ℕ) (durable accepted : List Event) → IsGoing medium before →
+      IsReady whole_from durable accepted (medium_state medium before.disk.sectors) →
+      IfOk reported (λ g. OnOpen g (λ u. IfSome u.moored (HasPowerUp before.disk.sectors
+      (contents_of (medium_state medium before.disk.sectors)) before.cold)))
   -- no fault of the device comes of it
   pub no_device : IfErr reported (λ e. is_device e ≡ false)
   -- each refusal but NoMemory has its cause

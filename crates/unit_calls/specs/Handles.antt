@@ -24,7 +24,7 @@ use Rattle.onboard.specs.declared.errors.AcceptError.TheVariants as an_accept
 use Rattle.unit_start.specs.declared.errors.OpenError.{OpenError}
 use Rattle.unit_start.specs.declared.errors.OpenError.TheVariants as an_open
 use Rattle.relayed_unit.specs.LifeNow.{DescribesLife}
-use Rattle.relayed_unit.specs.Relayed.{Relayed, Turns, list_of, requests_of, release_refusal, prepare_refusal, prepare_failed, wants_gate, IsLeftBy, WantsNothing}
+use Rattle.relayed_unit.specs.Relayed.{Relayed, Turns, list_of, requests_of, release_refusal, prepare_refusal, prepare_failed, wants_gate, IsLeftBy, HasPowerUp, WantsNothing}
 use Rattle.relayed_unit.specs.declared.errors.PrepareError.{PrepareError}
 use Rattle.relayed_unit.specs.declared.life_now.LifeNow.{LifeNow}
 use Rattle.ring.specs.Account.{Account}
@@ -103,6 +103,9 @@ pub record IsPrepared (before after : Relayed) (reported : Result ⊤ PrepareErr
   -- where nothing was pending there is no request
   pub nothing : OnOk reported (Turns before.moored after.moored (λ it next.
       length it.unit.life.records ≡ 0 → next.reading ≡ it.reading))
+  -- where something was pending no sector is wanted then
+  pub wants_nothing : OnOk reported (Turns before.moored after.moored (λ it next.
+      0 < length it.unit.life.records → WantsNothing next))
   -- the medium has as many sectors as before
   pub sectors : OnOk reported (Turns before.moored after.moored (λ it next. next.reading.disk.sectors ≡ it.reading.disk.sectors))
   -- what the next refusal goes by has gone on by this flush
@@ -248,6 +251,9 @@ pub record IsPoweredUp (image : List ℕ) (cold : Cold) (reported : Result Relay
       × Opens whole_from durable accepted found cold power_up_word (request_state (copy_of image)) (request_state it.reading.disk)
       × IsOpen it.unit.journal (account_of whole_from (PowerUp power_up_word ∷ found)) (request_state it.reading.disk)
       × IsAhead (PowerUp power_up_word ∷ found) (PowerUp power_up_word ∷ found) it.unit.life))
+  -- the newest block is then that of the power-up's record and of what is kept after it
+  pub last : (whole_from : ℕ) (durable accepted : List Event) → IsReady whole_from durable accepted (request_state (copy_of image)) →
+      IfOk reported (λ u. IfSome u.moored (HasPowerUp (length image / 512) (contents_of (request_state (copy_of image))) cold))
 
 -- the unit is in the handle, or there was no memory for it there; a refusal leaves none
 abbrev pub IsLeft : Result Relayed OpenError → Option Opened → Status → Type 0

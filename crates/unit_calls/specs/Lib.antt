@@ -1,3 +1,4 @@
+pub mod Endings
 pub mod Formatting
 pub mod Goings
 pub mod Handles

@@ -1,4 +1,5 @@
 //! Laws of the calls.
+ghost use Rattle.unit_calls.specs.Endings.{WantsFew};
 ghost use Rattle.unit_calls.specs.Formatting.{FormatEmpties};
 ghost use Rattle.unit_calls.specs.Histories.{HandedOutIsOnMedium, OnMediumIsHeld};
 
@@ -17,4 +18,10 @@ pub fn handed_out_is_on_medium()
 /// A law: the definition of `handed_out_is_on_medium` means at least this. Where it is weakened, this law fails.
 pub fn on_medium_is_held()
     ensures { OnMediumIsHeld }
+{}
+
+/// A law: a power-up in steps ends. Where the caller hands in each sector that it wants, and no other one, it wants the
+/// first sector, two for each slot, and seven more at most, whatever the medium holds.
+pub fn power_up_ends()
+    ensures { WantsFew }
 {}

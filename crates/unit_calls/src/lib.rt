@@ -33,7 +33,7 @@ pub use formatting::format_request_call;
 pub use going::go_on_call;
 pub use handle::{EtcsUnit, Opened};
 pub use inputs::EtcsTrainData;
-pub use laws::{format_empties, handed_out_is_on_medium, on_medium_is_held};
+pub use laws::{format_empties, handed_out_is_on_medium, on_medium_is_held, power_up_ends};
 pub use opening::{close_call, open_call, put_unit};
 pub use outputs::{EtcsOutput, EtcsState};
 pub use place::{EtcsOpening, Place};

@@ -18,6 +18,7 @@ returns c =
       fresh_unit = e.fresh_unit;
       wants_nothing = e.wants_nothing;
       up = ups c.in-Some.it c.go_on-reported.result e.fresh e.there e.sectors e.up;
+      last = e.last;
       no_device = e.no_device;
       refused = e.refused;
       no_cause = e.no_cause;

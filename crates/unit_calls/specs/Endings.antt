@@ -1,0 +1,25 @@
+-- How often a power-up in steps answers that it wants a sector (this project's profile). Sectors have 512 bytes and are
+-- numbered from 0.
+
+-- Taken for granted: each call meets its contract (`IsGoneOn`, `IsProvided`), which is proved. The caller hands in the
+-- sector that is wanted before he goes on, and no other one; its bytes may be any.
+use Rattle.std.specs.Prelude.{◌≡◌, ℕ, ◌+◌, ◌*◌, ◌≤◌, List, [], ◌∷◌, length, Some, Ok}
+use Rattle.mode_table.specs.declared.statuses.Cold.{Cold}
+use Rattle.relayed_unit.specs.Openings.{Opening, initial, slots_in}
+use Rattle.relayed_unit.specs.declared.powering_up.Going.TheVariants as a_going
+use Rattle.unit_calls.specs.Goings.{IsGoneOn}
+use Rattle.unit_calls.specs.Openings.{IsProvided}
+
+-- A power-up went on and wanted the first of these sectors, which was handed in; then it went on and wanted the next of
+-- them; and so on.
+abbrev pub AreWanted : List ℕ → Opening → Opening → Type 0
+AreWanted [] first last = last ≡ first
+AreWanted (sector ∷ more) first last = (it : Opening) × (bytes : List ℕ) × (next : Opening)
+    × IsGoneOn first (Ok (a_going.Wants it)) × (it.disk.wanted ≡ Some sector) × IsProvided sector bytes it next
+    × AreWanted more next last
+
+-- It wants a sector at most so often, whatever the medium holds: the first one, two for each slot, and seven more. So it
+-- ends, open or refused.
+abbrev pub WantsFew : Type 0
+WantsFew = (medium wanted : List ℕ) (sectors : ℕ) (cold : Cold) (last : Opening) → AreWanted wanted (initial medium sectors cold) last
+    → length wanted ≤ 1 + 2 * slots_in sectors + 7

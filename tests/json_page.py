@@ -4,8 +4,8 @@ other units.
 
     tests/json_page.py PROGRAM..
 
-Each object has to have the members of its table, in their order, with values of their kinds; and each member, each keyword
-and each null of a table has to occur in some object, except those of NEVER.
+Each object has to have the members of its list, in their order, with values of their kinds; and each member, each keyword
+and each null of a list has to occur in some object, except those of NEVER.
 """
 import json
 import os
@@ -70,35 +70,19 @@ def alternatives(text):
     return found
 
 
-def members_of(row, anchor):
-    """The members of a row: their names, and for each case what the value may be and when the member is there."""
-    names, value = re.findall(r"`([^`]+)`", row[0].partition(":")[0]), row[1]
-    cases = []
-    for case in value.split("; "):
-        what, _, when = case.partition(" - ")
-        cases.append((what, when))
-    return [(name, cases, anchor) for name in names]
+MEMBERS = re.compile(r"- ((?:`\w+`(?:, )?)+): ((?:`[^`]*`|[^`.])+)\.")
 
 
 def page_tables(text):
-    """By the anchor of its heading the rows of each table of members."""
-    tables, anchor, kind = {}, None, None
+    """By the anchor of its heading the members of each object: the name, what the value may be in which case, and the anchor."""
+    tables, anchor = {}, None
     for line in text.splitlines():
         if line.startswith("#"):
-            anchor, kind = line.lstrip("# ").lower().replace(" ", "-"), None
-        elif line.startswith("|"):
-            cells = [cell.strip() for cell in line.strip("|").split("|")]
-            if set(line) <= set("|-"):
-                continue
-            if kind is None or cells[0] in ("Member", "Command", "Reason"):
-                kind = cells[0]
-                if kind == "Member":
-                    tables.setdefault(anchor, [])
-                continue
-            if kind == "Member":
-                tables[anchor] += members_of(cells, anchor)
-        else:
-            kind = None
+            anchor = line.lstrip("# ").lower().replace(" ", "-")
+        elif line.startswith("- "):
+            names, value = MEMBERS.match(line).groups()
+            cases = [case.partition(" - ")[::2] for case in value.split("; ")]
+            tables.setdefault(anchor, []).extend((name, cases, anchor) for name in re.findall(r"\w+", names))
     return tables
 
 

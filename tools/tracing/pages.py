@@ -7,7 +7,6 @@ from dataclasses import dataclass, field
 from pathlib import Path
 
 from gaknifur.testing import coverage
-from gaknifur.testing.mode_table import table_rows
 from tracing.sources import Place
 
 NAME = re.compile(r"`([^`]+)`")
@@ -130,11 +129,13 @@ def sections():
 
 
 def questions():
-    """The rows of "In one sentence each" and of the constants of CONFORMANCE: sentence, definitions, crates."""
+    """The items of "In one sentence each" and of the constants of CONFORMANCE: sentence, definitions, crates."""
     text = read("docs/explain/conformance.md")
-    for heading, at in (("In one sentence each", 2), ("Constants of this profile", 2)):
-        for cells in table_rows(text, heading):
-            for part in cells[at].split(";"):
+    for heading in ("In one sentence each", "Constants of this profile"):
+        section = text.split(f"\n## {heading}\n")[1].split("\n## ")[0]
+        for item in re.findall(r"^- (.*(?:\n  .*)*)", section, re.M):
+            said = " ".join(item.split()).rstrip(".")
+            for part in said[said.rindex("(") + 1 :].rstrip(")").split(";"):
                 names, crate = NAME.findall(part), part.rsplit(",", 1)[-1].strip()
                 if names and re.fullmatch(r"\w+", crate):
-                    yield cells[0], names, crate
+                    yield re.split(r"[:?]", said.lstrip("*"))[0], names, crate

@@ -5,8 +5,7 @@ import {briefRows, counted, reasonOf} from "./brief";
 import {Day, MarksFile, utcText} from "./day";
 import {Calls, Records, END, OK} from "./calls";
 import {Dial, scaleOf, shownOf} from "./dial";
-import {at, make, row, save, say, show, table} from "./dom";
-import {csvOf, Findings, jsonOf, reportOf} from "./evidence";
+import {at, make, row, say, show, table} from "./dom";
 import {Graphs} from "./graphs";
 import {fieldsOf, placeOf, showBytes, sizeOf} from "./fields";
 import {Block, Facts, POWER_UP, Replay, Slot, TELEGRAM, Why} from "./layouts";
@@ -19,7 +18,6 @@ import {BySlots, imageSize} from "./slots";
 import {choose} from "./tabs";
 import {offerApart} from "./telegram";
 import {BRIEF, DAY, SAY, STATUSES, WORDS} from "./texts";
-import {iso} from "./times";
 
 const LINK_MS = 100;
 
@@ -73,29 +71,7 @@ export class Ask {
         ];
         for (const [id, to] of move) at(id).addEventListener("click", () => this.choose(to()));
         at("print").addEventListener("click", () => print());
-        this.offer("save-json", "json", "application/json", jsonOf);
-        this.offer("save-csv", "csv", "text/csv", csvOf);
-        this.offer("save-report", "html", "text/html", findings => reportOf(findings, at("answers"),
-            document.querySelector("style")?.textContent ?? "", new Date().toISOString()));
         addEventListener("hashchange", () => this.followHash());
-    }
-
-    /** A button that saves what is found; it does nothing before everything is shown. */
-    private offer(button: string, kind: string, type: string, text: (findings: Findings) => string): void {
-        at(button).addEventListener("click", () => {
-            const { records, isDone, day } = this;
-            if (!records || !isDone) return;
-            const utc = (n: number): [string, number]|null => {
-                const found = day.times ? day.of(records.life(n), records.moment(n)) : null;
-                return found && [iso(found.utc), found.uncertainty];
-            };
-            const { name, digest, isWhole, unreadable, replays, interventions, trips, speeds } = this;
-            const build = at("version").textContent ?? "", causes = counted(records, replays, this.causes);
-            save(`${name}.${kind}`, text({
-                build, name, bytes: this.bytes.length, sha256: digest, slots: this.facts?.slots ?? 0, isWhole, unreadable,
-                replays, interventions, trips, records, speeds, causes, utc
-            }), type);
-        });
     }
 
     private refuse(sentence: string): void {

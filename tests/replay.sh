@@ -1,6 +1,6 @@
 #!/bin/bash
 # Test replays of journals by the program etcs_lab that the full check leaves: compare them with a plain replay, and with the table
-# of altered fields in docs/project/tests.md.
+# of altered fields in tests/lab/altered_fields.md.
 #
 #     tests/replay.sh [PROGRAM..]    test another program, with its arguments
 lab=$(dirname "$(readlink -f -- "$0")")/../crates/etcs_lab/out/etcs_lab

@@ -5,7 +5,7 @@ output is worked out by the plain replay (tests/plain/replay.py).
 
     tests/lab/replay_rows.py PROGRAM..          run the program on each image, with text and with JSON, and compare
     tests/lab/replay_rows.py --cases FOLDER WORD..     write images, arguments and the wanted output into a folder, for rt try --cases
-    tests/lab/replay_rows.py --table            print which altered fields are found, as in docs/project/tests.md
+    tests/lab/replay_rows.py --table            print which altered fields are found, as in tests/lab/altered_fields.md
 """
 import json
 import subprocess
@@ -244,7 +244,7 @@ def table():
 
 
 def compare_page(page):
-    """The table of docs/project/tests.md is that of these rows."""
+    """The table of tests/lab/altered_fields.md is that of these rows."""
     missing = [line for line in table() if line not in page.read_text().splitlines()]
     print("\n".join([f"{page.name} doesn't have: {line}" for line in missing] or [f"{page.name} has the table of altered fields"]))
     return bool(missing)
@@ -308,7 +308,7 @@ def main(words):
         print("\n".join(table()))
         return 0
     failed = compare(words)
-    return int(compare_page(TOP / "docs/project/tests.md") or failed)
+    return int(compare_page(HERE / "altered_fields.md") or failed)
 
 
 if __name__ == "__main__":

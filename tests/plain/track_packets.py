@@ -20,8 +20,7 @@ PAGE = Path(__file__).resolve().parents[2] / "docs/reference/packets.md"
 def names():
     """The names of packets by their numbers, as docs/reference/packets.md has them."""
     section = PAGE.read_text(encoding="utf-8").split("## Names")[1].split("\n## ")[0]
-    rows = [[cell.strip() for cell in line.strip("|").split("|")] for line in section.splitlines() if line.startswith("|")]
-    return {int(row[0]): row[1] for row in rows if row[0].isdigit()}
+    return {int(number): name for number, name in re.findall(r"^- (\d+) (.+) \([SFB](?:, \w+)?\): ", section, re.M)}
 
 
 WIDTHS = WIDTH | {name: width for width, names in {

@@ -270,6 +270,8 @@ PAGES = (  # for tools/docs --check
         'docs/howto/oracle.md: the first line below the title has to begin with "How-to for "',
     ),
     ("a page with a date", "docs/howto/oracle.md", "A unit that agrees here", "On 2026-11-27 a unit", "docs/howto/oracle.md: has the date 2026-11-27"),
+    ("a page with a machine", "docs/howto/sweep.md", "By hand, for 50 cm/s2", "On a Ryzen, for 50 cm/s2", "docs/howto/sweep.md: has Ryzen of one machine"),
+    ("pages with more words", "docs/howto/lint.md", "By hand, for item 14", "a " * 9_000, "words, and 65,000 at most"),
     ("a misspelt page", "docs/explain/safety.md", "different", "diffrent", "diffrent ==> different"),
     ("a misspelt help text", "python/gaknifur/cli/commands.py", "default", "defualt", "defualt ==> default"),
 )

@@ -53,8 +53,8 @@ LEAST = 28
 def words_of(page, section, member):
     """The words of a member's value in docs/reference/json.md; those of a member that is one of several are the members."""
     text = re.search(rf"^#+ {re.escape(section)}\n(.*?)(?=^#|\Z)", page, re.MULTILINE | re.DOTALL)[1]
-    row = next(line for line in text.splitlines() if line.startswith(f"| `{member}`"))
-    members, values, *_ = (re.findall("`(.+?)`", cell.split(" - ")[0]) for cell in row.split(" | "))
+    line = next(line for line in text.splitlines() if line.startswith(f"- `{member}`"))
+    members, values = (re.findall("`(.+?)`", part.split(" - ")[0].split(". ")[0]) for part in line.split(": ", 1))
     return set(members if len(members) > 1 else values)
 
 

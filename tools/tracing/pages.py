@@ -7,7 +7,6 @@ from dataclasses import dataclass, field
 from pathlib import Path
 
 from gaknifur.testing import coverage
-from gaknifur.testing.mode_table import table_rows
 from tracing.sources import Place
 
 NAME = re.compile(r"`([^`]+)`")
@@ -76,24 +75,24 @@ def items():
 
 
 def refusals():
-    """The rows of REFUSALS that have a number: what refuses, number, name and meaning."""
+    """The refusals of REFUSALS that have a number: what refuses, number, name and meaning."""
     path, found, title, head, types = "docs/reference/refusals.md", [], "", [], []
     for number, line in enumerate(read(path).splitlines(), 1):
         if line.startswith("#"):
             title = line.lstrip("# ")
-        if not line.startswith("|"):
+        if title == "Numbers and names" and re.fullmatch(r"(`[\w:]+`( and )?)+:", line):
+            types = [one.split("::")[-1] for one in NAME.findall(line)]
+        item = re.match(r"- (\d+) (\w+): (.*)", line) if title == "Numbers and names" else None
+        if not item and not line.startswith("|"):
             head = []
             continue
-        cells = [cell.strip() for cell in line.strip("|").split(" | ")]
-        head = head or cells
-        if head[0] != "Number" or not cells[0].isdigit():
-            continue
-        if head[2] == "Where":
-            named = [one.split("::") for one in NAME.findall(cells[2])]
-            types = [one[-1] for one in named if one[0] != "LiveError"] or types
-        elif title == "The unit from C":
+        cells = item.groups() if item else [cell.strip() for cell in line.strip("|").split(" | ")]
+        if not item:
+            head = head or cells
+            if head[0] != "Number" or not cells[0].isdigit():
+                continue
             types = ["etcs_unit_status" if len(head) == 5 else "etcs_file_answer"]
-        said = cells[2] if len(head) == 3 else cells[3]
+        said = cells[2] if item or len(head) == 3 else cells[3]
         found += [
             (kind, int(cells[0]), cells[1], Sentence(f"{kind} {cells[0]}", plain(said), Place(path, number)))
             for kind in types
@@ -130,11 +129,13 @@ def sections():
 
 
 def questions():
-    """The rows of "In one sentence each" and of the constants of CONFORMANCE: sentence, definitions, crates."""
+    """The items of "In one sentence each" and of the constants of CONFORMANCE: sentence, definitions, crates."""
     text = read("docs/explain/conformance.md")
-    for heading, at in (("In one sentence each", 2), ("Constants of this profile", 2)):
-        for cells in table_rows(text, heading):
-            for part in cells[at].split(";"):
+    for heading in ("In one sentence each", "Constants of this profile"):
+        section = text.split(f"\n## {heading}\n")[1].split("\n## ")[0]
+        for item in re.findall(r"^- (.*(?:\n  .*)*)", section, re.M):
+            said = " ".join(item.split()).rstrip(".")
+            for part in said[said.rindex("(") + 1 :].rstrip(")").split(";"):
                 names, crate = NAME.findall(part), part.rsplit(",", 1)[-1].strip()
                 if names and re.fullmatch(r"\w+", crate):
-                    yield cells[0], names, crate
+                    yield re.split(r"[:?]", said.lstrip("*"))[0], names, crate

@@ -8,7 +8,13 @@
     group NAME                    of the lines from here on only a digest is wanted, up to
     end -> ..                     .. which says how many they are, how often the answers change from one line to the next, and the
                                   digest of the answers, each that is the same as the line's before it left out
+
+In the other files of rows:
+
+    3 x move 10000 -> 40000       the line, three times
+    mode FS {trip, level_0}: TR   the line once for each of these words
 """
+import re
 from math import prod
 
 MASK = (1 << 64) - 1
@@ -42,6 +48,18 @@ def combined(each):
             rest, place = divmod(rest, len(choice))
             words.append(" " + choice[place])
         yield line.replace("*", "".join(words[:len(first)])).replace("%", "".join(words[len(first):]))
+
+
+def repeated(line):
+    """The lines of `N x LINE`; any other line stands for itself."""
+    times = re.match(r"(\d+) x ", line)
+    return [line[times.end():]] * int(times[1]) if times else [line]
+
+
+def braced(line):
+    """The line once with each of the words in its braces. Braces with quotes are a question's own (JSON)."""
+    words = re.search(r'\{([^{}"]+, [^{}"]+)\}', line)
+    return [line[:words.start()] + word + line[words.end():] for word in words[1].split(", ")] if words else [line]
 
 
 class Group:

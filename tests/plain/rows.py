@@ -3,6 +3,7 @@ from collections import namedtuple
 
 from items import UNKNOWN, Kept
 from life import Life
+from row_lines import repeated
 
 Line = namedtuple("Line", "number word value wanted")
 
@@ -68,14 +69,21 @@ def kept_text(kept, name):
 
 def read(text):
     """The rows of a text."""
-    rows = []
+    rows, named = [], {}
     for number, line in enumerate(text.splitlines(), 1):
         said = line.partition("#")[0].strip()
         word, _, value = said.partition(" ")
-        if word == "row":
+        if word == "lines":
+            name, _, lines = value.partition(": ")
+            named[name] = lines.split("; ")
+        elif word == "row":
             rows.append(Row(value))
         elif said:
-            happens, _, wanted = said.partition("->")
-            word, _, value = happens.strip().partition(" ")
-            rows[-1].lines.append(Line(number, word, value, wanted.strip() or None))
+            rows[-1].lines += [line_of(number, one) for one in named.get(said) or repeated(said)]
     return rows
+
+
+def line_of(number, said):
+    happens, _, wanted = said.partition("->")
+    word, _, value = happens.strip().partition(" ")
+    return Line(number, word, value, wanted.strip() or None)

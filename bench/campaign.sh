@@ -11,7 +11,7 @@
 # is waited for.
 #
 #     bench/campaign.sh [SCENARIOS [SEED [TURNS]]]    (default: 2000 random lives, seed 7, 3 turns)
-#     bench/campaign.sh --drives ..                   lives like those of drives/: 200 s, with five readings a second
+#     bench/campaign.sh --drives ..                   lives like those of examples/closed_loop: 200 s, with five readings a second
 #     bench/campaign.sh [--drives] --dask ..          only the plain loop, and `./lab campaign` in both ways
 #     bench/campaign.sh --help                        print this
 #

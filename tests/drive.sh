@@ -1,6 +1,6 @@
 #!/bin/bash
-# Tests trains in a closed loop with the onboard unit (drives/), with the library that tests/unit.sh left, or else a new one: each expected result
-# comes, each planted fault is found, and the program gives the same answers as the library. Also runs the commands of docs/howto/closed-loop.md.
+# Tests trains in a closed loop with the onboard unit (examples/closed_loop), with the library that tests/unit.sh left, or else a new one:
+# each expected result comes, each planted fault is found, and the program gives the same answers as the library. Also runs the commands of docs/howto/closed-loop.md.
 #
 #     tests/drive.sh [ETCS_LAB ETCS [PREFIX]]    on other programs, and on the library below PREFIX
 top=$(cd "$(dirname "$(readlink -f -- "$0")")/.." && pwd) || exit 1
@@ -28,5 +28,5 @@ export GAKNIFUR_ETCS_UNIT=$(realpath "$prefix")/lib/libetcs_unit.so
 status=0
 /usr/bin/python3 "$top/tests/suites/drive_rows.py" "$etcs" "$lab" || status=1
 ETCS=$etcs ETCS_LAB=$lab /usr/bin/python3 "$top/tests/pages.py" howto/closed-loop || status=1
-GAKNIFUR_ETCS=$etcs GAKNIFUR_ETCS_LAB=$lab "$top/lab" lint "$top/drives" || { status=1; echo "lab lint finds more in drives/ than the cases list under shows"; }
+GAKNIFUR_ETCS=$etcs GAKNIFUR_ETCS_LAB=$lab "$top/lab" lint "$top/examples/closed_loop" || { status=1; echo "lab lint finds more in examples/closed_loop than the cases list under shows"; }
 exit $status

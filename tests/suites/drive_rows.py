@@ -1,5 +1,5 @@
 #!/usr/bin/env python3
-"""Trains in a closed loop with the onboard unit's library, which `GAKNIFUR_ETCS_UNIT` names: the drives of drives/.
+"""Trains in a closed loop with the onboard unit's library, which `GAKNIFUR_ETCS_UNIT` names: those of examples/closed_loop.
 
     tests/suites/drive_rows.py ETCS ETCS_LAB
 
@@ -17,7 +17,7 @@ from pathlib import Path
 from unittest.mock import patch
 
 TOP = Path(__file__).resolve().parents[2]
-DRIVES = TOP / "drives"
+DRIVES = TOP / "examples/closed_loop"
 sys.path[:0] = [str(TOP / "python"), str(TOP / "tests")]
 from compared import Compared  # noqa: E402
 from gaknifur import program  # noqa: E402

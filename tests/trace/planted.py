@@ -18,7 +18,6 @@ WHOLE = (
     ".ci/run",
     "docs",
     "suites",
-    "drives",
     "tools",
     "python/gaknifur",
     "tests",

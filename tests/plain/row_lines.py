@@ -13,6 +13,10 @@ In the other files of rows:
 
     3 x move 10000 -> 40000       the line, three times
     mode FS {trip, level_0}: TR   the line once for each of these words
+    lines damaged by *            a name for the lines after `|` ..
+    | patch *: done
+    | open: 3 Damaged, calls 7
+    > damaged by 2 {28:09, 5:01}  .. which this line stands for, with these words in place of `*`, once for each of those in braces
 """
 import re
 from math import prod
@@ -60,6 +64,24 @@ def braced(line):
     """The line once with each of the words in its braces. Braces with quotes are a question's own (JSON)."""
     words = re.search(r'\{([^{}"]+, [^{}"]+)\}', line)
     return [line[:words.start()] + word + line[words.end():] for word in words[1].split(", ")] if words else [line]
+
+
+def written_out(lines):
+    """The lines with their numbers, each `>` line as the lines that it stands for."""
+    named = {}
+    for number, line in enumerate(lines, 1):
+        sign, _, rest = line.partition(" ")
+        if sign == "lines":
+            name, body = rest.removesuffix(" *"), []
+            named[name] = body
+        elif sign == "|":
+            body.append(rest)
+        elif sign == ">":
+            name = max((name for name in named if f"{rest} ".startswith(f"{name} ")), key=len)
+            for words in braced(rest.removeprefix(name).strip()):
+                yield from ((number, one.replace("*", words)) for one in named[name])
+        else:
+            yield number, line
 
 
 class Group:

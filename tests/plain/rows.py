@@ -3,7 +3,7 @@ from collections import namedtuple
 
 from items import UNKNOWN, Kept
 from life import Life
-from row_lines import repeated
+from row_lines import repeated, written_out
 
 Line = namedtuple("Line", "number word value wanted")
 
@@ -69,17 +69,14 @@ def kept_text(kept, name):
 
 def read(text):
     """The rows of a text."""
-    rows, named = [], {}
-    for number, line in enumerate(text.splitlines(), 1):
+    rows = []
+    for number, line in written_out(text.splitlines()):
         said = line.partition("#")[0].strip()
         word, _, value = said.partition(" ")
-        if word == "lines":
-            name, _, lines = value.partition(": ")
-            named[name] = lines.split("; ")
-        elif word == "row":
+        if word == "row":
             rows.append(Row(value))
         elif said:
-            rows[-1].lines += [line_of(number, one) for one in named.get(said) or repeated(said)]
+            rows[-1].lines += [line_of(number, one) for one in repeated(said)]
     return rows
 
 

@@ -2,7 +2,7 @@
 
 A file of rows holds each question with its wanted answer after it: `QUESTION: ANSWER`, or `QUESTION:` and lines that
 are indented. Empty lines, and lines that begin with `#`, are comments. A question can stand for several with the same
-answer (`repeated` and `braced` of tests/plain/row_lines.py).
+answer, and a line for several (tests/plain/row_lines.py).
 
 Each module `test_..` takes these arguments:
 
@@ -26,7 +26,7 @@ from pathlib import Path
 
 HERE = Path(__file__).resolve().parent
 sys.path.insert(0, str(HERE.parent / "plain"))
-from row_lines import braced, repeated  # noqa: E402
+from row_lines import braced, repeated, written_out  # noqa: E402
 
 MOST = 512  # numbers that the program takes in a row (number_rows::MOST); it drops those after them
 MOST_QUESTIONS = 8_000  # of a case, so that its answers stay below the 1 MiB that is taken of a run
@@ -48,7 +48,7 @@ def text_in(name):
 def rows_of(text):
     """Each question of a file with its number of line and the wanted answer, as lines."""
     rows = []
-    for place, line in enumerate(text.splitlines(), 1):
+    for place, line in written_out(text.splitlines()):
         if line.startswith("  "):
             rows[-1][2].append(line)
         elif line and not line.startswith("#"):

@@ -21,7 +21,8 @@ A file has cases, each in a folder of its own that is empty at its start, but fo
     lock NAME                locks a file, as one that writes does
     share NAME               locks a file, as one that reads does
     unlock NAME              gives the lock back
-    $ WORDS                  runs the program; the lines below, up to one with `= STATUS`, are what it is to print
+    $ WORDS                  runs the program; the lines below, up to one with `= STATUS`, are what it is to print; the status is 0 where an
+                             empty line, a comment or the next `$` comes first
     full $ WORDS             the same, but nothing can be written
     closed $ WORDS           the same, but nobody reads
     without DIGITS $ WORDS   the same, but the standard streams of these numbers are closed
@@ -38,6 +39,7 @@ In wanted output, `event 3..5 REST` stands for the lines of these three events.
 Words are split as by a shell. Where files are named none, those of tests/programs and examples are taken.
 """
 import fcntl
+import itertools
 import json
 import os
 import re
@@ -79,8 +81,10 @@ class Case:
 
 def read(path):
     """The cases of a file."""
-    cases, lines = [Case(path, path.stem, False)], iter(enumerate(path.read_text().splitlines(), 1))
-    for number, line in lines:
+    cases, lines = [Case(path, path.stem, False)], path.read_text().splitlines()
+    places = iter(range(len(lines)))
+    for at in places:
+        line, number = lines[at], at + 1
         word, _, rest = line.partition(" ")
         if not word or word.startswith("#"):
             continue
@@ -93,18 +97,18 @@ def read(path):
             cases[-1].lines.append(Line(number, "$", "", "run s none", [judged[1]], 3 if judged[1] == "device" else 1))
             continue
         if word == "format":
-            slots = int(rest.split()[1])
-            cases[-1].lines.append(Line(number, "$", "", line, [formatted(slots)], 0))
+            cases[-1].lines.append(Line(number, "$", "", line, [formatted(int(rest.split()[1]))], 0))
             continue
         output, status, given = [], None, ""
         if word in GIVEN:
             given, _, rest = rest.partition("$ ")
         if word in RUNS:
-            for _, line in lines:
-                if re.fullmatch(r"= \d+", line):
-                    status = int(line[2:])
-                    break
-                output += wanted_lines(line)
+            below = list(itertools.takewhile(lambda one: one and not one.startswith(("#", "$ ", "= ")), lines[number:]))
+            output, end = [text for one in below for text in wanted_lines(one)], lines[number + len(below):][:1]
+            has_status = bool(end) and end[0].startswith("= ")
+            status = int(end[0][2:]) if has_status else 0
+            for _ in range(len(below) + has_status):
+                next(places)
         cases[-1].lines.append(Line(number, word, given.strip(), rest, output, status))
     return [case for case in cases if case.lines]
 

@@ -92,10 +92,10 @@ class Driven(Compared):
         self.same(f"{path.name}: etcs run", status, 0)
         self.same(f"{path.name}: the images", image.read_bytes() == again.read_bytes(), True)
         table = [line.split(",") for line in rows.read_text().splitlines()]
-        outputs = {int(found[1]): found for found in map(case_runner.RELEASED.fullmatch, printed) if found}
+        outputs = {int(words[1]): words for words in map(str.split, printed) if words[0] == "event"}
         for row in table[1:]:
             answer = outputs[int(row[2])]
-            self.same(f"{path.name}: {row}", (row[5], row[7], row[8]), (answer[5], answer[4], answer[2]))
+            self.same(f"{path.name}: {row}", (row[5], row[7], row[8]), (answer[9], answer[7], answer[3]))
         self.same(f"{path.name}: the picture", picture.read_text().count("<svg"), 1)
         self.same(f"{path.name}: output", len(output.splitlines()) >= 3 and "end of authority is at" in output.splitlines()[-1], True)
 

@@ -43,7 +43,7 @@ def known_telegrams():
         except (KeyError, TypeError, ValueError):
             continue
     rows = (TOP / "tests/rows/test_decode.row").read_text().splitlines()
-    for word in re.split("[ {},]+", " ".join(line.removesuffix(":") for line in rows if not line.startswith("  "))):
+    for word in re.split("[ {},]+", " ".join(line.removesuffix(":") for line in rows if not line.startswith(("  ", "|")))):
         try:
             found.add(bytes.fromhex(word))
         except ValueError:

@@ -1,8 +1,8 @@
 #!/bin/bash
-# Run the scripts of bench/ one after another, and print each row next to the numbers that bench/figures.txt keeps from an
-# earlier run.
+# Run the scripts of bench/ one after another, and print each row next to the numbers of the run that was kept last
+# (bench/out/figures.txt).
 #
-#     bench/all.sh [--keep] [PART..]    PART is one of measure kernel blocks journal onboard rows run program worst mixed
+#     bench/all.sh [--keep] [PART..]    PART is one of kernel rows run program worst mixed
 #                                       (default: all); --keep keeps the new rows
 #     bench/all.sh --help               print this
 #
@@ -14,7 +14,7 @@ out=$top/bench/out
 mkdir -p "$out/printed"
 keep=
 [ "${1:-}" != --keep ] || { keep=--keep; shift; }
-parts="measure kernel blocks journal onboard rows run program worst mixed"
+parts="kernel rows run program worst mixed"
 # shellcheck disable=SC2086
 [ $# -gt 0 ] || set -- $parts
 for part in "$@"; do case " $parts " in *" $part "*) ;; *) wrong "$part" ;; esac; done
@@ -25,7 +25,7 @@ for part in "$@"; do
     [ "$part" != kernel ] || words=(200 200)
     "$top/bench/$part.sh" "${words[@]}" >"$out/printed/$part" 2>>"$out/said" || { echo "$part: failed, see $out/said"; status=1; rm -f "$out/printed/$part"; }
 done
-python3 -I - "$top/bench/figures.txt" "$out/printed" "$keep" "$@" <<'P' || status=1
+python3 -I - "$out/figures.txt" "$out/printed" "$keep" "$@" <<'P' || status=1
 import os, re, sys
 from pathlib import Path
 

@@ -18,10 +18,11 @@ board=$top/examples/bare_metal
 aarch64-linux-gnu-gcc -std=c11 -O2 -Wall -Wextra -Werror -Wconversion -Wsign-conversion -ffreestanding -nostdlib -static -no-pie \
     -Wl,--build-id=none,--no-warn-rwx-segments -I "$1/include" -I "$top/tests/targets" -I "$board" "$board/start.S" -T "$board/board.ld" \
     "$top/bench/board.c" "$1/lib/libetcs_unit_static.a" -o "$made/board.elf"
+"$top/bench/worst_search.py" --kept >"$made/scenarios"
 timeout 600 qemu-system-aarch64 -M virt -cpu cortex-a53 -m 256 -icount shift=0 -display none -monitor none -nic none -serial "file:$made/printed" \
-    -kernel "$made/board.elf" -device loader,file="$top/bench/worst.scenarios",addr=0x48000000,force-raw=on
+    -kernel "$made/board.elf" -device loader,file="$made/scenarios",addr=0x48000000,force-raw=on
 [ "$(tail -n 1 "$made/printed")" = end ] || { tail -n 3 "$made/printed"; echo "bench/board.sh: the board didn't come to the end"; exit 1; }
-grep '^scenario ' "$top/bench/worst.scenarios" | cut -d ' ' -f 3- >"$made/kinds"
+grep '^scenario ' "$made/scenarios" | cut -d ' ' -f 3- >"$made/kinds"
 head -n -1 "$made/printed" | paste -d ' ' - "$made/kinds" | awk '
     BEGIN { printf "%-44s %12s %12s %9s\n", "instructions of a call", "aarch64", "x86-64", "stack" }
     $3 != 0 { printf "scenario %d: status %d\n", $1, $3; bad = 1 }

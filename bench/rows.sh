@@ -16,7 +16,7 @@ out=$top/bench/out
 memory=$(dirname "$(rt doc)")/c/liblibc_c.a
 mkdir -p "$out" && cd "$out" || exit 1
 
-# built NAME SOURCE: the calls of bench/calls/NAME, with the harness in SOURCE
+# built NAME: the calls of bench/calls/NAME, with their harness
 built() {
     local library=$out/libbench_$1.a
     if [ -n "${UNPROVED:-}" ]; then
@@ -25,11 +25,11 @@ built() {
     else
         "$top/bench/library" "$1" >&2 || return 1
     fi
-    gcc -O2 -Wall -Wextra -DCALLS_ALONE -I "$top/include" "$top/bench/$2" "$library" "$memory" -o "$out/rows_$1" >&2
+    gcc -O2 -Wall -Wextra "-D${1^^}" "$top/bench/rows.c" "$library" "$memory" -o "$out/rows_$1" >&2
 }
 
 "$top/bench/peer.sh" --build >&2 && cp "$out/peer/release/rows" "$out/peer_rows" || exit 1
-built telegram bench.c && built blocks blocks.c && built journal journal.c && built onboard onboard.c || exit 1
+built telegram && built blocks && built journal && built onboard || exit 1
 
 # within FUNCTION PROGRAM [WORD..]: the instructions within a function, or - for all of the process
 within() {

@@ -8,7 +8,7 @@
 #
 # An accept in Rattle is a function of bench/calls/relayed that makes the input from the same numbers and gives it to the same kind
 # of unit. The count is what callgrind counts for 48 batches less what it counts for 24, divided by their events, as in
-# bench/onboard.sh. Only the static library has the names of its functions. With UNPROVED=yes all is compiled without a proof
+# bench/rows.sh. Only the static library has the names of its functions. With UNPROVED=yes all is compiled without a proof
 # (bench/unproved), and there is no PREFIX.
 set -e
 top=$(cd "$(dirname "$(readlink -f -- "$0")")/.." && pwd)

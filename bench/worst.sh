@@ -11,10 +11,11 @@
 #     bench/worst.sh --help                  print this
 #
 # The heap is the harness's own (bench/worst.c). bench/worst.scenarios keeps the scenarios: the last line of each is the call that is
-# counted, and its first line has the count when it was found. Then it prints the cost of one element more, of those that nothing
-# bounds, and the bound of the stack (bench/stack_bound.py). The search is a hill climb (bench/worst_search.py): it starts with the
-# kept scenarios, with hand-written ones and with random lives, then changes the scenario of a kind by a few steps, and keeps it
-# where a call takes at least as much. Its figures are the maximum that was found, and no bound.
+# counted, its first line has the count when it was found, and `like N KIND` stands for the first N lines of that one. Then it prints
+# the cost of one element more, of those that nothing bounds, and the bound of the stack (bench/stack_bound.py). The search is a hill
+# climb (bench/worst_search.py): it starts with the kept scenarios, with hand-written ones and with random lives, then changes the
+# scenario of a kind by a few steps, and keeps it where a call takes at least as much. Its figures are the maximum that was found, and
+# no bound.
 set -e
 top=$(cd "$(dirname "$(readlink -f -- "$0")")/.." && pwd)
 . "$top/bench/usage"

@@ -10,6 +10,7 @@
     bench/worst_search.py --grown                    a reading where restrictions and gradients double: WHAT, INSTRUCTIONS, THE PEER'S
     bench/worst_search.py --stairs                   a reading before stairs of restrictions, areas and static speeds: WHAT, INSTRUCTIONS
                                                      where each is faster than the nearer one, and where each is slower
+    bench/worst_search.py --kept                     print the kept ones, with all lines of each
     bench/worst_search.py --memory                   heap and stack of each call: KIND, HELD, PEAK, REQUESTS, GREATEST, STACK
     bench/worst_search.py --help                     print this
 
@@ -523,10 +524,20 @@ class Best:
                 self.of[kind] = (again, [line for line in lines if line != "count"])
 
     def write(self, path):
-        with open(path, "w") as file:
-            for kind, (took, lines) in sorted(self.of.items()):
-                text = [text_of(line) for line in lines]
-                print(f"scenario 4 {took} {kind}", *text[:-1], "count", text[-1], sep="\n", file=file)
+        texts = {kind: [text_of(line) for line in lines] for kind, (_, lines) in sorted(self.of.items())}
+        path.write_text(shortened([(self.of[kind][0], kind, [*lines[:-1], "count", lines[-1]]) for kind, lines in texts.items()]))
+
+
+def shortened(scenarios):
+    """The text of scenarios: `like N KIND` stands for the first lines of a scenario before, where more than two are the same."""
+    text, before = "", {}
+    for took, kind, lines in scenarios:
+        alike = {other: sum(1 for _ in itertools.takewhile(lambda pair: pair[0] == pair[1], zip(lines, theirs))) for other, theirs in before.items()}
+        other = max(alike, key=alike.get, default=None)
+        count = alike.get(other, 0) if alike.get(other, 0) > 2 else 0
+        text += f"scenario 4 {took} {kind}\n" + f"like {count} {other}\n" * bool(count) + "".join(line + "\n" for line in lines[count:])
+        before[kind] = lines
+    return text
 
 
 def by_hand():
@@ -572,6 +583,9 @@ def kept():
         if line.startswith("scenario "):
             _, _, took, kind = line.split(" ", 3)
             found.append((int(took), kind, []))
+        elif line.startswith("like "):
+            _, count, other = line.split(" ", 2)
+            found[-1][2].extend(next(lines for _, kind, lines in found if kind == other)[:int(count)])
         else:
             found[-1][2].append(line)
     return found
@@ -777,7 +791,7 @@ TWICE = {"grades": 690, "statics": [(4_374, 23), (4_375, 127)], "restricted": [(
 
 def main(words):
     numbers = [word for word in words if word.isdigit()]
-    usage.check(__doc__, len(words) == 1 and words[0] in ("--grown", "--stairs", "--hand", "--count", "--memory", "--more")
+    usage.check(__doc__, len(words) == 1 and words[0] in ("--grown", "--stairs", "--hand", "--count", "--kept", "--memory", "--more")
                 or len(numbers) == 2 and [word for word in words if word not in numbers] in ([], ["--minutes"]))
     if words == ["--grown"]:
         grown()
@@ -790,6 +804,9 @@ def main(words):
         best.write(SCENARIOS)
     elif words == ["--count"]:
         count_again()
+    elif words == ["--kept"]:
+        for took, kind, lines in kept():
+            print(f"scenario 4 {took} {kind}", *lines, sep="\n")
     elif words == ["--memory"]:
         memory()
     elif words == ["--more"]:

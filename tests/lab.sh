@@ -4,14 +4,8 @@
 # investigators (docs/start, docs/howto), in one folder.
 #
 #     tests/lab.sh [ETCS_LAB ETCS]    test other programs
-lab=${1:-$(dirname "$(readlink -f -- "$0")")/../crates/etcs_lab/out/etcs_lab}
-etcs=${2:-$(dirname "$(readlink -f -- "$0")")/../crates/etcs/out/etcs}
-lab=$(realpath "$lab") && etcs=$(realpath "$etcs") || exit 1
-cd "$(dirname "$(readlink -f -- "$0")")" || exit 1
-export PYTHONDONTWRITEBYTECODE=1
-for program in "$lab" "$etcs"; do
-    [ -x "$program" ] || { echo "there is no program $program: rt ci makes it"; exit 1; }
-done
+. "$(dirname "$(readlink -f -- "$0")")/both_programs" || exit 1
+cd "$top/tests" || exit 1
 status=0
 ../tools/python --checks || exit 1
 python3 lab/image_rows.py "$lab" "$etcs" || status=1

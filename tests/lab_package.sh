@@ -4,15 +4,10 @@
 # differences of images, archives of blocks, and lab follow.
 #
 #     tests/lab_package.sh [ETCS_LAB ETCS [IMAGES [SEED]]]    on other programs, with more or other images
-lab=${1:-$(dirname "$(readlink -f -- "$0")")/../crates/etcs_lab/out/etcs_lab}
-etcs=${2:-$(dirname "$(readlink -f -- "$0")")/../crates/etcs/out/etcs}
-lab=$(realpath "$lab") && etcs=$(realpath "$etcs") || exit 1
-cd "$(dirname "$(readlink -f -- "$0")")/.." || exit 1
-export PYTHONDONTWRITEBYTECODE=1 GAKNIFUR_ETCS_LAB=$lab
+. "$(dirname "$(readlink -f -- "$0")")/both_programs" || exit 1
+cd "$top" || exit 1
+export GAKNIFUR_ETCS_LAB=$lab
 python=/usr/bin/python3 # Debian's packages belong to this one
-for program in "$lab" "$etcs"; do
-    [ -x "$program" ] || { echo "$program is missing; rt ci makes it"; exit 1; }
-done
 tools/python --checks || exit 1
 status=0
 (cd python && "$python" -m mypy) || status=1

@@ -4,31 +4,14 @@
 # safety laws hold; tshark shows telegrams; and the commands of these pages and of docs/howto/wireshark.md print what the pages say.
 #
 #     tests/oracle.sh [ETCS_LAB ETCS [PREFIX [all]]]    on other programs, and on the library below PREFIX; `all`: all wrong properties
-top=$(cd "$(dirname "$(readlink -f -- "$0")")/.." && pwd) || exit 1
-lab=${1:-$top/crates/etcs_lab/out/etcs_lab}
-etcs=${2:-$top/crates/etcs/out/etcs}
-lab=$(realpath "$lab") && etcs=$(realpath "$etcs") || exit 1
-export PYTHONDONTWRITEBYTECODE=1 GAKNIFUR_ETCS_LAB=$lab GAKNIFUR_ETCS=$etcs
+. "$(dirname "$(readlink -f -- "$0")")/both_programs" || exit 1
+export GAKNIFUR_ETCS_LAB=$lab GAKNIFUR_ETCS=$etcs
 python=/usr/bin/python3 # Debian's packages belong to this one
 least=1010 # results of suites/, each with one more for each case
 made=$(mktemp -d) || exit 1
 trap 'rm -rf "$made"' EXIT
-for program in "$lab" "$etcs"; do
-    [ -x "$program" ] || { echo "$program is missing; rt ci makes it"; exit 1; }
-done
 "$top/tools/python" --checks || exit 1
-prefix=$3
-if [ -z "$prefix" ]; then
-    prefix=$made/prefix
-    unit=$top/crates/etcs_unit/out/libetcs_unit.a
-    telegrams=$top/crates/etcs_c/out/libetcs_c.a
-    if [ "$unit" -nt "$etcs" ] && [ "$telegrams" -nt "$etcs" ] && "$top/etcs" --is-proved; then
-        export ETCS_UNIT_ARCHIVE=$unit ETCS_C_ARCHIVE=$telegrams
-    fi
-    "$top/tools/library" "$prefix" >"$made/said" 2>&1 || { cat "$made/said"; echo "the library isn't built"; exit 1; }
-fi
-prefix=$(realpath "$prefix")
-export GAKNIFUR_ETCS_UNIT=$prefix/lib/libetcs_unit.so
+find_library "$made" "$3"
 status=0
 strict=(-Wall -Wextra -Werror -Wconversion -Wsign-conversion -pedantic)
 gcc -std=c99 -O2 "${strict[@]}" -I "$prefix/include" "$top/examples/oracle/unit.c" "$prefix/lib/libetcs_unit.a" -o "$made/unit" ||

@@ -6,13 +6,9 @@
 #     tests/page.sh [ETCS_LAB ETCS [PAGE [NAME..]]]    test other programs, an existing page, only these checks
 #
 # GAKNIFUR_ETCS_UNIT names an existing library for C. GAKNIFUR_BROWSER=firefox runs the checks in Firefox, outside the full check.
-cd "$(dirname "$(readlink -f -- "$0")")/.." || exit 1
-lab=${1:-crates/etcs_lab/out/etcs_lab} etcs=${2:-crates/etcs/out/etcs}
-lab=$(realpath "$lab") && etcs=$(realpath "$etcs") || exit 1
-for program in "$lab" "$etcs"; do
-    [ -x "$program" ] || { echo "there is no program $program: rt ci makes it"; exit 1; }
-done
-export PYTHONDONTWRITEBYTECODE=1 GAKNIFUR_ETCS_LAB=$lab GAKNIFUR_ETCS=$etcs
+. "$(dirname "$(readlink -f -- "$0")")/both_programs" || exit 1
+cd "$top" || exit 1
+export GAKNIFUR_ETCS_LAB=$lab GAKNIFUR_ETCS=$etcs
 folder=$(mktemp -d) || exit 1
 trap 'rm -rf "$folder"' EXIT
 if [ -z "$GAKNIFUR_ETCS_UNIT" ]; then

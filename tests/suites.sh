@@ -4,17 +4,12 @@
 # pages for test laboratories print what the pages say, and a search over random lives finds no fault.
 #
 #     tests/suites.sh [ETCS_LAB ETCS]    on other programs
-lab=${1:-$(dirname "$(readlink -f -- "$0")")/../crates/etcs_lab/out/etcs_lab}
-etcs=${2:-$(dirname "$(readlink -f -- "$0")")/../crates/etcs/out/etcs}
-lab=$(realpath "$lab") && etcs=$(realpath "$etcs") || exit 1
-cd "$(dirname "$(readlink -f -- "$0")")/.." || exit 1
-export PYTHONDONTWRITEBYTECODE=1 GAKNIFUR_ETCS_LAB=$lab GAKNIFUR_ETCS=$etcs
+. "$(dirname "$(readlink -f -- "$0")")/both_programs" || exit 1
+cd "$top" || exit 1
+export GAKNIFUR_ETCS_LAB=$lab GAKNIFUR_ETCS=$etcs
 least=800 # results
 made=$(mktemp -d) || exit 1
 trap 'rm -rf "$made"' EXIT
-for program in "$lab" "$etcs"; do
-    [ -x "$program" ] || { echo "$program is missing; rt ci makes it"; exit 1; }
-done
 tools/python --checks || exit 1
 status=0
 output=$(./lab test suites --reached "$made/reached.json" 2>&1) || status=1

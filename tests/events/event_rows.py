@@ -2,8 +2,6 @@
 """The lines of `etcs_lab events`, read back as JSON and compared field by field with what the plain readers find in the image.
 
     tests/events/event_rows.py PROGRAM [RINGS [SEED]]     on a built program
-    tests/events/event_rows.py --images FOLDER            write the images, to be listed by an unproved run (rt try --cases)
-    tests/events/event_rows.py --compare FILE             compare what such a run printed
 """
 import json
 import subprocess
@@ -63,10 +61,10 @@ class Count:
         want_status, want = wanted(image, all_blocks)
         self.images += 1
         if isinstance(want, str):
-            if text or (status is not None and status != want_status):
+            if text or status != want_status:
                 self.differs(name, (status, text[:200]), (want_status, want))
             return
-        if status is not None and status != want_status:
+        if status != want_status:
             self.differs(name, status, want_status)
         try:
             got = [read_line(line) for line in text.splitlines()]
@@ -182,17 +180,6 @@ def unused_row(run):
 
 def main(words):
     count = Count()
-    if words[0] == "--images":
-        folder = Path(words[1])
-        for k, (name, image) in enumerate(all_images(RINGS, SEED)):
-            (folder / f"{k:05}").write_bytes(image)
-        return 0
-    if words[0] == "--compare":
-        parts = Path(words[1]).read_text().split("== ")[1:]
-        texts = {part.partition("\n")[0]: part.partition("\n")[2] for part in parts}
-        for k, (name, image) in enumerate(all_images(RINGS, SEED)):
-            count.compare(name, None, texts.get(f"{k:05}", ""), image, True)
-        return count.end()
     program, rings, seed = words[0], *(int(word) for word in words[1:3]), *(RINGS, SEED)[len(words) - 1:]
     with tempfile.TemporaryDirectory() as folder:
         path = Path(folder) / "image"

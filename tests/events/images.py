@@ -2,6 +2,7 @@
 pseudo-random blocks in all three formats, which the plain writer of docs/reference/format.md makes.
 """
 import json
+import re
 import struct
 
 import blocks
@@ -42,7 +43,7 @@ def known_telegrams():
         except (KeyError, TypeError, ValueError):
             continue
     rows = (TOP / "tests/rows/test_decode.row").read_text().splitlines()
-    for word in " ".join(line.removesuffix(":") for line in rows if not line.startswith("  ")).split():
+    for word in re.split("[ {},]+", " ".join(line.removesuffix(":") for line in rows if not line.startswith(("  ", "|")))):
         try:
             found.add(bytes.fromhex(word))
         except ValueError:

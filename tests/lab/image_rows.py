@@ -2,7 +2,6 @@
 """Images of each state of a slot, and what `etcs_lab examine` has to print.
 
     tests/lab/image_rows.py PROGRAM [ETCS]      run the program on each image, and compare; with the program etcs, the times of both on big images
-    tests/lab/image_rows.py --cases FOLDER      write the images, the arguments and the wanted output into a folder, for rt try --cases
 
 The images are written from docs/reference/format.md (tests/plain/blocks.py), and examined.py, which was written
 from the pages too, works out the wanted output. Both forms are compared: lines as text, JSON as a value.
@@ -25,7 +24,7 @@ sys.path[:0] = [str(HERE), str(HERE.parent), str(HERE.parent / "plain")]
 from blocks import block, data_of, entry  # noqa: E402
 from compared import Compared, loaded, run, status_of_full  # noqa: E402
 from examined import examined, text_of  # noqa: E402
-from image_cases import GROUPS, SECTOR, SLOT, all_cases, blocks_of, first_sector, image_of, patched, ring  # noqa: E402
+from image_cases import GROUPS, SECTOR, SLOT, blocks_of, first_sector, image_of, patched, ring  # noqa: E402
 
 LEAST = 10_300
 NOBODY = 65_534
@@ -334,19 +333,7 @@ def compare_long_life(program, etcs, room, compared):
     print(f"etcs_lab replay of a life of 100,000 events: {seconds:.2f} s, {most:.0f} MB")
 
 
-def lay_cases(folder):
-    """Cases for rt try --cases."""
-    for k, (name, image, slots) in enumerate(all_cases()):
-        path = folder / f"{k:05}"
-        path.write_bytes(image)
-        (folder / f"{k:05}.args").write_text("examine\n{}\n" if slots is None else f"examine\n--slots\n{slots}\n{{}}\n")
-        (folder / f"{k:05}.stdout").write_text(text_of(image, slots)[0])
-
-
 def main(words):
-    if words[0] == "--cases":
-        lay_cases(Path(words[1]))
-        return 0
     program, *others = (str(Path(word).resolve()) for word in words)
     compared = Compared()
     with tempfile.TemporaryDirectory() as room:

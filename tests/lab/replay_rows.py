@@ -4,7 +4,6 @@ formats, on rings that were overwritten, with damaged blocks, and with each fiel
 output is worked out by the plain replay (tests/plain/replay.py).
 
     tests/lab/replay_rows.py PROGRAM..          run the program on each image, with text and with JSON, and compare
-    tests/lab/replay_rows.py --cases FOLDER WORD..     write images, arguments and the wanted output into a folder, for rt try --cases
     tests/lab/replay_rows.py --table            print which altered fields are found, as in tests/lab/altered_fields.md
 """
 import json
@@ -259,26 +258,6 @@ def cases():
         yield f"altered: {name}", data
 
 
-def lay(folder, words):
-    """Cases of `rt try`: each image twice, after the program's words."""
-    folder.mkdir(parents=True, exist_ok=True)
-    lines, some = [], 0
-    for number, (name, data) in enumerate(cases()):
-        if name.startswith("altered") and number % 40:
-            continue
-        for is_json in (False, True):
-            file = folder / f"{number:04}{'j' if is_json else 'p'}"
-            status, text = replayed(data, is_json)
-            file.write_bytes(data)
-            Path(f"{file}.args").write_text("\n".join([*words, *(["--json"] if is_json else []), "{}"]) + "\n")
-            Path(f"{file}.stdout").write_text(text)
-            lines.append(f"{file.name} {status} {name}")
-            some += 1
-    Path(f"{folder}.names").write_text("\n".join(lines) + "\n")
-    print(some, "cases")
-    return 0
-
-
 def compare(words):
     tried = differ = 0
     with tempfile.TemporaryDirectory() as folder:
@@ -302,8 +281,6 @@ def compare(words):
 
 
 def main(words):
-    if words[:1] == ["--cases"]:
-        return lay(Path(words[1]), words[2:])
     if words == ["--table"]:
         print("\n".join(table()))
         return 0

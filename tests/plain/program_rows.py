@@ -21,7 +21,8 @@ A file has cases, each in a folder of its own that is empty at its start, but fo
     lock NAME                locks a file, as one that writes does
     share NAME               locks a file, as one that reads does
     unlock NAME              gives the lock back
-    $ WORDS                  runs the program; the lines below, up to one with `= STATUS`, are what it is to print
+    $ WORDS                  runs the program; the lines below, up to one with `= STATUS`, are what it is to print; the status is 0 where an
+                             empty line, a comment or the next `$` comes first
     full $ WORDS             the same, but nothing can be written
     closed $ WORDS           the same, but nobody reads
     without DIGITS $ WORDS   the same, but the standard streams of these numbers are closed
@@ -29,10 +30,16 @@ A file has cases, each in a folder of its own that is empty at its start, but fo
     begin NAME $ WORDS       starts the program, and goes on once it has printed something: nobody reads, and a page of 4,096 bytes is all that
                              it can print, so it waits if it has more
     end                      reads what it prints, which becomes the file NAME, to its end and `= STATUS`
+    format NAME SLOTS        runs `format`, which has to print its line and end with status 0
+    refused 2 Shape: TEXT    a scenario of this text is refused so, by `run` on an image that isn't there (status 1)
+    device: TEXT             .. isn't refused, so the program comes to the image (status 3)
+
+In wanted output, `event 3..5 REST` stands for the lines of these three events.
 
 Words are split as by a shell. Where files are named none, those of tests/programs and examples are taken.
 """
 import fcntl
+import itertools
 import json
 import os
 import re
@@ -63,6 +70,8 @@ NAMED = re.compile(r"^#     (\S.*): ([0-9A-F]+)\n((?:#       .*\n)+)", re.M)
 RUNS = {"$", "full", "closed", "without", "into", "end"}
 GIVEN = {"full", "closed", "without", "into", "begin"}
 LOCKS = {"lock": fcntl.LOCK_EX, "share": fcntl.LOCK_SH}
+JUDGED = re.compile(r"(refused \d+ \w+|device):(?: (.*))?")
+EVENTS = re.compile(r"event (\d+)\.\.(\d+) (.*)")
 
 
 class Case:
@@ -72,8 +81,10 @@ class Case:
 
 def read(path):
     """The cases of a file."""
-    cases, lines = [Case(path, path.stem, False)], iter(enumerate(path.read_text().splitlines(), 1))
-    for number, line in lines:
+    cases, lines = [Case(path, path.stem, False)], path.read_text().splitlines()
+    places = iter(range(len(lines)))
+    for at in places:
+        line, number = lines[at], at + 1
         word, _, rest = line.partition(" ")
         if not word or word.startswith("#"):
             continue
@@ -81,17 +92,36 @@ def read(path):
             name, by_hand, _ = rest.partition(" by hand")
             cases.append(Case(path, name, bool(by_hand)))
             continue
+        if judged := JUDGED.fullmatch(line):
+            cases[-1].lines.append(Line(number, "file", "", f"s {judged[2] or ''}", [], None))
+            cases[-1].lines.append(Line(number, "$", "", "run s none", [judged[1]], 3 if judged[1] == "device" else 1))
+            continue
+        if word == "format":
+            cases[-1].lines.append(Line(number, "$", "", line, [formatted(int(rest.split()[1]))], 0))
+            continue
         output, status, given = [], None, ""
         if word in GIVEN:
             given, _, rest = rest.partition("$ ")
         if word in RUNS:
-            for _, line in lines:
-                if re.fullmatch(r"= \d+", line):
-                    status = int(line[2:])
-                    break
-                output.append(line)
+            below = list(itertools.takewhile(lambda one: one and not one.startswith(("#", "$ ", "= ")), lines[number:]))
+            output, end = [text for one in below for text in wanted_lines(one)], lines[number + len(below):][:1]
+            has_status = bool(end) and end[0].startswith("= ")
+            status = int(end[0][2:]) if has_status else 0
+            for _ in range(len(below) + has_status):
+                next(places)
         cases[-1].lines.append(Line(number, word, given.strip(), rest, output, status))
     return [case for case in cases if case.lines]
+
+
+def formatted(slots):
+    return f"formatted {slots} blocks {512 * (1 + 6 * slots)} bytes"
+
+
+def wanted_lines(line):
+    """The lines that a line of wanted output stands for."""
+    if not (events := EVENTS.fullmatch(line)):
+        return [line]
+    return [f"event {number} {events[3]}" for number in range(int(events[1]), int(events[2]) + 1)]
 
 
 def text_of(rest):
@@ -261,7 +291,7 @@ def worked_out(case):
         word, *words = shlex.split(line.rest)
         if word == "format":
             images[words[0]] = Image(int(words[1]))
-            yield line, [f"formatted {words[1]} blocks {512 * (1 + 6 * int(words[1]))} bytes"], 0
+            yield line, [formatted(int(words[1]))], 0
         elif word == "run":
             yield line, *images[words[1]].run(json.loads(texts[words[0]]))
         elif word == "journal":

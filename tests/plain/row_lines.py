@@ -8,7 +8,17 @@
     group NAME                    of the lines from here on only a digest is wanted, up to
     end -> ..                     .. which says how many they are, how often the answers change from one line to the next, and the
                                   digest of the answers, each that is the same as the line's before it left out
+
+In the other files of rows:
+
+    3 x move 10000 -> 40000       the line, three times
+    mode FS {trip, level_0}: TR   the line once for each of these words
+    lines damaged by *            a name for the lines after `|` ..
+    | patch *: done
+    | open: 3 Damaged, calls 7
+    > damaged by 2 {28:09, 5:01}  .. which this line stands for, with these words in place of `*`, once for each of those in braces
 """
+import re
 from math import prod
 
 MASK = (1 << 64) - 1
@@ -42,6 +52,36 @@ def combined(each):
             rest, place = divmod(rest, len(choice))
             words.append(" " + choice[place])
         yield line.replace("*", "".join(words[:len(first)])).replace("%", "".join(words[len(first):]))
+
+
+def repeated(line):
+    """The lines of `N x LINE`; any other line stands for itself."""
+    times = re.match(r"(\d+) x ", line)
+    return [line[times.end():]] * int(times[1]) if times else [line]
+
+
+def braced(line):
+    """The line once with each of the words in its braces. Braces with quotes are a question's own (JSON)."""
+    words = re.search(r'\{([^{}"]+, [^{}"]+)\}', line)
+    return [line[:words.start()] + word + line[words.end():] for word in words[1].split(", ")] if words else [line]
+
+
+def written_out(lines):
+    """The lines with their numbers, each `>` line as the lines that it stands for."""
+    named = {}
+    for number, line in enumerate(lines, 1):
+        sign, _, rest = line.partition(" ")
+        if sign == "lines":
+            name, body = rest.removesuffix(" *"), []
+            named[name] = body
+        elif sign == "|":
+            body.append(rest)
+        elif sign == ">":
+            name = max((name for name in named if f"{rest} ".startswith(f"{name} ")), key=len)
+            for words in braced(rest.removeprefix(name).strip()):
+                yield from ((number, one.replace("*", words)) for one in named[name])
+        else:
+            yield number, line
 
 
 class Group:

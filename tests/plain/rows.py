@@ -3,6 +3,7 @@ from collections import namedtuple
 
 from items import UNKNOWN, Kept
 from life import Life
+from row_lines import repeated, written_out
 
 Line = namedtuple("Line", "number word value wanted")
 
@@ -69,13 +70,17 @@ def kept_text(kept, name):
 def read(text):
     """The rows of a text."""
     rows = []
-    for number, line in enumerate(text.splitlines(), 1):
+    for number, line in written_out(text.splitlines()):
         said = line.partition("#")[0].strip()
         word, _, value = said.partition(" ")
         if word == "row":
             rows.append(Row(value))
         elif said:
-            happens, _, wanted = said.partition("->")
-            word, _, value = happens.strip().partition(" ")
-            rows[-1].lines.append(Line(number, word, value, wanted.strip() or None))
+            rows[-1].lines += [line_of(number, one) for one in repeated(said)]
     return rows
+
+
+def line_of(number, said):
+    happens, _, wanted = said.partition("->")
+    word, _, value = happens.strip().partition(" ")
+    return Line(number, word, value, wanted.strip() or None)

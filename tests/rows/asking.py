@@ -1,7 +1,8 @@
 """Converts rows of text to rows of numbers, the questions to the program of rows, and its replies back.
 
 A file of rows holds each question with its wanted answer after it: `QUESTION: ANSWER`, or `QUESTION:` and lines that
-are indented. Empty lines, and lines that begin with `#`, are comments.
+are indented. Empty lines, and lines that begin with `#`, are comments. A question can stand for several with the same
+answer, and a line for several (tests/plain/row_lines.py).
 
 Each module `test_..` takes these arguments:
 
@@ -24,6 +25,9 @@ from collections import namedtuple
 from pathlib import Path
 
 HERE = Path(__file__).resolve().parent
+sys.path.insert(0, str(HERE.parent / "plain"))
+from row_lines import braced, repeated, written_out  # noqa: E402
+
 MOST = 512  # numbers that the program takes in a row (number_rows::MOST); it drops those after them
 MOST_QUESTIONS = 8_000  # of a case, so that its answers stay below the 1 MiB that is taken of a run
 
@@ -44,14 +48,15 @@ def text_in(name):
 def rows_of(text):
     """Each question of a file with its number of line and the wanted answer, as lines."""
     rows = []
-    for place, line in enumerate(text.splitlines(), 1):
+    for place, line in written_out(text.splitlines()):
         if line.startswith("  "):
             rows[-1][2].append(line)
         elif line and not line.startswith("#"):
             question, colon, answer = line.partition(": ")
             if not colon and not line.endswith(":"):
                 raise ValueError(f"line {place} has no answer")
-            rows.append((place, question if colon else line[:-1], [answer] if colon else []))
+            answers = [answer] if colon else []  # one list, to which the indented lines of all these questions are added
+            rows += [(place, one, answers) for said in repeated(question if colon else line[:-1]) for one in braced(said)]
     return rows
 
 

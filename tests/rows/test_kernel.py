@@ -7,6 +7,8 @@
     clock 4000 -> SR 1 none 40000 0  with the answer that is wanted
     clock 4000 -> 40000              with the limit alone
     place -> 9047 953                what is asked for
+    3 x move 10000 -> 40000          the same line three times
+    > started                        lines that have this name (tests/plain/row_lines.py)
 
 Each line that gets another answer is printed: by `step` over stores that keep all that was announced, by `apply` in place
 over stores that stay short, or by `apply` where each life begins by `power_up` with what was kept. So is each that is

@@ -1,5 +1,5 @@
 #!/usr/bin/env python3
-"""Trains in a closed loop with the onboard unit's library, which `GAKNIFUR_ETCS_UNIT` names: the drives of drives/.
+"""Trains in a closed loop with the onboard unit's library, which `GAKNIFUR_ETCS_UNIT` names: those of examples/closed_loop.
 
     tests/suites/drive_rows.py ETCS ETCS_LAB
 
@@ -17,7 +17,7 @@ from pathlib import Path
 from unittest.mock import patch
 
 TOP = Path(__file__).resolve().parents[2]
-DRIVES = TOP / "drives"
+DRIVES = TOP / "examples/closed_loop"
 sys.path[:0] = [str(TOP / "python"), str(TOP / "tests")]
 from compared import Compared  # noqa: E402
 from gaknifur import program  # noqa: E402
@@ -92,10 +92,10 @@ class Driven(Compared):
         self.same(f"{path.name}: etcs run", status, 0)
         self.same(f"{path.name}: the images", image.read_bytes() == again.read_bytes(), True)
         table = [line.split(",") for line in rows.read_text().splitlines()]
-        outputs = {int(found[1]): found for found in map(case_runner.RELEASED.fullmatch, printed) if found}
+        outputs = {int(words[1]): words for words in map(str.split, printed) if words[0] == "event"}
         for row in table[1:]:
             answer = outputs[int(row[2])]
-            self.same(f"{path.name}: {row}", (row[5], row[7], row[8]), (answer[5], answer[4], answer[2]))
+            self.same(f"{path.name}: {row}", (row[5], row[7], row[8]), (answer[9], answer[7], answer[3]))
         self.same(f"{path.name}: the picture", picture.read_text().count("<svg"), 1)
         self.same(f"{path.name}: output", len(output.splitlines()) >= 3 and "end of authority is at" in output.splitlines()[-1], True)
 

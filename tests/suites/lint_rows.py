@@ -377,12 +377,12 @@ def check_words(env, wrong):
 
 
 def check_own(env, wrong):
-    """The suites have no findings but those that their cases show; the examples have those in EXAMPLES. The drives/ need the unit's library, so
-    tests/drive.sh checks them."""
+    """The suites have no findings but those that their cases show; the examples have those in EXAMPLES. tests/drive.sh checks examples/closed_loop,
+    which needs the unit's library."""
     done = lab(env, TOP / "suites")
     if done.returncode or done.stdout:
         wrong.append(f"suites: status {done.returncode}: {done.stdout} {done.stderr}")
-    done = lab(env, TOP / "examples", "--json")
+    done = lab(env, *sorted((TOP / "examples").glob("*/*.json")), "--json")
     found = {}
     for line in done.stdout.splitlines():
         finding = json.loads(line)

@@ -15,6 +15,7 @@ from pathlib import Path
 TOP = Path(__file__).resolve().parents[2]
 sys.path[:0] = [str(TOP / "tests/hostile"), str(TOP / "tests/plain"), str(TOP / "tests/rows")]
 
+import rows  # noqa: E402
 from built import AUTHORITY, RESTRICTION  # noqa: E402
 from compared import Compared  # noqa: E402
 from onboard_lives import RINGS, RowWriter  # noqa: E402
@@ -89,10 +90,8 @@ def lines_of(life):
 
 def story(name):
     """What happens in a row of the kernel's."""
-    text = (TOP / "tests/rows/test_kernel.row").read_text()
-    lines = text.partition(f"\nrow {name}\n")[2].partition("\nrow ")[0].splitlines()
-    said = [re.split("->|#", line)[0].strip() for line in lines]
-    return [line for line in said if line and not line.startswith(("place", "kept"))]
+    row = next(row for row in rows.read((TOP / "tests/rows/test_kernel.row").read_text()) if row.name == name)
+    return [f"{line.word} {line.value}".strip() for line in row.lines if line.word not in rows.ASKED]
 
 
 def formatted(made):

@@ -76,10 +76,10 @@ def test_case(at):
 
 
 def test_cases():
-    """The cases of suites/ and drives/."""
+    """The cases of suites/ and examples/closed_loop."""
     return [
         test_case(at)
-        for folder in ("suites", "drives")
+        for folder in ("suites", "examples/closed_loop")
         for path in coverage.files(Path(folder))
         for at in documents(path)
     ]

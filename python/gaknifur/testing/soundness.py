@@ -1,11 +1,11 @@
 """Check that a journal is sound: the image is whole, a replay agrees, and the released outputs are those of the records."""
-import re
 from collections.abc import Iterable, Sequence
 
 from ..journal.reading import Journal, Json
 from ..units._header import Indication
 
-RELEASED = re.compile(r"event (\d+) mode (\w\w) level (\d|-) brake (\w+) limit (\d+) ind (\d+)")
+RELEASED = "event "
+"""With this begins a line of `etcs run` that has a released output."""
 BITS = {name.lower(): int(sign) for name, sign in Indication.__members__.items()}
 
 
@@ -71,5 +71,5 @@ def check_released(printed: Iterable[str], records: Iterable[Json]) -> None:
     by_head = {f"event {record['event']}": record for record in records}
     outputs = set(map(output_text, by_head.values()))
     for line in printed:
-        if line not in outputs and (record := by_head.get(line[:line.find(" ", 6)])) is not None and RELEASED.fullmatch(line):
+        if line not in outputs and (record := by_head.get(line[:line.find(" ", 6)])) is not None:
             raise Missed(f"the output of its record: {output_text(record)}", f"this output was released: {line}", record)

@@ -1,10 +1,11 @@
 //! What a program reads from its process before it opens a file: its standard streams, and its command line, parsed by
-//! `clap` (this project's profile).
+//! `clap`; and how `etcs_lab` ends (this project's profile).
 #![tactic(auto)]
 
 mod etcs;
 mod lab;
 mod lab_app;
+pub mod lab_status;
 mod matched;
 mod process;
 mod version;

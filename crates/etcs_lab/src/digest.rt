@@ -7,6 +7,7 @@ use command_line::LabImage;
 use disk::DiskFault;
 use file_disk::{RawFile, read_all};
 use lab_examine::FileFacts;
+use lab_play::digits_of;
 use sha2::{Digest, Sha256};
 
 // The bytes of an image of the most slots, and of a part of a sector after them.
@@ -50,15 +51,6 @@ fn taken<R: Eprint, F: RawFile>(
     }
     progress.end(rt);
     Ok((bytes, digits_of(&hasher.finalize())))
-}
-
-/// The digits of a digest.
-pub(crate) fn digits_of(digest: &[u8; 32]) -> [u8; 64] {
-    let mut digits = [0u8; 64];
-    match hex::encode_to_slice(digest, &mut digits) {
-        Ok(()) => digits,
-        Err(_) => [b'?'; 64],
-    }
 }
 
 /// What is reported of a file as a whole. That it isn't formatted, where no number of slots is given, is said before all of

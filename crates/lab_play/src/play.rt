@@ -1,11 +1,15 @@
 //! The command `play`.
 
+use crate::image_file::write_image;
+use crate::line_bytes::{copy_of, is_blank, without_scenario};
 use crate::line_input::{Line, MOST_LINE, read_line};
 use crate::request::{LineFault, Request, id_of, members_of, request_of, scenario_in};
 use crate::result_line::{
     LineOptions, Named, Outputs, write_fault, write_played, write_refused, write_unplayed,
 };
-use crate::status::{Status, fail, no_memory, refused_args, reported, unread, unread_for};
+use command_line::lab_status::{
+    Status, fail, no_memory, refused_args, reported, unread, unread_for,
+};
 use json_values::Outline;
 use scenario_advice::faults_of;
 use scenario_player::{LiveError, PlayError, Played, play};
@@ -19,7 +23,7 @@ use std::{fs, io};
 
 /// What the command is given.
 #[derive(Clone, Copy)]
-pub(crate) struct PlayArgs<'a> {
+pub struct PlayArgs<'a> {
     /// Where the scenarios are; without one on standard input.
     pub file: Option<&'a str>,
     /// The slots of each journal.
@@ -63,37 +67,6 @@ struct Source<'v> {
     pointer: &'static str,
 }
 
-fn is_blank(line: &[u8]) -> bool {
-    for byte in line {
-        if !byte.is_ascii_whitespace() {
-            return false;
-        }
-    }
-    true
-}
-
-fn copy_of(alloc: Global, bytes: &[u8]) -> Result<Vec<u8>, AllocError> {
-    let mut copy = Vec::with_capacity(alloc, bytes.len())?;
-    copy.extend_from_slice(bytes)?;
-    Ok(copy)
-}
-
-// A line with null in the place of its scenario.
-fn without_scenario(
-    alloc: Global,
-    line: &[u8],
-    from: usize,
-    to: usize,
-) -> Result<Vec<u8>, AllocError> {
-    let mut rest = Vec::new(alloc);
-    if let (Some(before), Some(after)) = (line.get(..from), line.get(to..)) {
-        rest.extend_from_slice(before)?;
-        rest.extend_from_slice(b"null")?;
-        rest.extend_from_slice(after)?;
-    }
-    Ok(rest)
-}
-
 // The step of the scenario at which a life stopped.
 fn step_of(alloc: Global, scenario: &Scenario, error: LiveError) -> Option<u64> {
     let place = match error {
@@ -113,32 +86,6 @@ fn step_of(alloc: Global, scenario: &Scenario, error: LiveError) -> Option<u64> 
         step = step.saturating_add(1);
     }
     Some(step)
-}
-
-// Writes an image into a new file.
-fn write_image<R: Files<File = File> + AllocGlobal + Eprint>(
-    rt: &R,
-    folder: &str,
-    number: u64,
-    image: &[u8],
-) -> Result<(), Status> {
-    let Ok(path) = format!(in rt.alloc(); "{folder}/{number}.image") else {
-        return Err(no_memory(rt, folder));
-    };
-    let path = path.as_str();
-    let mut file = match File::create_new(rt, path) {
-        Ok(file) => file,
-        Err(error) if error.kind() == ErrorKind::AlreadyExists => {
-            let what = "is there already, and stays as it is";
-            return Err(fail(rt, what, path, Status::Refused));
-        }
-        Err(_) => return Err(fail(rt, "can't be made", path, Status::Device)),
-    };
-    if file.write_all(image).is_err() {
-        let _ = fs::remove_file(rt, path);
-        return Err(fail(rt, "can't be written", path, Status::Device));
-    }
-    Ok(())
 }
 
 impl<'a> Player<'a> {
@@ -424,7 +371,7 @@ fn unread_line<R: Eprint>(rt: &R, path: &str, number: u64, error: &io::Error) ->
 }
 
 /// Plays all scenarios, prints a line for each, and answers the status.
-pub(crate) fn play_scenarios<R: Files<File = File> + Input + AllocGlobal + Eprint, W: Write>(
+pub fn play_scenarios<R: Files<File = File> + Input + AllocGlobal + Eprint, W: Write>(
     rt: &R,
     args: PlayArgs<'_>,
     out: &mut W,

@@ -1,6 +1,6 @@
 //! The lines that `play` prints.
 
-use crate::digest::digits_of;
+use crate::digits::digits_of;
 use crate::request::LineFault;
 use events::{Brake, Output};
 use lab_events::{level_number, sign_pieces};

@@ -1,6 +1,6 @@
 //! The commands `telegram` and `decode`.
 
-use crate::status::{Status, fail, no_memory, reported, unread_for, unwritten};
+use command_line::lab_status::{Status, fail, no_memory, reported, unread_for, unwritten};
 use decoding::decode_text;
 use hex::FromHexError;
 use installed_values::{AdaptError, Adaptation, adapt};
@@ -44,7 +44,7 @@ fn refused<R: Eprint>(rt: &R, path: &str, fault: &ObjectFault) -> Status {
 }
 
 /// Writes the digits of the telegram that a file reports, and answers the status.
-pub(crate) fn telegram_reported<R: Files<File = File> + Input + AllocGlobal + Eprint, W: Write>(
+pub fn telegram_reported<R: Files<File = File> + Input + AllocGlobal + Eprint, W: Write>(
     rt: &R,
     path: &str,
     out: &mut W,
@@ -131,7 +131,7 @@ pub(crate) fn bytes_of<R: AllocGlobal + Eprint>(rt: &R, digits: &str) -> Result<
 }
 
 /// Writes the digits of what a unit is to be handed in place of the telegram of an installed track, and answers the status.
-pub(crate) fn adapted_reported<R: AllocGlobal + Eprint, W: Write>(
+pub fn adapted_reported<R: AllocGlobal + Eprint, W: Write>(
     rt: &R,
     digits: &str,
     out: &mut W,
@@ -158,7 +158,7 @@ fn write_object<W: Write>(alloc: Global, digits: &str, out: &mut W) -> io::Resul
 }
 
 /// Writes what digits carry, in lines as `etcs decode` or as JSON, and answers the status.
-pub(crate) fn decode_reported<R: AllocGlobal + Eprint, W: Write>(
+pub fn decode_reported<R: AllocGlobal + Eprint, W: Write>(
     rt: &R,
     digits: &str,
     json: bool,

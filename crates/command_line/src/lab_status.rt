@@ -43,11 +43,7 @@ pub fn unwritten<R: Eprint>(rt: &R, path: &str) -> Status {
 }
 
 /// Whether a text was written; else says that nothing can be.
-pub fn reported<R: Eprint>(
-    rt: &R,
-    path: &str,
-    written: io::Result<()>,
-) -> Result<(), Status> {
+pub fn reported<R: Eprint>(rt: &R, path: &str, written: io::Result<()>) -> Result<(), Status> {
     written.map_err(|_| unwritten(rt, path))
 }
 

@@ -1,7 +1,7 @@
 //! The command `packets`.
 
-use command_line::lab_status::{Status, no_memory, reported};
 use crate::telegrams::bytes_of;
+use command_line::lab_status::{Status, no_memory, reported};
 use packet_uses::{
     Fate, ReportedPacket, name_pieces, never_used_packets, number_pieces, place_pieces, why_piece,
 };

@@ -4,7 +4,7 @@
 -- and what decides a limit (`IsLimitCause`, in speed_supervision), where of several of equal force one is named. It is
 -- said of every story that may stand before a life, of this unit's own events or not: whatever the head before it
 -- reports, there is one after which just that is kept (`story_by`).
-use Rattle.std.specs.Prelude.{◌≡◌, ◌⊎◌, ℕ, ◌-◌, ◌^◌, true, false, Option, Some, None, List, [], ◌∷◌, ◌++◌, Result, Ok, Err, option_to_list}
+use Rattle.std.specs.Prelude.{◌≡◌, ◌⊎◌, ℕ, ◌-◌, ◌^◌, true, false, Option, Some, None, List, [], ◌++◌, Result, Ok, Err, option_to_list}
 use Rattle.blocks.specs.declared.records.BlockRecord.{BlockRecord}
 use Rattle.events.specs.declared.input.Event.{Event}
 use Rattle.events.specs.declared.input.Event.TheVariants.{PowerUp, Input}
@@ -58,11 +58,11 @@ HasLine (Some only) event before now = event ≡ only
 HasLine None event None now = Unit {0}
 HasLine None event (Some before) now = IsSame before now → ⊥
 
--- these are the lines of an event: its own, which counts, or none
-abbrev pub EventLines : Option ℕ → Story → ℕ → Option Explanation → Explanation → ℕ → ℕ → List WhyLine → Type 0
-EventLines only story event before now events more lines =
-    (HasLine only event before now × (more ≡ one_more events (2 ^ 64 - 1)) × (lines ≡ event_line story event now ∷ []))
-    ⊎ ((HasLine only event before now → ⊥) × (more ≡ events) × (lines ≡ []))
+-- this is the line of an event that has one, which counts
+abbrev pub IsEventLine : Option ℕ → Story → ℕ → Option Explanation → Explanation → ℕ → ℕ → Option WhyLine → Type 0
+IsEventLine only story event before now events more line =
+    (HasLine only event before now × (more ≡ one_more events (2 ^ 64 - 1)) × (line ≡ Some (event_line story event now)))
+    ⊎ ((HasLine only event before now → ⊥) × (more ≡ events) × (line ≡ None))
 
 -- ---- events of a life that isn't known
 
@@ -136,42 +136,48 @@ Begins (Err unknown) event before run = Follows event before run
 
 -- ---- .. and reported
 
--- The last event of a life has its line, if it has one.
-pub record DescribesLife (life : Reasoned) (event : ℕ) (c next : Course) (lines : List WhyLine) : Type 0 where
+-- The last event of a life has this line, if it has one.
+pub record DescribesLife (life : Reasoned) (event : ℕ) (c next : Course) (line : Option WhyLine) : Type 0 where
   pub explanation : Explanation
   pub events : ℕ
   pub next_is : next ≡ record c { before = Some explanation; events = events }
   pub explains : (story : Story) → Reasons story life → Explains story explanation
-  pub lines_are : (story : Story) → Reasons story life → EventLines c.only story event c.before explanation c.events events lines
+  pub line_is : (story : Story) → Reasons story life → IsEventLine c.only story event c.before explanation c.events events line
 
 -- .. where the life is known; else it is left out
-abbrev pub Describes : Option Reasoned → ℕ → ℕ → Course → Course → List WhyLine → Type 0
-Describes None life event c next lines = (next ≡ left_out life event c) × (lines ≡ [])
-Describes (Some known) life event c next lines = DescribesLife known event c next lines
+abbrev pub Describes : Option Reasoned → ℕ → ℕ → Course → Course → Option WhyLine → Type 0
+Describes None life event c next line = (next ≡ left_out life event c) × (line ≡ None)
+Describes (Some known) life event c next line = DescribesLife known event c next line
 
 -- a record is run so, and then reported
-abbrev pub RunsAndDescribes : (Option Reasoned → Option Reasoned → Type 0) → ℕ → BlockRecord → Course → Course → List WhyLine → Type 0
-RunsAndDescribes Runs life r c next lines =
-    (run : Option Reasoned) × Runs c.life run × Describes run life r.number (record c { life = run }) next lines
+abbrev pub RunsAndDescribes : (Option Reasoned → Option Reasoned → Type 0) → ℕ → BlockRecord → Course → Course → Option WhyLine → Type 0
+RunsAndDescribes Runs life r c next line =
+    (run : Option Reasoned) × Runs c.life run × Describes run life r.number (record c { life = run }) next line
 
 -- ---- steps
 
+-- the line of the events before, where a step ends their life
+abbrev pub line_before : Step → Course → Option WhyLine
+line_before (Step.Unreadable number) c = left_line c
+line_before Step.Missing c = left_line c
+line_before (Step.Begins block life before r) c = left_line c
+line_before (Step.GoesOn block life r) c = None
+line_before (Step.Head block) c = None
+
+-- .. and that of the step
+abbrev pub IsStepLine : Step → Course → Course → Option WhyLine → Type 0
+IsStepLine (Step.Unreadable number) c next line = (next ≡ after_gap c) × (line ≡ lost_line c.only number)
+IsStepLine Step.Missing c next line = (next ≡ after_gap c) × (line ≡ None)
+IsStepLine (Step.Begins block life before r) c next line =
+    RunsAndDescribes (Begins before r.event) life r (initial_after before c.life (all_reported c)) next line
+IsStepLine (Step.GoesOn block life r) c next line = RunsAndDescribes (Follows r.event) life r c next line
+IsStepLine (Step.Head block) c next line = (next ≡ c) × (line ≡ None)
+
 -- these are the lines of a step
 abbrev pub StepLines : Step → Course → Course → List WhyLine → Type 0
-StepLines (Step.Unreadable number) c next lines =
-    (next ≡ after_gap c) × (lines ≡ option_to_list (left_line c) ++ option_to_list (lost_line c.only number))
-StepLines Step.Missing c next lines = (next ≡ after_gap c) × (lines ≡ option_to_list (left_line c))
-StepLines (Step.Begins block life before r) c next lines = (later : List WhyLine)
-    × RunsAndDescribes (Begins before r.event) life r (initial_after before c.life (all_reported c)) next later
-    × (lines ≡ option_to_list (left_line c) ++ later)
-StepLines (Step.GoesOn block life r) c next lines = RunsAndDescribes (Follows r.event) life r c next lines
-StepLines (Step.Head block) c next lines = (next ≡ c) × (lines ≡ [])
+StepLines step c next lines = (line : Option WhyLine) × IsStepLine step c next line
+    × (lines ≡ option_to_list (line_before step c) ++ option_to_list line)
 
--- the line that a step begins with whatever its record is: a power-up ends the life before
-abbrev pub ended_life : Step → Course → List WhyLine
-ended_life (Step.Begins block life before r) c = option_to_list (left_line c)
-ended_life _ c = []
-
--- lines that a step begins with: none, that of the life before, or all
+-- lines that a step begins with: none, or all
 abbrev pub StepBegins : Step → Course → List WhyLine → Type 0
-StepBegins step c lines = (lines ≡ []) ⊎ ((lines ≡ ended_life step c) ⊎ ((next : Course) × StepLines step c next lines))
+StepBegins step c lines = (lines ≡ []) ⊎ ((next : Course) × StepLines step c next lines)

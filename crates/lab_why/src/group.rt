@@ -4,7 +4,9 @@ ghost use Rattle.packet_uses.specs.declared.fate.Fate.{Fate as a_fate};
 ghost use Rattle.track_picture.specs.Closings.{all_of, listed};
 ghost use Rattle.lab_why.specs.Groups.{unused_as, packet_line, packets_of, group_line, group_lines};
 
-use crate::serializing::{write_direction, write_group_section, write_outcome, write_packet_name, write_reaction};
+use crate::serializing::{
+    write_direction, write_group_section, write_outcome, write_packet_name, write_reaction,
+};
 use balise_groups::GroupPackets;
 use line_sinks::{Items, write_mode};
 use mode_table::Mode;

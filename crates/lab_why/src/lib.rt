@@ -10,7 +10,7 @@ mod group;
 mod line;
 mod played;
 mod playing;
-mod releasing;
+mod reporting;
 mod serializing;
 mod text;
 mod visiting;
@@ -21,7 +21,7 @@ pub use line::{Answer, Causes, EventLine, WhyLine};
 pub use lives::{LateError, WalkError};
 pub use onboard::{FlushError, OpenError};
 pub use played::{
-    DoneLine, LifeEnd, PlayedOutput, PlayLine, OutputLine, Scenario, ScenarioLine, StoppedLine,
+    DoneLine, LifeEnd, OutputLine, PlayLine, PlayedOutput, Scenario, ScenarioLine, StoppedLine,
 };
 pub use playing::{PlayedLife, play};
 pub use walk::{Walked, describe_why};

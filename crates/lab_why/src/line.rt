@@ -6,7 +6,9 @@ ghost use Rattle.lab_why.specs.Lines.{answer_in, causes_of, event_line, left_out
 
 use crate::course::Explanation;
 use crate::group::{GroupLine, group_lines};
-use crate::serializing::{write_limit_cause, write_limit_section, write_trip_cause, write_trip_section};
+use crate::serializing::{
+    write_limit_cause, write_limit_section, write_trip_cause, write_trip_section,
+};
 use events::{Brake, Output};
 use kernel::{BrakeCause, TripCause};
 use lab_events::{Reason, Stretch};

@@ -8,7 +8,7 @@ ghost use Rattle.lab_why.specs.Playing.{released_in, IsPlayed, PlayEnds};
 ghost use Rattle.lab_why.specs.declared.played.PlayLine.{PlayLine as a_line};
 
 use crate::played::{PlayLine, first_line, last_line};
-use crate::releasing::report_released;
+use crate::reporting::report_released;
 use disk::Memory;
 use events::Step;
 use journal::format;

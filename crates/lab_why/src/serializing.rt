@@ -24,14 +24,14 @@ pub(crate) fn write_trip_cause<S: Serializer>(
     cause: &Option<TripCause>,
     out: &mut S,
 ) -> Result<(), S::Error> {
-    write_text(cause.map(trip_word), out)
+    write_text(cause.map(|cause| trip_word(cause)), out)
 }
 
 pub(crate) fn write_trip_section<S: Serializer>(
     cause: &Option<TripCause>,
     out: &mut S,
 ) -> Result<(), S::Error> {
-    write_text(cause.map(trip_section), out)
+    write_text(cause.map(|cause| trip_section(cause)), out)
 }
 
 pub(crate) fn write_limit_cause<S: Serializer>(
@@ -59,10 +59,7 @@ pub(crate) fn write_direction<S: Serializer>(
     write_text(direction.map(name), out)
 }
 
-pub(crate) fn write_outcome<S: Serializer>(
-    kind: &GroupKind,
-    out: &mut S,
-) -> Result<(), S::Error> {
+pub(crate) fn write_outcome<S: Serializer>(kind: &GroupKind, out: &mut S) -> Result<(), S::Error> {
     out.str(group_word(*kind))
 }
 
@@ -84,10 +81,7 @@ pub(crate) fn write_group_section<S: Serializer>(
     out.str(group_section(*kind))
 }
 
-pub(crate) fn write_packet_name<S: Serializer>(
-    number: &u8,
-    out: &mut S,
-) -> Result<(), S::Error> {
+pub(crate) fn write_packet_name<S: Serializer>(number: &u8, out: &mut S) -> Result<(), S::Error> {
     write_text(kind_of(*number).map(|kind| kind.name.text()), out)
 }
 
@@ -95,9 +89,6 @@ pub(crate) fn write_cold<S: Serializer>(cold: &Cold, out: &mut S) -> Result<(), 
     out.str(cold_word(*cold))
 }
 
-pub(crate) fn write_refusal<S: Serializer>(
-    error: &LiveError,
-    out: &mut S,
-) -> Result<(), S::Error> {
+pub(crate) fn write_refusal<S: Serializer>(error: &LiveError, out: &mut S) -> Result<(), S::Error> {
     out.str(of_stop(*error).1)
 }

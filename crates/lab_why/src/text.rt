@@ -33,7 +33,10 @@ impl Causes {
             (BrakeCause::OwesTrip, self.owes_trip),
             (BrakeCause::FarTooFast, self.far_too_fast),
             (BrakeCause::RolledTooFar, self.rolled_too_far),
-            (BrakeCause::ServiceBrakeRequested, self.service_brake_requested),
+            (
+                BrakeCause::ServiceBrakeRequested,
+                self.service_brake_requested,
+            ),
             (BrakeCause::TooFast, self.too_fast),
             (BrakeCause::MustStand, self.must_stand),
             (BrakeCause::OwesTooLong, self.owes_too_long),
@@ -51,9 +54,15 @@ impl fmt::Display for Causes {
         }
         if let (Some(cause), Some(event)) = (self.trip_cause, self.trip_cause_event) {
             let (why, section) = (trip_sentence(cause), trip_section(cause));
-            write!(f, "; the train was tripped: {why} (event {event}, {section})")?;
+            write!(
+                f,
+                "; the train was tripped: {why} (event {event}, {section})"
+            )?;
         }
-        let (what, speed) = (limit_sentence(self.limit_cause), self.limit_cause_speed_m_per_h);
+        let (what, speed) = (
+            limit_sentence(self.limit_cause),
+            self.limit_cause_speed_m_per_h,
+        );
         write!(f, "; {what}: {speed} m/h")?;
         if let Some(place) = self.limit_cause_place_cm {
             write!(f, " at {place} cm")?;

@@ -1,11 +1,10 @@
 //! The steps of a walk, explained: a life is run again, and its events have their lines.
-ghost use Rattle.std.specs.Prelude.{◌≡◌, ◌⊎◌, ℕ, [], false, List, option_to_list, IfOk, IfErr, OnOk};
+ghost use Rattle.std.specs.Prelude.{◌≡◌, false, List, IfOk, OnOk};
 ghost use Rattle.kernel.specs.Lives.{Story};
 ghost use Rattle.line_sinks.specs.Sinks.{TakesAll, TakesSome};
 ghost use Rattle.line_sinks.specs.Walks.{IsMemory};
 ghost use Rattle.reasons.specs.Reported.{Reasons};
-ghost use Rattle.lab_why.specs.Courses.{EventLines, Follows, Begins, Describes, StepLines, StepBegins, lost_line};
-ghost use Rattle.lab_why.specs.declared.course.Course.{Course as a_course};
+ghost use Rattle.lab_why.specs.Courses.{IsEventLine, Follows, Begins, Describes, RunsAndDescribes, StepLines, StepBegins, initial_after, lost_line};
 ghost use Rattle.lab_why.specs.declared.line.WhyLine.{WhyLine as a_line};
 
 use crate::course::{
@@ -52,59 +51,65 @@ fn begin(
     }
 }
 
-// Hands on the line of the last event of a life, if it has one. How many events have had a line.
-fn report<S: LineSink<WhyLine>>(
+// The line of the last event of a life, if it has one, and how many events have had a line.
+fn line_of(
     alloc: Global,
     course: &Course,
     life: &Reasoning,
     event: u64,
     explanation: &Explanation,
-    sink: &mut S,
-) -> Result<u64, LateError>
-    ensures taken { IfOk result (λ events. (lines : List a_line)
-        × ((story : Story) → Reasons story life.now
-            → EventLines course.now.only story event course.now.before explanation.now course.now.events events lines)
-        × TakesAll S.Takes lines sink.old sink.new) }
-    ensures failed { IfErr result (λ error. (lines : List a_line)
-        × ((lines ≡ []) ⊎ ((events : ℕ) × ((story : Story) → Reasons story life.now
-            → EventLines course.now.only story event course.now.before explanation.now course.now.events events lines)))
-        × TakesSome S.Takes S.Fails (IsMemory error) lines sink.old sink.new) }
+) -> Result<(Option<WhyLine>, u64), NoMemory>
+    ensures { (story : Story) → Reasons story life.now → IfOk result (λ found.
+        IsEventLine course.now.only story event course.now.before explanation.now course.now.events found.1 found.0) }
 {
-    if !has_line(course.only, event, &course.before, explanation) {
-        return Ok(course.events);
+    if has_line(course.only, event, &course.before, explanation) {
+        let line = event_line(alloc, life, event, explanation)?;
+        return Ok((Some(line), course.events.saturating_add(1)));
     }
-    let Ok(line) = event_line(alloc, life, event, explanation) else {
-        return Err(LateError::NoMemory);
-    };
-    sink.take(&line)?;
-    Ok(course.events.saturating_add(1))
+    Ok((None, course.events))
 }
 
-// Reports an event that was run, or leaves it out.
-fn describe<S: LineSink<WhyLine>>(
+// The line of an event that was run, if it has one, or else the event is left out.
+fn describe(
     alloc: Global,
     course: &mut Course,
     seen: &Seen<'_>,
-    sink: &mut S,
-) -> Result<(), LateError>
-    ensures taken { OnOk result ((lines : List a_line)
-        × Describes course.old.life seen.now.life seen.now.entry.now.number course.old course.new lines
-        × TakesAll S.Takes lines sink.old sink.new) }
-    ensures failed { IfErr result (λ error. (lines : List a_line)
-        × ((lines ≡ []) ⊎ ((next : a_course)
-            × Describes course.old.life seen.now.life seen.now.entry.now.number course.old next lines))
-        × TakesSome S.Takes S.Fails (IsMemory error) lines sink.old sink.new) }
+) -> Result<Option<WhyLine>, NoMemory>
+    ensures { IfOk result (Describes course.old.life seen.now.life seen.now.entry.now.number course.old course.new) }
 {
     let event = seen.entry.number;
     let Some(life) = &course.life else {
         leave_out(course, seen.life, event);
-        return Ok(());
+        return Ok(None);
     };
     let explanation = explanation_in(life);
-    let events = report(alloc, course, life, event, &explanation, sink)?;
+    let (line, events) = line_of(alloc, course, life, event, &explanation)?;
     course.before = Some(explanation);
     course.events = events;
-    Ok(())
+    Ok(line)
+}
+
+// A life begins with a record: it is run, and described.
+fn begin_life(
+    alloc: Global,
+    course: &mut Course,
+    before: &Result<Kept, Unknown>,
+    seen: &Seen<'_>,
+) -> Result<Option<WhyLine>, NoMemory>
+    ensures { IfOk result (RunsAndDescribes (Begins before.now seen.now.entry.now.event) seen.now.life seen.now.entry.now
+        (initial_after before.now course.old.life course.old) course.new) }
+{
+    begin_after(course, before);
+    begin(alloc, &mut course.life, before, &seen.entry.event)?;
+    describe(alloc, course, seen)
+}
+
+// A life goes on with a record: it is run, and described.
+fn go_on(alloc: Global, course: &mut Course, seen: &Seen<'_>) -> Result<Option<WhyLine>, NoMemory>
+    ensures { IfOk result (RunsAndDescribes (Follows seen.now.entry.now.event) seen.now.life seen.now.entry.now course.old course.new) }
+{
+    follow(alloc, &mut course.life, &seen.entry.event)?;
+    describe(alloc, course, seen)
 }
 
 // The line of a block that can't be read; None where one event alone is asked for.
@@ -141,7 +146,7 @@ impl<S: LineSink<WhyLine>> Visit<S> for Course {
 
     fn missing(&mut self, sink: &mut S) -> Result<(), LateError> {
         let left = pass_gap(self);
-        take_if(&left, sink)
+        take_two(&left, &None, sink)
     }
 
     fn begins(
@@ -152,19 +157,17 @@ impl<S: LineSink<WhyLine>> Visit<S> for Course {
         sink: &mut S,
     ) -> Result<(), LateError> {
         let left = finish(self);
-        take_if(&left, sink)?;
-        begin_after(self, before);
-        let Ok(()) = begin(alloc, &mut self.life, before, &seen.entry.event) else {
+        let Ok(line) = begin_life(alloc, self, before, seen) else {
             return Err(LateError::NoMemory);
         };
-        describe(alloc, self, seen, sink)
+        take_two(&left, &line, sink)
     }
 
     fn goes_on(&mut self, alloc: Global, seen: &Seen<'_>, sink: &mut S) -> Result<(), LateError> {
-        let Ok(()) = follow(alloc, &mut self.life, &seen.entry.event) else {
+        let Ok(line) = go_on(alloc, self, seen) else {
             return Err(LateError::NoMemory);
         };
-        describe(alloc, self, seen, sink)
+        take_if(&line, sink)
     }
 
     fn head(&mut self, _block: &Block, _sink: &mut S) -> Result<(), LateError> {

@@ -1,5 +1,5 @@
 -- Lines that a sink takes, one list after another.
-use Rattle.std.proofs.Common.{◌≡◌, ⊎_elim, inl, inr, List, [], ◌∷◌, ◌++◌, Result, Ok, Err, OnErr, IfErr, subst}
+use Rattle.std.proofs.Common.{◌≡◌, ⊎_elim, inl, inr, List, [], ◌∷◌, ◌++◌, Result, Ok, Err, OnErr, IfErr, sym, subst}
 use Rattle.line_sinks.specs.Sinks.{TakesAll, TakesSome, FailsIn}
 
 pub takes-both : {S L : Type 0} (Takes : S → L → S → Type 0) (first later : List L) (old mid new : S)
@@ -33,3 +33,10 @@ module _ {S L : Type 0} (Takes Fails : S → L → S → Type 0) where
   pub all-some : (Ends : Type 0) (lines : List L) (old new : S) → Ends → TakesAll Takes lines old new → TakesSome Takes Fails Ends lines old new
   all-some Ends [] old new why is = (why, is)
   all-some Ends (line ∷ lines) old new why is = inr (is.0, is.1, all-some Ends lines is.0 new why is.2)
+
+  -- .. and after them none was
+  pub after-none : (Ends : Type 0) (first later : List L) (old mid new : S) → TakesAll Takes first old mid → later ≡ [] → TakesSome Takes Fails Ends later mid new
+      → TakesSome Takes Fails Ends first old new
+  after-none Ends first later old mid new is none on =
+      let end = subst (λ (l : List L). TakesSome Takes Fails Ends l mid new) none on in
+      all-some Ends first old new end.0 (subst (λ (s : S). TakesAll Takes first old s) (sym end.1) is)

@@ -4,7 +4,7 @@ use Rattle.events.specs.declared.input.Input.{Input}
 use Rattle.kernel.specs.Lives.{onward}
 use Rattle.unit_start.proofs.Opening.{on_ok_of}
 use Rattle.reasons.specs.Reported.{Reasons}
-use Rattle.lab_why.proofs.releasing.report_one.Goals as goal
+use Rattle.lab_why.proofs.reporting.report_one.Goals as goal
 
 pub returns-clause-stands : goal.returns-clause-stands
 returns-clause-stands g c story stands = on_ok_of _ _ (subst (λ (i : Input). Reasons (onward story (an_event.Input i)) c.follow.new.self) c.copy.ensures (c.in-Ok.ensures.stands story stands))

@@ -9,7 +9,7 @@ use Rattle.lab_why.specs.Played.{step_at}
 use Rattle.lab_why.specs.Playing.{input_steps, AreLines}
 use Rattle.lab_why.proofs.Releasing.{initial}
 use Rattle.lab_why.specs.declared.played.PlayLine.{PlayLine}
-use Rattle.lab_why.proofs.releasing.report_released.Given as goal
+use Rattle.lab_why.proofs.reporting.report_released.Given as goal
 
 abbrev pub invariant-loop-place : goal.invariant-loop-place
 invariant-loop-place g l = record {

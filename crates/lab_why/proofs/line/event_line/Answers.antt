@@ -4,8 +4,8 @@ use Rattle.lab_why.specs.Lines.{answer_in, causes_of}
 use Rattle.lab_why.specs.declared.line.WhyLine.TheVariants as a_line
 use Rattle.lab_why.proofs.line.event_line.Goals as goal
 
-pub returns-in-Ok : goal.returns-in-Ok
-returns-in-Ok c = λ story stands.
+pub returns : goal.returns
+returns c = λ story stands.
     let answer = c.answer_in-answer.ensures story stands ∙ ap (answer_in story c.args.event) (c.output-output.ensures story stands) in
     let trip = c.trip.ensures story stands in
     let causes = c.causes_of-causes.ensures ∙ (λ i. causes_of c.args.explanation.now.runs (trip i) c.args.explanation.now.decides) in

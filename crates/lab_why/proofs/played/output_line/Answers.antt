@@ -6,8 +6,8 @@ use Rattle.lab_why.specs.Lines.{answer_in, causes_of}
 use Rattle.lab_why.specs.declared.played.PlayLine.TheVariants as a_line
 use Rattle.lab_why.proofs.played.output_line.Goals as goal
 
-pub returns-in-Ok : goal.returns-in-Ok
-returns-in-Ok c = λ story stands.
+pub returns : goal.returns
+returns c = λ story stands.
     let answer = c.answer_in-answer.ensures story stands ∙ (λ i. answer_in story (c.event.ensures i) (c.output-answered.ensures i)) in
     let output = c.output_in-output.ensures story stands in
     let decides = c.limit_reported-decides.ensures ∙ ap (λ (o : Output). limit_reported o.limit c.limit_cause.result) c.output-answered.ensures in

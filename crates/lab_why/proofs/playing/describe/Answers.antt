@@ -23,6 +23,6 @@ returns g c is =
     (λ taken. (
       c.first_line.result ∷ reported.0 ++ c.last_line.result ∷ [],
       record { outputs = reported.0; outputs_are = reported.1; lines_are = λ i. first i ∷ reported.0 ++ last i ∷ [] },
-      takes-both takes (c.first_line.result ∷ reported.0) (c.last_line.result ∷ []) c.args.sink.now c.report_released.new.sink c.take-2.new.sink
-          (c.take.new.sink, c.in_ok-take.ensures.taken, reported.2) (c.take-2.new.sink, taken, refl),
+      takes-both takes (c.first_line.result ∷ reported.0) (c.last_line.result ∷ []) c.args.sink.now c.report_released.new.sink c.take-2.new.self
+          (c.take.new.self, c.in_ok-take.ensures.taken, reported.2) (c.take-2.new.self, taken, refl),
     )) c.take-2.ensures.taken

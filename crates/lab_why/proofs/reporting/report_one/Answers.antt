@@ -13,4 +13,4 @@ returns-clause-stands g c story stands = on_ok_of _ _ (subst (λ (i : Input). Re
 pub returns-clause-line : goal.returns-clause-line
 returns-clause-line g c story stands =
     let after = subst (λ (i : Input). Reasons (onward story (an_event.Input i)) c.follow.new.self) c.copy.ensures (c.in-Ok.ensures.stands story stands) in
-    on_ok_weaker c.take.result (λ taken. (c.in-Ok-2.line, c.in-Ok-2.ensures (onward story (an_event.Input c.args.input.now)) after, taken)) c.take.ensures.taken
+    on_ok_weaker c.take.result (λ taken. (c.in-Ok-output_line.line, c.in-Ok-output_line.ensures (onward story (an_event.Input c.args.input.now)) after, taken)) c.take.ensures.taken

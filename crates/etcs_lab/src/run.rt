@@ -2,6 +2,7 @@
 
 use crate::status::{Status, no_memory, unread_for, unwritten};
 use lab_why::{FlushError, LateError, LiveError, OpenError, PlayedLife, play};
+use line_sinks::JsonLines;
 use onboard::AcceptError;
 use simulator::{Scenario, ScenarioFault, ends_of, events_of};
 use std::alloc::Global;
@@ -56,7 +57,7 @@ pub(crate) fn played<R: Files<File = File> + AllocGlobal + Eprint, W: Write>(
 ) -> Result<Status, Status> {
     let bytes = fs::read(rt, path).map_err(|error| unread_for(rt, path, &error))?;
     let life = life_of(rt.alloc(), &Scenario { bytes }).map_err(|fault| refused(rt, path, fault))?;
-    match play(rt.alloc(), &life, out) {
+    match play(rt.alloc(), &life, &mut JsonLines::new(rt.alloc(), out)) {
         Ok(Some(error)) if is_memory(&error) => Err(no_memory(rt, path)),
         Ok(stopped) => Ok(status_of(stopped)),
         Err(LateError::Write) => Err(unwritten(rt, path)),

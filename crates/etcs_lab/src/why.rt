@@ -4,11 +4,28 @@ use crate::images::opened;
 use crate::replayed::stopped;
 use crate::status::{Status, fail};
 use command_line::LabImage;
-use lab_why::describe_why;
+use disk::Disk;
+use lab_why::{Walked, WalkError, describe_why};
+use line_sinks::{JsonLines, TextLines};
+use std::alloc::Global;
 use std::fs::File;
 use std::io::Write;
 use std::rt::Files;
 use text_output::Form;
+
+// Prints the lines for all events or one.
+fn print_why<D: Disk, W: Write>(
+    alloc: Global,
+    disk: &mut D,
+    only: Option<u64>,
+    form: Form,
+    out: &mut W,
+) -> Result<Walked, WalkError> {
+    match form {
+        Form::Json => describe_why(alloc, disk, only, &mut JsonLines::new(alloc, out)),
+        Form::People => describe_why(alloc, disk, only, &mut TextLines::new(out)),
+    }
+}
 
 /// Reports why the brakes were commanded in an image, which is opened for reading alone, and answers the status.
 pub(crate) fn why_reported<R: Files<File = File> + AllocGlobal + Eprint, W: Write>(
@@ -19,8 +36,8 @@ pub(crate) fn why_reported<R: Files<File = File> + AllocGlobal + Eprint, W: Writ
     out: &mut W,
 ) -> Result<Status, Status> {
     let mut disk = opened(rt, image)?;
-    match describe_why(rt.alloc(), &mut disk, only, form, out) {
-        Ok(walked) if only.is_some() && walked.lines == 0 => Err(fail(
+    match print_why(rt.alloc(), &mut disk, only, form, out) {
+        Ok(walked) if only.is_some() && walked.events == 0 => Err(fail(
             rt,
             "has no such event in a life that can be replayed",
             image.path,

@@ -9,7 +9,7 @@ use Rattle.events.specs.declared.input.Input.{Input}
 use Rattle.events.specs.declared.step.Step.{Step}
 use Rattle.events.specs.declared.step.Step.TheVariants.{Accept, Flush}
 use Rattle.whole_lives.specs.Runs.{accepted_by}
-use Rattle.lab_why.specs.Ends.{step_at}
+use Rattle.lab_why.specs.Played.{step_at}
 use Rattle.lab_why.specs.Playing.{inputs_from}
 
 -- ---- the ends of the steps of a scenario

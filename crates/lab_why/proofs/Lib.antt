@@ -1,4 +1,3 @@
-pub mod AllGroups
 pub mod Counting
 pub mod Living
 pub mod OneMore

@@ -14,8 +14,9 @@ use Rattle.mode_table.specs.declared.statuses.Cold.{Cold}
 use Rattle.unit_start.specs.Events.{pair_of, pairs_of}
 use Rattle.unit_start.specs.Releases.{Release}
 use Rattle.whole_lives.specs.Runs.{accept_one, accepted_by}
-use Rattle.lab_why.specs.Ends.{step_at}
+use Rattle.lab_why.specs.Played.{step_at}
 use Rattle.lab_why.specs.Playing.{inputs_from, IsLine, AreLines}
+use Rattle.lab_why.specs.declared.played.PlayLine.{PlayLine}
 use Rattle.lab_why.proofs.Counting.{count_accepted, its_place}
 use Rattle.lab_why.proofs.Releasing.{initial, same_end, count_released, up_to}
 
@@ -55,14 +56,14 @@ module _ (cold : Cold) (steps : List Step) (place : ℕ) where
         all_reported (omega (arith, long, all, same, count, within))
 
 -- a line more
-pub one_line : (input_steps : List ℕ) (events : List Event) (input : Input) (one : Release) (step : ℕ) (lines line : List ℕ)
+pub one_line : (input_steps : List ℕ) (events : List Event) (input : Input) (one : Release) (step : ℕ) (lines : List PlayLine) (line : PlayLine)
     → slice_index input_steps (length events - 1) ≡ step → one ≡ pair_of events (an_event.Input input) → AreLines input_steps events lines → IsLine step (story_of (an_event.Input input ∷ events)) one line
-    → AreLines input_steps (an_event.Input input ∷ events) (lines ++ line)
-one_line input_steps events input one step lines line its_step its earlier later = record {
-  earlier = lines;
-  later = line;
-  earlier_is = earlier;
-  later_is = subst (λ (n : ℕ). IsLine n (story_of (an_event.Input input ∷ events)) (pair_of events (an_event.Input input)) line) (sym its_step)
-      (subst (λ (r : Release). IsLine step (story_of (an_event.Input input ∷ events)) r line) its later);
-  text_is = refl;
-}
+    → AreLines input_steps (an_event.Input input ∷ events) (lines ++ line ∷ [])
+one_line input_steps events input one step lines line its_step its earlier later = (
+  lines,
+  line,
+  earlier,
+  subst (λ (n : ℕ). IsLine n (story_of (an_event.Input input ∷ events)) (pair_of events (an_event.Input input)) line) (sym its_step)
+      (subst (λ (r : Release). IsLine step (story_of (an_event.Input input ∷ events)) r line) its later),
+  refl,
+)

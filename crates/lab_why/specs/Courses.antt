@@ -1,11 +1,10 @@
--- Which events of a journal have a line that says why they were answered so, and what it says (this project's profile).
--- Events are numbered from 0, blocks from 1; a story has the newest event first. Reported elsewhere, and taken for granted
--- here: where a life begins (`steps_of`, in lives), the text of a line (`line_of`, in Lines), and what decides a limit
--- (`IsLimitCause`, in speed_supervision), where of several of equal force one is named. It is said of every story that
--- may stand before a life, of this unit's own events or not: whatever the head before it says, there is one after
--- which just that is kept (`story_by`).
-use Rattle.std.specs.Prelude.{◌≡◌, ◌⊎◌, ℕ, ◌-◌, ◌^◌, true, false, Option, Some, None, List, [], ◌++◌, Result, Ok, Err}
-use Rattle.std.specs.Io.KnownBytes.{Appends}
+-- Which events of a journal have a line that says why they were answered so, and which lines a step of a walk has (this
+-- project's profile). Events are numbered from 0, blocks from 1; a story has the newest event first. Reported elsewhere,
+-- and taken for granted here: where a life begins (`steps_of`, in lives), the values of a line (`event_line`, in Lines),
+-- and what decides a limit (`IsLimitCause`, in speed_supervision), where of several of equal force one is named. It is
+-- said of every story that may stand before a life, of this unit's own events or not: whatever the head before it
+-- reports, there is one after which just that is kept (`story_by`).
+use Rattle.std.specs.Prelude.{◌≡◌, ◌⊎◌, ℕ, ◌-◌, ◌^◌, true, false, Option, Some, None, List, [], ◌++◌, Result, Ok, Err, option_to_list}
 use Rattle.blocks.specs.declared.records.BlockRecord.{BlockRecord}
 use Rattle.events.specs.declared.input.Event.{Event}
 use Rattle.events.specs.declared.input.Event.TheVariants.{PowerUp, Input}
@@ -17,43 +16,39 @@ use Rattle.speed_supervision.specs.declared.cause.LimitCause.{LimitCause}
 use Rattle.lives.specs.Steps.{Step}
 use Rattle.lives.specs.declared.visit.Unknown.{Unknown}
 use Rattle.lives.specs.declared.visit.Unknown.TheVariants as an_unknown
-use Rattle.text_output.specs.declared.piece.Form.{Form}
-use Rattle.reasons.specs.Closings.{judged_in, closings_of}
 use Rattle.reasons.specs.LimitWords.{limit_reported, limit_word_of}
 use Rattle.reasons.specs.Runs.{runs_of}
 use Rattle.reasons.specs.Reported.{Reasoned, Reasons}
-use Rattle.reasons.specs.Trips.{trip_of}
-use Rattle.reasons.specs.declared.runs.Runs.{Runs}
-use Rattle.lab_events.specs.LeftOut.{reason_of, left_out_text, lost_block_text}
+use Rattle.lab_events.specs.LeftOut.{reason_of}
 use Rattle.lab_events.specs.declared.left_out.Reason.{Reason}
 use Rattle.lab_events.specs.declared.left_out.Reason.TheVariants as a_reason
 use Rattle.lab_events.specs.declared.left_out.Stretch.{Stretch}
-use Rattle.lab_why.specs.Lines.{description_of, line_of}
-use Rattle.lab_why.specs.Played.{answer_in}
+use Rattle.lab_why.specs.Lines.{event_line, left_out_line, lost_block_line}
 use Rattle.lab_why.specs.declared.course.Course.{Course}
 use Rattle.lab_why.specs.declared.course.Explanation.{Explanation}
+use Rattle.lab_why.specs.declared.line.WhyLine.{WhyLine}
 
 -- ---- an event of a life that is known
 
--- how the last event of a story was answered, where this decides the limit
-abbrev pub shown_of : Story → LimitCause → Explanation
-shown_of story cause = record {
+-- how the last event of a story was answered, and why, where this decides the limit
+abbrev pub explanation_of : Story → LimitCause → Explanation
+explanation_of story cause = record {
   brake = (output_at story).brake;
   limit = (output_at story).limit;
   runs = runs_of story;
   decides = limit_reported (output_at story).limit cause;
 }
 
-abbrev pub IsShown : Story → Explanation → Type 0
-IsShown story shown =
-    (cause : LimitCause) × IsLimitCause (past_at story).life (output_at story).limit cause × (shown ≡ shown_of story cause)
+abbrev pub Explains : Story → Explanation → Type 0
+Explains story explanation =
+    (cause : LimitCause) × IsLimitCause (past_at story).life (output_at story).limit cause × (explanation ≡ explanation_of story cause)
 
 -- Two events were answered in the same way, for the same reasons. Where what decides the limit lies doesn't count.
-pub record IsSo (one other : Explanation) : Type 0 where
+pub record IsSame (one other : Explanation) : Type 0 where
   pub brake : one.brake ≡ other.brake
   pub limit : one.limit ≡ other.limit
   pub runs : one.runs ≡ other.runs
-  pub word : limit_word_of one.decides.kind ≡ limit_word_of other.decides.kind
+  pub kind : limit_word_of one.decides.kind ≡ limit_word_of other.decides.kind
   pub number : one.decides.number ≡ other.decides.number
 
 -- an event of this number, before which an event of its life was answered so, has a line: it is the one that is asked
@@ -61,19 +56,13 @@ pub record IsSo (one other : Explanation) : Type 0 where
 abbrev pub HasLine : Option ℕ → ℕ → Option Explanation → Explanation → Type 0
 HasLine (Some only) event before now = event ≡ only
 HasLine None event None now = Unit {0}
-HasLine None event (Some before) now = IsSo before now → ⊥
+HasLine None event (Some before) now = IsSame before now → ⊥
 
--- the line of the last event of a story
-abbrev pub line_at : Form → Story → ℕ → Explanation → List ℕ
-line_at form story event shown =
-    line_of form (answer_in story event (output_at story)) (description_of shown.runs) (trip_of story) shown.decides
-    (judged_in story) (closings_of story)
-
--- known bytes grew by the line of an event that has one, which counts; else they are the same
-abbrev pub AddsLine : Option ℕ → Form → Story → ℕ → Option Explanation → Explanation → ℕ → ℕ → Option (List ℕ) → Option (List ℕ) → Type 0
-AddsLine only form story event before now lines more old new =
-    (HasLine only event before now × (more ≡ one_more lines (2 ^ 64 - 1)) × Appends old new (line_at form story event now))
-    ⊎ ((HasLine only event before now → ⊥) × (more ≡ lines) × (new ≡ old))
+-- this is the line of an event that has one, which counts
+abbrev pub IsEventLine : Option ℕ → Story → ℕ → Option Explanation → Explanation → ℕ → ℕ → Option WhyLine → Type 0
+IsEventLine only story event before now events more line =
+    (HasLine only event before now × (more ≡ one_more events (2 ^ 64 - 1)) × (line ≡ Some (event_line story event now)))
+    ⊎ ((HasLine only event before now → ⊥) × (more ≡ events) × (line ≡ None))
 
 -- ---- events of a life that isn't known
 
@@ -86,40 +75,39 @@ abbrev pub left_out : ℕ → ℕ → Course → Course
 left_out life event c = record c { left = Some (record { life = life; first = first_left c.left event; last = event }) }
 
 -- where each change is reported, a line says which events were left out, and why
-abbrev pub left_in : Form → Option ℕ → Option Stretch → Reason → List ℕ
-left_in form None (Some s) reason = left_out_text form s reason
-left_in form only left reason = []
+abbrev pub left_in : Option ℕ → Option Stretch → Reason → Option WhyLine
+left_in None (Some s) reason = Some (left_out_line s reason)
+left_in only left reason = None
 
-abbrev pub left_text : Course → List ℕ
-left_text c = left_in c.form c.only c.left c.reason
+abbrev pub left_line : Course → Option WhyLine
+left_line c = left_in c.only c.left c.reason
 
 -- .. and another one that a block can't be read
-abbrev pub lost_in : Form → Option ℕ → ℕ → List ℕ
-lost_in form (Some only) number = []
-lost_in form None number = lost_block_text form number
+abbrev pub lost_line : Option ℕ → ℕ → Option WhyLine
+lost_line (Some only) number = None
+lost_line None number = Some (lost_block_line number)
 
 -- ---- courses
 
 -- before the oldest block
-abbrev pub initial : Option ℕ → Form → Course
-initial only form = record {
+abbrev pub initial : Option ℕ → Course
+initial only = record {
   only = only;
-  form = form;
   life = None;
-  shown = None;
+  before = None;
   reason = a_reason.BeforeOldest;
   left = None;
-  lines = 0;
+  events = 0;
   is_whole = true;
 }
 
 -- the life before is reported
 abbrev pub all_reported : Course → Course
-all_reported c = record c { left = None; shown = None }
+all_reported c = record c { left = None; before = None }
 
 -- after blocks or events that are missing
 abbrev pub after_gap : Course → Course
-after_gap c = record c { left = None; shown = None; life = None; reason = a_reason.Gap; is_whole = false }
+after_gap c = record c { left = None; before = None; life = None; reason = a_reason.Gap; is_whole = false }
 
 -- before a power-up, where no head says what was kept: within a block a life goes on from what the kernel keeps of the
 -- one before, where that is known
@@ -148,32 +136,48 @@ Begins (Err unknown) event before run = Follows event before run
 
 -- ---- .. and reported
 
--- the last event of a life has its line, if it has one
-pub record DescribesLife (life : Reasoned) (event : ℕ) (c next : Course) (old new : Option (List ℕ)) : Type 0 where
-  pub shown : Explanation
-  pub lines : ℕ
-  pub next_is : next ≡ record c { shown = Some shown; lines = lines }
-  pub stands : (story : Story) → Reasons story life → IsShown story shown
-  pub reported : (story : Story) → Reasons story life → AddsLine c.only c.form story event c.shown shown c.lines lines old new
+-- The last event of a life has this line, if it has one.
+pub record DescribesLife (life : Reasoned) (event : ℕ) (c next : Course) (line : Option WhyLine) : Type 0 where
+  pub explanation : Explanation
+  pub events : ℕ
+  pub next_is : next ≡ record c { before = Some explanation; events = events }
+  pub explains : (story : Story) → Reasons story life → Explains story explanation
+  pub line_is : (story : Story) → Reasons story life → IsEventLine c.only story event c.before explanation c.events events line
 
 -- .. where the life is known; else it is left out
-abbrev pub Describes : Option Reasoned → ℕ → ℕ → Course → Course → Option (List ℕ) → Option (List ℕ) → Type 0
-Describes None life event c next old new = (next ≡ left_out life event c) × (new ≡ old)
-Describes (Some known) life event c next old new = DescribesLife known event c next old new
+abbrev pub Describes : Option Reasoned → ℕ → ℕ → Course → Course → Option WhyLine → Type 0
+Describes None life event c next line = (next ≡ left_out life event c) × (line ≡ None)
+Describes (Some known) life event c next line = DescribesLife known event c next line
 
 -- a record is run so, and then reported
-abbrev pub RunsAndDescribes : (Option Reasoned → Option Reasoned → Type 0) → ℕ → BlockRecord → Course → Course → Option (List ℕ) → Option (List ℕ) → Type 0
-RunsAndDescribes Runs life r c next old new =
-    (run : Option Reasoned) × Runs c.life run × Describes run life r.number (record c { life = run }) next old new
+abbrev pub RunsAndDescribes : (Option Reasoned → Option Reasoned → Type 0) → ℕ → BlockRecord → Course → Course → Option WhyLine → Type 0
+RunsAndDescribes Runs life r c next line =
+    (run : Option Reasoned) × Runs c.life run × Describes run life r.number (record c { life = run }) next line
 
 -- ---- steps
 
--- known bytes grew by what is reported of a step
-abbrev pub AddsStep : Step → Course → Course → Option (List ℕ) → Option (List ℕ) → Type 0
-AddsStep (Step.Unreadable number) c next old new = (next ≡ after_gap c) × Appends old new (left_text c ++ lost_in c.form c.only number)
-AddsStep Step.Missing c next old new = (next ≡ after_gap c) × Appends old new (left_text c)
-AddsStep (Step.Begins block life before r) c next old new =
-    (mid : Option (List ℕ)) × Appends old mid (left_text c)
-    × RunsAndDescribes (Begins before r.event) life r (initial_after before c.life (all_reported c)) next mid new
-AddsStep (Step.GoesOn block life r) c next old new = RunsAndDescribes (Follows r.event) life r c next old new
-AddsStep (Step.Head block) c next old new = (next ≡ c) × (new ≡ old)
+-- the line of the events before, where a step ends their life
+abbrev pub line_before : Step → Course → Option WhyLine
+line_before (Step.Unreadable number) c = left_line c
+line_before Step.Missing c = left_line c
+line_before (Step.Begins block life before r) c = left_line c
+line_before (Step.GoesOn block life r) c = None
+line_before (Step.Head block) c = None
+
+-- .. and that of the step
+abbrev pub IsStepLine : Step → Course → Course → Option WhyLine → Type 0
+IsStepLine (Step.Unreadable number) c next line = (next ≡ after_gap c) × (line ≡ lost_line c.only number)
+IsStepLine Step.Missing c next line = (next ≡ after_gap c) × (line ≡ None)
+IsStepLine (Step.Begins block life before r) c next line =
+    RunsAndDescribes (Begins before r.event) life r (initial_after before c.life (all_reported c)) next line
+IsStepLine (Step.GoesOn block life r) c next line = RunsAndDescribes (Follows r.event) life r c next line
+IsStepLine (Step.Head block) c next line = (next ≡ c) × (line ≡ None)
+
+-- these are the lines of a step
+abbrev pub StepLines : Step → Course → Course → List WhyLine → Type 0
+StepLines step c next lines = (line : Option WhyLine) × IsStepLine step c next line
+    × (lines ≡ option_to_list (line_before step c) ++ option_to_list line)
+
+-- lines that a step begins with: none, or all
+abbrev pub StepBegins : Step → Course → List WhyLine → Type 0
+StepBegins step c lines = (lines ≡ []) ⊎ ((next : Course) × StepLines step c next lines)

@@ -1,8 +1,7 @@
+pub mod Courses
 pub mod Groups
+pub mod Images
 pub mod Lines
 pub mod Played
-pub mod Ends
-pub mod Images
 pub mod Playing
-pub mod Courses
 pub mod Walks

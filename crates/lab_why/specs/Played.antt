@@ -1,74 +1,66 @@
--- The line of an output that was released while a scenario was played, as a JSON object (this project's profile). Events
--- and the steps of a scenario are numbered from 0; speeds are metres per hour, distances centimetres; lists of events
--- have the newest first.
-use Rattle.std.specs.Prelude.{ℕ, ◌-◌, ◌^◌, ℤ, min, Option, List, [], ◌∷◌, ◌++◌, codes, decimal, flat_map}
-use Rattle.std.specs.Fmt.{signed_decimal}
-use Rattle.events.specs.declared.output.Output.{Output}
-use Rattle.kernel.specs.Brake.{rolled_backward}
+-- The lines of a scenario that is played: which life a scenario asks for, each output that was released, and how the life
+-- ended (this project's profile; docs/reference/json.md). Events, the steps of a scenario and those of its life are
+-- numbered from 0.
+use Rattle.std.specs.Prelude.{ℕ, nat_le, Option, Some, None, List}
+use Rattle.std.specs.List.{prefix_len}
+use Rattle.std.specs.Option.{option_map}
 use Rattle.kernel.specs.Lives.{Story, past_at}
 use Rattle.kernel.specs.Output.{estimate_in, uncertainty_in}
-use Rattle.mode_control.specs.History.{tracks}
-use Rattle.mode_control.specs.Sentences.{values_of}
-use Rattle.mode_table.specs.declared.mode.Mode.{Mode}
+use Rattle.mode_table.specs.declared.statuses.Cold.{Cold}
+use Rattle.reasons.specs.Closings.{judged_in, closings_of}
+use Rattle.reasons.specs.LimitWords.{limit_reported}
+use Rattle.reasons.specs.Runs.{runs_of}
+use Rattle.reasons.specs.Trips.{trip_of}
+use Rattle.sessions.specs.Reasons.{stop_reason}
+use Rattle.speed_supervision.specs.declared.cause.LimitCause.{LimitCause}
 use Rattle.unit_start.specs.Releases.{Release}
-use Rattle.text_output.specs.OutputWords.{mode_text}
-use Rattle.text_output.specs.Pieces.{joined}
-use Rattle.text_output.specs.declared.piece.Form.TheVariants.{Json}
-use Rattle.reasons.specs.declared.limit_words.LimitReport.{LimitReport}
-use Rattle.reasons.specs.declared.trips.TripReport.{TripReport}
-use Rattle.lab_events.specs.Signs.{signs_of}
-use Rattle.lab_events.specs.Words.{level_value}
-use Rattle.track_picture.specs.declared.closings.Closing.{Closing}
-use Rattle.track_picture.specs.History.{speed_of}
-use Rattle.lab_why.specs.Lines.{front_text, cause_text, last_text}
-use Rattle.lab_why.specs.declared.lines.Answer.{Answer}
-use Rattle.lab_why.specs.declared.lines.Reported.{Reported}
-use Rattle.lab_why.specs.declared.played.Played.{Played}
+use Rattle.whole_lives.specs.Stops.{step_of}
+use Rattle.whole_lives.specs.declared.errors.LiveError.{LiveError}
+use Rattle.lab_why.specs.Groups.{group_lines}
+use Rattle.lab_why.specs.Lines.{answer_in, causes_of}
+use Rattle.lab_why.specs.declared.played.LifeEnd.TheVariants.{Done, Stopped}
+use Rattle.lab_why.specs.declared.played.PlayedOutput.{PlayedOutput}
+use Rattle.lab_why.specs.declared.played.PlayLine.{PlayLine}
+use Rattle.lab_why.specs.declared.played.PlayLine.TheVariants as a_line
 
--- the step, the mode and the level, up to the list of the indications
-abbrev pub step_text : Played → List ℕ
-step_text p =
-    joined (codes ",\"step\":" ∷ decimal p.step ∷ codes ",\"mode\":\"" ∷ mode_text p.mode ∷ codes "\",\"level\":" ∷ level_value p.level
-    ∷ codes ",\"indications\":[" ∷ [])
+-- ---- which step of the scenario a step of the life comes from: of each step of the scenario it is reported how many steps
+-- of the life there are up to its end
 
--- where the front is thought to be, and how far from there it may be
-abbrev pub where_text : ℤ → ℕ → List ℕ
-where_text place uncertainty =
-    joined (codes "],\"place_cm\":" ∷ signed_decimal place ∷ codes ",\"uncertainty_cm\":" ∷ decimal uncertainty ∷ [])
+-- the first step of the scenario whose end is after the step of the life; a last flush comes from none
+abbrev pub step_at : List ℕ → ℕ → ℕ
+step_at ends place = prefix_len (λ end. nat_le end place) ends
 
-abbrev pub output_text : Played → List ℕ
-output_text p = step_text p ++ signs_of p.shown ++ where_text p.place p.uncertainty
+-- ---- the lines
 
-abbrev pub played_text : Answer → Played → List ℕ
-played_text answer p = front_text Json answer ++ output_text p
+abbrev pub first_line : Cold → ℕ → PlayLine
+first_line cold steps = a_line.Scenario (record { scenario = record { cold = cold; steps = steps } })
 
--- the line: its members are those of `line_of`, and these
-abbrev pub played_line_of : Answer → Played → List Reported → Option TripReport → LimitReport → Mode → List Closing → List ℕ
-played_line_of answer played reported trip decides mode closings =
-    played_text answer played ++ (flat_map (cause_text Json) reported ++ last_text Json trip decides mode closings)
-
--- ---- the answer to the last event of a story
-
-abbrev pub answer_in : Story → ℕ → Output → Answer
-answer_in story event output = record {
-  event = event;
-  brake = output.brake;
-  limit = output.limit;
-  speed = speed_of (tracks (past_at story).life.entries);
-  backward = min (rolled_backward (past_at story).life) (2 ^ 64 - 1);
-  allowed = (values_of (past_at story).life).roll;
-}
-
-abbrev pub answer_of : Story → Release → Answer
-answer_of story one = answer_in story one.number one.output
-
--- .. and what is reported of it along with, where its output was released and it comes from this step of the scenario
-abbrev pub played_of : Story → Release → ℕ → Played
-played_of story one step = record {
+-- what is reported of the last event of a story, where its output was released and it comes from this step of the scenario
+abbrev pub output_in : Story → Release → ℕ → PlayedOutput
+output_in story one step = record {
   step = step;
   mode = one.output.mode;
   level = one.output.level;
-  shown = one.output.indications;
-  place = estimate_in (past_at story).life;
-  uncertainty = uncertainty_in (past_at story).life;
+  indications = one.output.indications;
+  place_cm = estimate_in (past_at story).life;
+  uncertainty_cm = uncertainty_in (past_at story).life;
 }
+
+-- .. with the causes, where this decides the limit
+abbrev pub output_line : Story → Release → ℕ → LimitCause → PlayLine
+output_line story one step cause = a_line.Output (record {
+  answer = answer_in story one.number one.output;
+  output = output_in story one step;
+  causes = causes_of (runs_of story) (trip_of story) (limit_reported one.output.limit cause);
+  groups = group_lines (judged_in story) (closings_of story);
+})
+
+-- the life came to its end, or at which step of the scenario it stopped, and why
+abbrev pub last_line : List ℕ → Option LiveError → PlayLine
+last_line ends None = a_line.Done (record { end = Done })
+last_line ends (Some error) = a_line.Stopped (record {
+  end = Stopped;
+  step = option_map (step_at ends) (step_of error);
+  number = (stop_reason error).0;
+  name = error;
+})

@@ -1,7 +1,7 @@
--- What is written while the life of a scenario is played on an empty image (this project's profile). Events and the
--- steps of a scenario are numbered from 0; lists of events have the newest first, lists of steps the oldest first.
--- Reported elsewhere, and taken for granted here: the text of a line (`played_line_of`, in Played), what of a life is durable
--- and what is released of it (`durable_by`, `pair_of`, in onboard), and what decides a limit (`IsLimitCause`, in
+-- The lines of the life of a scenario that is played on an empty image (this project's profile). Events and the steps of a
+-- scenario are numbered from 0; lists of events have the newest first, lists of steps and of lines the oldest first.
+-- Reported elsewhere, and taken for granted here: the values of a line (`output_line`, in Played), what of a life is
+-- durable and what is released of it (`durable_by`, `pair_of`, in onboard), and what decides a limit (`IsLimitCause`, in
 -- speed_supervision), where of several of equal force one is named.
 use Rattle.std.specs.Prelude.{◌≡◌, ◌⊎◌, ℕ, ◌+◌, ◌-◌, Option, Some, None, List, [], ◌∷◌, ◌++◌, length, map, take, slice_index}
 use Rattle.std.specs.Option.{option_map_or}
@@ -21,13 +21,8 @@ use Rattle.onboard.specs.Progress.{starting_with}
 use Rattle.whole_lives.specs.declared.errors.LiveError.{LiveError}
 use Rattle.whole_lives.specs.declared.errors.LiveError.TheVariants as a_live
 use Rattle.unit_start.specs.declared.errors.OpenError.TheVariants as an_open
-use Rattle.reasons.specs.Closings.{judged_in, closings_of}
-use Rattle.reasons.specs.LimitWords.{limit_reported}
-use Rattle.reasons.specs.Runs.{runs_of}
-use Rattle.reasons.specs.Trips.{trip_of}
-use Rattle.lab_why.specs.Ends.{step_at, first_line, last_line}
-use Rattle.lab_why.specs.Lines.{description_of}
-use Rattle.lab_why.specs.Played.{answer_of, played_of, played_line_of}
+use Rattle.lab_why.specs.Played.{step_at, first_line, output_line, last_line}
+use Rattle.lab_why.specs.declared.played.PlayLine.{PlayLine}
 use Rattle.lab_why.specs.declared.playing.PlayedLife.{PlayedLife}
 
 -- ---- which step of the scenario each input of the life comes from
@@ -44,27 +39,18 @@ input_steps life = map (step_at life.ends.items) (inputs_from 0 life.steps.items
 -- ---- the lines of the outputs
 
 -- the line of an output that was released to the last event of a story, which comes from this step of the scenario
-abbrev pub IsLine : ℕ → Story → Release → List ℕ → Type 0
+abbrev pub IsLine : ℕ → Story → Release → PlayLine → Type 0
 IsLine step story one line =
-    (cause : LimitCause) × IsLimitCause (past_at story).life (output_at story).limit cause
-    × (line ≡ played_line_of (answer_of story one) (played_of story one step) (description_of (runs_of story)) (trip_of story) (limit_reported one.output.limit cause)
-    (judged_in story) (closings_of story))
-
--- a text, and another one after it
-pub record IsFollowed (Earlier Later : List ℕ → Type 0) (text : List ℕ) : Type 0 where
-  pub earlier : List ℕ
-  pub later : List ℕ
-  pub earlier_is : Earlier earlier
-  pub later_is : Later later
-  pub text_is : text ≡ earlier ++ later
+    (cause : LimitCause) × IsLimitCause (past_at story).life (output_at story).limit cause × (line ≡ output_line story one step cause)
 
 -- a line of each input of a first life, the oldest first; the power-up, event 0, has none
-abbrev pub AreLines : List ℕ → List Event → List ℕ → Type 0
-AreLines steps (Input input ∷ events) text =
-    IsFollowed (AreLines steps events) (IsLine (slice_index steps (length events - 1)) (story_of (Input input ∷ events)) (pair_of events (Input input))) text
-AreLines steps events text = text ≡ []
+abbrev pub AreLines : List ℕ → List Event → List PlayLine → Type 0
+AreLines steps (Input input ∷ events) lines = (earlier : List PlayLine) × (line : PlayLine) × AreLines steps events earlier
+    × IsLine (slice_index steps (length events - 1)) (story_of (Input input ∷ events)) (pair_of events (Input input)) line
+    × (lines ≡ earlier ++ line ∷ [])
+AreLines steps events lines = lines ≡ []
 
--- ---- all that is written, by how the life ended: at its end, or for this error
+-- ---- all lines, by how the life ended: at its end, or for this error
 
 -- the steps that were carried out: all, or those before the one that an error names; none where no life began
 abbrev pub carried_out : List Step → Option LiveError → List Step
@@ -75,10 +61,10 @@ carried_out steps (Some error) = option_map_or (λ number. take number steps) (s
 abbrev pub released_in : PlayedLife → Option LiveError → List Event
 released_in life stopped = durable_by (PowerUp life.cold ∷ []) (carried_out life.steps.items stopped)
 
-pub record IsPlayed (life : PlayedLife) (stopped : Option LiveError) (text : List ℕ) : Type 0 where
-  pub lines : List ℕ
-  pub lines_are : AreLines (input_steps life) (released_in life stopped) lines
-  pub text_is : text ≡ first_line life.cold (length life.ends.items) ++ lines ++ last_line life.ends.items stopped
+pub record IsPlayed (life : PlayedLife) (stopped : Option LiveError) (lines : List PlayLine) : Type 0 where
+  pub outputs : List PlayLine
+  pub outputs_are : AreLines (input_steps life) (released_in life stopped) outputs
+  pub lines_are : lines ≡ first_line life.cold (length life.ends.items) ∷ outputs ++ last_line life.ends.items stopped ∷ []
 
 -- How a life may end on an empty image: no step has a cause to be refused; or it stopped at the first one that has, or
 -- for memory or the device; or the device failed as it was opened.

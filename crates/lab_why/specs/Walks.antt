@@ -1,18 +1,24 @@
--- All that is reported of the events of an image, and why they were answered so (this project's profile; docs/reference/format.md).
-use Rattle.std.specs.Prelude.{◌≡◌, ℕ, false, Option, List}
-use Rattle.std.specs.Io.KnownBytes.{Appends}
-use Rattle.lives.specs.Walks.{IsWalked}
-use Rattle.text_output.specs.declared.piece.Form.{Form}
-use Rattle.lab_why.specs.Courses.{initial, left_text, AddsStep}
+-- All lines that say why the events of an image were answered so (this project's profile; docs/reference/format.md).
+use Rattle.std.specs.Prelude.{◌≡◌, ◌⊎◌, ℕ, ◌++◌, Option, List, option_to_list}
+use Rattle.line_sinks.specs.Walks.{ImageLines, ImageBegins, IsCut}
+use Rattle.lives.specs.declared.errors.WalkError.{WalkError}
+use Rattle.lab_why.specs.Courses.{initial, left_line, StepLines, StepBegins}
 use Rattle.lab_why.specs.declared.course.Course.{Course}
+use Rattle.lab_why.specs.declared.line.WhyLine.{WhyLine}
 use Rattle.lab_why.specs.declared.walk.Walked.{Walked}
 
--- What a writer holds grew by what is reported of each step of an image, from the oldest block that is retained on, and by
--- what is left at the end.
-pub record DescribesWhy {W : Type 0} (contents : W → Option (List ℕ)) (only : Option ℕ) (form : Form) (sectors : ℕ) (image : ℕ → List ℕ) (old new : W) (walked : Walked) : Type 0 where
+-- These are the lines, and no others: those of each step of an image, from the oldest block that is retained on, and that
+-- of what is left at the end.
+pub record IsWhy (only : Option ℕ) (sectors : ℕ) (image : ℕ → List ℕ) (walked : Walked) (lines : List WhyLine) : Type 0 where
   pub last : Course
-  pub mid : W
-  pub steps : IsWalked (λ step c out next after. AddsStep step c next (contents out) (contents after)) (λ _. false) sectors image (initial only form) old last mid
-  pub left : Appends (contents mid) (contents new) (left_text last)
-  pub lines_are : walked.lines ≡ last.lines
+  pub before_end : List WhyLine
+  pub steps : ImageLines StepLines sectors image (initial only) last before_end
+  pub lines_are : lines ≡ before_end ++ option_to_list (left_line last)
+  pub events_are : walked.events ≡ last.events
   pub whole_is : walked.is_whole ≡ last.is_whole
+
+-- what a sink took before an error: the first of the lines, and no other
+abbrev pub IsCutWhy : {S : Type 0} → (S → WhyLine → S → Type 0) → (S → WhyLine → S → Type 0) → Option ℕ → ℕ → (ℕ → List ℕ) → WalkError → S → S → Type 0
+IsCutWhy Takes Fails only sectors image error old new =
+    IsCut Takes Fails (λ lines. (walked : Walked) × IsWhy only sectors image walked lines)
+    (ImageBegins StepLines StepBegins sectors image (initial only)) error old new

@@ -1,173 +1,180 @@
-//! What became of the groups that an event closed.
-ghost use Rattle.std.specs.Prelude.{◌≡◌, OnOk, false};
-ghost use Rattle.std.specs.Io.KnownBytes.{Appends};
-ghost use Rattle.text_output.specs.Pieces.{text_of, texts};
-ghost use Rattle.text_output.specs.declared.piece.Form.{Form as a_form};
-ghost use Rattle.track_picture.specs.Closings.{all_of};
-ghost use Rattle.lab_why.specs.Groups.{announcement_text, direction_text, group_back, group_opening, group_front, group_if, group_text, groups_text, head_text, packets_of, packets_text, reaction_text};
+//! The balise groups that an event closed, with their packets.
+ghost use Rattle.std.specs.Prelude.{◌≡◌, ◌++◌, map, IfOk, OnOk};
+ghost use Rattle.packet_uses.specs.declared.fate.Fate.{Fate as a_fate};
+ghost use Rattle.track_picture.specs.Closings.{all_of, listed};
+ghost use Rattle.lab_why.specs.Groups.{unused_as, packet_line, packets_of, group_line, group_lines};
 
-use crate::packet::write_packets;
-use mode_table::Mode;
-use reasons::{
-    GroupReport, GroupsReport, group_reported, group_section, group_sentence, group_word,
+use crate::serializing::{
+    write_direction, write_group_section, write_outcome, write_packet_name, write_reaction,
 };
-use std::io;
-use std::io::Write;
-use text_output::{Form, Piece, both, mode_word, write_parts, write_pieces};
+use balise_groups::GroupPackets;
+use line_sinks::{Items, write_mode};
+use mode_table::Mode;
+use packet_uses::{Fate, fate_of};
+use packets::Packet;
+use reasons::{GroupKind, GroupReport, GroupsReport, group_reported, is_accepted};
+use serde::Serialize;
+use std::alloc::{AllocError, Global};
 use track_picture::Closing;
 use vars::{LinkOrientation, LinkReaction, Variable};
 
-fn direction_piece(direction: Option<LinkOrientation>) -> Piece
-    ensures { (form : a_form) → text_of form result ≡ direction_text form direction }
+/// Why a packet wasn't used.
+#[derive(Clone, Copy, Serialize)]
+#[serde(rename_all = "snake_case")]
+pub enum Unused {
+    /// The kernel doesn't know it.
+    NotKnown,
+    /// It is a packet 136, or comes after one.
+    Infill,
+    /// The mode doesn't use its number.
+    NotInMode,
+    /// It isn't valid in the direction in which the group was passed.
+    OtherDirection,
+    /// Its telegram was refused as a whole.
+    Refused,
+    /// Its group wasn't accepted.
+    GroupNotAccepted,
+}
+
+/// A packet of a group.
+#[derive(Clone, Copy, Serialize)]
+pub struct PacketLine {
+    /// NID_PACKET.
+    pub packet: u8,
+    /// The number that its name is found by.
+    #[serde(serialize_with = "write_packet_name")]
+    pub name: u8,
+    /// Why it wasn't used; None where it was.
+    pub why: Option<Unused>,
+}
+
+/// A balise group that the event closed.
+#[derive(Drop, Serialize)]
+pub struct GroupLine {
+    /// NID_C.
+    pub country: u64,
+    /// NID_BG.
+    pub group: u64,
+    /// The mode before the event, in which it was judged.
+    #[serde(serialize_with = "write_mode")]
+    pub mode: Mode,
+    /// The direction in which it was passed; None where it isn't known.
+    #[serde(serialize_with = "write_direction")]
+    pub direction: Option<LinkOrientation>,
+    /// What became of it.
+    #[serde(serialize_with = "write_outcome")]
+    pub outcome: GroupKind,
+    /// The number of its announcement in packet 5, from 0; None without one.
+    pub announcement: Option<u8>,
+    /// What linking asked for because of it.
+    #[serde(serialize_with = "write_reaction")]
+    pub reaction: LinkReaction,
+    /// The section of SUBSET-026 for what became of it.
+    #[serde(serialize_with = "write_group_section")]
+    pub section: GroupKind,
+    /// The packets of its message, in their order; none of a broken group.
+    pub packets: Items<PacketLine>,
+}
+
+fn unused_as(accepted: bool, fate: Fate) -> Option<Unused>
+    ensures { result ≡ unused_as accepted fate }
 {
-    match direction {
-        Some(LinkOrientation::Nominal) => Piece::Text("nominal", "\"nominal\""),
-        Some(LinkOrientation::Reverse) => Piece::Text("reverse", "\"reverse\""),
-        None => Piece::Text("not known", "null"),
+    match fate {
+        _ if !accepted => Some(Unused::GroupNotAccepted),
+        Fate::Used => None,
+        Fate::NotKnown => Some(Unused::NotKnown),
+        Fate::Infill => Some(Unused::Infill),
+        Fate::NotInMode => Some(Unused::NotInMode),
+        Fate::OtherDirection => Some(Unused::OtherDirection),
+        Fate::Refused => Some(Unused::Refused),
     }
 }
 
-fn announcement_pieces(announcement: Option<u8>) -> [Piece; 2]
-    ensures { (form : a_form) → texts form result ≡ announcement_text form announcement }
+// A packet of a group that was judged in a mode.
+fn packet_line(mode: Mode, reported: &GroupReport, packet: &Packet<'_>) -> PacketLine
+    ensures { result ≡ packet_line mode reported.now packet.now }
 {
-    match announcement {
-        Some(number) => [
-            Piece::Text(", announcement ", "\",\"announcement\":"),
-            Piece::Number(u64::from(number)),
-        ],
-        None => [Piece::Text("", "\",\"announcement\":null"), Piece::Nothing],
+    let number = packet.number().get();
+    let fate = fate_of(packet, mode, reported.direction, false);
+    PacketLine {
+        packet: number,
+        name: number,
+        why: unused_as(is_accepted(reported.kind), fate),
     }
 }
 
-fn reaction_piece(reaction: LinkReaction) -> Piece
-    ensures { (form : a_form) → text_of form result ≡ reaction_text form reaction }
-{
-    match reaction {
-        LinkReaction::Trip => Piece::Text(", asks for a trip", ",\"reaction\":\"trip\""),
-        LinkReaction::ServiceBrake => Piece::Text(
-            ", asks for the service brake",
-            ",\"reaction\":\"service\"",
-        ),
-        LinkReaction::NoReaction => Piece::Text("", ",\"reaction\":null"),
-    }
-}
-
-fn opening_piece(later: bool) -> Piece
-    ensures { (form : a_form) → text_of form result ≡ group_opening form later }
-{
-    if later {
-        Piece::Text("; group ", ",{\"country\":")
-    } else {
-        Piece::Text("; group ", "{\"country\":")
-    }
-}
-
-fn front_pieces(later: bool, mode: Mode, reported: &GroupReport) -> [Piece; 10]
-    ensures { (form : a_form) → texts form result ≡ group_front form later mode reported.now }
-{
-    [
-        opening_piece(later),
-        Piece::Number(reported.group.country.number()),
-        Piece::Text(" ", ",\"group\":"),
-        Piece::Number(reported.group.number.number()),
-        Piece::Text(" in mode ", ",\"mode\":\""),
-        both(mode_word(mode)),
-        Piece::Text(", direction ", "\",\"direction\":"),
-        direction_piece(reported.direction),
-        Piece::Text(": ", ",\"outcome\":\""),
-        Piece::Text(group_sentence(reported.kind), group_word(reported.kind)),
-    ]
-}
-
-fn back_pieces(reported: &GroupReport) -> [Piece; 4]
-    ensures { (form : a_form) → texts form result ≡ group_back form reported.now }
-{
-    [
-        reaction_piece(reported.reaction),
-        Piece::Text(" (", ",\"section\":\""),
-        both(group_section(reported.kind)),
-        Piece::Text(")", "\",\"packets\":["),
-    ]
-}
-
-// What a group begins with, up to its packets.
-fn write_head<W: Write>(
-    form: Form,
+fn packet_lines(
+    alloc: Global,
     mode: Mode,
-    later: bool,
     reported: &GroupReport,
-    out: &mut W,
-) -> io::Result<()>
-    ensures { OnOk result (Appends (W.contents out.old) (W.contents out.new) (head_text form mode later reported.now)) }
+    packets: &GroupPackets,
+) -> Result<Items<PacketLine>, AllocError>
+    ensures { IfOk result (λ lines. lines ≡ map (packet_line mode reported.now) packets.now) }
 {
-    let front = front_pieces(later, mode, reported);
-    let announced = announcement_pieces(reported.announcement);
-    let back = back_pieces(reported);
-    write_parts(form, &[&front, &announced, &back], out)
+    let mut lines = Items::new(alloc);
+    for item in packets.iter() {
+        lines.push(packet_line(mode, reported, item.packet()))?;
+    }
+    Ok(lines)
 }
 
-fn write_packets_of<W: Write>(
-    form: Form,
+// The packets of the message of a group; a broken one has none.
+fn packets_in(
+    alloc: Global,
     mode: Mode,
     reported: &GroupReport,
     closing: &Closing,
-    out: &mut W,
-) -> io::Result<()>
-    ensures { OnOk result (Appends (W.contents out.old) (W.contents out.new) (packets_text form mode reported.now false (packets_of closing.now))) }
+) -> Result<Items<PacketLine>, AllocError>
+    ensures { IfOk result (λ lines. lines ≡ map (packet_line mode reported.now) (packets_of closing.now)) }
 {
     match closing {
-        Closing::Whole(message, _) => write_packets(form, mode, reported, &message.packets, out),
-        Closing::Broken(_, _) => write_pieces(form, &[], out),
+        Closing::Whole(message, _) => packet_lines(alloc, mode, reported, &message.packets),
+        Closing::Broken(_, _) => Ok(Items::new(alloc)),
     }
 }
 
-fn write_group<W: Write>(
-    form: Form,
-    mode: Mode,
-    later: bool,
-    closing: &Closing,
-    out: &mut W,
-) -> io::Result<()>
-    ensures { OnOk result (Appends (W.contents out.old) (W.contents out.new) (group_text form mode later closing.now)) }
+fn group_line(alloc: Global, mode: Mode, closing: &Closing) -> Result<GroupLine, AllocError>
+    ensures { IfOk result (λ line. line ≡ group_line mode closing.now) }
 {
     let reported = group_reported(closing);
-    write_head(form, mode, later, &reported, out)?;
-    write_packets_of(form, mode, &reported, closing, out)?;
-    write_pieces(form, &[Piece::Text("", "]}")], out)
+    let packets = packets_in(alloc, mode, &reported, closing)?;
+    Ok(GroupLine {
+        country: reported.group.country.number(),
+        group: reported.group.number.number(),
+        mode,
+        direction: reported.direction,
+        outcome: reported.kind,
+        announcement: reported.announcement,
+        reaction: reported.reaction,
+        section: reported.kind,
+        packets,
+    })
 }
 
-fn write_if<W: Write>(
-    form: Form,
+// Adds a group, if there is one.
+fn add_group(
+    alloc: Global,
     mode: Mode,
-    later: bool,
     closing: &Option<Closing>,
-    out: &mut W,
-) -> io::Result<()>
-    ensures { OnOk result (Appends (W.contents out.old) (W.contents out.new) (group_if form mode later closing.now)) }
+    lines: &mut Items<GroupLine>,
+) -> Result<(), AllocError>
+    ensures { OnOk result (lines.new ≡ lines.old ++ group_lines mode (listed closing.now)) }
 {
     match closing {
-        Some(closing) => write_group(form, mode, later, closing, out),
-        None => write_pieces(form, &[], out),
+        Some(closing) => lines.push(group_line(alloc, mode, closing)?),
+        None => Ok(()),
     }
 }
 
-/// Writes what became of the groups that an event closed, with the packets of each and why they aren't used; nothing
-/// where it closed none. For people each is a part of a line that begins with a semicolon, as JSON all are a member
-/// that begins with a comma. The error is that of a write.
-pub(crate) fn write_groups<W: Write>(
-    form: Form,
+/// The groups that an event closed, in their order. The error is that of memory.
+pub(crate) fn group_lines(
+    alloc: Global,
     reported: &GroupsReport,
-    out: &mut W,
-) -> io::Result<()>
-    ensures { OnOk result (Appends (W.contents out.old) (W.contents out.new) (groups_text form reported.now.mode (all_of reported.now.closings))) }
+) -> Result<Items<GroupLine>, AllocError>
+    ensures { IfOk result (λ lines. lines ≡ group_lines reported.now.mode (all_of reported.now.closings)) }
 {
-    let ended = &reported.closings.ended;
-    let whole = &reported.closings.whole;
-    if ended.is_none() && whole.is_none() {
-        return write_pieces(form, &[], out);
-    }
-    write_pieces(form, &[Piece::Text("", ",\"groups\":[")], out)?;
-    write_if(form, reported.mode, false, ended, out)?;
-    write_if(form, reported.mode, ended.is_some(), whole, out)?;
-    write_pieces(form, &[Piece::Text("", "]")], out)
+    let mut lines = Items::new(alloc);
+    add_group(alloc, reported.mode, &reported.closings.ended, &mut lines)?;
+    add_group(alloc, reported.mode, &reported.closings.whole, &mut lines)?;
+    Ok(lines)
 }

@@ -1,23 +1,28 @@
 //! Why each event of a journal was answered so: lives are run again, and a line of an event has the causes of its brake
-//! and what decides its limit, for people or as a JSON object (this project's profile). It writes nothing to the disk.
-//! Speeds are metres per hour, distances centimetres; events are numbered from 0, blocks from 1.
+//! and what decides its limit; and the life of a scenario that is played, with the same of each output (this project's
+//! profile). A sink prints the lines as JSON or for people. It writes nothing to the disk. Events are numbered from 0,
+//! blocks from 1.
 #![tactic(auto)]
 
 mod course;
-mod description;
 mod ends;
 mod group;
-mod lines;
-mod packet;
+mod line;
 mod played;
 mod playing;
+mod reporting;
+mod serializing;
+mod text;
 mod visiting;
 mod walk;
 
-pub use lines::{Answer, Reported, description_of, write_line};
+pub use group::{GroupLine, PacketLine, Unused};
+pub use line::{Answer, Causes, EventLine, WhyLine};
 pub use lives::{LateError, WalkError};
 pub use onboard::{FlushError, OpenError};
-pub use played::{Played, write_played_line};
+pub use played::{
+    DoneLine, LifeEnd, OutputLine, PlayLine, PlayedOutput, Scenario, ScenarioLine, StoppedLine,
+};
 pub use playing::{PlayedLife, play};
 pub use walk::{Walked, describe_why};
 pub use whole_lives::LiveError;

@@ -1,22 +1,22 @@
 //! A scenario's life is played on an image of its own, and each output that is released is reported.
-ghost use Rattle.std.specs.Prelude.{◌≡◌, ◌∷◌, ◌++◌, [], List, ℕ, IfOk, OnOk};
-ghost use Rattle.std.specs.Io.KnownBytes.{Appends};
+ghost use Rattle.std.specs.Prelude.{◌≡◌, ◌∷◌, ◌++◌, [], List, IfOk, OnOk};
 ghost use Rattle.events.specs.declared.input.Event.TheVariants.{PowerUp};
+ghost use Rattle.line_sinks.specs.Sinks.{TakesAll};
 ghost use Rattle.unit_start.specs.Events.{pairs_of};
 ghost use Rattle.lab_why.specs.Images.{IsEmpty};
 ghost use Rattle.lab_why.specs.Playing.{released_in, IsPlayed, PlayEnds};
+ghost use Rattle.lab_why.specs.declared.played.PlayLine.{PlayLine as a_line};
 
-use crate::description::describe_released;
-use crate::ends::{first_pieces, last_pieces};
+use crate::played::{PlayLine, first_line, last_line};
+use crate::reporting::report_released;
 use disk::Memory;
 use events::Step;
 use journal::format;
+use line_sinks::LineSink;
 use lives::LateError;
 use mode_table::Cold;
 use onboard::Released;
 use std::alloc::Global;
-use std::io::Write;
-use text_output::{Form, write_pieces};
 use units::NoMemory;
 use whole_lives::{LiveError, live};
 
@@ -78,34 +78,33 @@ fn run_life(alloc: Global, life: &PlayedLife) -> Result<Lived, NoMemory>
 }
 
 // Reports what a life released, and how it ended.
-fn describe<W: Write>(
+fn describe<S: LineSink<PlayLine>>(
     alloc: Global,
     life: &PlayedLife,
     lived: &Lived,
-    out: &mut W,
+    sink: &mut S,
 ) -> Result<(), LateError>
     ensures { pairs_of (released_in life.now lived.now.stopped) ≡ pairs_of (PowerUp life.now.cold ∷ []) ++ lived.now.released.items
-        → OnOk result ((text : List ℕ) × IsPlayed life.now lived.now.stopped text × Appends (W.contents out.old) (W.contents out.new) text) }
+        → OnOk result ((lines : List a_line) × IsPlayed life.now lived.now.stopped lines × TakesAll S.Takes lines sink.old sink.new) }
 {
     let ends = life.ends.as_slice();
-    write_pieces(Form::Json, &first_pieces(life.cold, ends.len()), out)?;
-    describe_released(alloc, life, lived.released.as_slice(), out)?;
-    write_pieces(Form::Json, &last_pieces(ends, &lived.stopped), out)?;
-    Ok(())
+    sink.take(&first_line(life.cold, ends.len()))?;
+    report_released(alloc, life, lived.released.as_slice(), sink)?;
+    sink.take(&last_line(ends, &lived.stopped))
 }
 
-/// Plays a life on an empty image in memory, and writes a line before the first output, one of each output that is
-/// released, with the step of the scenario that it comes from and its causes, and a last one, which says whether the
-/// life came to its end (this project's profile). It answers why it didn't. Write is an error of the writer; NoMemory
-/// where memory is refused for the image or a line.
-pub fn play<W: Write>(
+/// Plays a life on an empty image in memory, and hands to a sink a line before the first output, one of each output that
+/// is released, with the step of the scenario that it comes from and its causes, and a last one, which says whether the
+/// life came to its end (this project's profile). It answers why it didn't. Write is an error of the sink; NoMemory where
+/// memory is refused for the image or a line.
+pub fn play<S: LineSink<PlayLine>>(
     alloc: Global,
     life: &PlayedLife,
-    out: &mut W,
+    sink: &mut S,
 ) -> Result<Option<LiveError>, LateError>
-    // Where it could be written, exactly these lines were.
-    ensures lines { IfOk result (λ stopped. (text : List ℕ) × IsPlayed life.now stopped text
-        × Appends (W.contents out.old) (W.contents out.new) text) }
+    // The sink took exactly these lines.
+    ensures lines { IfOk result (λ stopped. (lines : List a_line) × IsPlayed life.now stopped lines
+        × TakesAll S.Takes lines sink.old sink.new) }
 
     // It stopped at the first step that has a cause to be refused, and only for a cause.
     ensures ends { IfOk result (λ stopped. PlayEnds life.now.steps.items stopped) }
@@ -113,6 +112,6 @@ pub fn play<W: Write>(
     let Ok(lived) = run_life(alloc, life) else {
         return Err(LateError::NoMemory);
     };
-    describe(alloc, life, &lived, out)?;
+    describe(alloc, life, &lived, sink)?;
     Ok(lived.stopped)
 }

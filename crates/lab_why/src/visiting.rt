@@ -1,38 +1,34 @@
-//! The steps of a walk, reported: a life is run again, and its events have their lines.
-ghost use Rattle.std.specs.Prelude.{◌≡◌, false, IfOk, OnOk};
-ghost use Rattle.std.specs.Io.KnownBytes.{Appends};
+//! The steps of a walk, explained: a life is run again, and its events have their lines.
+ghost use Rattle.std.specs.Prelude.{◌≡◌, false, List, IfOk, OnOk};
 ghost use Rattle.kernel.specs.Lives.{Story};
-ghost use Rattle.text_output.specs.Pieces.{texts};
-ghost use Rattle.text_output.specs.declared.piece.Form.{Form as a_form};
+ghost use Rattle.line_sinks.specs.Sinks.{TakesAll, TakesSome};
+ghost use Rattle.line_sinks.specs.Walks.{IsMemory};
 ghost use Rattle.reasons.specs.Reported.{Reasons};
-ghost use Rattle.lab_why.specs.Courses.{line_at, lost_in, AddsLine, Follows, Begins, Describes, AddsStep};
+ghost use Rattle.lab_why.specs.Courses.{IsEventLine, Follows, Begins, Describes, RunsAndDescribes, StepLines, StepBegins, initial_after, lost_line};
+ghost use Rattle.lab_why.specs.declared.line.WhyLine.{WhyLine as a_line};
 
 use crate::course::{
-    Course, Explanation, begin_after, finish, has_line, leave_out, pass_gap, shown_in,
+    Course, Explanation, begin_after, explanation_in, finish, has_line, leave_out, pass_gap,
 };
-use crate::lines::{description_of, write_line};
-use crate::played::answer_in;
+use crate::line::{WhyLine, event_line};
 use blocks::Block;
 use events::{Event, Kept};
-use lab_events::lost_block_pieces;
+use lab_replay::{LostBlock, Verdict};
+use line_sinks::{LineSink, take_if, take_two};
 use lives::{LateError, Seen, Unknown, Visit};
 use reasons::Reasoning;
 use std::alloc::Global;
-use std::io::Write;
-use text_output::{Form, Piece, write_parts, write_pieces};
 use units::NoMemory;
 
 // Runs one event more of a life, where that is known.
-fn follow(alloc: Global, life: &mut Option<Reasoning>, event: &Event) -> Result<(), LateError>
+fn follow(alloc: Global, life: &mut Option<Reasoning>, event: &Event) -> Result<(), NoMemory>
     ensures { OnOk result (Follows event.now life.old life.new) }
 {
     let Some(life) = life else {
         return Ok(());
     };
-    match life.follow(alloc, event) {
-        Ok(_) => Ok(()),
-        Err(NoMemory) => Err(LateError::NoMemory),
-    }
+    life.follow(alloc, event)?;
+    Ok(())
 }
 
 // Runs the power-up of a life after what was kept before it; where nobody knows that, as one event more.
@@ -41,7 +37,7 @@ fn begin(
     life: &mut Option<Reasoning>,
     before: &Result<Kept, Unknown>,
     event: &Event,
-) -> Result<(), LateError>
+) -> Result<(), NoMemory>
     ensures { OnOk result (Begins before.now event.now life.old life.new) }
 {
     match (before, event) {
@@ -55,80 +51,86 @@ fn begin(
     }
 }
 
-// Writes the line of the last event of a life.
-fn write_event<W: Write>(
-    life: &Reasoning,
-    event: u64,
-    shown: &Explanation,
-    form: Form,
-    out: &mut W,
-) -> Result<(), LateError>
-    ensures { (story : Story) → Reasons story life.now →
-        OnOk result (Appends (W.contents out.old) (W.contents out.new) (line_at form story event shown.now)) }
-{
-    let output = life.output();
-    let answer = answer_in(life, event, &output);
-    let reported = description_of(&shown.runs);
-    write_line(
-        form,
-        &answer,
-        &reported,
-        &life.trip(),
-        &shown.decides,
-        life.groups(),
-        out,
-    )?;
-    Ok(())
-}
-
-// Writes the line of the last event of a life, if it has one. How many lines that makes.
-fn write_reported<W: Write>(
+// The line of the last event of a life, if it has one, and how many events have had a line.
+fn line_of(
+    alloc: Global,
     course: &Course,
     life: &Reasoning,
     event: u64,
-    shown: &Explanation,
-    out: &mut W,
-) -> Result<u64, LateError>
-    ensures { (story : Story) → Reasons story life.now → IfOk result (λ lines.
-        AddsLine course.now.only course.now.form story event course.now.shown shown.now course.now.lines lines
-        (W.contents out.old) (W.contents out.new)) }
+    explanation: &Explanation,
+) -> Result<(Option<WhyLine>, u64), NoMemory>
+    ensures { (story : Story) → Reasons story life.now → IfOk result (λ found.
+        IsEventLine course.now.only story event course.now.before explanation.now course.now.events found.1 found.0) }
 {
-    if has_line(course.only, event, &course.shown, shown) {
-        write_event(life, event, shown, course.form, out)?;
-        return Ok(course.lines.saturating_add(1));
+    if has_line(course.only, event, &course.before, explanation) {
+        let line = event_line(alloc, life, event, explanation)?;
+        return Ok((Some(line), course.events.saturating_add(1)));
     }
-    Ok(course.lines)
+    Ok((None, course.events))
 }
 
-// Reports an event that was run, or leaves it out.
-fn describe<W: Write>(course: &mut Course, seen: &Seen<'_>, out: &mut W) -> Result<(), LateError>
-    ensures { OnOk result (Describes course.old.life seen.now.life seen.now.entry.now.number course.old course.new
-        (W.contents out.old) (W.contents out.new)) }
+// The line of an event that was run, if it has one, or else the event is left out.
+fn describe(
+    alloc: Global,
+    course: &mut Course,
+    seen: &Seen<'_>,
+) -> Result<Option<WhyLine>, NoMemory>
+    ensures { IfOk result (Describes course.old.life seen.now.life seen.now.entry.now.number course.old course.new) }
 {
     let event = seen.entry.number;
     let Some(life) = &course.life else {
         leave_out(course, seen.life, event);
-        return Ok(());
+        return Ok(None);
     };
-    let shown = shown_in(life);
-    let lines = write_reported(course, life, event, &shown, out)?;
-    course.shown = Some(shown);
-    course.lines = lines;
-    Ok(())
+    let explanation = explanation_in(life);
+    let (line, events) = line_of(alloc, course, life, event, &explanation)?;
+    course.before = Some(explanation);
+    course.events = events;
+    Ok(line)
 }
 
-// The line of a block that can't be read; nothing where one event alone is asked for.
-fn lost_pieces(only: Option<u64>, number: u64) -> [Piece; 3]
-    ensures { (form : a_form) → texts form result ≡ lost_in form only number }
+// A life begins with a record: it is run, and described.
+fn begin_life(
+    alloc: Global,
+    course: &mut Course,
+    before: &Result<Kept, Unknown>,
+    seen: &Seen<'_>,
+) -> Result<Option<WhyLine>, NoMemory>
+    ensures { IfOk result (RunsAndDescribes (Begins before.now seen.now.entry.now.event) seen.now.life seen.now.entry.now
+        (initial_after before.now course.old.life course.old) course.new) }
+{
+    begin_after(course, before);
+    begin(alloc, &mut course.life, before, &seen.entry.event)?;
+    describe(alloc, course, seen)
+}
+
+// A life goes on with a record: it is run, and described.
+fn go_on(alloc: Global, course: &mut Course, seen: &Seen<'_>) -> Result<Option<WhyLine>, NoMemory>
+    ensures { IfOk result (RunsAndDescribes (Follows seen.now.entry.now.event) seen.now.life seen.now.entry.now course.old course.new) }
+{
+    follow(alloc, &mut course.life, &seen.entry.event)?;
+    describe(alloc, course, seen)
+}
+
+// The line of a block that can't be read; None where one event alone is asked for.
+fn lost_line(only: Option<u64>, number: u64) -> Option<WhyLine>
+    ensures { result ≡ lost_line only number }
 {
     match only {
-        Some(_) => [Piece::Nothing; 3],
-        None => lost_block_pieces(number),
+        Some(_) => None,
+        None => Some(WhyLine::Lost(LostBlock {
+            block: number,
+            replay: Verdict::Unreadable,
+        })),
     }
 }
 
-impl<W: Write> Visit<W> for Course {
-    ghost IsReported = { λ step old out new after. AddsStep step old new (W.contents out) (W.contents after) };
+impl<S: LineSink<WhyLine>> Visit<S> for Course {
+    ghost IsReported = { λ step old sink new after. (lines : List a_line) × StepLines step old new lines
+        × TakesAll S.Takes lines sink after };
+
+    ghost IsStopped = { λ step old sink error after. (lines : List a_line) × StepBegins step old lines
+        × TakesSome S.Takes S.Fails (IsMemory error) lines sink after };
 
     ghost enough = { λ _. false };
 
@@ -136,19 +138,15 @@ impl<W: Write> Visit<W> for Course {
         false
     }
 
-    fn unreadable(&mut self, number: u64, out: &mut W) -> Result<(), LateError> {
-        let form = self.form;
-        let lost = lost_pieces(self.only, number);
+    fn unreadable(&mut self, number: u64, sink: &mut S) -> Result<(), LateError> {
+        let lost = lost_line(self.only, number);
         let left = pass_gap(self);
-        write_parts(form, &[&left, &lost], out)?;
-        Ok(())
+        take_two(&left, &lost, sink)
     }
 
-    fn missing(&mut self, out: &mut W) -> Result<(), LateError> {
-        let form = self.form;
+    fn missing(&mut self, sink: &mut S) -> Result<(), LateError> {
         let left = pass_gap(self);
-        write_pieces(form, &left, out)?;
-        Ok(())
+        take_two(&left, &None, sink)
     }
 
     fn begins(
@@ -156,22 +154,23 @@ impl<W: Write> Visit<W> for Course {
         alloc: Global,
         before: &Result<Kept, Unknown>,
         seen: &Seen<'_>,
-        out: &mut W,
+        sink: &mut S,
     ) -> Result<(), LateError> {
-        let form = self.form;
         let left = finish(self);
-        write_pieces(form, &left, out)?;
-        begin_after(self, before);
-        begin(alloc, &mut self.life, before, &seen.entry.event)?;
-        describe(self, seen, out)
+        let Ok(line) = begin_life(alloc, self, before, seen) else {
+            return Err(LateError::NoMemory);
+        };
+        take_two(&left, &line, sink)
     }
 
-    fn goes_on(&mut self, alloc: Global, seen: &Seen<'_>, out: &mut W) -> Result<(), LateError> {
-        follow(alloc, &mut self.life, &seen.entry.event)?;
-        describe(self, seen, out)
+    fn goes_on(&mut self, alloc: Global, seen: &Seen<'_>, sink: &mut S) -> Result<(), LateError> {
+        let Ok(line) = go_on(alloc, self, seen) else {
+            return Err(LateError::NoMemory);
+        };
+        take_if(&line, sink)
     }
 
-    fn head(&mut self, _block: &Block, _out: &mut W) -> Result<(), LateError> {
+    fn head(&mut self, _block: &Block, _sink: &mut S) -> Result<(), LateError> {
         Ok(())
     }
 }

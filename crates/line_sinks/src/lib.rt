@@ -2,9 +2,11 @@
 #![tactic(auto)]
 
 mod describing;
+mod items;
 mod sink;
 mod values;
 
 pub use describing::describe_value;
-pub use sink::{JsonLines, LineSink, TextLines};
+pub use items::Items;
+pub use sink::{JsonLines, LineSink, TextLines, take_if, take_two};
 pub use values::{level_number, write_brake, write_indications, write_level, write_mode};

@@ -1,6 +1,6 @@
 //! Takers of lines: one prints them as JSON, the other for people.
-ghost use Rattle.std.specs.Prelude.{OnOk, OnErr, ⊤};
-ghost use Rattle.line_sinks.specs.Sinks.{AddsJson};
+ghost use Rattle.std.specs.Prelude.{◌++◌, option_to_list, OnOk, OnErr, ⊤};
+ghost use Rattle.line_sinks.specs.Sinks.{AddsJson, TakesAll, FailsIn};
 
 use lives::LateError;
 use serde::Serialize;
@@ -20,6 +20,30 @@ pub trait LineSink<L> {
     fn take(&mut self, line: &L) -> Result<(), LateError>
         ensures taken { OnOk result (Takes self.old line.now self.new) }
         ensures failed { OnErr result (Fails self.old line.now self.new) };
+}
+
+/// Hands on a line, if there is one.
+pub fn take_if<L, S: LineSink<L>>(line: &Option<L>, sink: &mut S) -> Result<(), LateError>
+    ensures taken { OnOk result (TakesAll S.Takes (option_to_list line.now) sink.old sink.new) }
+    ensures failed { OnErr result (FailsIn S.Takes S.Fails (option_to_list line.now) sink.old sink.new) }
+{
+    match line {
+        Some(line) => sink.take(line),
+        None => Ok(()),
+    }
+}
+
+/// Hands on two lines, each if there is one.
+pub fn take_two<L, S: LineSink<L>>(
+    first: &Option<L>,
+    second: &Option<L>,
+    sink: &mut S,
+) -> Result<(), LateError>
+    ensures taken { OnOk result (TakesAll S.Takes (option_to_list first.now ++ option_to_list second.now) sink.old sink.new) }
+    ensures failed { OnErr result (FailsIn S.Takes S.Fails (option_to_list first.now ++ option_to_list second.now) sink.old sink.new) }
+{
+    take_if(first, sink)?;
+    take_if(second, sink)
 }
 
 /// Prints each line as one JSON object and a line feed.

@@ -1,5 +1,5 @@
 use Rattle.std.proofs.Common.{◌≡◌, ◌+◌, ◌-◌, length, drop}
-use Rattle.lab_why.specs.Ends.{step_at}
+use Rattle.lab_why.specs.Played.{step_at}
 use Rattle.lab_why.proofs.ends.step_from.Given as goal
 
 abbrev pub invariant-loop-step : goal.invariant-loop-step

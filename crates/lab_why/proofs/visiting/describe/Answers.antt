@@ -1,19 +1,21 @@
-use Rattle.std.proofs.Common.{Option, Some, refl, sym, subst}
+use Rattle.std.proofs.Common.{◌≡◌, Option, Some, None, refl, sym, subst}
 use Rattle.reasons.specs.Reported.{Reasoned}
 use Rattle.lab_why.specs.Courses.{Describes}
 use Rattle.lab_why.specs.declared.course.Course.{Course}
 use Rattle.lab_why.proofs.visiting.describe.Goals as goal
 
 pub returns : goal.returns
-returns g c =
+returns c =
     let old : Course = c.args.course.now in
-    let new : Course = record old { shown = Some c.shown_in-shown.result; lines = c.in_ok-lines.lines } in
     let seen = c.args.seen.now in
-    subst (λ (known : Option Reasoned). Describes known seen.life seen.entry.now.number old new (g.W.Write.contents c.args.out.now) (g.W.Write.contents c.write_reported.new.out))
+    let explanation = c.explanation_in-explanation.result in
+    let line = c.in_ok-line.line in
+    let events = c.in_ok-line.events in
+    subst (λ (known : Option Reasoned). Describes known seen.life seen.entry.now.number old (record old { before = Some explanation; events = events }) line)
     (sym c.in-Some.is) (record {
-      shown = c.shown_in-shown.result;
-      lines = c.in_ok-lines.lines;
+      explanation = explanation;
+      events = events;
       next_is = refl;
-      stands = c.shown_in-shown.ensures;
-      reported = c.in_ok-lines.ensures;
+      explains = c.explanation_in-explanation.ensures;
+      line_is = c.in_ok-line.ensures;
     })

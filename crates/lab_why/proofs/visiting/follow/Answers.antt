@@ -3,6 +3,6 @@ use Rattle.reasons.specs.Reported.{Reasoned}
 use Rattle.lab_why.specs.Courses.{Follows}
 use Rattle.lab_why.proofs.visiting.follow.Goals as goal
 
-pub returns-in-Ok : goal.returns-in-Ok
-returns-in-Ok c =
-    subst (λ (known : Option Reasoned). Follows c.args.event.now known (Some c.follow.new.self)) (sym c.in-Some.is) (λ story is. c.in-Ok.ensures.stands story is)
+pub returns : goal.returns
+returns c =
+    subst (λ (known : Option Reasoned). Follows c.args.event.now known (Some c.follow.new.self)) (sym c.in-Some.is) (λ story is. c.in_ok-follow.ensures.stands story is)

@@ -1,0 +1,187 @@
+//! The lines that say why events were answered so (`docs/reference/json.md`).
+ghost use Rattle.std.specs.Prelude.{◌≡◌, IfOk};
+ghost use Rattle.kernel.specs.Lives.{Story};
+ghost use Rattle.reasons.specs.Reported.{Reasons};
+ghost use Rattle.lab_why.specs.Lines.{answer_in, causes_of, event_line, left_out_line};
+
+use crate::course::Explanation;
+use crate::group::{GroupLine, group_lines};
+use crate::serializing::{
+    write_limit_cause, write_limit_section, write_trip_cause, write_trip_section,
+};
+use events::{Brake, Output};
+use kernel::{BrakeCause, TripCause};
+use lab_events::{Reason, Stretch};
+use lab_replay::{LostBlock, StretchLine, Verdict};
+use line_sinks::{Items, write_brake};
+use reasons::{LimitKind, LimitReport, Reasoning, Runs, TripReport};
+use serde::Serialize;
+use std::alloc::{AllocError, Global};
+
+/// What was answered to an event, and the numbers that causes refer to.
+#[derive(Clone, Copy, Serialize)]
+pub struct Answer {
+    /// The number of the event.
+    pub event: u64,
+    /// The brake command.
+    #[serde(serialize_with = "write_brake")]
+    pub brake: Brake,
+    /// The speed limit, in metres per hour.
+    pub limit_m_per_h: u32,
+    /// The speed of the last reading, in metres per hour.
+    pub speed_m_per_h: u32,
+    /// How far the train has rolled backward since it stood, in centimetres.
+    pub backward_cm: u64,
+    /// How far it may, in centimetres.
+    pub allowed_backward_cm: u64,
+}
+
+/// Why the brake is commanded, the train was tripped, and the limit is what it is. Of each cause of the brake the number of
+/// the event since which it has held; None where it doesn't hold.
+#[derive(Clone, Copy, Serialize)]
+pub struct Causes {
+    /// The driver has not revalidated.
+    pub not_revalidated: Option<u64>,
+    /// The mode is Trip.
+    pub in_trip: Option<u64>,
+    /// The mode is System Failure.
+    pub in_system_failure: Option<u64>,
+    /// A trip is not acknowledged.
+    pub owes_trip: Option<u64>,
+    /// The speed was far above the limit.
+    pub far_too_fast: Option<u64>,
+    /// The train rolled backward too far.
+    pub rolled_too_far: Option<u64>,
+    /// Linking or a balise group asked for the service brake.
+    pub service_brake_requested: Option<u64>,
+    /// The speed was above the limit.
+    pub too_fast: Option<u64>,
+    /// The train moves where it must stand.
+    pub must_stand: Option<u64>,
+    /// An acknowledgement has been owed for too long.
+    pub owes_too_long: Option<u64>,
+    /// Why the train was tripped; None where no trip is owed, or it is from before the power-up.
+    #[serde(serialize_with = "write_trip_cause")]
+    pub trip_cause: Option<TripCause>,
+    /// The number of the event that tripped it.
+    pub trip_cause_event: Option<u64>,
+    /// The sections of SUBSET-026 for that.
+    #[serde(serialize_with = "write_trip_section")]
+    pub trip_cause_section: Option<TripCause>,
+    /// What decides the limit.
+    #[serde(serialize_with = "write_limit_cause")]
+    pub limit_cause: LimitKind,
+    /// The speed that applies at what lies ahead, else the limit, in metres per hour.
+    pub limit_cause_speed_m_per_h: u32,
+    /// Its place, in centimetres; None where it has none.
+    pub limit_cause_place_cm: Option<i64>,
+    /// The number of a restriction, NID_TSR.
+    pub limit_cause_number: Option<u64>,
+    /// The sections of SUBSET-026 for that.
+    #[serde(serialize_with = "write_limit_section")]
+    pub limit_cause_section: LimitKind,
+}
+
+/// An event of a life that is run again.
+#[derive(Drop, Serialize)]
+pub struct EventLine {
+    /// What was answered.
+    #[serde(flatten)]
+    pub answer: Answer,
+    /// Why.
+    #[serde(flatten)]
+    pub causes: Causes,
+    /// The balise groups that the event closed, in their order.
+    #[serde(skip_serializing_if = "Items::is_empty")]
+    pub groups: Items<GroupLine>,
+}
+
+/// A line of an explanation.
+#[derive(Drop, Serialize)]
+#[serde(untagged)]
+pub enum WhyLine {
+    /// An event.
+    Event(EventLine),
+    /// Events of a life that can't be run again.
+    LeftOut(StretchLine),
+    /// A block that can't be read.
+    Lost(LostBlock),
+}
+
+/// The answer to the last event of a life, of this number.
+pub(crate) fn answer_in(life: &Reasoning, event: u64, output: &Output) -> Answer
+    ensures { (story : Story) → Reasons story life.now → result ≡ answer_in story event output.now }
+{
+    let motion = life.state().motion();
+    Answer {
+        event,
+        brake: output.brake,
+        limit_m_per_h: output.limit.get(),
+        speed_m_per_h: motion.speed.get(),
+        backward_cm: motion.backward,
+        allowed_backward_cm: motion.allowed,
+    }
+}
+
+/// The causes of an answer.
+pub(crate) fn causes_of(runs: &Runs, trip: &Option<TripReport>, limit: &LimitReport) -> Causes
+    ensures { result ≡ causes_of runs.now trip.now limit.now }
+{
+    let (trip_cause, trip_cause_event) = match trip {
+        Some(trip) => (Some(trip.cause), Some(trip.event)),
+        None => (None, None),
+    };
+    Causes {
+        not_revalidated: runs.first(BrakeCause::NotRevalidated),
+        in_trip: runs.first(BrakeCause::InTrip),
+        in_system_failure: runs.first(BrakeCause::InSystemFailure),
+        owes_trip: runs.first(BrakeCause::OwesTrip),
+        far_too_fast: runs.first(BrakeCause::FarTooFast),
+        rolled_too_far: runs.first(BrakeCause::RolledTooFar),
+        service_brake_requested: runs.first(BrakeCause::ServiceBrakeRequested),
+        too_fast: runs.first(BrakeCause::TooFast),
+        must_stand: runs.first(BrakeCause::MustStand),
+        owes_too_long: runs.first(BrakeCause::OwesTooLong),
+        trip_cause,
+        trip_cause_event,
+        trip_cause_section: trip_cause,
+        limit_cause: limit.kind,
+        limit_cause_speed_m_per_h: limit.speed.get(),
+        limit_cause_place_cm: limit.place,
+        limit_cause_number: limit.number,
+        limit_cause_section: limit.kind,
+    }
+}
+
+/// The line of the last event of a life, of this number. The error is that of memory.
+pub(crate) fn event_line(
+    alloc: Global,
+    life: &Reasoning,
+    event: u64,
+    explanation: &Explanation,
+) -> Result<WhyLine, AllocError>
+    ensures { (story : Story) → Reasons story life.now → IfOk result (λ line. line ≡ event_line story event explanation.now) }
+{
+    let output = life.output();
+    let answer = answer_in(life, event, &output);
+    let causes = causes_of(&explanation.runs, &life.trip(), &explanation.decides);
+    let groups = group_lines(alloc, life.groups())?;
+    Ok(WhyLine::Event(EventLine {
+        answer,
+        causes,
+        groups,
+    }))
+}
+
+/// The line of events that can't be run again, with the reason.
+pub(crate) fn left_out_line(stretch: Stretch, reason: Reason) -> WhyLine
+    ensures { result ≡ left_out_line stretch reason }
+{
+    WhyLine::LeftOut(StretchLine {
+        life: stretch.life,
+        first_event: stretch.first,
+        last_event: stretch.last,
+        replay: Verdict::NotReplayed,
+        reason: Some(reason),
+    })
+}

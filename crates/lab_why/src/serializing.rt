@@ -1,0 +1,94 @@
+//! The names of values in JSON (`docs/reference/json.md`).
+use kernel::TripCause;
+use lab_events::cold_word;
+use mode_table::Cold;
+use reasons::{
+    GroupKind, LimitKind, group_section, group_word, limit_section, limit_word, trip_section,
+    trip_word,
+};
+use serde::Serializer;
+use sessions::of_stop;
+use track_packets::kind_of;
+use vars::{LinkOrientation, LinkReaction};
+use whole_lives::LiveError;
+
+// A text, or null.
+fn write_text<S: Serializer>(text: Option<&str>, out: &mut S) -> Result<(), S::Error> {
+    match text {
+        Some(text) => out.str(text),
+        None => out.unit(),
+    }
+}
+
+pub(crate) fn write_trip_cause<S: Serializer>(
+    cause: &Option<TripCause>,
+    out: &mut S,
+) -> Result<(), S::Error> {
+    write_text(cause.map(|cause| trip_word(cause)), out)
+}
+
+pub(crate) fn write_trip_section<S: Serializer>(
+    cause: &Option<TripCause>,
+    out: &mut S,
+) -> Result<(), S::Error> {
+    write_text(cause.map(|cause| trip_section(cause)), out)
+}
+
+pub(crate) fn write_limit_cause<S: Serializer>(
+    kind: &LimitKind,
+    out: &mut S,
+) -> Result<(), S::Error> {
+    out.str(limit_word(*kind))
+}
+
+pub(crate) fn write_limit_section<S: Serializer>(
+    kind: &LimitKind,
+    out: &mut S,
+) -> Result<(), S::Error> {
+    out.str(limit_section(*kind))
+}
+
+pub(crate) fn write_direction<S: Serializer>(
+    direction: &Option<LinkOrientation>,
+    out: &mut S,
+) -> Result<(), S::Error> {
+    let name = |direction| match direction {
+        LinkOrientation::Nominal => "nominal",
+        LinkOrientation::Reverse => "reverse",
+    };
+    write_text(direction.map(name), out)
+}
+
+pub(crate) fn write_outcome<S: Serializer>(kind: &GroupKind, out: &mut S) -> Result<(), S::Error> {
+    out.str(group_word(*kind))
+}
+
+pub(crate) fn write_reaction<S: Serializer>(
+    reaction: &LinkReaction,
+    out: &mut S,
+) -> Result<(), S::Error> {
+    match reaction {
+        LinkReaction::Trip => out.str("trip"),
+        LinkReaction::ServiceBrake => out.str("service"),
+        LinkReaction::NoReaction => out.unit(),
+    }
+}
+
+pub(crate) fn write_group_section<S: Serializer>(
+    kind: &GroupKind,
+    out: &mut S,
+) -> Result<(), S::Error> {
+    out.str(group_section(*kind))
+}
+
+pub(crate) fn write_packet_name<S: Serializer>(number: &u8, out: &mut S) -> Result<(), S::Error> {
+    write_text(kind_of(*number).map(|kind| kind.name.text()), out)
+}
+
+pub(crate) fn write_cold<S: Serializer>(cold: &Cold, out: &mut S) -> Result<(), S::Error> {
+    out.str(cold_word(*cold))
+}
+
+pub(crate) fn write_refusal<S: Serializer>(error: &LiveError, out: &mut S) -> Result<(), S::Error> {
+    out.str(of_stop(*error).1)
+}

@@ -1,0 +1,157 @@
+//! The lines for people.
+use crate::group::{GroupLine, PacketLine, Unused};
+use crate::line::{Answer, Causes, EventLine, WhyLine};
+use kernel::BrakeCause;
+use reasons::{
+    ending, group_section, group_sentence, limit_section, limit_sentence, sentence, trip_section,
+    trip_sentence,
+};
+use std::fmt;
+use text_output::{brake_word, mode_word};
+use track_packets::kind_of;
+use vars::{LinkOrientation, LinkReaction};
+
+impl fmt::Display for Answer {
+    fn fmt<W: fmt::Write>(&self, f: &mut fmt::Formatter<W>) -> fmt::Result {
+        let (event, brake) = (self.event, brake_word(self.brake));
+        let (limit, speed) = (self.limit_m_per_h, self.speed_m_per_h);
+        let (backward, allowed) = (self.backward_cm, self.allowed_backward_cm);
+        write!(
+            f,
+            "event {event}: brake {brake}, limit {limit} m/h, speed {speed} m/h, rolled backward {backward} cm of {allowed} cm"
+        )
+    }
+}
+
+impl Causes {
+    // The causes of the brake, in the order of its table.
+    fn of_brake(&self) -> [(BrakeCause, Option<u64>); 10] {
+        [
+            (BrakeCause::NotRevalidated, self.not_revalidated),
+            (BrakeCause::InTrip, self.in_trip),
+            (BrakeCause::InSystemFailure, self.in_system_failure),
+            (BrakeCause::OwesTrip, self.owes_trip),
+            (BrakeCause::FarTooFast, self.far_too_fast),
+            (BrakeCause::RolledTooFar, self.rolled_too_far),
+            (
+                BrakeCause::ServiceBrakeRequested,
+                self.service_brake_requested,
+            ),
+            (BrakeCause::TooFast, self.too_fast),
+            (BrakeCause::MustStand, self.must_stand),
+            (BrakeCause::OwesTooLong, self.owes_too_long),
+        ]
+    }
+}
+
+impl fmt::Display for Causes {
+    fn fmt<W: fmt::Write>(&self, f: &mut fmt::Formatter<W>) -> fmt::Result {
+        for (cause, first) in self.of_brake() {
+            if let Some(first) = first {
+                let (what, end) = (sentence(cause), ending(cause));
+                write!(f, "; {what} (since event {first}, {end})")?;
+            }
+        }
+        if let (Some(cause), Some(event)) = (self.trip_cause, self.trip_cause_event) {
+            let (why, section) = (trip_sentence(cause), trip_section(cause));
+            write!(
+                f,
+                "; the train was tripped: {why} (event {event}, {section})"
+            )?;
+        }
+        let (what, speed) = (
+            limit_sentence(self.limit_cause),
+            self.limit_cause_speed_m_per_h,
+        );
+        write!(f, "; {what}: {speed} m/h")?;
+        if let Some(place) = self.limit_cause_place_cm {
+            write!(f, " at {place} cm")?;
+        }
+        if let Some(number) = self.limit_cause_number {
+            write!(f, ", number {number}")?;
+        }
+        let section = limit_section(self.limit_cause_section);
+        write!(f, " ({section})")
+    }
+}
+
+fn unused_text(why: Unused) -> &'static str {
+    match why {
+        Unused::NotKnown => " (not known)",
+        Unused::Infill => " (infill)",
+        Unused::NotInMode => " (not in this mode)",
+        Unused::OtherDirection => " (other direction)",
+        Unused::Refused => " (refused)",
+        // What became of the group says it.
+        Unused::GroupNotAccepted => "",
+    }
+}
+
+impl fmt::Display for PacketLine {
+    fn fmt<W: fmt::Write>(&self, f: &mut fmt::Formatter<W>) -> fmt::Result {
+        let number = self.packet;
+        let name = kind_of(self.name).map_or("without a name", |kind| kind.name.text());
+        let why = self.why.map_or("", unused_text);
+        write!(f, "packet {number} {name}{why}")
+    }
+}
+
+fn direction_text(direction: Option<LinkOrientation>) -> &'static str {
+    match direction {
+        Some(LinkOrientation::Nominal) => "nominal",
+        Some(LinkOrientation::Reverse) => "reverse",
+        None => "not known",
+    }
+}
+
+fn reaction_text(reaction: LinkReaction) -> &'static str {
+    match reaction {
+        LinkReaction::Trip => ", asks for a trip",
+        LinkReaction::ServiceBrake => ", asks for the service brake",
+        LinkReaction::NoReaction => "",
+    }
+}
+
+impl fmt::Display for GroupLine {
+    fn fmt<W: fmt::Write>(&self, f: &mut fmt::Formatter<W>) -> fmt::Result {
+        let (country, group, mode) = (self.country, self.group, mode_word(self.mode));
+        let (direction, outcome) = (direction_text(self.direction), group_sentence(self.outcome));
+        write!(
+            f,
+            "group {country} {group} in mode {mode}, direction {direction}: {outcome}"
+        )?;
+        if let Some(number) = self.announcement {
+            write!(f, ", announcement {number}")?;
+        }
+        let (reaction, section) = (reaction_text(self.reaction), group_section(self.section));
+        write!(f, "{reaction} ({section})")?;
+        for packet in self.packets.as_slice() {
+            write!(f, ", {packet}")?;
+        }
+        Ok(())
+    }
+}
+
+impl fmt::Display for EventLine {
+    fn fmt<W: fmt::Write>(&self, f: &mut fmt::Formatter<W>) -> fmt::Result {
+        let (answer, causes) = (&self.answer, &self.causes);
+        write!(f, "{answer}{causes}")?;
+        for group in self.groups.as_slice() {
+            write!(f, "; {group}")?;
+        }
+        Ok(())
+    }
+}
+
+impl fmt::Display for WhyLine {
+    fn fmt<W: fmt::Write>(&self, f: &mut fmt::Formatter<W>) -> fmt::Result {
+        match self {
+            WhyLine::Event(line) => write!(f, "{line}"),
+            WhyLine::LeftOut(line) => write!(f, "{line}"),
+            WhyLine::Lost(line) => {
+                let block = line.block;
+                write!(f, "block {block} can't be read")
+            }
+        }
+    }
+}

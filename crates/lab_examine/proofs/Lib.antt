@@ -1,3 +1,4 @@
+pub mod Examining
 pub mod Judging
 pub mod Numbers
 pub mod Opened

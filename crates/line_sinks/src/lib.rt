@@ -2,9 +2,13 @@
 #![tactic(auto)]
 
 mod describing;
+mod kept;
 mod sink;
 mod values;
 
-pub use describing::describe_value;
-pub use sink::{JsonLines, LineSink, TextLines};
-pub use values::{level_number, write_brake, write_indications, write_level, write_mode};
+pub use describing::{describe_lines, describe_value};
+pub use kept::{
+    KeptValues, LevelObject, NationalObject, PositionObject, Status, TrainObject, write_ascii,
+};
+pub use sink::{JsonLines, LineSink, TextLines, take_each, take_if};
+pub use values::{write_brake, write_indications, write_level, write_mode};

@@ -1,6 +1,6 @@
 //! Takers of lines: one prints them as JSON, the other for people.
-ghost use Rattle.std.specs.Prelude.{OnOk, OnErr, ⊤};
-ghost use Rattle.line_sinks.specs.Sinks.{AddsJson};
+ghost use Rattle.std.specs.Prelude.{OnOk, OnErr, ⊤, option_to_list};
+ghost use Rattle.line_sinks.specs.Sinks.{AddsJson, TakesAll, FailsIn, some_lines};
 
 use lives::LateError;
 use serde::Serialize;
@@ -20,6 +20,29 @@ pub trait LineSink<L> {
     fn take(&mut self, line: &L) -> Result<(), LateError>
         ensures taken { OnOk result (Takes self.old line.now self.new) }
         ensures failed { OnErr result (Fails self.old line.now self.new) };
+}
+
+/// Hands on a line, if there is one.
+pub fn take_if<L, S: LineSink<L>>(line: &Option<L>, sink: &mut S) -> Result<(), LateError>
+    ensures taken { OnOk result (TakesAll S.Takes (option_to_list line.now) sink.old sink.new) }
+    ensures failed { OnErr result (FailsIn S.Takes S.Fails (option_to_list line.now) sink.old sink.new) }
+{
+    match line {
+        Some(line) => sink.take(line),
+        None => Ok(()),
+    }
+}
+
+/// Hands on those of the lines that there are, in their order.
+pub fn take_each<L, S: LineSink<L>>(lines: &[Option<L>], sink: &mut S) -> Result<(), LateError>
+    ensures taken { OnOk result (TakesAll S.Takes (some_lines lines.now) sink.old sink.new) }
+    ensures failed { OnErr result (FailsIn S.Takes S.Fails (some_lines lines.now) sink.old sink.new) }
+{
+    let Some((first, later)) = lines.split_first() else {
+        return Ok(());
+    };
+    take_if(first, sink)?;
+    take_each(later, sink)
 }
 
 /// Prints each line as one JSON object and a line feed.

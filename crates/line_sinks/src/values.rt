@@ -15,7 +15,7 @@ pub fn write_brake<S: Serializer>(brake: &Brake, out: &mut S) -> Result<(), S::E
 }
 
 /// The number of a level, 0 or 1.
-pub fn level_number(level: TrainLevel) -> u64 {
+pub(crate) fn level_number(level: TrainLevel) -> u64 {
     match level {
         TrainLevel::Level0 => 0,
         TrainLevel::Level1 => 1,

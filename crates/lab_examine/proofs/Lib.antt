@@ -1,4 +1,4 @@
-pub mod Examining
+pub mod Cuts
 pub mod Judging
 pub mod Numbers
 pub mod Opened

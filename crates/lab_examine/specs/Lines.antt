@@ -82,11 +82,11 @@ is_in_journal first number = not (first == 0) && nat_le first number
 
 -- what begins with this number, with its first wrong field and where in the file that is
 abbrev pub unreadable_block : ℕ → ℕ → Option Fault → UnreadableBlock
-unreadable_block slot number None = record { block = number; field = None; record = None; byte = None }
+unreadable_block slot number None = record { block = number; field = None; «record» = None; byte = None }
 unreadable_block slot number (Some fault) = record {
   block = number;
   field = Some fault.name;
-  record = if fault.place == 0 then None else Some fault.place;
+  «record» = if fault.place == 0 then None else Some fault.place;
   byte = Some (512 * (2 + 6 * slot) + fault.at);
 }
 

@@ -122,7 +122,7 @@ returns-in_err-walk-clause-cut g c = λ honest.
     let some = takes-some g.S.LineSink.Takes g.S.LineSink.Fails (IsDevice error) before these c.args.sink.now c.loop-number.sink c.report_number.new.sink (so_far.taken honest)
         (fails-some g.S.LineSink.Takes g.S.LineSink.Fails (IsDevice error) these c.loop-number.sink c.report_number.new.sink c.in_err-walk.ensures.failed) in
     let begins = begins_all slots first valids ring.newest (number + 1 - first) (omega (arith, c.oldest_of-number.ensures)) in
-    let p = err_from_is_err_and c.from_residual.result c.from_residual.ensures.1 in
+    let p = err_from_is_err_and c.from_residual-in_err-walk.result c.from_residual-in_err-walk.ensures.1 in
     rw (p.1, p.2) (before ++ these, (begins.0, begins.1 ∙ ap (λ (l : List ExamineLine). l ++ begins.0) (sym more.1)), some)
 
 pub returns-in_err-report_line-clause-cut : goal.returns-in_err-report_line-clause-cut
@@ -139,7 +139,7 @@ returns-in_err-report_line-clause-cut g c = λ honest.
     let gap = option_to_list (gap_line (walk_over ring.slots valids oldest (ring.newest + 1 - oldest)) ring.newest None) in
     let failed = subst (λ (w : Walk). FailsIn takes fails (option_to_list (gap_line w ring.newest None)) c.loop-number.sink c.report_line.new.sink) is (rw (c.gap_line.ensures) at c.in_err-report_line.ensures.failed) in
     let error = c.in_err-report_line.field-0.0 in
-    let p = err_from_is_err_and c.from_residual.result c.from_residual.ensures.1 in
+    let p = err_from_is_err_and c.from_residual-in_err-report_line.result c.from_residual-in_err-report_line.ensures.1 in
     rw (p.1, p.2) (
       before ++ gap,
       ([], sym (append-nil (before ++ gap))),

@@ -63,7 +63,7 @@ returns-in_err-between-clause-cut g c = λ honest.
     let slots = c.in_ok-sound.ensures.taken honest in
     let cut = subst (λ (im : ℕ → List ℕ). (lines : List ExamineLine) × Begins (numbers_of ring (whole_valid_at ring.slots ring.whole im)) lines
         × TakesSome takes fails (IsDevice error) lines c.report_slots.new.sink c.report_between.new.sink) same (c.in_err-between.ensures.cut still) in
-    let p = err_from_is_err_and c.from_residual.result c.from_residual.ensures.1 in
+    let p = err_from_is_err_and c.from_residual-in_err-between.result c.from_residual-in_err-between.ensures.1 in
     rw (p.1, p.2) (
       slots.0 ++ cut.0,
       inr (slots.0, cut.0, slots.1, cut.1, refl),

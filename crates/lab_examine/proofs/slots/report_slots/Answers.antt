@@ -90,7 +90,7 @@ returns-in_err-report_line-clause-cut g c = λ honest.
     let still : IsTrue mid.honest = subst IsTrue (sym so_far.honest) honest in
     let line = subst (λ (im : ℕ → List ℕ). IsSlotLine ring im slot report.line) same (c.in_ok-report.ensures.line still) in
     let error = c.in_err-report_line.field-0.0 in
-    let p = err_from_is_err_and c.from_residual.result c.from_residual.ensures.1 in
+    let p = err_from_is_err_and c.from_residual-in_err-report_line.result c.from_residual-in_err-report_line.ensures.1 in
     rw (p.1, p.2) (
       slot + 1,
       taken.0 ++ option_to_list report.line,

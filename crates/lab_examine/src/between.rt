@@ -89,20 +89,24 @@ impl Walk {
     }
 
     // The lines of the block of this number, which contradicts so, with what is lost before it.
-    fn lines_at(
-        self,
-        number: u64,
-        block: &Block,
-        found: Contradictions,
-    ) -> [Option<ExamineLine>; 4]
+    fn lines_at(self, number: u64, block: &Block, found: Contradictions) -> [Option<ExamineLine>; 4]
         ensures { result ≡ lines_at self number block.now found }
     {
         let last = number.saturating_sub(1);
         [
             self.gap_line(last, Some(first_event(block))),
-            line_if(found.events, BetweenLine::Events(WrongBlock { block: number })),
-            line_if(found.lives, BetweenLine::Lives(WrongBlock { block: number })),
-            line_if(found.moment, BetweenLine::Moment(WrongBlock { block: number })),
+            line_if(
+                found.events,
+                BetweenLine::Events(WrongBlock { block: number }),
+            ),
+            line_if(
+                found.lives,
+                BetweenLine::Lives(WrongBlock { block: number }),
+            ),
+            line_if(
+                found.moment,
+                BetweenLine::Moment(WrongBlock { block: number }),
+            ),
         ]
     }
 }

@@ -6,8 +6,7 @@ use crate::line::{
 };
 use crate::words::{field_word, format_number};
 use line_sinks::describe_lines;
-use std::fmt;
-use std::str;
+use std::{fmt, str};
 
 // A number, or `?` where it isn't known.
 #[derive(Clone, Copy)]

@@ -1,8 +1,8 @@
 //! The lines for people.
-use line_sinks::describe_value;
 use crate::line::{HeadLine, Outcome, RecordLine, ReplayLine, StretchLine};
 use crate::serializing::{KeptObject, kept_field_word, record_field_word};
 use lab_events::Reason;
+use line_sinks::describe_value;
 use std::fmt;
 
 fn reason_text(reason: Reason) -> &'static str {

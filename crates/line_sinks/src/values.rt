@@ -23,10 +23,7 @@ pub(crate) fn level_number(level: TrainLevel) -> u64 {
 }
 
 /// Sends the number of a level, `null` where it isn't valid.
-pub fn write_level<S: Serializer>(
-    level: &Option<TrainLevel>,
-    out: &mut S,
-) -> Result<(), S::Error> {
+pub fn write_level<S: Serializer>(level: &Option<TrainLevel>, out: &mut S) -> Result<(), S::Error> {
     match level {
         Some(level) => out.u64(level_number(*level)),
         None => out.unit(),

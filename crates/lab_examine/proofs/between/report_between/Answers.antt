@@ -120,7 +120,7 @@ returns-in_err-walk-clause-cut g c = λ honest.
     let these = number_lines c.loop-number.walk number (if c.in_ok-held.held then Some c.is_held.new.block else None) in
     let error = c.in_err-walk.field-0.0 in
     let some = takes-some g.S.LineSink.Takes g.S.LineSink.Fails (IsDevice error) before these c.args.sink.now c.loop-number.sink c.report_number.new.sink (so_far.taken honest)
-        (fails-some g.S.LineSink.Takes g.S.LineSink.Fails (IsDevice error) these c.loop-number.sink c.report_number.new.sink c.in_err-walk.ensures.failed) in
+    (fails-some g.S.LineSink.Takes g.S.LineSink.Fails (IsDevice error) these c.loop-number.sink c.report_number.new.sink c.in_err-walk.ensures.failed) in
     let begins = begins_all slots first valids ring.newest (number + 1 - first) (omega (arith, c.oldest_of-number.ensures)) in
     let p = err_from_is_err_and c.from_residual-in_err-walk.result c.from_residual-in_err-walk.ensures.1 in
     rw (p.1, p.2) (before ++ these, (begins.0, begins.1 ∙ ap (λ (l : List ExamineLine). l ++ begins.0) (sym more.1)), some)

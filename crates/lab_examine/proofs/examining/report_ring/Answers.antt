@@ -62,7 +62,7 @@ returns-in_err-between-clause-cut g c = λ honest.
     let same : contents_of mid ≡ image = (λ i s. quiet_contents old mid (c.report_slots.ensures.quiet honest) s i) in
     let slots = c.in_ok-sound.ensures.taken honest in
     let cut = subst (λ (im : ℕ → List ℕ). (lines : List ExamineLine) × Begins (numbers_of ring (whole_valid_at ring.slots ring.whole im)) lines
-        × TakesSome takes fails (IsDevice error) lines c.report_slots.new.sink c.report_between.new.sink) same (c.in_err-between.ensures.cut still) in
+    × TakesSome takes fails (IsDevice error) lines c.report_slots.new.sink c.report_between.new.sink) same (c.in_err-between.ensures.cut still) in
     let p = err_from_is_err_and c.from_residual-in_err-between.result c.from_residual-in_err-between.ensures.1 in
     rw (p.1, p.2) (
       slots.0 ++ cut.0,

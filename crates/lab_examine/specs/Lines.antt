@@ -1,6 +1,6 @@
 -- The lines of an examination, each as the value that it reports (this project's profile; docs/reference/json.md). Slots,
 -- sectors and events are numbered from 0, blocks and records from 1.
-use Rattle.std.specs.Prelude.{ℕ, zero, suc, ◌+◌, ◌-◌, ◌*◌, ◌/◌, ◌==◌, ◌&&◌, not, nat_le, Bool, true, false, if◌then◌else◌, List, Option, Some, None, is_none, option_map}
+use Rattle.std.specs.Prelude.{ℕ, zero, suc, ◌+◌, ◌-◌, ◌*◌, ◌/◌, ◌==◌, ◌&&◌, not, nat_le, Bool, true, false, if◌then◌else◌, Option, Some, None, is_none, option_map}
 use Rattle.blocks.specs.declared.block.Block.{Block}
 use Rattle.examination.specs.FirstSectors.{seen_of}
 use Rattle.examination.specs.Lost.{first_event_of}

@@ -9,7 +9,7 @@ use Rattle.lives.specs.Steps.{whole_valid_at, block_at}
 use Rattle.line_sinks.specs.Sinks.{TakesAll, FailsIn}
 use Rattle.line_sinks.proofs.Taking.{takes-both, takes-some, fails-some, all-some}
 use Rattle.lab_examine.specs.Errors.{IsDevice}
-use Rattle.lab_examine.specs.Numbers.{start, walk_over, gap_line, number_lines, numbers_lines, all_lines}
+use Rattle.lab_examine.specs.Numbers.{start, walk_over, gap_line, number_lines, numbers_lines}
 use Rattle.lab_examine.specs.Walks.{NoneLost, NoneContradicts}
 use Rattle.lab_examine.specs.declared.between.Walk.{Walk}
 use Rattle.lab_examine.specs.declared.line.ExamineLine.{ExamineLine}

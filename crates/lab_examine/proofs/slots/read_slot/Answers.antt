@@ -1,6 +1,6 @@
-use Rattle.std.proofs.Common.{◌≡◌, ℕ, List, refl, sym, subst, IsTrue}
+use Rattle.std.proofs.Common.{◌≡◌, ℕ, List, sym, subst, IsTrue}
 use Rattle.disk.specs.State.{contents_of}
-use Rattle.disk.proofs.Moments.{quiet_contents, touch_on}
+use Rattle.disk.proofs.Moments.{quiet_contents}
 use Rattle.lives.specs.Steps.{whole_valid_at}
 use Rattle.lab_examine.specs.Slots.{misplaced, is_twice}
 use Rattle.lab_examine.proofs.slots.read_slot.Goals as goal

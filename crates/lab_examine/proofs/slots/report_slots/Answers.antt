@@ -4,12 +4,10 @@ use Rattle.std.proofs.lemmas.Result.{err_from_is_err_and}
 use Rattle.disk.specs.State.{contents_of}
 use Rattle.disk.proofs.Moments.{quiet_contents}
 use Rattle.examination.specs.States.{IsSoundAt}
-use Rattle.line_sinks.specs.Sinks.{TakesAll}
 use Rattle.line_sinks.proofs.Taking.{takes-both, takes-some, fails-some, all-some}
 use Rattle.lab_examine.specs.Errors.{IsDevice}
 use Rattle.lab_examine.specs.Slots.{IsSlotLine, AreSlotLines}
 use Rattle.lab_examine.specs.Walks.{AreSoundBelow}
-use Rattle.lab_examine.specs.declared.line.ExamineLine.{ExamineLine}
 use Rattle.lab_examine.proofs.SlotSteps.{slots_more}
 use Rattle.lab_examine.proofs.Walking.{none_yet, sound_more}
 use Rattle.lab_examine.proofs.slots.report_slots.Goals as goal

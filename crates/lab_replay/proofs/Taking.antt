@@ -81,7 +81,7 @@ module _ {S : Type 0} (Takes Fails : S → ReplayLine → S → Type 0) where
       (λ on.
       let these = on.2 in
       let later = initial-lines e steps on.0 on.1 after on.3 in
-      (these.0 ++ later.0, inr (on.0, these.0, later.0, these.1, later.1, refl), takes-some (IsNotOfSink e) these.0 later.0 sink on.1 after these.2 later.2))
+      (these.0 ++ later.0, inr (on.0, these.0, later.0, these.1, later.1, refl), takes-some Takes Fails (IsNotOfSink e) these.0 later.0 sink on.1 after these.2 later.2))
       is.1
 
   not-of-sink : (e : WalkError) → IsBeforeSteps e → IsNotOfSink e
@@ -129,5 +129,5 @@ module _ {S : Type 0} (Takes Fails : S → ReplayLine → S → Type 0) where
           lines_are = refl;
           outcome_is = is;
         },
-        takes-some ⊥ all.0 end sink mid after all.2 fails,
+        takes-some Takes Fails ⊥ all.0 end sink mid after all.2 fails,
       )

@@ -81,7 +81,8 @@ def text(value):
 
 # ---- for people
 
-UNITS = {"_m_per_h": lambda number: f"{number // 1000}.{number % 1000:03} km/h", "_ms": lambda number: f"{number // 1000}.{number % 1000:03} s",
+UNITS = {"_cm_per_s2": lambda number: f"{number // 100}.{number % 100:02} m/s2",
+         "_m_per_h": lambda number: f"{number // 1000}.{number % 1000:03} km/h", "_ms": lambda number: f"{number // 1000}.{number % 1000:03} s",
          "_cm": lambda number: f"{'-' if number < 0 else ''}{abs(number) // 100}.{abs(number) % 100:02} m"}
 
 

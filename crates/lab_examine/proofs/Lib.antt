@@ -1,3 +1,4 @@
+pub mod Cuts
 pub mod Judging
 pub mod Numbers
 pub mod Opened

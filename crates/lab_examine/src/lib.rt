@@ -1,23 +1,25 @@
-//! The lines of what an investigator asks of an image, for people or as JSON (this project's profile). Nothing is
-//! written to the disk, and no call takes memory of its own.
+//! What an investigator asks of an image: each slot, what is lost, what contradicts, the journal and a power-up. Lines go
+//! to a sink, which prints them as JSON or for people (this project's profile). Nothing is written to the disk.
 #![tactic(auto)]
 
-mod blocks_between;
+mod between;
+mod error;
 mod examining;
 mod file_facts;
-mod first_lines;
-mod image_lines;
-mod journal_lines;
-mod kept_lines;
-mod kept_values;
-mod national_lines;
-mod number_lines;
+mod json;
+mod line;
 mod opening;
-mod power_up;
-mod refusal;
-mod slot_lines;
+mod reporting;
 mod slots;
+mod text;
 mod words;
 
-pub use examining::{ExamineError, Verdict, examine};
+pub use error::ExamineError;
+pub use examining::{Verdict, examine};
 pub use file_facts::FileFacts;
+pub use json::JsonExamination;
+pub use line::{
+    BetweenLine, BlockFacts, EndLine, ExamineLine, ImageLine, JournalObject, LostBlocks,
+    MisplacedBlock, OwnBlock, PowerUpLine, Refusal, SectorObject, SectorState, SlotContent,
+    SlotLine, UnreadableBlock, WrongBlock,
+};

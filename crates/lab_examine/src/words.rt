@@ -1,30 +1,23 @@
-//! The words of states and fields, and the numbers of formats.
-ghost use Rattle.std.specs.Prelude.{◌≡◌};
-ghost use Rattle.lab_examine.specs.Words.{state_text, field_text, format_number};
+//! The words of fields, and other values that a format takes as text or numbers.
 
 use blocks::Format;
-use examination::{FieldName, SlotState};
+use examination::FieldName;
+use line_sinks::write_ascii;
+use serde::Serializer;
 
-/// The word of a state.
-pub(crate) fn state_word(state: SlotState) -> &'static str
-    ensures { result.now ≡ state_text state }
-{
-    match state {
-        SlotState::Block(_) => "block",
-        SlotState::Unreadable(_) => "unreadable",
-        SlotState::Misplaced(_) => "misplaced",
-        SlotState::Foreign => "foreign",
-        SlotState::Unwritten(_) => "unwritten",
-        SlotState::Replaced(_) => "replaced",
-        SlotState::Remains => "remains",
-        SlotState::Empty => "empty",
+/// Sends the digits of a digest, `null` where it wasn't taken.
+pub(crate) fn write_digest<S: Serializer>(
+    digest: &Option<[u8; 64]>,
+    out: &mut S,
+) -> Result<(), S::Error> {
+    match digest {
+        Some(digits) => write_ascii(digits, out),
+        None => out.unit(),
     }
 }
 
 /// The number of a format.
-pub(crate) fn format_number(format: Format) -> u8
-    ensures { result ≡ format_number format }
-{
+pub(crate) fn format_number(format: Format) -> u64 {
     match format {
         Format::One => 1,
         Format::Two => 2,
@@ -32,10 +25,24 @@ pub(crate) fn format_number(format: Format) -> u8
     }
 }
 
+/// Sends the number of a format.
+pub(crate) fn write_format<S: Serializer>(format: &Format, out: &mut S) -> Result<(), S::Error> {
+    out.u64(format_number(*format))
+}
+
+/// Sends the name of a field, `null` where there is none.
+pub(crate) fn write_field<S: Serializer>(
+    field: &Option<FieldName>,
+    out: &mut S,
+) -> Result<(), S::Error> {
+    match field {
+        Some(field) => out.str(field_word(*field)),
+        None => out.unit(),
+    }
+}
+
 /// The name of a field, as `docs/reference/format.md` has it.
-pub(crate) fn field_word(field: FieldName) -> &'static str
-    ensures { result.now ≡ field_text field }
-{
+pub(crate) fn field_word(field: FieldName) -> &'static str {
     match field {
         FieldName::Mark => "mark",
         FieldName::Version => "version",

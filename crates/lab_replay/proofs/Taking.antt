@@ -1,5 +1,5 @@
--- Lines that a sink takes, one list after another, and the lines of a walk.
-use Rattle.std.proofs.Common.{◌≡◌, ◌⊎◌, ⊎_elim, inl, inr, ℕ, Bool, false, List, [], ◌∷◌, ◌++◌, Result, Ok, Err, OnErr, IfErr, refl, subst}
+-- The lines of a walk that a sink takes.
+use Rattle.std.proofs.Common.{◌≡◌, ◌⊎◌, ⊎_elim, inl, inr, ℕ, Bool, false, List, [], ◌∷◌, ◌++◌, refl}
 use Rattle.lives.specs.Errors.{IsBeforeSteps}
 use Rattle.lives.specs.Steps.{Step, steps_of}
 use Rattle.lives.specs.declared.errors.LateError.{LateError}
@@ -11,15 +11,11 @@ use Rattle.lab_replay.specs.Courses.{at_start, outcome_of}
 use Rattle.lab_replay.specs.Lines.{end_line}
 use Rattle.lab_replay.specs.Replays.{IsReplay, IsNotOfSink, IsCutReplay}
 use Rattle.line_sinks.specs.Sinks.{TakesAll, TakesSome, FailsIn}
+use Rattle.line_sinks.proofs.Taking.{takes-both, takes-some}
 use Rattle.lab_replay.specs.Steps.{StepLines, AllLines, IsMemory, StepBegins, AllBegin, left_and}
 use Rattle.lab_replay.specs.declared.course.Course.{Course}
 use Rattle.lab_replay.specs.declared.line.Outcome.{Outcome}
 use Rattle.lab_replay.specs.declared.line.ReplayLine.{ReplayLine}
-
-pub takes-both : {S L : Type 0} (Takes : S → L → S → Type 0) (first later : List L) (old mid new : S)
-    → TakesAll Takes first old mid → TakesAll Takes later mid new → TakesAll Takes (first ++ later) old new
-takes-both Takes [] later old mid new is on = subst (λ s. TakesAll Takes later s new) is on
-takes-both Takes (line ∷ first) later old mid new is on = (is.0, is.1, takes-both Takes first later is.0 mid new is.2 on)
 
 abbrev pub never : Course → Bool
 never c = false
@@ -64,31 +60,7 @@ module _ {S : Type 0} (Takes : S → ReplayLine → S → Type 0) where
 
 -- ---- an error
 
-pub on-err : {T E : Type 0} (r : Result T E) (P : Type 0) (Q : E → Type 0) → OnErr r P → ((e : E) → P → Q e) → IfErr r Q
-on-err (Ok x) P Q is gives = tt
-on-err (Err e) P Q is gives = gives e is
-
 module _ {S : Type 0} (Takes Fails : S → ReplayLine → S → Type 0) where
-  -- after lines that were taken
-  pub takes-some : (Ends : Type 0) (first later : List ReplayLine) (old mid new : S) → TakesAll Takes first old mid → TakesSome Takes Fails Ends later mid new
-      → TakesSome Takes Fails Ends (first ++ later) old new
-  takes-some Ends [] later old mid new is on = subst (λ s. TakesSome Takes Fails Ends later s new) is on
-  takes-some Ends (line ∷ first) later old mid new is on = inr (is.0, is.1, takes-some Ends first later is.0 mid new is.2 on)
-
-  -- .. and before others
-  pub fails-first : (Ends : Type 0) (first later : List ReplayLine) (old new : S) → FailsIn Takes Fails first old new → TakesSome Takes Fails Ends (first ++ later) old new
-  fails-first Ends [] later old new is = absurd is.0
-  fails-first Ends (line ∷ first) later old new is =
-      ⊎_elim (λ here. inl here) (λ on. inr (on.0, on.1, fails-first Ends first later on.0 new on.2)) is
-
-  pub fails-some : (Ends : Type 0) (lines : List ReplayLine) (old new : S) → FailsIn Takes Fails lines old new → TakesSome Takes Fails Ends lines old new
-  fails-some Ends [] old new is = absurd is.0
-  fails-some Ends (line ∷ lines) old new is = ⊎_elim (λ here. inl here) (λ on. inr (on.0, on.1, fails-some Ends lines on.0 new on.2)) is
-
-  pub all-some : (Ends : Type 0) (lines : List ReplayLine) (old new : S) → Ends → TakesAll Takes lines old new → TakesSome Takes Fails Ends lines old new
-  all-some Ends [] old new why is = (why, is)
-  all-some Ends (line ∷ lines) old new why is = inr (is.0, is.1, all-some Ends lines is.0 new why is.2)
-
   -- what an error in a step makes of a course, and of a sink
   abbrev pub Stops : Step → Course → S → LateError → S → Type 0
   Stops step old sink error after = (lines : List ReplayLine) × StepBegins step old lines × TakesSome Takes Fails (IsMemory error) lines sink after
@@ -109,7 +81,7 @@ module _ {S : Type 0} (Takes Fails : S → ReplayLine → S → Type 0) where
       (λ on.
       let these = on.2 in
       let later = initial-lines e steps on.0 on.1 after on.3 in
-      (these.0 ++ later.0, inr (on.0, these.0, later.0, these.1, later.1, refl), takes-some (IsNotOfSink e) these.0 later.0 sink on.1 after these.2 later.2))
+      (these.0 ++ later.0, inr (on.0, these.0, later.0, these.1, later.1, refl), takes-some Takes Fails (IsNotOfSink e) these.0 later.0 sink on.1 after these.2 later.2))
       is.1
 
   not-of-sink : (e : WalkError) → IsBeforeSteps e → IsNotOfSink e
@@ -157,5 +129,5 @@ module _ {S : Type 0} (Takes Fails : S → ReplayLine → S → Type 0) where
           lines_are = refl;
           outcome_is = is;
         },
-        takes-some ⊥ all.0 end sink mid after all.2 fails,
+        takes-some Takes Fails ⊥ all.0 end sink mid after all.2 fails,
       )

@@ -1,5 +1,5 @@
 -- Lines that a sink takes, one list after another.
-use Rattle.std.proofs.Common.{◌≡◌, ⊎_elim, inl, inr, List, [], ◌∷◌, ◌++◌, Result, Ok, Err, OnErr, IfErr, sym, subst}
+use Rattle.std.proofs.Common.{◌≡◌, ◌⊎◌, ⊎_elim, inl, inr, List, [], ◌∷◌, ◌++◌, Result, Ok, Err, OnErr, IfErr, sym, subst}
 use Rattle.line_sinks.specs.Sinks.{TakesAll, TakesSome, FailsIn}
 
 pub takes-both : {S L : Type 0} (Takes : S → L → S → Type 0) (first later : List L) (old mid new : S)

@@ -1,10 +1,15 @@
 -- What a sink takes (this project's profile; JSON: RFC 8259).
-use Rattle.std.specs.Prelude.{◌≡◌, ◌⊎◌, ℕ, List, [], ◌∷◌, ◌++◌, codes, Option, Some}
+use Rattle.std.specs.Prelude.{◌≡◌, ◌⊎◌, ℕ, List, [], ◌∷◌, ◌++◌, codes, Option, Some, option_to_list}
 use Rattle.std.specs.Io.KnownBytes.{Appends}
 use Rattle.json.specs.Lex.{tokens}
 use Rattle.json.specs.Print.{print}
 use Rattle.serde.specs.Event.{Event, Log}
 use Rattle.serde_json.specs.Sent.{IsTextOf}
+
+-- those of the lines that there are
+abbrev pub some_lines : {L : Type 0} → List (Option L) → List L
+some_lines [] = []
+some_lines (line ∷ lines) = option_to_list line ++ some_lines lines
 
 -- one line after another was taken
 abbrev pub TakesAll : {S L : Type 0} → (S → L → S → Type 0) → List L → S → S → Type 0

@@ -8,10 +8,12 @@ enum Unit {
     None,
     Milliseconds,
     Centimetres,
+    CentimetresPerSquareSecond,
     MetresPerHour,
 }
 
-// A number in seconds, metres or kilometres per hour: its thousandths or hundredths come after the point.
+// A number in seconds, metres, metres per square second or kilometres per hour: its thousandths or hundredths come after
+// the point.
 fn write_number<W: fmt::Write>(
     sign: &str,
     number: u64,
@@ -24,6 +26,7 @@ fn write_number<W: fmt::Write>(
         Unit::None => write!(f, "{sign}{number}"),
         Unit::Milliseconds => write!(f, "{sign}{whole}.{thousandths:03} s"),
         Unit::Centimetres => write!(f, "{sign}{metres}.{hundredths:02} m"),
+        Unit::CentimetresPerSquareSecond => write!(f, "{sign}{metres}.{hundredths:02} m/s2"),
         Unit::MetresPerHour => write!(f, "{sign}{whole}.{thousandths:03} km/h"),
     }
 }
@@ -32,6 +35,8 @@ fn write_number<W: fmt::Write>(
 #[derive(Drop)]
 struct Describer<'a, W> {
     f: &'a mut fmt::Formatter<W>,
+    // What stands between the members of the value itself.
+    separator: &'a str,
     unit: Unit,
     // How many objects and lists are open.
     depth: u8,
@@ -39,6 +44,10 @@ struct Describer<'a, W> {
     has_name: bool,
     // Whether something comes before in this object or list.
     is_later: bool,
+    // Whether the members of the next object belong to the one that is open.
+    flattens: bool,
+    // How many objects and lists were open where the members of such an object began.
+    flat_in: Option<u8>,
 }
 
 impl<W: fmt::Write> Describer<'_, W> {
@@ -46,10 +55,10 @@ impl<W: fmt::Write> Describer<'_, W> {
         let has_comma = self.is_later && !self.has_name;
         self.has_name = false;
         self.is_later = true;
-        if has_comma {
-            self.f.write_str(", ")
-        } else {
-            Ok(())
+        match (has_comma, self.depth) {
+            (false, _) => Ok(()),
+            (true, 1) => self.f.write_str(self.separator),
+            (true, _) => self.f.write_str(", "),
         }
     }
 
@@ -101,6 +110,9 @@ impl<W: fmt::Write> Describer<'_, W> {
 fn unit_of(name: &str) -> (Unit, &str) {
     if let Some(name) = name.strip_suffix("_m_per_h") {
         return (Unit::MetresPerHour, name);
+    }
+    if let Some(name) = name.strip_suffix("_cm_per_s2") {
+        return (Unit::CentimetresPerSquareSecond, name);
     }
     if let Some(name) = name.strip_suffix("_cm") {
         return (Unit::Centimetres, name);
@@ -171,11 +183,20 @@ impl<W: fmt::Write> Serializer for Describer<'_, W> {
     }
 
     fn begin_map(&mut self, _len: Option<usize>) -> fmt::Result {
-        self.open()
+        if !self.flattens {
+            return self.open();
+        }
+        self.flattens = false;
+        self.flat_in = Some(self.depth);
+        Ok(())
     }
 
     fn end_map(&mut self) -> fmt::Result {
-        self.close()
+        if self.flat_in != Some(self.depth) {
+            return self.close();
+        }
+        self.flat_in = None;
+        Ok(())
     }
 
     fn key_cased(&mut self, name: &str, _case: Case) -> fmt::Result {
@@ -195,7 +216,8 @@ impl<W: fmt::Write> Serializer for Describer<'_, W> {
     }
 
     fn flatten_next(&mut self) -> fmt::Result {
-        Err(fmt::Error)
+        self.flattens = true;
+        Ok(())
     }
 
     fn custom(&self, _message: &str) -> fmt::Error {
@@ -203,18 +225,31 @@ impl<W: fmt::Write> Serializer for Describer<'_, W> {
     }
 }
 
-/// Prints the members of a value, with commas between them, and what is inside one in parentheses. Names of variants are
-/// printed without the case of `rename_all`; a value with a float, a map, bytes or a flattened member is an error.
-pub fn describe_value<T: Serialize, W: fmt::Write>(
+/// Prints the members of a value with this between them, as the beginning of a line, and what is inside one in
+/// parentheses. Names of variants are printed without the case of `rename_all`; a value with a float, a map or bytes is
+/// an error, and so is a flattened member that is no struct.
+pub fn describe_lines<T: Serialize, W: fmt::Write>(
     value: &T,
+    separator: &str,
     f: &mut fmt::Formatter<W>,
 ) -> fmt::Result {
     let mut describer = Describer {
         f,
+        separator,
         unit: Unit::None,
         depth: 0,
         has_name: false,
         is_later: false,
+        flattens: false,
+        flat_in: None,
     };
     value.serialize(&mut describer)
+}
+
+/// The same with commas between them.
+pub fn describe_value<T: Serialize, W: fmt::Write>(
+    value: &T,
+    f: &mut fmt::Formatter<W>,
+) -> fmt::Result {
+    describe_lines(value, ", ", f)
 }

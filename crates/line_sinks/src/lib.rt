@@ -3,10 +3,14 @@
 
 mod describing;
 mod items;
+mod kept;
 mod sink;
 mod values;
 
-pub use describing::describe_value;
+pub use describing::{describe_lines, describe_value};
 pub use items::Items;
-pub use sink::{JsonLines, LineSink, TextLines, take_if, take_two};
+pub use kept::{
+    KeptValues, LevelObject, NationalObject, PositionObject, Status, TrainObject, write_ascii,
+};
+pub use sink::{JsonLines, LineSink, TextLines, take_each, take_if, take_two};
 pub use values::{level_number, write_brake, write_indications, write_level, write_mode};

@@ -1,6 +1,6 @@
 //! Takers of lines: one prints them as JSON, the other for people.
 ghost use Rattle.std.specs.Prelude.{◌++◌, option_to_list, OnOk, OnErr, ⊤};
-ghost use Rattle.line_sinks.specs.Sinks.{AddsJson, TakesAll, FailsIn};
+ghost use Rattle.line_sinks.specs.Sinks.{AddsJson, TakesAll, FailsIn, some_lines};
 
 use lives::LateError;
 use serde::Serialize;
@@ -44,6 +44,18 @@ pub fn take_two<L, S: LineSink<L>>(
 {
     take_if(first, sink)?;
     take_if(second, sink)
+}
+
+/// Hands on those of the lines that there are, in their order.
+pub fn take_each<L, S: LineSink<L>>(lines: &[Option<L>], sink: &mut S) -> Result<(), LateError>
+    ensures taken { OnOk result (TakesAll S.Takes (some_lines lines.now) sink.old sink.new) }
+    ensures failed { OnErr result (FailsIn S.Takes S.Fails (some_lines lines.now) sink.old sink.new) }
+{
+    let Some((first, later)) = lines.split_first() else {
+        return Ok(());
+    };
+    take_if(first, sink)?;
+    take_each(later, sink)
 }
 
 /// Prints each line as one JSON object and a line feed.

@@ -1,8 +1,0 @@
-use Rattle.std.proofs.KnownBytes.{Appends-trans}
-use Rattle.std.proofs.lemmas.Result.{on_ok_weaker}
-use Rattle.lab_examine.proofs.kept_lines.write_kept.Goals as goal
-
-pub returns : goal.returns
-returns g c =
-    let front = Appends-trans _ _ _ _ _ c.in_ok-write_pieces.ensures c.in_ok-write_kept_items.ensures in
-    on_ok_weaker c.write_pieces-2.result (λ end. Appends-trans _ _ _ _ _ front (rw (c.trip_pieces.ensures c.args.form) at end)) c.write_pieces-2.ensures

@@ -1,5 +1,0 @@
-use Rattle.std.proofs.Common.{refl}
-use Rattle.lab_examine.proofs.national_lines.modes_pieces.Goals as goal
-
-pub returns : goal.returns
-returns c = λ form. rw (c.speed.ensures form, c.speed-2.ensures form, c.speed-3.ensures form, c.speed-4.ensures form) refl

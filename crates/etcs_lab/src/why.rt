@@ -5,7 +5,7 @@ use crate::replayed::stopped;
 use crate::status::{Status, fail};
 use command_line::LabImage;
 use disk::Disk;
-use lab_why::{Walked, WalkError, describe_why};
+use lab_why::{WalkError, Walked, describe_why};
 use line_sinks::{JsonLines, TextLines};
 use std::alloc::Global;
 use std::fs::File;

@@ -1,6 +1,6 @@
 -- The lines that say why an event was answered so, each as the value that it reports (this project's profile;
 -- docs/reference/json.md). Events are numbered from 0, blocks from 1.
-use Rattle.std.specs.Prelude.{ℕ, ◌-◌, ◌^◌, min, Option, Some, List, option_map}
+use Rattle.std.specs.Prelude.{ℕ, ◌-◌, ◌^◌, min, Option, Some, option_map}
 use Rattle.events.specs.declared.output.Output.{Output}
 use Rattle.kernel.specs.Brake.{rolled_backward}
 use Rattle.kernel.specs.Lives.{Story, past_at}

@@ -1,5 +1,5 @@
 -- All lines that say why the events of an image were answered so (this project's profile; docs/reference/format.md).
-use Rattle.std.specs.Prelude.{◌≡◌, ◌⊎◌, ℕ, ◌++◌, Option, List, option_to_list}
+use Rattle.std.specs.Prelude.{◌≡◌, ℕ, ◌++◌, Option, List, option_to_list}
 use Rattle.line_sinks.specs.Walks.{ImageLines, ImageBegins, IsCut}
 use Rattle.lives.specs.declared.errors.WalkError.{WalkError}
 use Rattle.lab_why.specs.Courses.{initial, left_line, StepLines, StepBegins}

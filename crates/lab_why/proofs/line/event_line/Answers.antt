@@ -1,4 +1,4 @@
-use Rattle.std.proofs.Common.{◌≡◌, ap, ◌∙◌}
+use Rattle.std.proofs.Common.{ap, ◌∙◌}
 use Rattle.lab_why.specs.Groups.{group_lines}
 use Rattle.lab_why.specs.Lines.{answer_in, causes_of}
 use Rattle.lab_why.specs.declared.line.WhyLine.TheVariants as a_line

@@ -1,4 +1,4 @@
-use Rattle.std.proofs.Common.{◌≡◌, ap, ◌∙◌}
+use Rattle.std.proofs.Common.{ap, ◌∙◌}
 use Rattle.events.specs.declared.output.Output.{Output}
 use Rattle.reasons.specs.LimitWords.{limit_reported}
 use Rattle.lab_why.specs.Groups.{group_lines}

@@ -1,11 +1,10 @@
-use Rattle.std.proofs.Common.{◌≡◌, ℕ, List, [], ◌∷◌, ◌++◌, length, ◌∙◌, refl, sym, ap}
+use Rattle.std.proofs.Common.{ℕ, List, [], ◌∷◌, ◌++◌, length, ◌∙◌, refl, sym, ap}
 use Rattle.std.proofs.lemmas.Result.{on_ok_weaker}
 use Rattle.line_sinks.proofs.Taking.{takes-both}
 use Rattle.unit_start.specs.Events.{pairs_of}
 use Rattle.unit_start.specs.Releases.{Release}
 use Rattle.lab_why.specs.Played.{first_line, last_line}
 use Rattle.lab_why.specs.Playing.{released_in}
-use Rattle.lab_why.specs.declared.played.PlayLine.{PlayLine}
 use Rattle.lab_why.proofs.Releasing.{initial, carried_older}
 use Rattle.lab_why.proofs.playing.describe.Goals as goal
 

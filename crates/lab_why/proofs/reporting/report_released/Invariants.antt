@@ -1,4 +1,4 @@
-use Rattle.std.proofs.Common.{◌≡◌, ℕ, suc, ◌≤◌, List, ◌++◌, length, take}
+use Rattle.std.proofs.Common.{◌≡◌, suc, ◌≤◌, List, ◌++◌, length, take}
 use Rattle.events.specs.declared.input.Event.{Event}
 use Rattle.kernel.specs.Lives.{story_of}
 use Rattle.line_sinks.specs.Sinks.{TakesAll}

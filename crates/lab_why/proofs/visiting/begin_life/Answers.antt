@@ -1,4 +1,4 @@
-use Rattle.std.proofs.Common.{◌≡◌, subst}
+use Rattle.std.proofs.Common.{subst}
 use Rattle.std.proofs.lemmas.Result.{IfOk-weaker}
 use Rattle.lab_why.specs.Courses.{Begins, RunsAndDescribes}
 use Rattle.lab_why.specs.declared.course.Course.{Course}

@@ -1,4 +1,4 @@
-use Rattle.std.proofs.Common.{◌≡◌, Option, Some, None, refl, sym, subst}
+use Rattle.std.proofs.Common.{Option, Some, refl, sym, subst}
 use Rattle.reasons.specs.Reported.{Reasoned}
 use Rattle.lab_why.specs.Courses.{Describes}
 use Rattle.lab_why.specs.declared.course.Course.{Course}

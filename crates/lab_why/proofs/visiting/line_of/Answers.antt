@@ -1,4 +1,4 @@
-use Rattle.std.proofs.Common.{◌≡◌, inl, inr, Some, refl, ap}
+use Rattle.std.proofs.Common.{inl, inr, Some, refl, ap}
 use Rattle.lab_why.specs.declared.line.WhyLine.{WhyLine}
 use Rattle.lab_why.proofs.visiting.line_of.Goals as goal
 

@@ -4,7 +4,6 @@ use Rattle.disk.specs.State.{contents_of}
 use Rattle.line_sinks.proofs.Taking.{takes-both, takes-some}
 use Rattle.line_sinks.proofs.Walking.{never, Reports, Stops, image-lines, walk-cut}
 use Rattle.lives.specs.Errors.{IsBeforeSteps}
-use Rattle.lives.specs.Steps.{Step}
 use Rattle.lives.specs.Walks.{IsWalked, StopsBy, IsStoppedWalk}
 use Rattle.lab_why.specs.Courses.{initial, left_line, StepLines, StepBegins}
 use Rattle.lab_why.specs.Walks.{IsWhy}

@@ -116,19 +116,19 @@ pub struct MisplacedBlock {
 #[derive(Drop, Serialize)]
 #[serde(tag = "state", rename_all = "snake_case")]
 pub enum SlotContent {
-    /// The gate is open, and a block of this slot is behind it.
+    /// The gate is open, and a block of this slot is after it.
     Block(OwnBlock),
-    /// The gate is open, and a number of this slot but no block is behind it.
+    /// The gate is open, and a number of this slot but no block is after it.
     Unreadable(UnreadableBlock),
-    /// The gate is open, and a number of another slot is behind it.
+    /// The gate is open, and a number of another slot is after it.
     Misplaced(MisplacedBlock),
-    /// The gate is open, and no mark and number is behind it.
+    /// The gate is open, and no mark and number is after it.
     Foreign,
-    /// The gate is closed, and the block after the newest is behind it.
+    /// The gate is closed, and the block after the newest is after it.
     Unwritten(BlockFacts),
-    /// The gate is closed, and another block of this slot is behind it.
+    /// The gate is closed, and another block of this slot is after it.
     Replaced(BlockFacts),
-    /// The gate is closed, and neither zeros nor a block of this slot are behind it.
+    /// The gate is closed, and neither zeros nor a block of this slot are after it.
     Remains,
 }
 

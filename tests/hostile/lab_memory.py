@@ -1,8 +1,8 @@
 #!/usr/bin/env python3
 """Refuses the requests for memory of the program etcs_lab, each in turn, over all its commands. A refused run either does all that the undisturbed
 one does, or reports it: by one line on standard error (`decode` by its answer), with status 1, and what it printed before is what the
-undisturbed run prints first, but for the last line of `run`, which says why the life stopped; `play` says it in the line of a scenario, and
-goes on. Each command with a file allocates memory, so a series without a refusal fails.
+undisturbed run prints first, in whole lines, but for the one object of `examine --json` and `check --json`, which is printed piece by piece,
+and the last line of `run`, which says why the life stopped; `play` says it in the line of a scenario, and goes on. Each command with a file allocates memory, so a series without a refusal fails.
 
     tests/hostile/lab_memory.py
 """
@@ -31,7 +31,8 @@ def says_so(words, found, undisturbed):
     if words[0] == "play" and not said:
         lines = printed.splitlines()
         return status == 1 and len(lines) == 2 and all(one == other or REFUSED.fullmatch(one) for one, other in zip(lines, undisturbed[1].splitlines()))
-    return status == 1 and bool(SAYS.fullmatch(said)) and undisturbed[1].startswith(printed) and printed[-1:] in ("", "\n")
+    is_in_pieces = words[0] in ("examine", "check") and "--json" in words
+    return status == 1 and bool(SAYS.fullmatch(said)) and undisturbed[1].startswith(printed) and (is_in_pieces or printed[-1:] in ("", "\n"))
 
 
 def series(words, stdin, said, refuse, failures):

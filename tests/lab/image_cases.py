@@ -259,3 +259,10 @@ def noise():
 
 
 GROUPS = (states, formats, lost, lives, cuts, altered, sizes, noise, given)
+
+
+def all_cases():
+    """A name, an image, and the number of slots that it is read to have, or none."""
+    for cases in GROUPS:
+        for name, image, *slots in cases():
+            yield name, image, slots[0] if slots else None

@@ -5,7 +5,8 @@ import {briefRows, counted, reasonOf} from "./brief";
 import {Day, MarksFile, utcText} from "./day";
 import {Calls, Records, END, OK} from "./calls";
 import {Dial, scaleOf, shownOf} from "./dial";
-import {at, make, row, say, show, table} from "./dom";
+import {at, make, pressed, row, say, show, table} from "./dom";
+import {Findings, offerToSave} from "./evidence";
 import {Graphs} from "./graphs";
 import {fieldsOf, placeOf, showBytes, sizeOf} from "./fields";
 import {Block, Facts, POWER_UP, Replay, Slot, TELEGRAM, Why} from "./layouts";
@@ -18,6 +19,7 @@ import {BySlots, imageSize} from "./slots";
 import {choose} from "./tabs";
 import {offerApart} from "./telegram";
 import {BRIEF, DAY, SAY, STATUSES, WORDS} from "./texts";
+import {Utc} from "./times";
 
 const LINK_MS = 100;
 
@@ -38,11 +40,7 @@ export class Ask {
     private unreadable: number[] = [];
     private journalStatus = OK;
     private causes = new Map<number, Why|null>();
-    private whys = new Map < number, {
-        status: number;
-        why: Why|null
-    }
-    > ();
+    private whys = new Map<number, {why: Why|null}>();
     private replays: Replay[]|null = null;
     private digest = "";
     index = 0;
@@ -71,7 +69,19 @@ export class Ask {
         ];
         for (const [id, to] of move) at(id).addEventListener("click", () => this.choose(to()));
         at("print").addEventListener("click", () => print());
+        offerToSave(() => this.evidence());
         addEventListener("hashchange", () => this.followHash());
+    }
+
+    /** What can be saved; null before everything is shown. */
+    private evidence(): Findings|null {
+        const { records, isDone, day, name, digest, isWhole, unreadable, replays, interventions, trips, speeds } = this;
+        if (!records || !isDone) return null;
+        const utc = (n: number): Utc|null => day.of(records.life(n), records.moment(n)), bytes = this.bytes.length,
+              causes = counted(records, replays, this.causes), slots = this.facts?.slots ?? 0, sha256 = digest;
+        return {
+            name, bytes, sha256, slots, isWhole, unreadable, replays, interventions, trips, records, speeds, causes, utc
+        };
     }
 
     private refuse(sentence: string): void {
@@ -178,8 +188,7 @@ export class Ask {
         const scrub = at<HTMLInputElement>("scrub");
         scrub.max = String(Math.max(0, this.records.count - 1));
         scrub.disabled = this.records.count === 0;
-        if (status !== END)
-            say("ask-error", this.whyUnread(status));
+        if (status !== END) say("ask-error", this.whyUnread(status));
         if (this.records.count) this.followHash();
         else say("event-said", SAY.noRecord);
     }
@@ -217,11 +226,7 @@ export class Ask {
         drawRing(
             at("ring") as unknown as SVGSVGElement, this.slots, this.facts?.newest ?? 0, slot, n => this.chooseSlot(n));
         const found = slot === null ? undefined : this.slots[slot];
-        if (!found || slot === null) {
-            say("slot-said", "");
-            return;
-        }
-        say("slot-said", slotText(found, slot, this.heads.get(found.number)));
+        say("slot-said", found && slot !== null ? slotText(found, slot, this.heads.get(found.number)) : "");
     }
 
     private takeReplay(lives: Replay[], unreadable: number[]): void {
@@ -261,12 +266,7 @@ export class Ask {
     }
 
     private linked(line: HTMLTableRowElement, event: number): HTMLTableRowElement {
-        line.tabIndex = 0;
-        line.addEventListener("click", () => this.chooseEvent(event));
-        line.addEventListener("keydown", key => {
-            if (key.key === "Enter") this.chooseEvent(event);
-        });
-        return line;
+        return pressed(line, () => this.chooseEvent(event));
     }
 
     private showInterventions(): void {

@@ -51,6 +51,16 @@ export function table(heads: string[], rows: HTMLTableRowElement[]): HTMLTableEl
         make("tbody", {}, ...rows));
 }
 
+/** A row that acts where it is clicked, or where Enter is pressed on it. */
+export function pressed(line: HTMLTableRowElement, act: () => void): HTMLTableRowElement {
+    line.tabIndex = 0;
+    line.addEventListener("click", act);
+    line.addEventListener("keydown", key => {
+        if (key.key === "Enter") act();
+    });
+    return line;
+}
+
 export function save(name: string, data: BlobPart, type: string): void {
     const link = make("a", { href: URL.createObjectURL(new Blob([data], { type })), download: name });
     link.click();

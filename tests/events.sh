@@ -10,5 +10,5 @@ export PYTHONDONTWRITEBYTECODE=1
 [ -x "$program" ] || { echo "there is no program $program: rt ci makes it"; exit 1; }
 status=0
 python3 events/event_rows.py "$program" "${@:2}" || status=1
-python3 json_page.py "$program" || status=1
+/usr/bin/python3 json_reference.py "$program" || status=1
 exit $status

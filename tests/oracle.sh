@@ -29,5 +29,5 @@ echo "suites against unit.c: ${count:-no} results passed"
 [ "${count:-0}" -ge $least ] || status=1
 "$python" tests/oracle/dissector_rows.py || status=1
 "$python" tests/oracle/search_rows.py "$etcs" "$lab" "$made/unit" "${@:4}" || status=1
-ETCS=$etcs ETCS_LAB=$lab "$python" tests/pages.py howto/oracle howto/searching howto/wireshark || status=1
+ETCS=$etcs ETCS_LAB=$lab "$python" tests/documents.py howto/oracle howto/searching howto/wireshark || status=1
 exit $status

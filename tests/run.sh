@@ -1,6 +1,6 @@
 #!/bin/bash
 # Test the plain programs. They have to answer the kernel's rows, the program's rows and the examples as wanted, with as many rows,
-# events and answers as are listed below. The reader that was written only from the page of the format lists what the plain unit
+# events and answers as are listed below. The reader that was written only from docs/reference/format.md lists what the plain unit
 # wrote. The tables of the plain program are those of the definitions. The safety laws hold after each event of the kernel's rows.
 #
 #     tests/run.sh           the variable ROWS may name a folder in which plain/make_rows.py made all rows before
@@ -19,6 +19,6 @@ wanted="705 rows, 24373 events, 25030 answers, 0 differences"
 [ -n "$SEED" ] || [ "$found" = "$wanted" ] || { echo "the kernel's rows are to be: $wanted"; status=1; }
 python3 law_rows.py || status=1
 python3 program_rows.py --check || status=1
-python3 page_rows.py || status=1
+python3 format_rows.py || status=1
 python3 table_rows.py || status=1
 exit $status

@@ -7,7 +7,7 @@
 
 Each is an input line of `etcs_lab play` (docs/reference/json.md, Many scenarios): an object with a member `scenario`, and perhaps `id`, `cold`, `slots`
 and `sha256`; or only a scenario. The results are the objects that the program prints, in the order of the scenarios. A scenario that can't be run has a
-result too.
+result too. `play_images` also returns the journal image of each scenario; campaigns, sweeps and test cases use it.
 """
 import json
 import subprocess
@@ -22,22 +22,33 @@ from .program import DEVICE, REFUSED, WHOLE, Failed
 
 Result = dict[str, Any]
 Which = Literal["all", "last", "changes", "none"]
+AHEAD = 8
+"""64 times as many images are at most written before they are read: then their results fill the pipe."""
+LONGEST = 1 << 23
+"""The greatest size of a scenario that is written on a line, half of that of the longest line which the program reads."""
+ON_A_LINE = bytes.maketrans(b"\t\n\r", b"   ")
+
+
+class Died(Failed):
+    """The program ended before all scenarios were run and didn't say why: it was killed, or crashed."""
+
+    def __reduce__(self) -> tuple[type[Failed], tuple[str, int]]:
+        return Died, (str(self), self.status)
 
 
 class Feeder(threading.Thread):
-    """Writes the scenarios to the program while its results are read."""
+    """Writes the input lines to the program while its results are read."""
 
-    def __init__(self, scenarios: Iterable[Mapping[str, Any]], to: IO[str]) -> None:
+    def __init__(self, lines: Iterable[bytes], to: IO[bytes]) -> None:
         super().__init__(daemon=True)
-        self.scenarios, self.to = scenarios, to
+        self.lines, self.to = lines, to
         self.count = 0
         self.error: BaseException | None = None
 
     def run(self) -> None:
         try:
-            for scenario in self.scenarios:
-                line = scenario if "scenario" in scenario else {"scenario": scenario}
-                self.to.write(json.dumps(line, separators=(",", ":")) + "\n")
+            for line in self.lines:
+                self.to.write(line + b"\n")
                 self.count += 1
         except BrokenPipeError:
             pass  # the program ended, and says why
@@ -50,25 +61,35 @@ class Feeder(threading.Thread):
                 pass  # the program doesn't read the rest any more
 
 
+def line_of(scenario: Mapping[str, Any]) -> bytes:
+    """The input line of a scenario, or of an object with one."""
+    return json.dumps(scenario if "scenario" in scenario else {"scenario": scenario}, separators=(",", ":")).encode()
+
+
 def play(scenarios: Iterable[Mapping[str, Any]], *, slots: int = 16, outputs: Which = "last",
          images: Path | None = None) -> Generator[Result, None, None]:
     """The result of each scenario, in order. `slots` is the number of slots of each journal, `outputs` selects the outputs of a result, and
     each journal image is written into the folder `images`. Fails if the program can't do its work: it is missing, there is no scenario,
-    or an image can't be written."""
+    or an image can't be written; with `Died` if it is killed or crashes."""
+    yield from played(map(line_of, scenarios), slots, outputs, images)
+
+
+def played(lines: Iterable[bytes], slots: int, outputs: Which, images: Path | None) -> Generator[Result, None, None]:
+    """The result of each input line."""
     words = [program.find(), "play", f"--slots={slots}", f"--outputs={outputs}", *([] if images is None else [f"--images={images}"])]
     count = 0
     with tempfile.TemporaryFile() as errors:
         try:
-            process = subprocess.Popen(words, stdin=subprocess.PIPE, stdout=subprocess.PIPE, stderr=errors, text=True, encoding="utf-8")
+            process = subprocess.Popen(words, stdin=subprocess.PIPE, stdout=subprocess.PIPE, stderr=errors)
         except OSError as error:
             raise Failed(f"{words[0]}: {error.strerror}", DEVICE) from error
         assert process.stdin is not None and process.stdout is not None
-        feeder = Feeder(scenarios, process.stdin)
+        feeder = Feeder(lines, process.stdin)
         feeder.start()
         try:
             for line in process.stdout:
+                yield result_of(line)
                 count += 1
-                yield json.loads(line)
             status = process.wait()
             feeder.join()
         finally:
@@ -79,6 +100,58 @@ def play(scenarios: Iterable[Mapping[str, Any]], *, slots: int = 16, outputs: Wh
             raise feeder.error
         errors.seek(0)
         messages = errors.read().decode(errors="replace").splitlines()
-    if messages or status not in (WHOLE, REFUSED) or count != feeder.count:
-        raise Failed(messages[-1].removeprefix("etcs_lab: ") if messages else f"etcs_lab ended with status {status}, after {count} results",
-                     status if status > 0 else REFUSED)
+    if messages:
+        raise Failed(messages[-1].removeprefix("etcs_lab: "), status if status > 0 else REFUSED)
+    if status not in (WHOLE, REFUSED) or count != feeder.count:
+        raise Died(f"etcs_lab ended with status {status}, after {count} results", status if status > 0 else REFUSED)
+
+
+def result_of(line: bytes) -> Result:
+    """The object on a line that the program printed."""
+    try:
+        found = json.loads(line)
+    except ValueError:
+        found = None
+    if not isinstance(found, dict) or not line.endswith(b"\n"):
+        raise Died("etcs_lab play printed a line that isn't a JSON object, or only a part of one", REFUSED)
+    return found
+
+
+def on_a_line(scenario: bytes) -> bytes | None:
+    """A scenario's JSON on one line. None if that can't be: it isn't a JSON object, or very long; such a scenario is left to `etcs run`."""
+    def refuse(name: str) -> None:
+        raise ValueError(f"{name} is no number")
+
+    try:
+        is_object = len(scenario) <= LONGEST and isinstance(json.loads(scenario.decode(), parse_constant=refuse), dict)
+    except (ValueError, RecursionError):
+        return None
+    return scenario.translate(ON_A_LINE) if is_object else None
+
+
+def play_images(scenarios: Iterable[tuple[bytes, int]], folder: Path) -> Generator[tuple[Result, bytes], None, None]:
+    """The result with all outputs of each scenario, which is given as its JSON on one line and its number of slots, and its journal image; no
+    bytes if it can't be run. Until the next result is taken the image is in the folder (`image_in`), which contains no other image."""
+    for result in played((b'{"slots":%d,"scenario":%b}' % (slots, one) for one, slots in scenarios), 16, "all", folder):
+        if result.get("image") is None:
+            yield result, b""
+            continue
+        path = image_in(folder, result)
+        try:
+            yield result, path.read_bytes()
+        finally:
+            path.unlink(missing_ok=True)
+
+
+def image_in(folder: Path, result: Result) -> Path:
+    """The file of a result's image."""
+    return folder / f"{result['image']}.image"
+
+
+ENDED = {"done": "carried out", "stopped": "stopped {number} {name}", "refused": "refused {fault} {name}"}
+
+
+def ended(result: Result) -> str | None:
+    """How a scenario ended, as `etcs run` prints it; None if it wasn't run for a reason that isn't its own, such as refused memory."""
+    text = ENDED.get(result["status"])
+    return text and text.format_map(result)

@@ -33,6 +33,10 @@ class Failed(Exception):
         super().__init__(message)
         self.status = status
 
+    def __reduce__(self) -> tuple[type["Failed"], tuple[str, int]]:
+        """What a process sends to another one."""
+        return Failed, (str(self), self.status)
+
 
 HERE = Path(__file__).resolve()
 VERSION_TOOL = HERE.parents[2] / "tools" / "version"

@@ -1,4 +1,5 @@
 """Campaigns: how jobs are handed out, and what comes of those whose worker is lost."""
+import io
 import json
 import os
 import pickle
@@ -11,15 +12,18 @@ import types
 import unittest
 from collections import Counter
 from collections.abc import Callable, Iterator
+from contextlib import redirect_stdout
 from pathlib import Path
 from types import SimpleNamespace
 from typing import Any, Self
 from unittest.mock import patch
 
 from gaknifur.cli import campaign_commands
+from gaknifur.etcs_run import output_of, read_lines
 from gaknifur.journal.reading import Json
+from gaknifur.play import Died
 from gaknifur.program import Failed
-from gaknifur.simulation import campaign, campaign_jobs, campaign_table, dask_scheduler
+from gaknifur.simulation import campaign, campaign_jobs, campaign_table, dask_scheduler, random_lives
 from gaknifur.simulation.campaign import MOST_AT_ONCE, Batches, Job, Row
 from gaknifur.testing import soundness
 
@@ -53,19 +57,27 @@ class Handed(unittest.TestCase):
         return found
 
     def test_each_job_once(self) -> None:
-        jobs = jobs_of(4000, 1000)
+        jobs = jobs_of(40_000, 10_000)
         found = self.handed(jobs, 1 / 1024)
         self.assertEqual([job.name for batch in found for job in batch], [job.name for job in jobs])
         self.assertEqual([len(batch) for batch in found[:4]], [1] * 4)
         self.assertEqual(max(map(len, found)), MOST_AT_ONCE)
         self.assertTrue(all(len(batch) == 1 for batch in found if batch[0].kind == "case"))
         self.assertTrue(all(job.kind == "scenario" for batch in found if len(batch) > 1 for job in batch))
-        # in 0.03 s 30 are played; an eighth of what is left is fewer from 239 on, and the last job is a case
-        self.assertEqual([len(batch) for batch in found[-8:-2]], [30] * 6)
-        self.assertLess(len(found[-9]), 40)
+        # in 0.1 s 102 are played; an eighth of what is left is fewer from 823 on, and the last job is a case
+        self.assertEqual([len(batch) for batch in found[-8:-2]], [102] * 6)
+        self.assertLess(len(found[-10]), 140)
 
     def test_long_jobs_are_handed_out_alone(self) -> None:
-        self.assertEqual({len(batch) for batch in self.handed(jobs_of(100), 1.0)}, {1})
+        found = [len(batch) for batch in self.handed(jobs_of(100, 1000), 1.0)]
+        self.assertEqual((found[:6], set(found[6:])), ([1, 1, 1, 1, campaign.FIRST_AT_ONCE, 1], {1}))
+
+    def test_a_random_life_is_made_where_it_is_run(self) -> None:
+        one, = campaign.at_random(1, 7, 64)
+        self.assertEqual((one.files, one.seed), ((), "7/0"))
+        self.assertLess(len(pickle.dumps(one)), 200)
+        self.assertEqual(one.content, (("scenario.json", random_lives.scenario(random.Random("7/0"))),))
+        self.assertEqual(one.sha256, Job(one.name, "scenario", one.content, 64).sha256)
 
     def test_no_job(self) -> None:
         self.assertEqual(self.handed([], 1.0), [])
@@ -94,21 +106,27 @@ class Folders(unittest.TestCase):
 
     def test_a_folder_of_nothing_is_refused(self) -> None:
         (empty := self.folder / "empty").mkdir()
-        given = SimpleNamespace(folder=empty, out=self.out, slots=64, random=3, seed=1, csv=None, scheduler=None, workers=1)
+        given = SimpleNamespace(folder=empty, out=self.out, slots=64, random=3, seed=1, csv=None, scheduler=None, workers=1, replay=False)
         with patch.object(campaign_table, "settings_of", dict), self.assertRaisesRegex(Failed, "empty: contains no test case and no scenario"):
             campaign_commands.play_campaign(given, lambda what, done, whole: None)
         self.assertFalse(self.out.exists())
 
     def test_a_file_that_goes_meanwhile(self) -> None:
-        def here(jobs: Iterator[Job], count: int, workers: int, take: Callable[[list[Row]], None]) -> None:
+        def here(jobs: Iterator[Job], count: int, workers: int, take: Callable[[list[Row]], None]) -> int:
             take([campaign.row_without(next(jobs), "carried out")])
-            shutil.rmtree(self.folder)
-            next(jobs)
+            (self.folder / "0/b.json").unlink()
+            for job in jobs:
+                take([campaign_jobs.play(job, self.folder) if job.unread else campaign.row_without(job, "carried out")])
+            return 0
 
-        given = SimpleNamespace(folder=self.folder, out=self.out, slots=64, random=0, seed=1, csv=None, scheduler=None, workers=1)
-        with patch.object(campaign, "here", here), patch.object(campaign_table, "settings_of", dict), self.assertRaises(FileNotFoundError):
-            campaign_commands.play_campaign(given, lambda what, done, whole: None)
-        self.assertEqual(list(campaign_table.rows_of(self.out)), ["0/a/c.json"])
+        given = SimpleNamespace(folder=self.folder, out=self.out, slots=64, random=0, seed=1, csv=None, scheduler=None, workers=1, replay=False)
+        with patch.object(campaign, "here", here), patch.object(campaign_table, "settings_of", dict), redirect_stdout(printed := io.StringIO()):
+            self.assertEqual(campaign_commands.play_campaign(given, lambda what, done, whole: None), 4)
+        rows = campaign_table.rows_of(self.out)
+        self.assertEqual(len(rows), len(self.names))
+        self.assertEqual({row["name"]: row["ended"] for row in rows.values() if row["ended"] != "carried out"},
+                         {"0/b.json": "failed: can't be read: No such file or directory"})
+        self.assertIn("\n  0/b.json: failed: can't be read: No such file or directory\n", printed.getvalue())
 
 
 class Lost(unittest.TestCase):
@@ -116,11 +134,31 @@ class Lost(unittest.TestCase):
 
     def test_take_no_others_with_them(self) -> None:
         taken: list[Row] = []
-        with patch.object(campaign_jobs, "play", row_of):
-            campaign.here(jobs_of(60), 60, 3, taken.extend)
+        with patch.object(campaign_jobs, "play", row_of), patch.object(campaign_jobs, "line_of", lambda job: None):
+            self.assertGreater(campaign.here(jobs_of(60), 60, 3, taken.extend), len(LOST))
         self.assertEqual(sorted(int(row["name"]) for row in taken), list(range(60)))
         self.assertEqual({row["name"]: row["ended"] for row in taken if row["ended"] != "carried out"},
                          dict.fromkeys(LOST, f"failed: its worker was lost {campaign.MOST_LOSSES} times"))
+
+
+    def test_only_their_program(self) -> None:
+        """`etcs_lab play` dies at some scenarios: the others of a batch run again, and no process is lost."""
+        taken: list[Row] = []
+        with patch.object(campaign_jobs, "line_of", lambda job: job.name.encode()), patch.object(campaign_jobs, "play_together", dying):
+            lost = campaign.here(jobs_of(600, 1000), 600, 3, taken.extend)
+        self.assertGreaterEqual(lost, len(LOST) * campaign.MOST_LOSSES)
+        self.assertEqual(Counter(row["name"] for row in taken), Counter(map(str, range(600))))
+        self.assertEqual({row["name"]: row["ended"] for row in taken if row["ended"] != "carried out"},
+                         dict.fromkeys(LOST, f"failed: its worker was lost {campaign.MOST_LOSSES} times"))
+        self.assertEqual({row["worker"] for row in taken if row["ended"] != "carried out"}, {None})
+
+
+def dying(jobs: list[tuple[Job, bytes]], folder: Path) -> Iterator[Row]:
+    """The rows of scenarios up to one at which the program dies."""
+    for job, line in jobs:
+        if line.decode() in LOST:
+            raise Died("etcs_lab ended with status -9", 1)
+        yield row_of(job, folder) | {"worker": campaign_jobs.player()}
 
 
 class Future:
@@ -202,16 +240,18 @@ class Scheduled(unittest.TestCase):
     def test_given_back_and_lost(self) -> None:
         taken: list[Row] = []
         dask = Scheduler({"0", "20", "40"})
-        with patch.dict(sys.modules, dask=dask.module(), distributed=dask.module()), patch.object(campaign_jobs, "play", played_of):
-            dask_scheduler.by_scheduler(jobs_of(80, 100), 80, "tcp://none", taken.extend)
+        with patch.dict(sys.modules, dask=dask.module(), distributed=dask.module()), patch.object(campaign_jobs, "play", played_of), \
+                patch.object(campaign_jobs, "line_of", lambda job: None):
+            lost = dask_scheduler.by_scheduler(jobs_of(80, 100), 80, "tcp://none", taken.extend)
         self.assertEqual(sorted(int(row["name"]) for row in taken), list(range(80)))
         self.assertEqual({row["name"]: row["ended"] for row in taken if row["ended"] != "carried out"},
                          dict.fromkeys(LOST, f"failed: its worker was lost {campaign.MOST_LOSSES} times"))
-        together = [names for names in dask.played if len(names) > 1 and set(names) & set(LOST)]
-        self.assertTrue(together)
-        for names in together:  # what was handed out together with such a job is played alone, each once
-            self.assertEqual([dask.played.count([name]) for name in names], [1] * len(names))
-        self.assertEqual(dask.played.count(["0"]), 1)
+        given_up = [names for names in dask.played if set(names) & set(LOST)]
+        self.assertEqual(lost, len(given_up))
+        self.assertGreater(max(map(len, given_up)), 1)
+        played = Counter(name for names in dask.played if not set(names) & set(LOST) for name in names)
+        self.assertEqual(set(played.values()), {1})  # what was handed out together with such a job is played again, once
+        self.assertEqual([dask.played.count([name]) for name in LOST], [campaign.MOST_LOSSES] * len(LOST))
 
 
 ETCS = """#!/bin/sh
@@ -281,13 +321,13 @@ class Released(unittest.TestCase):
         numbers, found = random.Random(1), Counter[bool]()
         for _ in range(2000):
             records = random_records(numbers)
-            older = [soundness.output_text(record(event)) for event in range(numbers.randrange(3), records[0]["event"])]
-            printed = altered([*older, *map(soundness.output_text, records)], numbers)
-            outputs = {str(one["event"]): soundness.output_text(one) for one in records}
+            older = [output_of(record(event)).text for event in range(numbers.randrange(3), records[0]["event"])]
+            outputs = {str(one["event"]): output_of(one).text for one in records}
+            printed = altered([*older, *outputs.values()], numbers)
             is_sound = all(line == outputs.get(line.split()[1], line) for line in printed if line.startswith("event "))
             found[is_sound] += 1
             try:
-                soundness.check_released(printed, records)
+                soundness.check_released(read_lines(int("stopped 1 PowerLost" in printed), printed).released, records)
             except soundness.Missed:
                 self.assertFalse(is_sound, (printed, records))
             else:

@@ -56,7 +56,6 @@ expected:
   - {note: stands, at: end, expect: {train_speed_kmh: 0, train_place_m: {least: 260, most: 280.95},
         beyond_location_m: {least: -40, most: -19.05}}}
 """
-NOTES = {"runs", "within the limit", "no brake", "stands"}
 
 
 def plain_lines(digits: str) -> list[str]:

@@ -7,6 +7,7 @@ import unittest
 from pathlib import Path
 from unittest.mock import patch
 
+from gaknifur.etcs_run import Released
 from gaknifur.program import Failed
 from gaknifur.testing import case_files, case_runner, cases, coverage, scenarios, telegrams
 from gaknifur.testing.case_runner import Missed, Played, with_speeds
@@ -352,10 +353,11 @@ class Judging(InFiles):
                 self.assertIn("expected: records to be judged", self.judge(f"{{note: x, {expected}}}"))
 
     def test_outputs_are_those_of_the_records(self) -> None:
-        line = "event 1 mode FS level 1 brake none limit 40000 ind 0"
-        case_runner.check_released([line], self.PLAYED.records)
-        with self.assertRaisesRegex(Missed, "this output was released"):
-            case_runner.check_released([line.replace("none", "service")], self.PLAYED.records)
+        case_runner.check_released([Released(1, "FS", 1, "none", 40000, 0)], self.PLAYED.records)
+        for other in (Released(1, "SH", 1, "none", 40000, 0), Released(1, "FS", None, "none", 40000, 0), Released(1, "FS", 0, "none", 40000, 0),
+                      Released(1, "FS", 1, "service", 40000, 0), Released(1, "FS", 1, "none", 39999, 0), Released(1, "FS", 1, "none", 40000, 64)):
+            with self.assertRaisesRegex(Missed, "this output was released"):
+                case_runner.check_released([other], self.PLAYED.records)
 
     def test_derived(self) -> None:
         self.assertEqual(str(derived(record(5) | {"speed_m_per_h": None})["place_m"]), "5")

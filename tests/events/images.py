@@ -7,7 +7,7 @@ import struct
 
 import blocks
 import decoded
-import page_rows
+import format_rows
 from journal import first_sector
 from program_rows import TOP, read
 from random_lists import Numbers
@@ -163,8 +163,8 @@ def example_images():
         for case in read(path):
             if case.by_hand:
                 continue
-            for number, image, _ in page_rows.listings(case):
-                yield f"{path.parent.name}/{path.name}:{number}", image, page_rows.damaged(image)
+            for number, image, _ in format_rows.listings(case):
+                yield f"{path.parent.name}/{path.name}:{number}", image, format_rows.damaged(image)
 
 
 def random_images(count, seed):

@@ -1,6 +1,7 @@
 #!/usr/bin/env python3
 """What `etcs_lab play` prints of many scenarios in one process: random scenarios and the examples, compared with the reference model (each
-output, each count, and the image byte by byte), and with `etcs run` on an image in a file; hand-written cases that can't be played or read.
+output, each count, and the image byte by byte), and with `etcs run` on an image in a file; the records of an image that Python reads, compared with
+those of `etcs_lab events`; hand-written cases that can't be played or read.
 
     tests/lab/play_rows.py ETCS_LAB ETCS
 """
@@ -17,15 +18,14 @@ from pathlib import Path
 HERE = Path(__file__).resolve().parent
 TOP = HERE.parents[1]
 sys.path[:0] = [str(HERE), str(TOP / "tests"), str(TOP / "tests/plain"), str(TOP / "tests/hostile"), str(TOP / "python")]
-import program  # noqa: E402
-from compared import Compared, run, status_of_full  # noqa: E402
+from compared import Compared, objects, run, status_of_full  # noqa: E402
 from disk import SECTOR_BYTES, Disk  # noqa: E402
 from journal import first_sector  # noqa: E402
-from page_rows import live  # noqa: E402
+from format_rows import live  # noqa: E402
 from random_lists import Numbers  # noqa: E402
 from run_rows import Played, RunRows, lived, wanted_of  # noqa: E402
 
-SCENARIOS, SEED, LEAST_OUTPUTS = 400, 7, 5_000
+SCENARIOS, SEED, LEAST_OUTPUTS, LEAST_RECORDS = 400, 7, 5_000, 1_000
 OUTPUT = ("event", "mode", "level", "brake", "limit_m_per_h", "indications")
 SLOTS = (2, 3, 16, 64)
 LONGEST = 16_777_216
@@ -121,7 +121,7 @@ class Plays(Compared):
     def play(self, text, *words):
         """The objects that are printed for some lines, the status, and what is said."""
         printed, said, status = run(self.lab, ["play", *words], text)
-        return [json.loads(line) for line in printed.splitlines()], status, said
+        return objects(printed), status, said
 
     def cases(self):
         numbers, chance = Numbers(SEED), random.Random(SEED)
@@ -145,7 +145,7 @@ class Plays(Compared):
         at = 0
         for number, (case, one) in enumerate(zip(cases, found)):
             at += 2 if number % 5 == 0 else 1
-            self.same(f"{which}, {case.name}", json.dumps(one), json.dumps(case.wanted(case.name, at, which, number + 1)))
+            self.same_json(f"{which}, {case.name}", one, case.wanted(case.name, at, which, number + 1))
             left = images / f"{number + 1}.image"
             self.unless(left.exists() and left.read_bytes() == case.image, f"{which}, {case.name}: another image")
             self.met["outputs"] += len(case.outputs)
@@ -169,6 +169,15 @@ class Plays(Compared):
             if one["status"] == "stopped":
                 printed += f"stopped {one['number']} {one['name']}\n"
             self.same(f"etcs run, {case.name}", (status, lines, hashlib.sha256(image.read_bytes()).hexdigest()), (other, printed, one["sha256"]))
+            self.records(case, image)
+
+    def records(self, case, image):
+        """The records that the package reads from an image in Python, as `etcs_lab events` prints them."""
+        from gaknifur.journal import played_image
+        lines = [json.loads(line) for line in run(self.lab, ["events", image])[0].splitlines()]
+        wanted = [{name: value for name, value in one.items() if name not in ("decoded", "unused")} for one in lines if "event" in one]
+        self.same(f"records, {case.name}", played_image.records(image.read_bytes()), wanted)
+        self.met["records"] += len(wanted)
 
     def faults(self):
         """A line that can't be played doesn't stop the others."""
@@ -179,7 +188,7 @@ class Plays(Compared):
         for number, (line, wanted) in enumerate(FAULTS):
             one, after = found[2 * number], found[2 * number + 1]
             all_of = {"id": wanted["id"], "line": 2 * number + 1, "status": "refused"} | wanted
-            self.same(line, json.dumps(one), json.dumps(all_of if "wanted" in wanted else all_of | {"wanted": one.get("wanted")}))
+            self.same_json(line, one, all_of if "wanted" in wanted else all_of | {"wanted": one.get("wanted")})
             self.unless(after["status"] == "done" and after["line"] == 2 * number + 2, f"after {line}: {after}")
         path = self.folder / "faulty.json"
         path.write_text('{"groups":[],"steps":[{"clock":-1}]}')
@@ -262,6 +271,7 @@ class Plays(Compared):
         self.unread()
         for word in ("done", "stopped", "trips", "service_brakes", "emergency_brakes"):
             self.unless(self.met[word], f"no scenario has {word}")
+        self.unless(self.met["records"] >= LEAST_RECORDS, f"{self.met['records']} records are too few")
         self.unless(self.met["outputs"] >= 4 * LEAST_OUTPUTS, f"{self.met['outputs'] // 4} outputs are too few")
         return self.end(f"play: {self.count} comparisons, {len(cases)} scenarios in 4 ways, a fourth of them by etcs run")
 

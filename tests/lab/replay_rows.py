@@ -15,9 +15,11 @@ from pathlib import Path
 
 HERE = Path(__file__).resolve().parent
 TOP = HERE.parents[1]
-sys.path[:0] = [str(TOP / "tests/plain"), str(TOP / "tests/hostile")]
+sys.path[:0] = [str(TOP / "tests"), str(TOP / "tests/plain"), str(TOP / "tests/hostile")]
 from blocks import data_of, with_  # noqa: E402
+from compared import lines_differ  # noqa: E402
 from disk import Disk  # noqa: E402
+from image_cases import patched  # noqa: E402
 from items import Kept  # noqa: E402
 from journal import COLD, block_of, event_of, first_sector, record_of  # noqa: E402
 from life import Life  # noqa: E402
@@ -154,10 +156,6 @@ def formats():
     yield "no sector", b""
 
 
-def patched(data, at, value):
-    return data[:at] + value + data[at + len(value):]
-
-
 def damaged():
     """Each block of a journal can't be read, or its gate is closed; blocks that don't fit together."""
     blocks = blocks_of(TWO, 3)
@@ -264,16 +262,18 @@ def compare(words):
         image = Path(folder) / "image"
         for name, data in cases():
             image.write_bytes(data)
+            wanted, text, lines = replayed(data)
             for is_json in (False, True):
                 if is_json and name.startswith("altered") and tried % 8:
                     continue
-                wanted = replayed(data, is_json)
                 done = subprocess.run([*words, *(["--json"] if is_json else []), str(image)], stdin=subprocess.DEVNULL, capture_output=True, timeout=60)
                 tried += 1
-                if (done.returncode, done.stdout.decode()) != wanted:
+                found = done.stdout.decode()
+                differs = lines_differ(found, lines) if is_json else None if found == text else f"{found}--- wanted\n{text}"
+                if done.returncode != wanted or differs:
                     differ += 1
                     if differ <= 10:
-                        print(f"{name}: status {done.returncode}, wanted {wanted[0]}\n{done.stdout.decode()}--- wanted\n{wanted[1]}")
+                        print(f"{name}: status {done.returncode}, wanted {wanted}\n{differs}")
     print(f"replay: {tried} comparisons, {differ} differ")
     if tried < LEAST:
         print(f"too few comparisons: {LEAST} are wanted")

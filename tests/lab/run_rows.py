@@ -14,7 +14,7 @@ HERE = Path(__file__).resolve().parent
 TOP = HERE.parents[1]
 sys.path[:0] = [str(HERE), str(TOP / "tests"), str(TOP / "tests/plain"), str(TOP / "tests/hostile")]
 import program  # noqa: E402
-from compared import Compared, run, status_of_full  # noqa: E402
+from compared import Compared, is_same, lines_differ, objects, run, status_of_full  # noqa: E402
 from items import Kept  # noqa: E402
 from journal import SIGNS, signs_of  # noqa: E402
 from life import Life  # noqa: E402
@@ -26,7 +26,6 @@ SCENARIOS, SEED = 2_000, 42
 LEAST_LINES = 20_000  # so many outputs at least
 MOST_PENDING = 8
 COLD = ("unknown", "moved", "not_moved")
-BEFORE_STEP = "allowed_backward_cm"  # the members of the step and of the output follow this one
 
 # By hand. Each step of a scenario gives the events that it says: a drive of 250 m three readings, and a telegram where it passes a balise.
 SR_STEPS = [{"driver": [1, "A 1"]}, {"driver": [4, 1]}, {"driver": [3, 20000, 160000, 70, 0, 15]}, {"driver": [6]}]
@@ -81,16 +80,6 @@ class ReportingLife(Life):
         return output
 
 
-def joined(members, step, more):
-    """One object, its members in their order."""
-    line = {}
-    for name, value in members.items():
-        line[name] = value
-        if name == BEFORE_STEP:
-            line |= {"step": step} | more
-    return line
-
-
 def wanted_of(scenario, lines):
     """The lines of a run and its status, from the line of each event of the life."""
     steps = scenario["steps"]
@@ -106,13 +95,9 @@ def wanted_of(scenario, lines):
                 return [*printed, ends_of((at, 11, "ClockBack"))], 1
             moment = asked[1]
         members, more = lines[event]
-        pending.append(joined(members, at, more))
+        pending.append(members | {"step": at} | more)
         event += 1
     return [*printed, *pending, ends_of("done")], 0
-
-
-def text_of(lines):
-    return "".join(json.dumps(line, separators=(",", ":")) + "\n" for line in lines)
 
 
 def lived(scenario):
@@ -157,12 +142,13 @@ class RunRows(Compared):
     def by_hand(self):
         for name, steps, places, end in STEPS_BY_HAND:
             status, text, said = self.play(json.dumps({"groups": BALISE if "balise" in name else [], "steps": steps}))
-            printed = [json.loads(line) for line in text.splitlines()]
+            printed = objects(text)
             first, events, last = printed[:1], printed[1:-1], printed[-1:]
             self.unless(
-                status == (0 if end == "done" else 1) and not said and first == [{"scenario": {"cold": "unknown", "steps": len(steps)}}]
-                and [line["step"] for line in events] == places and [line["event"] for line in events] == list(range(1, len(places) + 1))
-                and last == [ends_of(end)], f"by hand: {name}: status {status}, {said}{text}")
+                status == (0 if end == "done" else 1) and not said and is_same(first, [{"scenario": {"cold": "unknown", "steps": len(steps)}}])
+                and is_same([line.get("step") for line in events], places)
+                and is_same([line.get("event") for line in events], list(range(1, len(places) + 1)))
+                and is_same(last, [ends_of(end)]), f"by hand: {name}: status {status}, {said}{text}")
             self.as_run(f"by hand: {name}", status, text)
             self.met["stopped"] += end != "done"
 
@@ -182,8 +168,8 @@ class RunRows(Compared):
         """Compared with the plain program, and along with `etcs run` on an empty image."""
         status, text, said = self.play(json.dumps(scenario))
         wanted_lines, wanted = wanted_of(scenario, lines)
-        self.unless((status, text, said) == (wanted, text_of(wanted_lines), ""), f"{name}: {json.dumps(scenario)}\n  printed {status} {said}{text}\n"
-                    f"  wanted  {wanted} {text_of(wanted_lines)}")
+        differs = lines_differ(text, wanted_lines)
+        self.unless((status, said, differs) == (wanted, "", None), f"{name}: {json.dumps(scenario)}\n  status {status}, wanted {wanted} {said}\n  {differs}")
         self.as_run(name, status, text)
         for line in wanted_lines[1:-1]:
             self.outputs += 1

@@ -4,7 +4,6 @@ those of the plain examiner (examined.py) and of the plain replay (tests/plain/r
 
     tests/lab/verdict_rows.py PROGRAM     run the program on each image, with text and with JSON, and compare
 """
-import json
 import sys
 import tempfile
 from collections import Counter
@@ -55,10 +54,9 @@ def images():
 def wanted(image):
     """Status, and the texts in both forms."""
     text, status = text_of(image)
-    replay, lines = replayed(image)
+    replay, lines, objects = replayed(image)
     status, last, whole, word = LAST[status, NO_REPLAY if replay == REFUSED else replay]
-    objects = [examined(image)[0], *map(json.loads, replayed(image, True)[1].splitlines()), {"check": {"whole": whole, "replay": word}}]
-    return status, text + lines + last + "\n", objects
+    return status, text + lines + last + "\n", [examined(image)[0], *objects, {"check": {"whole": whole, "replay": word}}]
 
 
 def main(words):
@@ -76,7 +74,7 @@ def main(words):
             met[text.splitlines()[-1]] += 1
             people, (code, json_text, said) = run(), run("--json")
             same = people == (status, text, int(status == REFUSED)) and (code, said) == (status, int(status == REFUSED))
-            same = same and list(map(json.loads, json_text.splitlines())) == objects
+            same = same and not compared.lines_differ(json_text, objects)
             if name in BY_HAND:
                 seen.add(name)
                 same = same and (people[0], people[1].splitlines()[-1]) == BY_HAND[name]

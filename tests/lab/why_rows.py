@@ -14,7 +14,7 @@ from pathlib import Path
 
 HERE = Path(__file__).resolve().parent
 sys.path[:0] = [str(HERE), *(str(HERE.parents[1] / part) for part in ("tests", "tests/plain", "tests/hostile"))]
-from compared import Compared, run  # noqa: E402
+from compared import Compared, is_same, lines_differ, objects, run  # noqa: E402
 from group_rows import GROUPS_AS_JSON, GROUPS_BY_HAND  # noqa: E402
 from group_words import KINDS as GROUP_KINDS  # noqa: E402
 from journal import COLD  # noqa: E402
@@ -165,21 +165,26 @@ class WhyRows(Compared):
             self.met.update(f"group {kind}" for kind, (sentence, _) in GROUP_KINDS.items() if f": {sentence}" in says)
         _, data, asked, _ = next(groups_by_hand())
         status, text = self.run(data, "--json", "@", str(asked))
-        self.unless(status == 0 and json.loads(text)["groups"] == GROUPS_AS_JSON, f"groups as JSON: status {status}, {text}")
+        self.unless(status == 0 and is_same(objects(text)[0].get("groups"), GROUPS_AS_JSON), f"groups as JSON: status {status}, {text}")
 
     def compare_with_plain(self):
         for number, (name, data) in enumerate(images()):
             walk = walk_of(data)
-            for is_json, only in ((False, None), (True, None), (True, number % 40)):
-                wanted = explained(walk, is_json, only)
-                found = self.run(data, *(["--json"] if is_json else []), "@", *([] if only is None else [str(only)]))
-                self.unless(found == wanted, f"{name}: status {found[0]}, wanted {wanted[0]}\n{found[1]}--- wanted\n{wanted[1]}")
-                if is_json and only is None:
-                    self.take(wanted[1])
+            wanted, text, lines = explained(walk)
+            found = self.run(data, "@")
+            self.unless(found == (wanted, text), f"{name}: status {found[0]}, wanted {wanted}\n{found[1]}--- wanted\n{text}")
+            self.as_json(name, self.run(data, "--json", "@"), wanted, lines)
+            wanted, _, one = explained(walk, number % 40)
+            self.as_json(f"{name}, event {number % 40}", self.run(data, "--json", "@", str(number % 40)), wanted, one)
+            self.take(lines)
 
-    def take(self, text):
-        for line in text.splitlines():
-            record = json.loads(line)
+    def as_json(self, name, found, wanted, lines):
+        status, text = found
+        differs = lines_differ(text, lines)
+        self.unless(status == wanted and not differs, f"{name}: status {status}, wanted {wanted}\n{differs}")
+
+    def take(self, lines):
+        for record in lines:
             if "event" not in record:
                 self.met[record.get("reason", record["replay"])] += 1
                 continue

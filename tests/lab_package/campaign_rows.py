@@ -1,7 +1,8 @@
 #!/usr/bin/env python3
 """Run campaigns on the programs: the same lives in processes of this machine, and by a scheduler with two workers, one of which is
-killed in the middle, and by a campaign that is interrupted and goes on, give the same table; judged by outputs and by all records, lives come
-to the same rows; a case file gives its row.
+killed in the middle, and by a campaign that is interrupted and goes on, give the same table; played together by `etcs_lab play`, and one by one by
+`etcs run` with a replay, lives and scenarios with faults come to the same rows; a program that dies or alters an output, a worker that is killed and a
+full disk are reported; a case file gives its row.
 
     tests/lab_package/campaign_rows.py ETCS ETCS_LAB [LIVES]
 """
@@ -17,6 +18,7 @@ from pathlib import Path
 TOP = Path(__file__).resolve().parents[2]
 PYTHON = sys.executable
 WAIT = 60
+LIVES_BOTH_WAYS = 60
 MOST_REFUSING = 20  # seconds, nearly all for starting Python on a busy machine
 failed = 0
 
@@ -115,6 +117,99 @@ def second(out):
     unless(took < MOST_REFUSING, f"a second campaign: refused after {took:.0f} s")
 
 
+# A scenario for each way in which one is refused, or may be read otherwise on a line than in a file.
+FAULTY = (b"", b"{}", b"[]", b"7", b"{", b'{"groups":[],"steps":[]}', b'{"groups":[],"steps":[],"cold":7}', b'{"groups":[],"steps":[{"clock":1},{"clock":-1}]}',
+          b'{"groups":[],"steps":[{"clock":9},{"clock":8}]}', b'{"groups":[],"steps":[{"clock":1e3}]}', b'{"groups":[],"steps":[{"telegram":"9"}]}',
+          b'{"groups":[],"groups":[],"steps":[]}', b'{"groups":[],"steps":[{"clock":NaN}]}', b'{"groups":[],"steps":[]}}', b'{"groups":[],"steps":[]},"slots":2',
+          b'{"groups":[],\n\t"steps":[\r\n]}', b'{"groups":[],"steps":[{"driver":[1,"A\\u0042"]}]}', b'{"groups":[],"steps":[{"driver":[1,"A\n"]}]}',
+          b'\xef\xbb\xbf{"groups":[],"steps":[]}', b'{"groups":[],"steps":[{"driver":[1,"\xff"]}]}', b'{"groups":[],"steps":[' + b"[" * 300 + b"]" * 300 + b"]}",
+          b'{"groups":[],"steps":[' + b",".join(b'{"clock":%d},{"flush":true}' % at for at in range(200)) + b"]}")
+ALTERED = 11  # the line of a batch whose first output a stand-in alters
+
+
+def by_both_ways(room, lives):
+    """Lives and scenarios with faults, played together, and one by one with a replay: the same rows, also where the ring is full."""
+    folder = room / "faulty"
+    folder.mkdir()
+    for number, text in enumerate(FAULTY):
+        (folder / f"{number:02}.json").write_bytes(text)
+    for slots, words in ((64, ("--random", lives, "--seed", "9", folder)), (3, ("--random", lives, "--seed", "10", folder)), (64, (TOP / "examples/trip",))):
+        tables = []
+        for way in ((), ("--replay",)):
+            tables.append(room / f"way{len(list(room.glob('way*')))}.db")
+            done = lab("campaign", *way, "--slots", slots, *words, tables[-1])
+            unless(done.returncode == 0, f"{slots} slots, {way}: {done.stdout}{done.stderr}")
+        done = lab("compare", *tables)
+        unless(done.returncode == 0 and done.stdout == "0 rows differ\n", f"{slots} slots, together and one by one: {done.stdout}{done.stderr}")
+        unless(rows(tables[0]) == rows(tables[1]) > 0, f"{slots} slots: no rows")
+    return tables[0]
+
+
+STAND_IN = """#!/bin/sh
+# Plays as etcs_lab does, but for what a stand-in may do to its lines.
+[ "$1" = play ] || exec "{lab}" "$@"
+{how}
+"""
+ALTERING = """"{lab}" "$@" >"$0.$$"
+status=$?
+sed '{line}s/"mode":"[A-Z]*"/"mode":"SF"/' "$0.$$"
+rm "$0.$$"
+exit $status"""
+DYING = """mkdir "$0.dead" 2>/dev/null || exec "{lab}" "$@"
+head -n 30 | "{lab}" "$@" | head -n 20
+kill -9 $$"""
+
+
+def stand_in(room, name, how):
+    """A stand-in of the program."""
+    path = room / name
+    lab = os.environ["GAKNIFUR_ETCS_LAB"]
+    path.write_text(STAND_IN.format(lab=lab, how=how.format(lab=lab, line=ALTERED)))
+    path.chmod(0o755)
+    return {"env": os.environ | {"GAKNIFUR_ETCS_LAB": str(path)}}
+
+
+def stand_ins(room, whole, lives):
+    """A program that dies once: nothing is lost, and it is reported. One that alters an output: a row isn't sound."""
+    words = ("campaign", "--random", lives, "--seed", "7", "--workers", "2")
+    done = lab(*words, room / "dying.db", **stand_in(room, "dying", DYING))
+    unless(done.returncode == 0 and done.stdout == f"{lives} rows, {lives} of them played now; 0 not sound\n1 batches were lost with their process, and "
+           "played again\n", f"a program that dies: {done.stdout}{done.stderr}")
+    done = lab("compare", whole, room / "dying.db")
+    unless(done.returncode == 0, f"a program that dies: {done.stdout}{done.stderr}")
+    done = lab("campaign", "--random", "200", "--workers", "1", room / "altering.db", **stand_in(room, "altering", ALTERING))
+    unless(done.returncode == 4 and " not sound\n" in done.stdout and "; expected: the output of its record: event " in done.stdout,
+           f"an altered output: {done.stdout}{done.stderr}")
+
+
+def worker_killed(room, whole, lives):
+    """A process that plays is killed: nothing is lost, and it is reported."""
+    out = room / "killed.db"
+    playing = subprocess.Popen([TOP / "lab", "campaign", out, "--random", str(lives), "--seed", "7", "--workers", "2"], stdin=subprocess.DEVNULL,
+                               stdout=subprocess.PIPE, stderr=subprocess.PIPE, text=True)
+    until(lambda: rows(out) >= 5 or playing.poll() is not None, "rows")
+    with sqlite3.connect(f"file:{out}?mode=ro", uri=True) as connection:
+        worker = connection.execute("SELECT worker FROM result LIMIT 1").fetchone()[0]
+    unless(playing.poll() is None, "the campaign ended before a worker could be killed; take more lives")
+    os.kill(int(worker.rpartition("/")[2]), signal.SIGKILL)
+    printed, said = playing.communicate(timeout=WAIT)
+    unless(playing.returncode == 0 and printed.startswith(f"{lives} rows, {lives} of them played now; 0 not sound\n") and
+           " batches were lost with their process, and played again\n" in printed, f"a killed worker: {printed}{said}")
+    done = lab("compare", whole, out)
+    unless(done.returncode == 0, f"a killed worker: {done.stdout}{done.stderr}")
+
+
+def full_disk(room):
+    """A table that can't grow: the campaign fails and says so, keeps what it has, and goes on later."""
+    out, lives = room / "full.db", 600
+    words = [str(TOP / "lab"), "campaign", str(out), "--random", str(lives), "--seed", "7", "--slots", "8", "--workers", "2"]
+    done = subprocess.run(["sh", "-c", 'ulimit -f 100; trap "" XFSZ; exec "$@"', "sh", *words], stdin=subprocess.DEVNULL, capture_output=True, text=True)
+    unless(done.returncode == 3 and f"lab: {out}: " in done.stderr, f"a full disk: {done.returncode} {done.stdout}{done.stderr}")
+    before = rows(out)
+    done = lab(*words[1:])
+    unless(done.returncode == 0 and done.stdout.startswith(f"{lives} rows, {lives - before} of them"), f"after a full disk: {done.stdout}{done.stderr}")
+
+
 def faults(room, whole):
     """What has to be reported: a row that differs, a table of other programs, a case that fails, words that are none."""
     other = room / "other.db"
@@ -156,7 +251,7 @@ def faults(room, whole):
 
 def main():
     os.environ |= {"GAKNIFUR_ETCS": str(Path(sys.argv[1]).resolve()), "GAKNIFUR_ETCS_LAB": str(Path(sys.argv[2]).resolve())}
-    lives = int(sys.argv[3]) if len(sys.argv) > 3 else 1000
+    lives = int(sys.argv[3]) if len(sys.argv) > 3 else 4000
     with tempfile.TemporaryDirectory(prefix="campaign-") as folder:
         room = Path(folder)
         whole = room / "whole.db"
@@ -167,8 +262,13 @@ def main():
         for made in (by_two_workers(room, lives), interrupted(room, lives)):
             done = lab("compare", whole, made)
             unless(done.returncode == 0 and done.stdout == "0 rows differ\n", f"{made.name}: {done.stdout}{done.stderr}")
+        by_both_ways(room, LIVES_BOTH_WAYS)
+        stand_ins(room, whole, lives)
+        worker_killed(room, whole, lives)
+        full_disk(room)
         faults(room, whole)
-    print(f"campaign_rows: {lives} lives here, by two workers of which one was killed, and interrupted: the same table; "
+    print(f"campaign_rows: {lives} lives here, by two workers of which one was killed, interrupted, and with faults: the same table; {LIVES_BOTH_WAYS} "
+          f"lives both ways; "
           f"{1000 * seconds / lives:.0f} ms a life by two processes; {failed} failed")
     sys.exit(failed > 0)
 

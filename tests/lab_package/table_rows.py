@@ -15,7 +15,6 @@ import csv
 import html.parser
 import io
 import itertools
-import json
 import os
 import re
 import sys
@@ -283,7 +282,7 @@ def lives():
 def plain_reasons(image):
     """Of each event that the plain replay can't follow, or to which it answers otherwise, why not."""
     found = {}
-    for line in map(json.loads, replayed(image, True)[1].splitlines()):
+    for line in replayed(image)[2]:
         if line.get("replay") == "not_replayed":
             found.update(dict.fromkeys(range(line["first_event"], line["last_event"] + 1), causes.REASONS[line["reason"]]))
         elif line.get("replay") == "record_differs":
@@ -293,7 +292,7 @@ def plain_reasons(image):
 
 def plain_lines(walk, event=None):
     """What the plain program says about each event that it has a line of, or of one event."""
-    return [line for line in map(json.loads, explained(walk, True, event)[1].splitlines()) if "event" in line]
+    return [line for line in explained(walk, event)[2] if "event" in line]
 
 
 def plain_causes(lines):

@@ -75,8 +75,13 @@ def kept_object(block):
     }
 
 
-def text(value):
-    return json.dumps(value, separators=(",", ":"))
+def forms_of(lines):
+    """The text of lines, and their objects."""
+    return "".join(plain + "\n" for plain, _ in lines), [members for _, members in lines]
+
+
+def json_lines(objects):
+    return "".join(json.dumps(one, separators=(",", ":")) + "\n" for one in objects)
 
 
 # ---- for people
@@ -182,12 +187,10 @@ class Walk:
 
 
 class Replay(Walk):
-    def __init__(self, is_json):
-        super().__init__()
-        self.is_json = is_json
+    """The lines of a replay, each as text and as an object."""
 
     def say(self, plain, **members):
-        self.lines.append(text(members) if self.is_json else plain)
+        self.lines.append((plain, members))
 
     def differ(self, where, members, kind, field, recorded, wanted):
         self.end_run()
@@ -219,11 +222,11 @@ class Replay(Walk):
         super().head(block)
 
     def end(self):
-        if self.is_json:
-            self.lines.append(text({"end": "nothing_differs" if self.is_whole else "differs_or_lost"}))
+        if self.is_whole:
+            self.say("nothing differs", end="nothing_differs")
         else:
-            self.lines.append("nothing differs" if self.is_whole else "something differs or is lost")
-        return (WHOLE if self.is_whole else LOST), "".join(line + "\n" for line in self.lines)
+            self.say("something differs or is lost", end="differs_or_lost")
+        return WHOLE if self.is_whole else LOST, *forms_of(self.lines)
 
 
 def run_of(data, slots):
@@ -238,15 +241,15 @@ def run_of(data, slots):
     return range(first, max(numbers) + 1)
 
 
-def replayed(data, is_json=False):
-    """Status and text."""
-    replay = Replay(is_json)
-    return replay.end() if replay.over(data) else (REFUSED, "")
+def replayed(data):
+    """Status, the text for people, and the objects of the lines."""
+    replay = Replay()
+    return replay.end() if replay.over(data) else (REFUSED, "", [])
 
 
 def main(words):
-    status, said = replayed(Path(words[-1]).read_bytes(), "--json" in words)
-    print(said, end="")
+    status, said, objects = replayed(Path(words[-1]).read_bytes())
+    print(json_lines(objects) if "--json" in words else said, end="")
     return status
 
 

@@ -11,7 +11,7 @@ from pathlib import Path
 import output
 import group_words
 from limit_reasons import KINDS, limit_cause
-from replay import Walk, text
+from replay import Walk, forms_of, json_lines
 
 WHOLE, REFUSED, LOST = 0, 1, 4
 
@@ -110,7 +110,7 @@ class Why(Walk):
         return [line for line in self.lines if line[0] is not None]
 
     def say(self, line, **members):
-        self.lines.append((None, True, line, text(members)))
+        self.lines.append((None, True, line, members))
 
     def event(self, block, record, life):
         number = record["number"]
@@ -121,7 +121,7 @@ class Why(Walk):
             self.reasons = Reasons(self.life, number)
         else:
             self.reasons.note(number)
-        self.lines.append((number, self.reasons.is_new(), self.reasons.line(number), text(self.reasons.members(number))))
+        self.lines.append((number, self.reasons.is_new(), self.reasons.line(number), self.reasons.members(number)))
 
 
 def walk_of(data):
@@ -136,19 +136,19 @@ def walked(data):
     return walk and walk.events
 
 
-def explained(walk, is_json, only=None):
-    """Status and text."""
+def explained(walk, only=None):
+    """Status, the text for people, and the objects of the lines."""
     if walk is None:
-        return REFUSED, ""
-    lines = [members if is_json else line for number, is_new, line, members in walk.lines if (is_new if only is None else number == only)]
+        return REFUSED, "", []
+    lines = [(line, members) for number, is_new, line, members in walk.lines if (is_new if only is None else number == only)]
     is_found = walk.is_whole if only is None else bool(lines)
-    return (WHOLE if is_found else LOST), "".join(line + "\n" for line in lines)
+    return WHOLE if is_found else LOST, *forms_of(lines)
 
 
 def main(words):
     is_json, words = "--json" in words, [word for word in words if word != "--json"]
-    status, said = explained(walk_of(Path(words[0]).read_bytes()), is_json, int(words[1]) if words[1:] else None)
-    print(said, end="")
+    status, said, objects = explained(walk_of(Path(words[0]).read_bytes()), int(words[1]) if words[1:] else None)
+    print(json_lines(objects) if is_json else said, end="")
     return status
 
 

@@ -16,10 +16,10 @@ from pathlib import Path
 
 TOP = Path(__file__).resolve().parents[2]
 sys.path.insert(0, str(TOP / "python"))
+from gaknifur.etcs_run import BITS  # noqa: E402
 from gaknifur.testing import case_runner, cases, coverage  # noqa: E402
 from planted_definitions import DEFINITIONS  # noqa: E402
 
-BITS = case_runner.BITS
 LEAST = 280  # changes
 PLANTED = [
     ("modes.py", "10  TR                       PT  trip_acknowledged", "10  TR                       SB  trip_acknowledged"),

@@ -19,7 +19,7 @@ from hypothesis import strategies as st
 
 TOP = Path(__file__).resolve().parents[2]
 sys.path.insert(0, str(TOP / "python"))
-from gaknifur import program  # noqa: E402
+from gaknifur import etcs_run, program  # noqa: E402
 from gaknifur.journal import causes  # noqa: E402
 from gaknifur.journal.reading import read  # noqa: E402
 from gaknifur.simulation import random_lives  # noqa: E402
@@ -62,16 +62,16 @@ played_lives = {}
 
 
 def play(scenarios):
-    """The journal of some lives, and the lines that were released. The same lives are played once."""
+    """The journal of some lives, and the outputs that were released. The same lives are played once."""
     if scenarios not in played_lives:
         with tempfile.TemporaryDirectory() as room:
             image, scenario, released = Path(room) / "image", Path(room) / "scenario.json", []
             program.etcs("format", "--", str(image), str(SLOTS))
             for text in scenarios:
                 scenario.write_text(text)
-                status, printed = program.etcs("run", "--", str(scenario), str(image))
-                assert status == 0, printed[-1:]
-                released += printed
+                run = etcs_run.run_life(scenario, image)
+                assert run.ended == etcs_run.CARRIED_OUT, run.ended
+                released += run.released
             played_lives[scenarios] = read(image, replay=True, why=True), released
     return played_lives[scenarios]
 

@@ -15,6 +15,7 @@ TOP = Path(__file__).resolve().parents[2]
 WHOLE = (
     "README.md",
     "crates.txt",
+    "etcs",
     ".ci/run",
     "docs",
     "suites",
@@ -200,7 +201,7 @@ def main():
         copy(top)
         if not review(top):
             sys.exit("tests/trace/planted.py: a review that was made doesn't stand on its page")
-        for tool in ("tables", "review"):
+        for tool in ("tables", "braking_curve", "review"):
             subprocess.run([top / "tools" / tool], check=True)
         for tool in ("trace", "docs"):
             if (run := checked(top, tool, "--check")).returncode:

@@ -45,17 +45,17 @@ def printed(*words, **changes):
     return status, [json.loads(line) for line in text.splitlines()]
 
 
-# The enums whose names are words of `reasons`: first number, file and variants.
-MIRRORS = (BrakeCause, 0, "words", "BrakeCause"), (TripCause, 1, "trips", "TripCause"), (LimitCause, 1, "limit_words", "LimitKind")
+# The enums whose names are those of `reasons`: first number, file and variants.
+MIRRORS = (BrakeCause, 0, "cause_texts", "BrakeCause"), (TripCause, 1, "trips", "TripCause"), (LimitCause, 1, "limit_texts", "LimitKind")
 
 
 def mirrors_differ():
-    """Enums that haven't the words of the kernel's causes, in their order."""
+    """Enums that haven't the names of the kernel's causes, in their order."""
     for causes, first, file, variants in MIRRORS:
         names = {int(cause): cause.name.lower() for cause in causes if cause is not TripCause.UNKNOWN}
         source = (HERE.parents[1] / "crates" / "reasons" / "src" / f"{file}.rt").read_text()
-        word_of = re.search(r"fn \w*word\(.*?\n}\n", source, re.DOTALL)[0]
-        wanted = dict(enumerate(re.findall(rf'{variants}::\w+ => "(\w+)"', word_of), first))
+        name_of = re.search(r"fn \w*_name\(.*?\n}\n", source, re.DOTALL)[0]
+        wanted = dict(enumerate(re.findall(rf'{variants}::\w+ => "(\w+)"', name_of), first))
         if names != wanted or not wanted:
             yield f"{causes.__name__}: {names}, wanted {wanted}"
 
@@ -87,8 +87,8 @@ class Replays(Compared):
         self.met = Counter()
 
     def lives(self, name, data):
-        status, text = replayed(data, True)
-        wanted = [json.loads(line) for line in text.splitlines()][:-1]
+        status, _, lines = replayed(data)
+        wanted = lines[:-1]
         for program in self.asked():
             _, from_c = printed(program, self.image, "replay")
             if status == 1:
@@ -115,7 +115,7 @@ class Replays(Compared):
         if events is None:
             return
         step = 1 if self.images % OF_LAB == 0 or len(events) < 60 else 5
-        wanted = [without_sections(json.loads(members)) for *_, members in events]
+        wanted = [without_sections(members) for *_, members in events]
         for program in self.asked():
             _, from_c = printed(program, self.image, "why", step)
             known = [line for line in from_c if "refused" not in line]

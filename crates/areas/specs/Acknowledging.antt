@@ -1,7 +1,8 @@
 -- What becomes of one kind of acknowledgement, On Sight, Shunting or level 0, by what happens to it (SUBSET-026, 4.10,
--- 5.7, 5.9 and 5.10; the cells of the table and the times: this project's profile). Moments are milliseconds. Lists have
--- the newest first, but what one event brings stands in its order, the first first. A reader may take for granted that a
--- life begins with Nothing, that the kinds don't bear on each other, and that an event brings each happening at most once.
+-- 5.7, 5.9 and 5.10; the cells of the table and the times: this project's profile). Moments are milliseconds. Lists
+-- have the newest first, but what one event brings stands in its order, the first first. A reader may take for granted
+-- that a life begins with Nothing, that the kinds don't bear on each other, and that an event brings each happening at
+-- most once.
 use Rattle.std.specs.Prelude.{ℕ, ◌+◌, nat_le, Bool, true, false, Option, List, [], ◌∷◌}
 use Rattle.std.specs.Option.{option_map_or}
 use Rattle.areas.specs.declared.acknowledgement.Acknowledgement.{Acknowledgement}
@@ -25,10 +26,10 @@ pub data Next : Type 0 where
 
 -- a line of the table
 abbrev pub line : Next → Next → Next → Next → Acknowledgement → Next
-line was_nothing was_asked was_done was_owed state.Nothing = was_nothing
-line was_nothing was_asked was_done was_owed state.Requested = was_asked
-line was_nothing was_asked was_done was_owed state.Done = was_done
-line was_nothing was_asked was_done was_owed (state.Owed since) = was_owed
+line was_nothing was_requested was_done was_owed state.Nothing = was_nothing
+line was_nothing was_requested was_done was_owed state.Requested = was_requested
+line was_nothing was_requested was_done was_owed state.Done = was_done
+line was_nothing was_requested was_done was_owed (state.Owed since) = was_owed
 
 abbrev pub table : Happening → Acknowledgement → Next
 -- in each line, by what it was before: Nothing, Requested, Done, Owed

@@ -33,7 +33,7 @@ pub record IsDone (happenings : List Happening) : Type 0 where
   pub later : List Happening
   pub earlier : List Happening
   pub in_turn : happenings ≡ later ++ Happening.Acknowledged ∷ earlier
-  pub was_asked : after_all earlier ≡ state.Requested
+  pub was_requested : after_all earlier ≡ state.Requested
   pub still : list_any ends_done later ≡ false
 
 -- what ends that something is owed: an acknowledgement, or a mode that deletes it; a power-up begins with no happening

@@ -24,7 +24,7 @@ area_of scale start reported = record {
   start = start;
   end = end_from scale start reported.length;
   speed = reported.speed;
-  asked_from = start -ℤ pos (in_cm scale reported.acknowledgement);
+  acknowledgement_from = start -ℤ pos (in_cm scale reported.acknowledgement);
 }
 
 -- each start counts from the start of the area before, the first from a place

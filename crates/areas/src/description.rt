@@ -27,7 +27,7 @@ pub fn areas_of(packet: &ModeProfile, place: GroupPlace) -> ArrayVec<Area, MOST_
             start: at,
             end: end_from(at, scale, area.length),
             speed: area.speed,
-            asked_from: at.back(area.acknowledgement.in_scale(scale)),
+            acknowledgement_from: at.back(area.acknowledgement.in_scale(scale)),
         });
     }
     areas

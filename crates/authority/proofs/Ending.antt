@@ -19,11 +19,11 @@ use Rattle.authority.specs.Steps.{is_over_in, taken_back_in, overlap_in, reporte
 find_left : {X : Type 0} (p q : X → Bool) (xs : List X) → find p (filter (λ x. not (q x)) xs) ≡ find (λ x. p x && not (q x)) xs
 find_left p q [] = refl
 find_left p q (x ∷ xs) =
-    let both : (p x ≡ true) ⊎ (p x ≡ false) = cases_Bool (p x) in
+    let cases : (p x ≡ true) ⊎ (p x ≡ false) = cases_Bool (p x) in
     let rest = find_left p q xs in
     elim (q x) as (λ b. find p (cond (not b) (x ∷ filter (λ x. not (q x)) xs) (filter (λ x. not (q x)) xs)) ≡ cond (p x && not b) (Some x) (find (λ x. p x && not (q x)) xs)) [
-      | true ↦ elim both [ inl e ↦ rw e rest | inr e ↦ rw e rest ]
-      | false ↦ elim both [ inl e ↦ rw e refl | inr e ↦ rw e rest ]
+      | true ↦ elim cases [ inl e ↦ rw e rest | inr e ↦ rw e rest ]
+      | false ↦ elim cases [ inl e ↦ rw e refl | inr e ↦ rw e rest ]
     ]
 
 timer_is : (end : ℤ) (scale : Scale) (now : ℕ) (seen : List Sight) (timer : Option EndTimer) →

@@ -51,7 +51,7 @@ fn push_timed(
     entry: Cm,
     section: &Section,
 )
-    requires room { array_vec_len timed.old < MOST_SECTIONS }
+    requires space { array_vec_len timed.old < MOST_SECTIONS }
     requires near { HasReach entry }
     ensures items { timed.new.items ≡ timed.old.items ++ timed_one scale entry section.now }
     ensures len { array_vec_len timed.new ≤ array_vec_len timed.old + 1 }

@@ -29,7 +29,7 @@ pub struct TimedSection {
     pub time: Timer,
 }
 
-/// Fills room that isn't in use.
+/// Fills unused elements.
 impl Default for TimedSection {
     fn default() -> TimedSection {
         TimedSection {

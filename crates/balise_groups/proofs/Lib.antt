@@ -5,5 +5,5 @@ pub mod OneName
 pub mod Places
 pub mod Relation
 pub mod Standing
-pub mod Rooms
+pub mod PacketCounts
 pub mod Description

@@ -78,7 +78,7 @@ at_most (suc n) rs b d =
     let shorter = at_most n (drop_one n rs) (dropped_below n rs b d) (dropped_differ n rs d) in
     omega (arith, shorter, longer n rs)
 
--- a reading of another place leaves room
+-- a reading of another place leaves space
 other_place : (rs : List Reading) (r q : Reading) → is_read rs q.telegram.header.position ≡ false → is_at q.telegram.header.position r ≡ false →
     is_read (rs ++ r ∷ []) q.telegram.header.position ≡ false
 other_place [] r q h e = ap (λ b. b || false) e
@@ -101,8 +101,8 @@ pub fit_more : (rs : List Reading) (r : Reading) → HaveOwnPlaces rs → r.tele
 fit_more rs r f b h = record { differ = differ_more rs r f.differ h; below = below_more 8 rs r f.below b }
 
 -- one more reading of another place: there were fewer than eight
-pub has_room : (rs : List Reading) (r : Reading) → HaveOwnPlaces rs → r.telegram.header.position < 8 → is_read rs r.telegram.header.position ≡ false → length rs < 8
-has_room rs r f b h =
+pub has_space : (rs : List Reading) (r : Reading) → HaveOwnPlaces rs → r.telegram.header.position < 8 → is_read rs r.telegram.header.position ≡ false → length rs < 8
+has_space rs r f b h =
     let more = fit_more rs r f b h in
     let short = at_most 8 (rs ++ r ∷ []) more.below more.differ in
     let one = length-append rs (r ∷ []) in

@@ -46,12 +46,12 @@ one_group : (first : Reading) (rs : List Reading) → list_any (differs first) r
 one_group first rs h = record {
   all = λ r c. (
       let no = none_passes (differs first) rs h r c in
-      let both : (t l : Bool) → not (t && l) ≡ false → (t ≡ true) × (l ≡ true) =
+      let are_true : (t l : Bool) → not (t && l) ≡ false → (t ≡ true) × (l ≡ true) =
       λ t l. elim t as (λ t. not (t && l) ≡ false → (t ≡ true) × (l ≡ true)) [
         | true ↦ elim l as (λ l. not (true && l) ≡ false → (true ≡ true) × (l ≡ true)) [ true ↦ λ k. (refl, refl) | false ↦ λ k. cc ]
         | false ↦ λ k. cc
       ] in
-      let w = both (r.telegram.header.last_position == first.telegram.header.last_position) (same_flag r.telegram.header.linked first.telegram.header.linked) no in
+      let w = are_true (r.telegram.header.last_position == first.telegram.header.last_position) (same_flag r.telegram.header.linked first.telegram.header.linked) no in
       let total = w.0 in
       (grind (arith, nat_tests, total), same_flag_is r.telegram.header.linked first.telegram.header.linked w.1));
 }
@@ -92,9 +92,9 @@ no_counter rs h one =
 each_passes : (n : ℕ) (test : ℕ → Bool) → all_below n test ≡ true → (k : ℕ) → k < n → test k ≡ true
 each_passes zero test h k l = absurd (omega (arith, l))
 each_passes (suc n) test h k l =
-    let both : (a b : Bool) → (a && b) ≡ true → (a ≡ true) × (b ≡ true) =
+    let are_true : (a b : Bool) → (a && b) ≡ true → (a ≡ true) × (b ≡ true) =
     λ a b. elim a as (λ a. (a && b) ≡ true → (a ≡ true) × (b ≡ true)) [ true ↦ λ k. (refl, k) | false ↦ λ k. cc ] in
-    let w = both (all_below n test) (test n) h in
+    let w = are_true (all_below n test) (test n) h in
     let cases : (k ≡ n) ⊎ (k < n) = grind (arith, l) in
     elim cases [ inl same ↦ ap test same ∙ w.1 | inr less ↦ each_passes n test w.0 k less ]
 

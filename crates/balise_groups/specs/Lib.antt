@@ -5,4 +5,4 @@ pub mod Laws
 pub mod Places
 pub mod Relation
 pub mod Description
-pub mod Rooms
+pub mod PacketCounts

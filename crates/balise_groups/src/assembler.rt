@@ -3,7 +3,7 @@ ghost use Rattle.std.specs.Prelude.{◌≡◌, ◌+◌, ◌≤◌, ℕ, List, []
 ghost use Rattle.balise_groups.specs.Closing.{close_of};
 ghost use Rattle.balise_groups.specs.Groups.{GroupEntry, Groups, KnownGroups, seen_at, is_close, is_passed, goes_on, ended, ended_if_whole, joined_by, close_if_whole, with_reading, known_of, known, taken_by, ended_by};
 ghost use Rattle.balise_groups.specs.Groups.GroupEntry.{Read, Went};
-ghost use Rattle.balise_groups.specs.Rooms.{most_packets, packets_at, packets_in, packets_of_closed, packets_of_taken};
+ghost use Rattle.balise_groups.specs.PacketCounts.{most_packets, packets_at, packets_in, packets_of_closed, packets_of_taken};
 
 use crate::message::Closed;
 use crate::reading::Reading;
@@ -144,7 +144,7 @@ impl Assembler {
     }
 
     /// Whether the group being read is left at a path of the life, in centimetres: more than 1,300 cm beyond its last
-    /// telegram. While it isn't, `moved` answers None and changes nothing; its answer has room for a whole message, so
+    /// telegram. While it isn't, `moved` answers None and changes nothing; its answer has space for a whole message, so
     /// who asks at each movement asks this first.
     pub fn is_leaving(&self, path: Length) -> bool
         ensures answer { result ≡ is_passed path self.now.current }

@@ -2,7 +2,7 @@
 ghost use Rattle.std.specs.Prelude.{◌≡◌, ◌≤◌, List, [], false};
 ghost use Rattle.balise_groups.specs.Closing.{is_whole, close_of};
 ghost use Rattle.balise_groups.specs.Groups.{with_reading};
-ghost use Rattle.balise_groups.specs.Rooms.{most_packets, packets_in};
+ghost use Rattle.balise_groups.specs.PacketCounts.{most_packets, packets_in};
 
 use crate::closing::{are_all_read, close, was_read};
 use crate::message::Closed;

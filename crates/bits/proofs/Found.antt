@@ -38,11 +38,11 @@ Found (then_ m f) k = Found m (λ x P. Found (f x) (λ y Q. k y (λ c. P c × Q 
 
 -- what a layout gives for one value
 pub record At {F C A : Type 0} (m : Layout F C A) (k : A → (C → Type 0) → Type 0) (x : A) (bits : List Bool) : Type 1 where
-  pub Where : C → Type 0
-  pub holds : k x Where
-  pub again : (c : C) → Where c → value m c ≡ Some x
-  pub fits : (c : C) → Where c → Fits m c
-  pub put : (c : C) (front : List Bool) → Where c → front ++ bits ≡ appended m c front
+  pub Chosen : C → Type 0
+  pub holds : k x Chosen
+  pub again : (c : C) → Chosen c → value m c ≡ Some x
+  pub fits : (c : C) → Chosen c → Fits m c
+  pub put : (c : C) (front : List Bool) → Chosen c → front ++ bits ≡ appended m c front
 
 -- a part that is there where it is given
 record PartBits {F D : Type 0} (m : Layout F D D) (given : Bool) (x : Option D) (front bits : List Bool) : Type 0 where
@@ -77,14 +77,14 @@ each_bits m (suc n) (x ∷ xs) front bits one s =
 
 pub spelled : {F C A : Type 0} (m : Layout F C A) (k : A → (C → Type 0) → Type 0) (x : A) (bits : List Bool) → Found m k → Spells m x bits → At m k x bits
 spelled (done y) k x bits h s = record {
-  Where = λ c. Unit {0};
+  Chosen = λ c. Unit {0};
   holds = subst (λ (z : _). k z (λ c. Unit {0})) (sym s.0) h;
   again = λ c w. ap Some (sym s.0);
   fits = λ c w. tt;
   put = λ c front w. glue_end front bits s.1;
 }
 spelled (unless b f) k x bits h s = record {
-  Where = λ c. Unit {0};
+  Chosen = λ c. Unit {0};
   holds = h s.0;
   again = λ c w. refl;
   fits = λ c w. s.0;
@@ -95,34 +95,34 @@ spelled (field name f g codes get) k x bits h s =
     let same : codes.number x ≡ number bits = h.0.back (number bits) x small s.1 in
     let has : HasNumber codes x = record { small = subst (λ (v : ℕ). v < 2 ^ codes.width) (sym same) small; own = ap codes.value same ∙ s.1 } in
     record {
-      Where = λ c. get c ≡ x;
+      Chosen = λ c. get c ≡ x;
       holds = h.1 x has;
       again = λ c w. ap Some w;
       fits = λ c w. subst (λ (z : _). HasNumber codes z) (sym w) has;
       put = λ c front w. ap (λ (t : List Bool). front ++ t) (field_bits codes.width (codes.number x) bits s.0 same ∙ ap (λ (z : _). number_bits codes.width (codes.number z)) (sym w));
     }
 spelled (run n f get) k x bits h s = record {
-  Where = λ c. get c ≡ x;
+  Chosen = λ c. get c ≡ x;
   holds = h x;
   again = λ c w. ap Some w;
   fits = λ c w. ap length (w ∙ sym s.1) ∙ s.0;
   put = λ c front w. ap (λ (t : List Bool). front ++ t) (s.1 ∙ sym w);
 }
 spelled (choice true m n) k x bits h s =
-    let a = spelled m k x bits h s in record { Where = a.Where; holds = a.holds; again = a.again; fits = a.fits; put = a.put }
+    let a = spelled m k x bits h s in record { Chosen = a.Chosen; holds = a.holds; again = a.again; fits = a.fits; put = a.put }
 spelled (choice false m n) k x bits h s =
-    let a = spelled n k x bits h s in record { Where = a.Where; holds = a.holds; again = a.again; fits = a.fits; put = a.put }
+    let a = spelled n k x bits h s in record { Chosen = a.Chosen; holds = a.holds; again = a.again; fits = a.fits; put = a.put }
 spelled (kind make get m) k x bits h s =
     let a = spelled m (λ y Q. k (make y) (λ c. (d : _) × (get c ≡ Some d) × Q d)) s.0 bits h s.2 in
     record {
-      Where = λ c. (d : _) × (get c ≡ Some d) × a.Where d;
-      holds = subst (λ (z : _). k z (λ c. (d : _) × (get c ≡ Some d) × a.Where d)) (sym s.1) a.holds;
+      Chosen = λ c. (d : _) × (get c ≡ Some d) × a.Chosen d;
+      holds = subst (λ (z : _). k z (λ c. (d : _) × (get c ≡ Some d) × a.Chosen d)) (sym s.1) a.holds;
       again = λ c w. ap (λ (o : Option _). option_and_then (λ d. option_map make (value m d)) o) w.1 ∙ ap (λ (o : Option _). option_map make o) (a.again w.0 w.2) ∙ ap Some (sym s.1);
       fits = λ c w. (w.0, w.1, a.fits w.0 w.2);
       put = λ c front w. a.put w.0 front w.2 ∙ sym (ap (λ (o : Option _). option_map_or (λ d. appended m d front) o front) w.1);
     }
 spelled (part given m get) k x bits h s = record {
-  Where = λ c. get c ≡ x;
+  Chosen = λ c. get c ≡ x;
   holds = h.1 x (part_bits m get given x [] bits h.0 s).there;
   again = λ c w. ap Some w;
   fits = λ c w.
@@ -131,7 +131,7 @@ spelled (part given m get) k x bits h s = record {
   put = λ c front w. (part_bits m get given x front bits h.0 s).put ∙ ap (λ (o : Option _). option_map_or (λ d. appended m d front) o front) (sym w);
 }
 spelled (inner m get) k x bits h s = record {
-  Where = λ c. get c ≡ x;
+  Chosen = λ c. get c ≡ x;
   holds = h.1 x;
   again = λ c w. ap Some w;
   fits = λ c w. subst (λ (z : _). Fits m z × (value m z ≡ Some z)) (sym w) (h.0.fits x bits s);
@@ -140,7 +140,7 @@ spelled (inner m get) k x bits h s = record {
 spelled (measured f before m) k x bits h s =
     let a = spelled m (λ p Q. k p.1 Q) (s.0, x) bits h s.1 in
     record {
-      Where = a.Where;
+      Chosen = a.Chosen;
       holds = a.holds;
       again = λ c w. ap (λ (o : Option _). option_map (λ p. p.1) o) (a.again c w);
       fits = λ c w.
@@ -152,7 +152,7 @@ spelled (more {D = D} n m before get) k x bits h s =
     let own = each_bits m n s.0 [] bits h.0 s.2 in
     let cut : (c : _) → get c ≡ before ++ s.0 → drop (length before) (get c) ≡ s.0 = λ c w. ap (drop (length before)) w ∙ drop_at before s.0 (length before) refl in
     record {
-      Where = λ c. get c ≡ before ++ s.0;
+      Chosen = λ c. get c ≡ before ++ s.0;
       holds = subst (λ (z : List _). k z (λ c. get c ≡ before ++ s.0)) (sym s.1) (h.1 s.0 own.long own.fits);
       again = λ c w. ap Some (w ∙ sym s.1);
       fits = λ c w. (
@@ -163,12 +163,12 @@ spelled (more {D = D} n m before get) k x bits h s =
       put = λ c front w. (each_bits m n s.0 front bits h.0 s.2).put ∙ ap (λ (t : List _). each_taken (λ x left. appended m x left) t front) (sym (cut c w));
     }
 spelled (reported_as g m) k x bits h s =
-    let a = spelled m k x bits h s in record { Where = a.Where; holds = a.holds; again = a.again; fits = a.fits; put = a.put }
+    let a = spelled m k x bits h s in record { Chosen = a.Chosen; holds = a.holds; again = a.again; fits = a.fits; put = a.put }
 spelled (then_ m f) k y bits h s =
     let one = spelled m (λ x P. Found (f x) (λ z Q. k z (λ c. P c × Q c))) s.0 s.1 h s.4 in
-    let two = spelled (f s.0) (λ z Q. k z (λ c. one.Where c × Q c)) y s.2 one.holds s.5 in
+    let two = spelled (f s.0) (λ z Q. k z (λ c. one.Chosen c × Q c)) y s.2 one.holds s.5 in
     record {
-      Where = λ c. one.Where c × two.Where c;
+      Chosen = λ c. one.Chosen c × two.Chosen c;
       holds = two.holds;
       again = λ c w. ap (λ (o : Option _). option_and_then (λ x. value (f x) c) o) (one.again c w.0) ∙ two.again c w.1;
       fits = λ c w. (one.fits c w.0, subst (λ (o : Option _). IfSome o (λ z. Fits (f z) c)) (sym (one.again c w.0)) (two.fits c w.1));

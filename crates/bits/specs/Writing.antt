@@ -64,21 +64,21 @@ size (reported_as g m) c = size m c
 size (then_ m f) c = size m c + option_map_or (λ x. size (f x) c) (value m c) 0
 
 -- the bits of a field
-abbrev pub shown_bits : ListedField → List Bool
-shown_bits (named name width v) = number_bits width v
-shown_bits (raw bits) = bits
+abbrev pub listed_bits : ListedField → List Bool
+listed_bits (named name width v) = number_bits width v
+listed_bits (raw bits) = bits
 
 -- bits with those of a field after them
 abbrev pub with_bits : List Bool → ListedField → List Bool
-with_bits front x = front ++ shown_bits x
+with_bits front x = front ++ listed_bits x
 
 -- The bits before, and then those of a value.
 abbrev pub appended : {F C A : Type 0} → Layout F C A → C → List Bool → List Bool
 appended m c front = taken with_bits m c front
 
 -- The fields of a value.
-abbrev pub shown : {F C A : Type 0} → Layout F C A → C → List ListedField
-shown m c = taken (λ s x. s ++ x ∷ []) m c []
+abbrev pub field_list : {F C A : Type 0} → Layout F C A → C → List ListedField
+field_list m c = taken (λ s x. s ++ x ∷ []) m c []
 
 -- what becomes of s when it takes fields, one after another
 abbrev pub each_field : {S : Type 0} → (S → ListedField → S) → List ListedField → S → S

@@ -72,7 +72,7 @@ impl<const N: usize> BitWriter<N> {
 
     /// Whether n more bits fit.
     #[inline]
-    pub fn has_room(&self, n: u64) -> bool
+    pub fn has_space(&self, n: u64) -> bool
         ensures { IsTrue result ↔ (length self.now + n ≤ 8 * N) }
     {
         let left = N - self.bytes.len();
@@ -85,11 +85,11 @@ impl<const N: usize> BitWriter<N> {
     pub fn put(&mut self, n: u32, v: u64) -> Result<(), Full>
         requires bits { n ≤ 64 }
         requires value { v < 2 ^ n }
-        ensures room { IsOk result ↔ (length self.old + n ≤ 8 * N) }
+        ensures space { IsOk result ↔ (length self.old + n ≤ 8 * N) }
         ensures ok { OnOk result (self.new ≡ self.old ++ number_bits n v) }
         ensures err { OnErr result (self.new ≡ self.old) }
     {
-        if !self.has_room(n as u64) {
+        if !self.has_space(n as u64) {
             return Err(Full);
         }
         self.write(n, v);
@@ -102,7 +102,7 @@ impl<const N: usize> BitWriter<N> {
     pub fn write(&mut self, n: u32, v: u64)
         requires bits { n ≤ 64 }
         requires value { v < 2 ^ n }
-        requires room { length self.old + n ≤ 8 * N }
+        requires space { length self.old + n ≤ 8 * N }
         ensures value { self.new ≡ self.old ++ number_bits n v }
         ensures len { length self.new ≡ length self.old + n }
     {
@@ -118,7 +118,7 @@ impl<const N: usize> BitWriter<N> {
     fn write_short(&mut self, n: u32, v: u64)
         requires bits { n ≤ 32 }
         requires value { v < 2 ^ n }
-        requires room { length self.old + n ≤ 8 * N }
+        requires space { length self.old + n ≤ 8 * N }
         ensures value { self.new ≡ self.old ++ number_bits n v }
         ensures len { length self.new ≡ length self.old + n }
     {
@@ -153,7 +153,7 @@ impl<const N: usize> BitWriter<N> {
     fn copy(&mut self, bits: &mut BitReader<'_>, n: u32)
         requires bits { n ≤ 32 }
         requires some { n ≤ length bits.old }
-        requires room { length self.old + n ≤ 8 * N }
+        requires space { length self.old + n ≤ 8 * N }
         ensures value { self.new ≡ self.old ++ take n bits.old }
         ensures rest { bits.new ≡ drop n bits.old }
     {

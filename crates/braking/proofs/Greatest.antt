@@ -47,9 +47,9 @@ pub greatest_both : (p q : ℕ → Bool) (n : ℕ) → ((v w : ℕ) → w ≤ v 
 unfolding greatest
 greatest_both p q zero lower = refl
 greatest_both p q (suc n) lower =
-    let both : ℕ → Bool = λ (k : ℕ). p k && q k in
-    let same : p (suc n) ≡ true → greatest both n ≡ greatest q n = λ e. greatest_same both q n (λ k a. rw (lower (suc n) k (omega arith) e)) in
-    let cases : (b : Bool) → p (suc n) ≡ b → cond (b && q (suc n)) (suc n) (greatest both n) ≡ greatest q (cond b (suc n) (greatest p n)) =
+    let joint : ℕ → Bool = λ (k : ℕ). p k && q k in
+    let same : p (suc n) ≡ true → greatest joint n ≡ greatest q n = λ e. greatest_same joint q n (λ k a. rw (lower (suc n) k (omega arith) e)) in
+    let cases : (b : Bool) → p (suc n) ≡ b → cond (b && q (suc n)) (suc n) (greatest joint n) ≡ greatest q (cond b (suc n) (greatest p n)) =
     elim [
       | true ↦ λ e. (rw (same e))
       | false ↦ λ e. greatest_both p q n lower

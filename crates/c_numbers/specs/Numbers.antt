@@ -1,8 +1,8 @@
--- The numbers by which C sees what isn't a number (this project's profile; docs/explain/brakes.md has what decides a limit at length).
--- What isn't known is 0.
+-- The numbers by which C sees what isn't a number (this project's profile; docs/explain/brakes.md has what decides a
+-- limit at length). What isn't known is 0.
 use Rattle.std.specs.Prelude.{ℕ, ℤ, pos, Bool, if◌then◌else◌, Option, Some, None}
-use Rattle.reasons.specs.declared.limit_words.LimitKind.{LimitKind}
-use Rattle.reasons.specs.declared.limit_words.LimitKind.TheVariants as kind
+use Rattle.reasons.specs.declared.limit_texts.LimitKind.{LimitKind}
+use Rattle.reasons.specs.declared.limit_texts.LimitKind.TheVariants as kind
 
 -- the number of the interface
 abbrev pub this_abi : ℕ

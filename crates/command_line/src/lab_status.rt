@@ -74,10 +74,10 @@ pub fn unread_for<R: Eprint>(rt: &R, path: &str, error: &io::Error) -> Status {
 pub fn text_reported<R: Eprint, W: Write>(
     rt: &R,
     text: &str,
-    word: &str,
+    command: &str,
     out: &mut W,
 ) -> Result<Status, Status> {
-    reported(rt, word, out.write_all(text.as_bytes()))?;
+    reported(rt, command, out.write_all(text.as_bytes()))?;
     Ok(Status::Whole)
 }
 

@@ -22,7 +22,7 @@ field_text f = codes " " ++ name_text f.name ++ codes "=" ++ decimal f.number
 abbrev pub header_line : Header → List ℕ
 header_line h = codes "telegram" ++ flat_map field_text (header_fields h) ++ codes "\n"
 
--- a word in place of the body of a packet that is skipped
+-- a text in place of the body of a packet that is skipped
 abbrev pub body_text : Packet → List ℕ
 body_text (packets.Other p) = codes " skipped"
 body_text _ = []

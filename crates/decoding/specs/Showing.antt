@@ -30,7 +30,7 @@ IsNoHex text before after = (error : FromHexError) × (decode_of text ≡ Err er
 
 -- What the bytes are answered that the digits spell. Or Refused: they spell none, or memory was refused, and the line
 -- of that was written.
-abbrev pub IsShown : List ℕ → Option (List ℕ) → Option (List ℕ) → Status → Type 0
-IsShown text before after status =
+abbrev pub IsPrinted : List ℕ → Option (List ℕ) → Option (List ℕ) → Status → Type 0
+IsPrinted text before after status =
     ((bytes : List ℕ) × (decode_of text ≡ Ok bytes) × IsAnswered bytes before after status)
     ⊎ ((status ≡ Refused) × (IsNoHex text before after ⊎ Appends before after (codes "refused memory\n")))

@@ -2,7 +2,7 @@
 ghost use Rattle.std.specs.Prelude.{◌≡◌, ◌%◌, length, codes, IfOk, OnOk};
 ghost use Rattle.std.specs.Io.KnownBytes.{Appends};
 ghost use Rattle.decoding.specs.Lines.{refusal_line};
-ghost use Rattle.decoding.specs.Showing.{IsAnswered, IsShown};
+ghost use Rattle.decoding.specs.Showing.{IsAnswered, IsPrinted};
 
 use crate::report::print_telegram;
 use hex::FromHexError;
@@ -37,11 +37,11 @@ fn show<W: Write>(bytes: &[u8], out: &mut W) -> io::Result<Status>
 }
 
 /// Writes the telegram that hex digits carry, two a byte, and answers Done. Else it writes why they carry none, and
-/// answers Refused: `refused hex`, `refused memory`, or number and name of the fault (`docs/reference/refusals.md`). Done exactly
-/// where they carry one, unless memory is refused, which is never asked for an odd number of digits. The error is that
-/// of a write.
+/// answers Refused: `refused hex`, `refused memory`, or number and name of the fault (`docs/reference/refusals.md`).
+/// Done exactly where they carry one, unless memory is refused, which is never asked for an odd number of digits. The
+/// error is that of a write.
 pub fn decode_text<W: Write>(alloc: Global, text: &str, out: &mut W) -> io::Result<Status>
-    ensures shown { IfOk result (IsShown text.now (W.contents out.old) (W.contents out.new)) }
+    ensures text_printed { IfOk result (IsPrinted text.now (W.contents out.old) (W.contents out.new)) }
     ensures quiet { length text.now % 2 ≡ 1 → OnOk result (Appends (W.contents out.old) (W.contents out.new) (codes "refused hex\n")) }
 {
     match hex::decode(alloc, text) {

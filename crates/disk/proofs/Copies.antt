@@ -9,7 +9,7 @@ use Rattle.disk.specs.State.{sector_of}
 -- one sector more is copied
 pub copied_more : (out bytes : List ℕ) (i k : ℕ) (content : ℕ → List ℕ) → k ≡ 512 → length bytes ≡ 512 → 512 * i + 512 ≤ length out → ((j : ℕ) → j < i → sector_of out j ≡ content j) → bytes ≡ content i
     → (j : ℕ) → j < i + 1 → sector_of (put_mid (512 * i) k out bytes) j ≡ content j
-copied_more out bytes i k content width size room so_far here j below =
+copied_more out bytes i k content width size space so_far here j below =
     let next : List ℕ = put_mid (512 * i) k out bytes in
     ⊎_elim
     (λ (lt : j < i).

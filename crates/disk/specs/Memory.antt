@@ -1,4 +1,4 @@
--- What contracts see of a disk in memory (this project's profile). Sectors are numbered from 0; room is counted in
+-- What contracts see of a disk in memory (this project's profile). Sectors are numbered from 0; space is counted in
 -- calls and bytes.
 use Rattle.std.specs.Prelude.{◌≡◌, ℕ, ◌+◌, ◌-◌, ◌*◌, ◌%◌, ◌^◌, ◌≤◌, ◌&&◌, ◌++◌, ◌∷◌, [], nat_le, nat_lt, Bool, true, false, if◌then◌else◌, List, length, All, Result, is_err}
 use Rattle.disk.specs.State.{State, now, contents_of, IsImage, IsSynced}
@@ -10,29 +10,29 @@ use Rattle.disk.specs.declared.choice.Choice.{Choice}
 use Rattle.disk.specs.declared.plan.Plan.{Plan}
 use Rattle.disk.specs.declared.plan.Plan.TheVariants.{Nothing}
 use Rattle.disk.specs.declared.plan.Fate.{Fate}
-use Rattle.disk.specs.declared.memory.Room.{Room}
+use Rattle.disk.specs.declared.memory.Space.{Space}
 use Rattle.disk.specs.declared.record.Call.{Call}
 
 -- What contracts see of a disk in memory: the bytes that it began with, the record of its calls with the bytes that
--- they handed in, its room, what is to go wrong, counted from which call on, and how many calls failed (this project's
+-- they handed in, its space, what is to go wrong, counted from which call on, and how many calls failed (this project's
 -- profile).
 pub record Recording : Type 0 where
   pub sectors : ℕ
   pub start : List ℕ
   pub calls : List Call
   pub written : List ℕ
-  pub room : Room
+  pub space : Space
   pub plan : Plan
   pub planned_at : ℕ
   pub faults : ℕ
 
 -- What is so of every disk in memory: it began with whole sectors, its calls are of sectors that it has, and it stays
--- within its room.
+-- within its space.
 pub record IsRecording (m : Recording) : Type 0 where
   pub whole : length m.start ≡ 512 * m.sectors
   pub recorded : All (IsWithin m.sectors (length m.written)) m.calls
-  pub calls_fit : length m.calls ≤ m.room.calls
-  pub bytes_fit : length m.written ≤ m.room.bytes
+  pub calls_fit : length m.calls ≤ m.space.calls
+  pub bytes_fit : length m.written ≤ m.space.bytes
   pub planned : m.planned_at ≤ length m.calls
 
 -- What contracts see of it as a disk. It is honest, and its moments are its calls: moment k is after k calls (this
@@ -52,17 +52,17 @@ plan_of m = m.plan
 abbrev pub calls_since : Recording → ℕ
 calls_since m = length m.calls - m.planned_at
 
--- all its room, used or not
-abbrev pub room_of : Recording → Room
-room_of m = m.room
+-- all its space, used or not
+abbrev pub space_of : Recording → Space
+space_of m = m.space
 
--- the bytes of its room for written sectors that are used
+-- the bytes of its space for written sectors that are used
 abbrev pub bytes_used : Recording → ℕ
 bytes_used m = length m.written
 
--- there is room for a call that hands in so many bytes
-abbrev pub has_room_for : ℕ → Recording → Bool
-has_room_for bytes m = nat_lt (length m.calls) m.room.calls && nat_le bytes (m.room.bytes - length m.written)
+-- there is space for a call that hands in so many bytes
+abbrev pub has_space_for : ℕ → Recording → Bool
+has_space_for bytes m = nat_lt (length m.calls) m.space.calls && nat_le bytes (m.space.bytes - length m.written)
 
 -- what the plan makes of the next call
 abbrev pub fate_now : Recording → Fate
@@ -78,17 +78,17 @@ pub record IsFresh (m : Recording) : Type 0 where
   pub since : calls_since m ≡ 0
   pub used : bytes_used m ≡ 0
 
--- What a call does that hands in so many bytes. It answers DiskFault exactly beyond the room and where the plan says
--- so. Beyond the room it changes nothing else than the count of failures, and the clock stands still; else the clock
--- goes up by one. The plan and the room stay.
+-- What a call does that hands in so many bytes. It answers DiskFault exactly beyond the space and where the plan says
+-- so. Beyond the space it changes nothing else than the count of failures, and the clock stands still; else the clock
+-- goes up by one. The plan and the space stay.
 pub record HasRun {T : Type 0} (bytes : ℕ) (result : Result T DiskFault) (old new : Recording) : Type 0 where
-  pub answer : is_err result ≡ (if has_room_for bytes old then fails (fate_now old) else true)
-  pub clock : (memory_state new).clock ≡ (memory_state old).clock + (if has_room_for bytes old then 1 else 0)
-  pub since : calls_since new ≡ calls_since old + (if has_room_for bytes old then 1 else 0)
-  pub used : bytes_used new ≡ bytes_used old + (if has_room_for bytes old then takes (fate_now old) bytes else 0)
+  pub answer : is_err result ≡ (if has_space_for bytes old then fails (fate_now old) else true)
+  pub clock : (memory_state new).clock ≡ (memory_state old).clock + (if has_space_for bytes old then 1 else 0)
+  pub since : calls_since new ≡ calls_since old + (if has_space_for bytes old then 1 else 0)
+  pub used : bytes_used new ≡ bytes_used old + (if has_space_for bytes old then takes (fate_now old) bytes else 0)
   pub plan : plan_of new ≡ plan_of old
-  pub room : room_of new ≡ room_of old
-  pub beyond : has_room_for bytes old ≡ false → new ≡ record old { faults = (old.faults + 1) % 2 ^ 64 }
+  pub space : space_of new ≡ space_of old
+  pub beyond : has_space_for bytes old ≡ false → new ≡ record old { faults = (old.faults + 1) % 2 ^ 64 }
 
 -- the same was last handed in for each sector
 abbrev pub SameHanded : Recording → Recording → Type 0
@@ -115,7 +115,7 @@ pub record IsNoted (call : Call) (bytes : List ℕ) (old new : Recording) : Type
   pub written : new.written ≡ old.written ++ bytes
   pub start : new.start ≡ old.start
   pub sectors : new.sectors ≡ old.sectors
-  pub room : new.room ≡ old.room
+  pub space : new.space ≡ old.space
   pub plan : new.plan ≡ old.plan
   pub planned_at : new.planned_at ≡ old.planned_at
   pub faults : new.faults ≡ old.faults

@@ -1,8 +1,8 @@
 //! Sectors of 512 bytes, and what a loss of power may leave of them (this project's profile).
 //!
-//! `Disk` is the model of a device, `WriteDisk` the part of it that writes and syncs, `put` a write that is on the medium
-//! when it returns, `Memory` a disk in memory that can lose power at any call, and `Liar` a disk that does not keep to the
-//! model.
+//! `Disk` is the model of a device, `WriteDisk` the part of it that writes and syncs, `put` a write that is on the
+//! medium when it returns, `Memory` a disk in memory that can lose power at any call, and `Liar` a disk that does not
+//! keep to the model.
 #![tactic(auto)]
 
 mod choice;
@@ -19,7 +19,7 @@ pub use device::{Disk, WriteDisk};
 pub use durable::put;
 pub use laws::settling_gives_each_image;
 pub use liar::Liar;
-pub use memory::{Memory, Room};
+pub use memory::{Memory, Space};
 pub use plan::{Fate, Plan};
 pub use record::{Call, Span};
 use thiserror::Error;

@@ -13,9 +13,9 @@ use std::alloc::Global;
 use std::marker::Model;
 use units::NoMemory;
 
-/// Room for the record of a `Memory`: so many calls, and so many bytes handed in.
+/// Space for the record of a `Memory`: so many calls, and so many bytes handed in.
 #[derive(Clone, Copy)]
-pub struct Room {
+pub struct Space {
     /// How many calls of `read`, `write` and `sync`.
     pub calls: usize,
     /// How many bytes handed in to `write`.
@@ -23,7 +23,7 @@ pub struct Room {
 }
 
 /// A disk in memory that can lose power. It keeps a record of its calls, from which its earlier images
-/// are read, in room that it takes when it is made. Once made, its calls take no memory, `settle` aside. A read does
+/// are read, in space that it takes when it is made. Once made, its calls take no memory, `settle` aside. A read does
 /// not go through the record: next to it a list says where the bytes of each sector are.
 #[derive(Drop)]
 pub struct Memory {
@@ -33,7 +33,7 @@ pub struct Memory {
     written: Vec<u8>,
     // Where a read finds each sector.
     places: Vec<Place>,
-    room: Room,
+    space: Space,
     plan: Plan,
     planned_at: usize,
     faults: u64,
@@ -45,7 +45,7 @@ impl Model for Memory {
 
     ghost Value = { Recording };
 
-    ghost view = { λ m. record { sectors = m.sectors; start = m.start.items; calls = m.calls.items; written = m.written.items; room = m.room; plan = m.plan; planned_at = m.planned_at; faults = m.faults } };
+    ghost view = { λ m. record { sectors = m.sectors; start = m.start.items; calls = m.calls.items; written = m.written.items; space = m.space; plan = m.plan; planned_at = m.planned_at; faults = m.faults } };
 
     ghost use Rattle.disk.specs.Kept.{IsKept};
 
@@ -53,29 +53,29 @@ impl Model for Memory {
 }
 
 impl Memory {
-    ghost use Rattle.disk.specs.Memory.{memory_state, plan_of, calls_since, room_of, bytes_used, has_room_for, fate_now, IsRecording, IsFresh, SameHanded, IsNoted};
+    ghost use Rattle.disk.specs.Memory.{memory_state, plan_of, calls_since, space_of, bytes_used, has_space_for, fate_now, IsRecording, IsFresh, SameHanded, IsNoted};
 
-    /// A disk of zeros with so many sectors of 512 bytes, with room for so many calls of `read`, `write` and `sync`,
-    /// and for so many sectors handed in to `write`. All the room is taken at once. NoMemory where it isn't there. A
-    /// call beyond the room answers DiskFault.
+    /// A disk of zeros with so many sectors of 512 bytes, with space for so many calls of `read`, `write` and `sync`,
+    /// and for so many sectors handed in to `write`. All the space is taken at once. NoMemory where it isn't there. A
+    /// call beyond the space answers DiskFault.
     pub fn new(alloc: Global, sectors: u64, calls: u64, written: u64) -> Result<Memory, NoMemory>
         ensures sectors { IfOk result (λ m. (memory_state m).sectors ≡ sectors) }
         ensures zeros { IfOk result (λ m. HoldsZeros sectors (contents_of (memory_state m))) }
         ensures fresh { IfOk result IsFresh }
-        ensures room { IfOk result (λ m. room_of m ≡ record { calls = calls; bytes = 512 * written }) }
+        ensures space { IfOk result (λ m. space_of m ≡ record { calls = calls; bytes = 512 * written }) }
     {
         let bytes = sectors.checked_mul(SECTOR_BYTES as u64).ok_or(NoMemory)? as usize;
-        let room = Room {
+        let space = Space {
             calls: calls as usize,
             bytes: written.checked_mul(SECTOR_BYTES as u64).ok_or(NoMemory)? as usize,
         };
         Ok(Memory {
             sectors,
             start: vec![in alloc; 0; bytes]?,
-            calls: Vec::with_capacity(alloc, room.calls)?,
-            written: Vec::with_capacity(alloc, room.bytes)?,
+            calls: Vec::with_capacity(alloc, space.calls)?,
+            written: Vec::with_capacity(alloc, space.bytes)?,
             places: unwritten(alloc, sectors as usize)?,
-            room,
+            space,
             plan: Plan::Nothing,
             planned_at: 0,
             faults: 0,
@@ -86,7 +86,7 @@ impl Memory {
     pub fn plan(&mut self, plan: Plan)
         ensures plan { plan_of self.new ≡ plan }
         ensures since { calls_since self.new ≡ 0 }
-        ensures room { room_of self.new ≡ room_of self.old }
+        ensures space { space_of self.new ≡ space_of self.old }
         ensures used { bytes_used self.new ≡ bytes_used self.old }
         ensures state { memory_state self.new ≡ memory_state self.old }
         ensures handed { SameHanded self.old self.new }
@@ -123,12 +123,12 @@ impl Memory {
         let _fields = &self.start;
     }
 
-    // Whether the record has room for a call that hands in so many bytes.
-    pub(crate) fn has_room(&self, bytes: usize) -> bool
-        ensures room { result ≡ has_room_for bytes self.now }
+    // Whether the record has space for a call that hands in so many bytes.
+    pub(crate) fn has_space(&self, bytes: usize) -> bool
+        ensures space { result ≡ has_space_for bytes self.now }
         ensures kept { IsRecording self.now }
     {
-        self.calls.len() < self.room.calls && bytes <= self.room.bytes - self.written.len()
+        self.calls.len() < self.space.calls && bytes <= self.space.bytes - self.written.len()
     }
 
     // What becomes of the next call.
@@ -140,7 +140,7 @@ impl Memory {
 
     // Notes a call, and the bytes that it hands in. It takes no memory.
     pub(crate) fn note(&mut self, call: Call, bytes: &[u8])
-        requires room { IsTrue (has_room_for (length bytes.now) self.old) }
+        requires space { IsTrue (has_space_for (length bytes.now) self.old) }
         requires within { IsWithin self.old.sectors (length self.old.written + length bytes.now) call }
         ensures { IsNoted call bytes.now self.old self.new }
     {

@@ -3,7 +3,7 @@ ghost use Rattle.std.specs.Prelude.{◌≡◌};
 ghost use Rattle.disk.specs.Plan.{fate_of};
 
 /// What is to go wrong with a `Memory`. Calls of `read`, `write` and `sync` are counted from 0 since
-/// the plan was made; one that is beyond the room is not counted.
+/// the plan was made; one that is beyond the space is not counted.
 #[derive(Clone, Copy)]
 pub enum Plan {
     /// No call fails.

@@ -35,7 +35,7 @@ fn first_sector_of(slots: Option<u32>) -> Option<[u8; SECTOR_BYTES]>
 // Lays what the first sector reads as over bytes that were read from a sector on.
 fn lay_over(given: &Option<[u8; SECTOR_BYTES]>, first: u64, bytes: &mut [u8])
     requires sized { ForSome given.now (λ sector. length sector ≡ 512) }
-    requires room { 512 ≤ length bytes.old }
+    requires space { 512 ≤ length bytes.old }
     ensures { bytes.new ≡ laid_over given.now first bytes.old }
 {
     let Some(sector) = given else {
@@ -83,7 +83,7 @@ impl<D: Disk> GivenSlots<D> {
 impl<D: Disk> WriteDisk for GivenSlots<D> {
     ghost use Rattle.etcs_lab.specs.Given.{given_state};
 
-    ghost state = { λ it. given_state it.first it.faults (D.state it.disk) };
+    ghost state = { λ device. given_state device.first device.faults (D.state device.disk) };
 
     ghost reserve = { λ _. 0 };
 

@@ -92,7 +92,7 @@ pub extern "C" fn etcs_unit_fail_(unit: &mut EtcsUnit) -> u32 {
     fail_call(unit).number()
 }
 
-/// Releases what was held back, all of it, into room for eight.
+/// Releases what was held back, all of it, into a buffer for eight.
 #[unsafe(no_mangle)]
 pub extern "C" fn etcs_unit_release_(
     unit: &mut EtcsUnit,
@@ -120,7 +120,7 @@ pub extern "C" fn etcs_abi() -> u32 {
     abi_call()
 }
 
-/// Writes the version of the product into room for it.
+/// Writes the version of the product into a buffer.
 #[unsafe(no_mangle)]
 pub extern "C" fn etcs_version_(out: &mut [u8], len: &mut u32) -> u32 {
     version_call(out, len).number()
@@ -144,8 +144,8 @@ pub extern "C" fn etcs_unit_close_(alloc: Global, unit: &mut EtcsUnit) -> u32 {
     close_call(alloc, unit).number()
 }
 
-/// Reports what is to be done, from 0 on, to make a medium of 1 + 6 * slots sectors an empty journal: each gate is closed
-/// by zeros, and then the first sector is written.
+/// Reports what is to be done, from 0 on, to make a medium of 1 + 6 * slots sectors an empty journal: each gate is
+/// closed by zeros, and then the first sector is written.
 #[unsafe(no_mangle)]
 pub extern "C" fn etcs_unit_format_request_(
     slots: u32,

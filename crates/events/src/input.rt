@@ -45,7 +45,7 @@ impl Input {
 /// One atomic event.
 #[derive(Drop)]
 pub enum Event {
-    /// Power comes on, and a life begins, with the word on movements while it was off.
+    /// Power comes on, and a life begins, with the cold movement value.
     PowerUp(Cold),
     /// Something comes in.
     Input(Input),

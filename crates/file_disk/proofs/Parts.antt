@@ -58,7 +58,7 @@ overwritten_more file bytes at done count within few =
     let front : List ℕ = take at file ++ u in
     let size : length u ≡ done = length-take-le done bytes (omega arith) in
     let ahead : length front ≡ at + done = omega (arith, length-append (take at file) u, length-take-le at file (omega arith), size) in
-    let both : u ++ v ≡ take (done + count) bytes = sym (take-add done count bytes) in
+    let joined : u ++ v ≡ take (done + count) bytes = sym (take-add done count bytes) in
     let place : at + length u + length v ≡ at + length (u ++ v) = omega (arith, length-append u v) in
     let old : List ℕ = overwritten file at u in
     let head : take (at + done) old ≡ front = take_at front (drop (at + length u) file) (at + done) ahead in
@@ -66,7 +66,7 @@ overwritten_more file bytes at done count within few =
     ap (λ (n : ℕ). drop (n + length v) old) (sym ahead) ∙ drop-append-add front (drop (at + length u) file) (length v) ∙ drop-drop (length v) (at + length u) file in
     (λ i. head i ++ v ++ tail i)
     ∙ (λ i. append_assoc (take at file) u v i ++ drop (place i) file)
-    ∙ ap (λ (w : List ℕ). overwritten file at w) both
+    ∙ ap (λ (w : List ℕ). overwritten file at w) joined
 
 -- what was written is held by its sectors
 pub overwritten_holds : (file bytes : List ℕ) (first : ℕ) → 512 * first + length bytes ≤ length file → length bytes % 512 ≡ 0 → Holds (λ s. sector_of (overwritten file (512 * first) bytes) s) first bytes

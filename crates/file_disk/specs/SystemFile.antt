@@ -9,9 +9,9 @@ pub keeps_to_model : File → Bool
 keeps_to_model file = false
 
 -- so what holds of an honest file is said of none of the system's
-pub not_shown : (file : File) → keeps_to_model file ≡ false
+pub not_in_model : (file : File) → keeps_to_model file ≡ false
 unfolding keeps_to_model
-not_shown file = refl
+not_in_model file = refl
 
 -- what contracts see of it
 abbrev pub system_state : File → FileState

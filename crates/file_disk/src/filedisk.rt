@@ -33,7 +33,7 @@ pub struct FileDisk<F: RawFile = File> {
 impl FileDisk {
     /// Makes the file, or empties the one that is there, and fills it with so many sectors of zeros; a block device of
     /// just so many sectors stays as it is. The zeros are a hole in the file, and take no time: that the device has no
-    /// room left shows at a write. The folder is synced too, so that the name of a new file survives a loss of power.
+    /// space left shows at a write. The folder is synced too, so that the name of a new file survives a loss of power.
     ///
     /// The file is locked for this handle alone before it is touched, until the disk is dropped. DiskFault where it
     /// can't be made or locked, where another handle holds a lock on it, where its folder can't be synced, and before

@@ -14,8 +14,8 @@ use Rattle.mode_table.specs.declared.statuses.Cold.{Cold}
 use Rattle.ring.specs.Slots.{Valid}
 use Rattle.image_calls.specs.Asking.{IsFresh}
 use Rattle.image_calls.specs.ImageDisk.{image_of}
-use Rattle.image_calls.specs.Links.{word_in, first_word}
-use Rattle.image_calls.specs.Lived.{Lived, is_asked, up_to, life_after, later_life, life_up_to}
+use Rattle.image_calls.specs.Links.{cold_in, first_cold}
+use Rattle.image_calls.specs.Lived.{Lived, is_requested, up_to, life_after, later_life, life_up_to}
 use Rattle.image_calls.specs.declared.images.Ring.{Ring}
 
 -- no head before a block says that it is within it
@@ -34,11 +34,11 @@ of_before slots valids from false = tt
 -- ---- what a life after a power-up hangs on
 
 -- its first step makes the life, whatever was known before
-anew : (known : Result Kept Unknown) (word : Cold) (block : Block) (life : ℕ) (r : BlockRecord) (at : Option Lived) → r.event ≡ PowerUp word → IsOfHead known
+anew : (known : Result Kept Unknown) (cold : Cold) (block : Block) (life : ℕ) (r : BlockRecord) (at : Option Lived) → r.event ≡ PowerUp cold → IsOfHead known
     → life_after (Step.Begins block life known r) at ≡ life_after (Step.Begins block life known r) None
-anew (Ok kept) word block life r at is of = rw is refl
-anew (Err WithinBlock) word block life r at is of = absurd of
-anew (Err other) word block life r at is of = refl
+anew (Ok kept) cold block life r at is of = rw is refl
+anew (Err WithinBlock) cold block life r at is of = absurd of
+anew (Err other) cold block life r at is of = refl
 
 of_known_if : (reason : Unknown) (kept : Kept) (first : Bool) → IsOfHead (Err reason) → IsOfHead (if first then Ok kept else Err reason)
 of_known_if reason kept true of = tt
@@ -48,13 +48,13 @@ of_known : (before : Result Kept Unknown) (number : ℕ) → IsOfHead before →
 of_known (Ok kept) number of = tt
 of_known (Err reason) number of = of_known_if reason _ (number == 0) of
 
-word_there : (event : Event) (word : Cold) → word_in event ≡ Some word → event ≡ PowerUp word
-word_there (PowerUp said) word is = let e : Some said ≡ Some word = is in let same : said ≡ word = cc in ap PowerUp same
-word_there (Input input) word is = absurd (let e : None ≡ Some word = is in cc)
+cold_there : (event : Event) (cold : Cold) → cold_in event ≡ Some cold → event ≡ PowerUp cold
+cold_there (PowerUp said) cold is = let e : Some said ≡ Some cold = is in let same : said ≡ cold = cc in ap PowerUp same
+cold_there (Input input) cold is = absurd (let e : None ≡ Some cold = is in cc)
 
 module _ (number event : ℕ) where
   abbrev is : Step → Bool
-  is step = is_asked number event step
+  is step = is_requested number event step
 
   skip : (step : Step) (rest : List Step) (at : Option Lived) → is step ≡ false → later_life (up_to is (step ∷ rest)) at ≡ later_life (up_to is rest) (life_after step at)
   skip step rest at other = ap (λ (b : Bool). later_life (if b then step ∷ [] else step ∷ up_to is rest) at) other
@@ -71,7 +71,7 @@ module _ (number event : ℕ) where
   -- ---- steps of other blocks aren't asked for
 
   other_step : (e : Event) (b : Block) (life : ℕ) (before : Result Kept Unknown) (r : BlockRecord) → (b.number == number) ≡ false → is (step_by e b life before r) ≡ false
-  other_step (PowerUp word) b life before r other = ap (λ (c : Bool). if c then r.number == event else false) other
+  other_step (PowerUp cold) b life before r other = ap (λ (c : Bool). if c then r.number == event else false) other
   other_step (Input input) b life before r other = ap (λ (c : Bool). if c then r.number == event else false) other
 
   other_records : (b : Block) (before : Result Kept Unknown) (records : List BlockRecord) (rest : List Step) (at : Option Lived) → (b.number == number) ≡ false
@@ -117,40 +117,40 @@ module _ (number event : ℕ) where
         let place : suc k + m ≡ k + suc m = omega arith in
         let next : Result Kept Unknown = kept_before_next (block_at slots valids k) in
         let other = (λ (b : Block) (is_there : block_at slots valids k ≡ Some b). (let mine : b.number ≡ k = own k b is_there in let e : (b.number == number) ≡ false = grind (arith, mine, low) in e)) in
-        let it = earlier m n (suc k) next (later_life (slot_steps k before (block_at slots valids k)) at) (omega (arith, low)) in (
-          it.0,
+        let found = earlier m n (suc k) next (later_life (slot_steps k before (block_at slots valids k)) at) (omega (arith, low)) in (
+          found.0,
           ap (λ (i : ℕ). later_life (up_to is (steps_from slots valids i k before)) at) size
               ∙ other_slot k before (block_at slots valids k) (steps_from slots valids (m + n) (suc k) next) at other
-              ∙ it.1
-              ∙ ap (λ (i : ℕ). later_life (up_to is (steps_from slots valids n i (after_numbers m (suc k) next))) it.0) place,
+              ∙ found.1
+              ∙ ap (λ (i : ℕ). later_life (up_to is (steps_from slots valids n i (after_numbers m (suc k) next))) found.0) place,
         )
 
     -- ---- from a block on that begins a life
 
-    fresh_records : (b : Block) (before : Result Kept Unknown) (records : List BlockRecord) (rest : List Step) (at : Option Lived) (word : Cold) → first_word records ≡ Some word → IsOfHead before
+    fresh_records : (b : Block) (before : Result Kept Unknown) (records : List BlockRecord) (rest : List Step) (at : Option Lived) (cold : Cold) → first_cold records ≡ Some cold → IsOfHead before
         → later_life (up_to is (record_steps b before records ++ rest)) at ≡ later_life (up_to is (record_steps b before records ++ rest)) None
-    fresh_records b before [] rest at word is_word of = absurd (let e : None ≡ Some word = is_word in cc)
-    fresh_records b before (r ∷ later) rest at word is_word of =
-        let powers : r.event ≡ PowerUp word = word_there r.event word is_word in
+    fresh_records b before [] rest at cold is_cold of = absurd (let e : None ≡ Some cold = is_cold in cc)
+    fresh_records b before (r ∷ later) rest at cold is_cold of =
+        let powers : r.event ≡ PowerUp cold = cold_there r.event cold is_cold in
         let life : ℕ = number_of_life b.kept.lives later in
         let begins : record_step b life before r ≡ Step.Begins b life (known_before before r.number) r = ap (λ (e : Event). step_by e b life before r) powers in
         first_matters (record_step b life before r) (record_steps b (Err WithinBlock) later ++ rest) at
-        (subst (λ (s : Step). life_after s at ≡ life_after s None) (sym begins) (anew (known_before before r.number) word b life r at powers (of_known before r.number of)))
+        (subst (λ (s : Step). life_after s at ≡ life_after s None) (sym begins) (anew (known_before before r.number) cold b life r at powers (of_known before r.number of)))
 
-    fresh_block : (b : Block) (before : Result Kept Unknown) (follows : Bool) (rest : List Step) (at : Option Lived) (word : Cold) → first_word b.records.items ≡ Some word → IsOfHead before
+    fresh_block : (b : Block) (before : Result Kept Unknown) (follows : Bool) (rest : List Step) (at : Option Lived) (cold : Cold) → first_cold b.records.items ≡ Some cold → IsOfHead before
         → later_life (up_to is ((if follows then record_steps b before b.records.items else Step.Missing ∷ record_steps b (Err Gap) b.records.items) ++ rest)) at
         ≡ later_life (up_to is ((if follows then record_steps b before b.records.items else Step.Missing ∷ record_steps b (Err Gap) b.records.items) ++ rest)) None
-    fresh_block b before true rest at word is_word of = fresh_records b before b.records.items rest at word is_word of
-    fresh_block b before false rest at word is_word of = refl
+    fresh_block b before true rest at cold is_cold of = fresh_records b before b.records.items rest at cold is_cold of
+    fresh_block b before false rest at cold is_cold of = refl
 
     fresh_slot : (n : ℕ) (before : Result Kept Unknown) (o : Option Block) (rest : List Step) (at : Option Lived)
-        → ((b : Block) → o ≡ Some b → (word : Cold) × (first_word b.records.items ≡ Some word)) → IsOfHead before
+        → ((b : Block) → o ≡ Some b → (cold : Cold) × (first_cold b.records.items ≡ Some cold)) → IsOfHead before
         → later_life (up_to is (slot_steps n before o ++ rest)) at ≡ later_life (up_to is (slot_steps n before o ++ rest)) None
     fresh_slot n before None rest at begins of = refl
     fresh_slot n before (Some b) rest at begins of =
-        let it = begins b refl in fresh_block b before (follows_on before b.records.items) rest at it.0 it.1 of
+        let found = begins b refl in fresh_block b before (follows_on before b.records.items) rest at found.0 found.1 of
 
-    pub since_fresh : (from : ℕ) → 1 < from → from ≤ number → ((b : Block) → block_at slots valids from ≡ Some b → (word : Cold) × (first_word b.records.items ≡ Some word))
+    pub since_fresh : (from : ℕ) → 1 < from → from ≤ number → ((b : Block) → block_at slots valids from ≡ Some b → (cold : Cold) × (first_cold b.records.items ≡ Some cold))
         → later_life (up_to is (steps_since slots valids 1 number from)) None ≡ later_life (up_to is (steps_of slots valids 1 number)) None
     since_fresh from some within begins =
         let m : ℕ = from - 2 in
@@ -166,31 +166,31 @@ module _ (number event : ℕ) where
         let after : after_numbers (suc m) 1 (Err BeforeOldest) ≡ head =
         after_some m 1 (Err BeforeOldest) ∙ ap (λ (i : ℕ). kept_before_next (block_at slots valids i)) prior
         ∙ sym (ap (λ (b : Bool). if b then kept_before_next (block_at slots valids (from - 1)) else Err BeforeOldest) later) in
-        let it = earlier (suc m) (suc n) 1 (Err BeforeOldest) None low in
-        let anyhow = fresh_slot from head (block_at slots valids from) (steps_from slots valids n (suc from) (kept_before_next (block_at slots valids from))) it.0 begins (of_before slots valids from (nat_lt 1 from)) in
+        let found = earlier (suc m) (suc n) 1 (Err BeforeOldest) None low in
+        let anyhow = fresh_slot from head (block_at slots valids from) (steps_from slots valids n (suc from) (kept_before_next (block_at slots valids from))) found.0 begins (of_before slots valids from (nat_lt 1 from)) in
         ap (λ (i : ℕ). later_life (up_to is (steps_from slots valids i from head)) None) left
         ∙ sym anyhow
-        ∙ sym (ap (λ (b : Result Kept Unknown). later_life (up_to is (steps_from slots valids (suc n) from b)) it.0) after)
-        ∙ sym (ap (λ (i : ℕ). later_life (up_to is (steps_from slots valids (suc n) i (after_numbers (suc m) 1 (Err BeforeOldest)))) it.0) place)
-        ∙ sym it.1
+        ∙ sym (ap (λ (b : Result Kept Unknown). later_life (up_to is (steps_from slots valids (suc n) from b)) found.0) after)
+        ∙ sym (ap (λ (i : ℕ). later_life (up_to is (steps_from slots valids (suc n) i (after_numbers (suc m) 1 (Err BeforeOldest)))) found.0) place)
+        ∙ sym found.1
         ∙ sym (ap (λ (i : ℕ). later_life (up_to is (steps_from slots valids i 1 (Err BeforeOldest))) None) all)
 
 begins_there : (bytes : List ℕ) (ring : Ring) (from : ℕ) → IsFresh bytes ring from → (b : Block) → block_at ring.slots (whole_valid_at ring.slots ring.whole (image_of bytes)) from ≡ Some b
-    → (word : Cold) × (first_word b.records.items ≡ Some word)
+    → (cold : Cold) × (first_cold b.records.items ≡ Some cold)
 begins_there bytes ring from (inl none) b there = absurd (let no : None ≡ Some b = sym none ∙ there in cc)
 begins_there bytes ring from (inr held) b there =
     let same : held.0 ≡ b = (let e : Some held.0 ≡ Some b = sym held.2 ∙ there in cc) in
-    (held.1, ap (λ (x : Block). first_word x.records.items) (sym same) ∙ held.3)
+    (held.1, ap (λ (x : Block). first_cold x.records.items) (sym same) ∙ held.3)
 
 -- .. of an image, where a search for a block that begins so ends
 pub since_from : (number event : ℕ) (ring : Ring) (bytes : List ℕ) (from : ℕ) → 1 ≤ from → from ≤ number → (from ≡ 1) ⊎ IsFresh bytes ring from
-    → later_life (up_to (is_asked number event) (steps_since ring.slots (whole_valid_at ring.slots ring.whole (image_of bytes)) 1 number from)) None ≡ life_up_to bytes ring number event
+    → later_life (up_to (is_requested number event) (steps_since ring.slots (whole_valid_at ring.slots ring.whole (image_of bytes)) 1 number from)) None ≡ life_up_to bytes ring number event
 since_from number event ring bytes from some within (inl one) =
     let valids : ℕ → Option Valid = whole_valid_at ring.slots ring.whole (image_of bytes) in
-    ap (λ (n : ℕ). later_life (up_to (is_asked number event) (steps_since ring.slots valids 1 number n)) None) one
+    ap (λ (n : ℕ). later_life (up_to (is_requested number event) (steps_since ring.slots valids 1 number n)) None) one
 since_from number event ring bytes from some within (inr is_fresh) = ⊎_elim
     (λ (later : 1 < from). since_fresh number event ring.slots (whole_valid_at ring.slots ring.whole (image_of bytes)) (λ n b there. at_number ring.slots ring.whole n (image_of bytes) b there) from later within
     (begins_there bytes ring from is_fresh))
     (λ (first : from ≤ 1). (let one : from ≡ 1 = omega (arith, some, first) in
-    ap (λ (n : ℕ). later_life (up_to (is_asked number event) (steps_since ring.slots (whole_valid_at ring.slots ring.whole (image_of bytes)) 1 number n)) None) one))
+    ap (λ (n : ℕ). later_life (up_to (is_requested number event) (steps_since ring.slots (whole_valid_at ring.slots ring.whole (image_of bytes)) 1 number n)) None) one))
     (cases_lt 1 from)

@@ -19,9 +19,9 @@ answer_number an_answer.OtherAbi = 254
 answer_number an_answer.OutOfRange = 255
 
 -- the first where this is so, else the second
-abbrev pub Where : Bool → Type 0 → Type 0 → Type 0
-Where true So Else = So
-Where false So Else = Else
+abbrev pub IfElse : Bool → Type 0 → Type 0 → Type 0
+IfElse true So Else = So
+IfElse false So Else = Else
 
 -- the call answers so, and what it would write stays as it was
 abbrev pub Refuses : {T : Type 0} → Answer → T → T → Answer → Type 0
@@ -33,4 +33,4 @@ Gives reported new answer = (answer ≡ an_answer.Done) × (new ≡ reported)
 
 -- with a header of this interface the call is so; else it is refused
 abbrev pub ByAbi : {T : Type 0} → ℕ → T → T → Answer → Type 0 → Type 0
-ByAbi abi old new answer So = Where (abi == this_abi) So (Refuses an_answer.OtherAbi old new answer)
+ByAbi abi old new answer So = IfElse (abi == this_abi) So (Refuses an_answer.OtherAbi old new answer)

@@ -12,7 +12,7 @@ use Rattle.replaying.specs.declared.following.Found.{Found}
 use Rattle.replaying.specs.declared.heads.HeadFound.{HeadFound}
 use Rattle.replaying.specs.declared.judging.Judged.{Judged}
 use Rattle.replaying.specs.declared.judging.Judged.TheVariants.{Agrees, Unknown, AfterDifference}
-use Rattle.image_calls.specs.Answers.{Where}
+use Rattle.image_calls.specs.Answers.{IfElse}
 use Rattle.image_calls.specs.Verdicts.{record_differs, DescribesHead}
 use Rattle.image_calls.specs.declared.lines.End.{End}
 use Rattle.image_calls.specs.declared.lines.End.TheVariants as an_end
@@ -78,8 +78,8 @@ IsOver l next old new = (next ≡ ended an_end.Over l) × (new ≡ old)
 -- a record that was judged: it is one event more, or it differs
 abbrev pub TakesFound : Block → ℕ → BlockRecord → Option Found → Line → Line → EtcsReplay → EtcsReplay → Type 0
 TakesFound b life r None l next old new = (next ≡ after_record (with_event life r.number l)) × (new ≡ old)
-TakesFound b life r (Some found) l next old new = Where (has_events l) (IsOver l next old new)
-    (Where (is_on l)
+TakesFound b life r (Some found) l next old new = IfElse (has_events l) (IsOver l next old new)
+    (IfElse (is_on l)
     ((next ≡ after_record (judged_so AfterDifference (ended an_end.Differs l))) × (new ≡ record_differs b life found.field r found.answer))
     ((next ≡ after_record (judged_so AfterDifference l)) × (new ≡ old)))
 
@@ -93,18 +93,18 @@ pub record TakesRecord (IsSo : Judged → Option Found → Type 0) (b : Block) (
 -- the head of a block: it differs, or it is passed
 abbrev pub TakesHead : Block → Option HeadFound → Line → Line → EtcsReplay → EtcsReplay → Type 0
 TakesHead b None l next old new = (next ≡ after_block l) × (new ≡ old)
-TakesHead b (Some found) l next old new = Where (has_events l) (IsOver l next old new)
-    (Where (is_on l) ((next ≡ after_block (ended an_end.Differs l)) × DescribesHead b found new) ((next ≡ after_block l) × (new ≡ old)))
+TakesHead b (Some found) l next old new = IfElse (has_events l) (IsOver l next old new)
+    (IfElse (is_on l) ((next ≡ after_block (ended an_end.Differs l)) × DescribesHead b found new) ((next ≡ after_block l) × (new ≡ old)))
 
 -- a block that can't be read is reported as lost, where the walk has come to the line
 abbrev pub TakesLost : Line → Line → EtcsReplay → EtcsReplay → Type 0
-TakesLost l next old new = (new ≡ old) × Where (is_on l) (next ≡ after_block (ended an_end.Lost l)) (next ≡ after_block (judged_so (Unknown an_unknown.Gap) l))
+TakesLost l next old new = (new ≡ old) × IfElse (is_on l) (next ≡ after_block (ended an_end.Lost l)) (next ≡ after_block (judged_so (Unknown an_unknown.Gap) l))
 
 abbrev pub DescribesStep : Step → Line → Line → EtcsReplay → EtcsReplay → Type 0
-DescribesStep (Step.Unreadable number) l next old new = Where (has_events l) (IsOver l next old new) (TakesLost l next old new)
-DescribesStep Step.Missing l next old new = Where (has_events l) (IsOver l next old new) ((next ≡ judged_so (Unknown an_unknown.Gap) l) × (new ≡ old))
+DescribesStep (Step.Unreadable number) l next old new = IfElse (has_events l) (IsOver l next old new) (TakesLost l next old new)
+DescribesStep Step.Missing l next old new = IfElse (has_events l) (IsOver l next old new) ((next ≡ judged_so (Unknown an_unknown.Gap) l) × (new ≡ old))
 DescribesStep (Step.Begins block life before r) l next old new =
-    Where (has_events l) (IsOver l next old new) (TakesRecord (Begins before block.format r l.judged) block life r l next old new)
+    IfElse (has_events l) (IsOver l next old new) (TakesRecord (Begins before block.format r l.judged) block life r l next old new)
 DescribesStep (Step.GoesOn block life r) l next old new = TakesRecord (GoesOn block.format r l.judged) block life r l next old new
 DescribesStep (Step.Head block) l next old new = (found : Option HeadFound) × IsHeadFound l.judged block found × TakesHead block found l next old new
 

@@ -17,10 +17,10 @@ use Rattle.image_calls.specs.ImageDisk.{image_of}
 use Rattle.image_calls.specs.declared.images.Ring.{Ring}
 use Rattle.image_calls.specs.declared.running.Known.{Known}
 
--- What was kept before a power-up, its word, and the events from it on.
+-- What was kept before a power-up, its cold movement value, and the events from it on.
 pub record Lived : Type 0 where
   pub kept : Kept
-  pub word : Cold
+  pub cold : Cold
   pub events : List Event
 
 -- ---- steps
@@ -32,7 +32,7 @@ one_more event (Some life) = Some (record life { events = event ∷ life.events 
 
 -- after what was kept a life is known from its power-up on
 abbrev pub powered_up : Event → Kept → Option Lived → Option Lived
-powered_up (PowerUp word) kept at = Some (record { kept = kept; word = word; events = PowerUp word ∷ [] })
+powered_up (PowerUp cold) kept at = Some (record { kept = kept; cold = cold; events = PowerUp cold ∷ [] })
 powered_up (Input input) kept at = one_more (Input input) at
 
 -- where nobody knows what was kept it isn't known; but within a block it goes on from the life before, where that is
@@ -61,10 +61,10 @@ later_life (step ∷ steps) at = later_life steps (life_after step at)
 abbrev pub is_record : ℕ → ℕ → Block → BlockRecord → Bool
 is_record number event block r = if block.number == number then r.number == event else false
 
-abbrev pub is_asked : ℕ → ℕ → Step → Bool
-is_asked number event (Step.Begins block life before r) = is_record number event block r
-is_asked number event (Step.GoesOn block life r) = is_record number event block r
-is_asked number event _ = false
+abbrev pub is_requested : ℕ → ℕ → Step → Bool
+is_requested number event (Step.Begins block life before r) = is_record number event block r
+is_requested number event (Step.GoesOn block life r) = is_record number event block r
+is_requested number event _ = false
 
 -- the steps up to the first of which this is so
 abbrev pub up_to : (Step → Bool) → List Step → List Step
@@ -77,7 +77,7 @@ steps_up_to bytes ring number = steps_of ring.slots (whole_valid_at ring.slots r
 
 -- the life of an event of the block of this number, up to it
 abbrev pub life_up_to : List ℕ → Ring → ℕ → ℕ → Option Lived
-life_up_to bytes ring number event = later_life (up_to (is_asked number event) (steps_up_to bytes ring number)) None
+life_up_to bytes ring number event = later_life (up_to (is_requested number event) (steps_up_to bytes ring number)) None
 
 -- ---- stories
 
@@ -86,14 +86,14 @@ abbrev pub story_after : List Event → Story → Story
 story_after [] story = story
 story_after (event ∷ events) story = onward (story_after events story) event
 
--- after this story the same is kept, as far as a power-up by this word leaves it
+-- after this story the same is kept, as far as a power-up with this cold movement value leaves it
 abbrev pub IsLeft : Cold → Kept → Story → Type 0
-IsLeft word kept story = left_by word kept ≡ left_by word (past_at story).kept
+IsLeft cold kept story = left_by cold kept ≡ left_by cold (past_at story).kept
 
 -- a life that was run again comes after its last event, and this is the answer to that: after any story after which
 -- the same is kept as before its power-up, this unit's own events or not
 abbrev pub Stands : Option Lived → Option Known → Type 0
 Stands None None = Unit {0}
-Stands (Some life) (Some known) = (story : Story) → IsLeft life.word life.kept story
+Stands (Some life) (Some known) = (story : Story) → IsLeft life.cold life.kept story
     → Reasons (story_after life.events story) known.life × (known.output ≡ output_at (story_after life.events story))
 Stands _ _ = ⊥

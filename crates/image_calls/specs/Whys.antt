@@ -12,10 +12,10 @@ use Rattle.speed_supervision.specs.Causes.{IsLimitCause}
 use Rattle.speed_supervision.specs.declared.cause.LimitCause.{LimitCause}
 use Rattle.mode_control.specs.History.{tracks}
 use Rattle.mode_control.specs.Sentences.{values_of}
-use Rattle.reasons.specs.LimitWords.{limit_reported}
+use Rattle.reasons.specs.LimitTexts.{limit_reported}
 use Rattle.reasons.specs.Runs.{runs_of}
 use Rattle.reasons.specs.Trips.{trip_of}
-use Rattle.reasons.specs.declared.limit_words.LimitReport.{LimitReport}
+use Rattle.reasons.specs.declared.limit_texts.LimitReport.{LimitReport}
 use Rattle.reasons.specs.declared.runs.Runs.{Runs}
 use Rattle.reasons.specs.declared.trips.TripReport.{TripReport}
 use Rattle.track_picture.specs.History.{speed_of}
@@ -74,7 +74,7 @@ place_in b event =
 pub record Explained (bytes : List ℕ) (ring : Ring) (number event : ℕ) (reported : EtcsWhy) : Type 0 where
   pub life : Lived
   pub life_is : life_up_to bytes ring number event ≡ Some life
-  pub so : (story : Story) → IsLeft life.word life.kept story → DescribesWhy event (story_after life.events story) reported
+  pub so : (story : Story) → IsLeft life.cold life.kept story → DescribesWhy event (story_after life.events story) reported
 
 -- it is reported, or the life isn't known, or memory was refused
 abbrev pub Explains : List ℕ → Ring → ℕ → ℕ → EtcsWhy → EtcsWhy → Answer → Type 0

@@ -52,7 +52,7 @@ impl WalkToEvent {
 impl Visit<()> for WalkToEvent {
     ghost IsReported = { λ step old _ new _. Asks step old new };
 
-    ghost enough = { λ asked. asked.is_met };
+    ghost enough = { λ walk. walk.is_met };
 
     fn has_enough(&self) -> bool {
         self.is_met

@@ -1,8 +1,8 @@
-//! What a program asks an image that it has mapped (this project's profile; `docs/reference/format.md`): its slots, its blocks and
-//! their records, the journal from the oldest record to the newest, whether the journal agrees with the kernel, and why an
-//! event was answered so. A call that runs a life through the kernel again takes memory, and gives it back before it
-//! answers; no other does. Nothing is kept, and nothing is written to the image. Slots and events are numbered from 0,
-//! blocks from 1.
+//! What a program asks an image that it has mapped (this project's profile; `docs/reference/format.md`): its slots, its
+//! blocks and their records, the journal from the oldest record to the newest, whether the journal agrees with the
+//! kernel, and why an event was answered so. A call that runs a life through the kernel again takes memory, and gives
+//! it back before it answers; no other does. Nothing is kept, and nothing is written to the image. Slots and events are
+//! numbered from 0, blocks from 1.
 #![tactic(auto)]
 
 mod answer;
@@ -34,7 +34,7 @@ pub use facts::{EtcsImage, facts_call};
 pub use images::{Ring, held_in, ring_in, slot_in};
 pub use journals::{EtcsJournal, journal_call, next_call};
 pub use kept_items::{EtcsKept, EtcsTrain, kept_reported};
-pub use links::first_word;
+pub use links::first_cold;
 pub use national_items::EtcsNational;
 pub use records::{EtcsRecord, record_call, record_reported};
 pub use replays::replay_call;

@@ -25,11 +25,11 @@ pub(crate) fn follow(
 ) -> Result<(), NoMemory>
     ensures { OnOk result ((at : Option Lived) → Stands at known.old → Stands (one_more event.now at) known.new) }
 {
-    let Some(it) = known else {
+    let Some(current) = known else {
         return Ok(());
     };
-    let output = it.life.follow(alloc, event)?;
-    it.output = output;
+    let output = current.life.follow(alloc, event)?;
+    current.output = output;
     Ok(())
 }
 
@@ -44,8 +44,8 @@ fn power_up(
         → Stands (powered_up event.now kept.now at) known.new) }
 {
     match event {
-        Event::PowerUp(word) => {
-            let (life, output) = Reasoning::begin(alloc, kept, *word);
+        Event::PowerUp(cold) => {
+            let (life, output) = Reasoning::begin(alloc, kept, *cold);
             *known = Some(Known { life, output });
             Ok(())
         }

@@ -22,10 +22,12 @@ pub struct EtcsReplay {
     pub block: u64,
     /// The event of a record that differs; else 0.
     pub event: u64,
-    /// The number of the life: how many power-ups there were up to and with the first of its events, of a head up to it.
+    /// The number of the life: how many power-ups there were up to and with the first of its events, of a head up to
+    /// it.
     pub life: u32,
     /// 1 the events agree, 2 a record differs, 3 a head differs; not run again: 4 what was kept before their life was
-    /// overwritten, 5 they come after a gap, 6 their life begins within a block, 7 they come after a record that differs.
+    /// overwritten, 5 they come after a gap, 6 their life begins within a block, 7 they come after a record that
+    /// differs.
     pub verdict: u32,
     /// The field that differs first, 1 to 11 of a record, 1 to 10 of a head; 0 where nothing differs.
     pub field: u32,
@@ -54,7 +56,7 @@ fn record_field_number(field: RecordField) -> u32
 {
     match field {
         RecordField::Number => 1,
-        RecordField::Word => 2,
+        RecordField::ColdMovement => 2,
         RecordField::Moment => 3,
         RecordField::Mode => 4,
         RecordField::Level => 5,

@@ -10,11 +10,11 @@ use Rattle.installed_values.specs.Ordering.{FitsBoth}
 -- 32 t + n - 1, by the other 32 n + t, where t are the five bits between: 31 t = 31 n + 1 holds for no t.
 pub differ : (place : PacketPlace) (bits : List Bool) → FitsBoth place bits
     → number (take 10 (drop 45 (drop place.start bits))) ≡ number (take 10 (drop 40 (drop place.start bits))) → ⊥
-differ place bits both same =
+differ place bits readings same =
     let here = drop place.start bits in
-    let within = both.0.0.0 in
-    let len = both.0.0.1 in
-    let len' = both.1.0.1 in
+    let within = readings.0.0.0 in
+    let len = readings.0.0.1 in
+    let len' = readings.1.0.1 in
     let long : length here ≡ length bits - place.start = length-drop place.start bits in
     let a = number (take 5 (drop 40 here)) in
     let t = number (take 5 (drop 45 here)) in

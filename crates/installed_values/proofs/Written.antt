@@ -17,11 +17,11 @@ use Rattle.installed_values.specs.Adapting.{Describes, adapted_bits, countries_a
 use Rattle.installed_values.specs.Finding.{installed_in, of_installed}
 use Rattle.installed_values.specs.Keeping.{kept}
 use Rattle.installed_values.specs.Ordering.{IsOrdered}
-use Rattle.installed_values.specs.Staying.{moved, bits_there, KeepsBits, OthersStay, IsLeftAsItIs}
+use Rattle.installed_values.specs.Staying.{moved, bits_there, KeepsBits, OthersStay, IsLeftUnchanged}
 use Rattle.installed_values.specs.declared.adapting.AdaptError.{AdaptError}
 use Rattle.installed_values.specs.declared.adapting.AdaptError.TheVariants as errors
 use Rattle.installed_values.specs.declared.adapting.Adaptation.{Adaptation}
-use Rattle.installed_values.specs.declared.adapting.Adaptation.TheVariants.{AsItIs, Written}
+use Rattle.installed_values.specs.declared.adapting.Adaptation.TheVariants.{LeftUnchanged, Written}
 use Rattle.installed_values.specs.declared.finding.Found.{Found}
 use Rattle.installed_values.specs.declared.finding.Found.TheVariants.{Nothing, One, Several}
 use Rattle.installed_values.proofs.Ordered.{as_sent}
@@ -275,13 +275,13 @@ found_nothing p bytes written y pad is =
     (ap has_end a.end ∙ end_stays (listed 34 50 (drop 50 (bits_of bytes))).end is.has.ends)
     ∙ ap of_installed (ap installed_in a.items ∙ a.none)
 
-none_reported : (found : Found) (bits : List Bool) (answer : Result Adaptation AdaptError) (old new : List ℕ) → found ≡ Nothing → Describes found bits answer old new → (answer ≡ Ok AsItIs) × (new ≡ old)
-none_reported found bits (Ok AsItIs) old new none describes = (refl, describes.1)
+none_reported : (found : Found) (bits : List Bool) (answer : Result Adaptation AdaptError) (old new : List ℕ) → found ≡ Nothing → Describes found bits answer old new → (answer ≡ Ok LeftUnchanged) × (new ≡ old)
+none_reported found bits (Ok LeftUnchanged) old new none describes = (refl, describes.1)
 none_reported found bits (Ok (Written n p)) old new none describes = absurd (let no : Nothing ≡ One p = sym none ∙ describes.0 in cc)
 none_reported found bits (Err (errors.Several p)) old new none describes = absurd (let no : Nothing ≡ Several p = sym none ∙ describes.0 in cc)
 none_reported found bits (Err (errors.NoLayout p)) old new none describes = absurd (let no : Nothing ≡ One p = sym none ∙ describes.0 in cc)
 none_reported found bits (Err (errors.Ambiguous p)) old new none describes = absurd (let no : Nothing ≡ One p = sym none ∙ describes.0 in cc)
 
-pub as_it_should : (p : PacketPlace) (bytes written : List ℕ) (y pad : List Bool) → IsFor p bytes written y pad → IsLeftAsItIs written
+pub as_it_should : (p : PacketPlace) (bytes written : List ℕ) (y pad : List Bool) → IsFor p bytes written y pad → IsLeftUnchanged written
 as_it_should p bytes written y pad is =
     λ answer old new describes. none_reported (found_in written) (bits_of written) answer old new (found_nothing p bytes written y pad is) describes

@@ -15,7 +15,7 @@ use Rattle.installed_values.specs.Ordering.{FitsBoth, FitsNeither, IsOrdered}
 use Rattle.installed_values.specs.declared.adapting.AdaptError.{AdaptError}
 use Rattle.installed_values.specs.declared.adapting.AdaptError.TheVariants as errors
 use Rattle.installed_values.specs.declared.adapting.Adaptation.{Adaptation}
-use Rattle.installed_values.specs.declared.adapting.Adaptation.TheVariants.{AsItIs, Written}
+use Rattle.installed_values.specs.declared.adapting.Adaptation.TheVariants.{LeftUnchanged, Written}
 use Rattle.installed_values.specs.declared.finding.Found.{Found}
 use Rattle.installed_values.specs.declared.finding.Found.TheVariants.{Nothing, One, Several}
 
@@ -57,7 +57,7 @@ IsWritten place bits n old new =
 
 -- What came of a telegram with these packets 3.
 abbrev pub Describes : Found → List Bool → Result Adaptation AdaptError → List ℕ → List ℕ → Type 0
-Describes found bits (Ok AsItIs) old new = (found ≡ Nothing) × (new ≡ old)
+Describes found bits (Ok LeftUnchanged) old new = (found ≡ Nothing) × (new ≡ old)
 Describes found bits (Ok (Written n place)) old new = (found ≡ One place) × IsWritten place bits n old new
 Describes found bits (Err (errors.Several place)) old new = (found ≡ Several place) × (new ≡ old)
 Describes found bits (Err (errors.NoLayout place)) old new = (found ≡ One place) × FitsNeither place bits × (new ≡ old)

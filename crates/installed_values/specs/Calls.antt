@@ -9,14 +9,14 @@ use Rattle.installed_values.specs.Dropping.{DescribesDropped}
 use Rattle.installed_values.specs.declared.adapting.AdaptError.{AdaptError}
 use Rattle.installed_values.specs.declared.adapting.AdaptError.TheVariants as errors
 use Rattle.installed_values.specs.declared.adapting.Adaptation.{Adaptation}
-use Rattle.installed_values.specs.declared.adapting.Adaptation.TheVariants.{AsItIs, Written}
+use Rattle.installed_values.specs.declared.adapting.Adaptation.TheVariants.{LeftUnchanged, Written}
 use Rattle.installed_values.specs.declared.calls.EtcsAdapted.{EtcsAdapted}
 use Rattle.installed_values.specs.declared.calls.EtcsDropped.{EtcsDropped}
 use Rattle.installed_values.specs.declared.dropping.Dropped.{Dropped}
 
 -- what is reported of an answer
 abbrev pub description_of : Result Adaptation AdaptError → EtcsAdapted
-description_of (Ok AsItIs) = record { outcome = 0; len = 0; start = 0; bits = 0 }
+description_of (Ok LeftUnchanged) = record { outcome = 0; len = 0; start = 0; bits = 0 }
 description_of (Ok (Written n place)) = record { outcome = 1; len = n; start = place.start; bits = place.length }
 description_of (Err (errors.Several place)) = record { outcome = 2; len = 0; start = place.start; bits = place.length }
 description_of (Err (errors.NoLayout place)) = record { outcome = 3; len = 0; start = place.start; bits = place.length }
@@ -26,17 +26,17 @@ description_of (Err (errors.Ambiguous place)) = record { outcome = 4; len = 0; s
 pub record Answers (bytes old new : List ℕ) (reported : EtcsAdapted) : Type 0 where
   pub answer : Result Adaptation AdaptError
   pub is_reported : reported ≡ description_of answer
-  pub long : 104 < length bytes → (answer ≡ Ok AsItIs) × (new ≡ old)
+  pub long : 104 < length bytes → (answer ≡ Ok LeftUnchanged) × (new ≡ old)
   pub adapted : length bytes ≤ 104 → Describes (found_in bytes) (bits_of bytes) answer old new
 
-abbrev pub Where : Bool → Type 0 → Type 0 → Type 0
-Where true So Else = So
-Where false So Else = Else
+abbrev pub IfElse : Bool → Type 0 → Type 0 → Type 0
+IfElse true So Else = So
+IfElse false So Else = Else
 
 -- A buffer of fewer than 104 bytes is refused by 252, and nothing changes; else 0 comes with the answer.
 abbrev pub DescribesC : List ℕ → List ℕ → List ℕ → EtcsAdapted → EtcsAdapted → ℕ → Type 0
 DescribesC bytes old new before reported status =
-    Where (nat_lt (length old) 104) ((status ≡ 252) × (new ≡ old) × (reported ≡ before)) ((status ≡ 0) × Answers bytes old new reported)
+    IfElse (nat_lt (length old) 104) ((status ≡ 252) × (new ≡ old) × (reported ≡ before)) ((status ≡ 0) × Answers bytes old new reported)
 
 -- ---- a value that is left out
 

@@ -11,7 +11,7 @@ use Rattle.installed_values.specs.Adapting.{Describes, found_in}
 use Rattle.installed_values.specs.Ordering.{FitsBoth, IsOrdered}
 use Rattle.installed_values.specs.Reading.{ReadsValues}
 use Rattle.installed_values.specs.Rebuilding.{IsRebuilt}
-use Rattle.installed_values.specs.Staying.{OthersStay, IsLeftAsItIs, FaultsStay, ValuesStay}
+use Rattle.installed_values.specs.Staying.{OthersStay, IsLeftUnchanged, FaultsStay, ValuesStay}
 use Rattle.installed_values.specs.declared.adapting.Adaptation.TheVariants.{Written}
 
 -- so it is of each packet 3, the telegram that it is in, that telegram with the counter first, and what was written
@@ -39,7 +39,7 @@ ValuesAreRead =
 
 -- What was written isn't adapted again.
 abbrev pub TwiceIsOnce : Type 0
-TwiceIsOnce = OfEachWritten (λ installed bytes sent written. IsLeftAsItIs written)
+TwiceIsOnce = OfEachWritten (λ installed bytes sent written. IsLeftUnchanged written)
 
 -- A telegram with another fault than its packet 3 is refused still.
 abbrev pub OtherFaultsStay : Type 0

@@ -9,8 +9,8 @@ use Rattle.installed_values.specs.declared.ordering.Ordered.TheVariants as order
 use Rattle.installed_values.specs.declared.ordering.Reading.{Reading}
 use Rattle.installed_values.specs.declared.ordering.Reading.TheVariants as readings
 
--- The telegram with a counter of so many countries before the first country, in place of the counter after it: as long as
--- before, and all other bits as they were.
+-- The telegram with a counter of so many countries before the first country, in place of the counter after it: as long
+-- as before, and all other bits as they were.
 abbrev pub in_order : ℕ → PacketPlace → List Bool → List Bool
 in_order countries place bits =
     take (place.start + 40) bits ++ (number_bits 5 countries ++ (take 10 (drop (place.start + 40) bits) ++ drop (place.start + 55) bits))
@@ -30,7 +30,7 @@ FitsNeither place bits = (CounterFirst place bits → ⊥) × (CountryFirst plac
 -- the layouts that the packet 3 there fits, and how many countries it lists by them
 abbrev pub IsReading : PacketPlace → List Bool → Reading → Type 0
 IsReading place bits readings.Neither = FitsNeither place bits
-IsReading place bits readings.Both = FitsBoth place bits
+IsReading place bits readings.EitherOrder = FitsBoth place bits
 IsReading place bits (readings.CounterFirst n) =
     CounterFirst place bits × (CountryFirst place bits → ⊥) × (n ≡ counter_at 40 (drop place.start bits)) × (n ≤ 31)
 IsReading place bits (readings.CountryFirst n) =
@@ -46,5 +46,5 @@ pub record IsCounted (place : PacketPlace) (bits sent : List Bool) (countries : 
 
 abbrev pub Answers : PacketPlace → List Bool → List Bool → Ordered → Type 0
 Answers place bits sent ordered.Neither = FitsNeither place bits
-Answers place bits sent ordered.Both = FitsBoth place bits
+Answers place bits sent ordered.EitherOrder = FitsBoth place bits
 Answers place bits sent (ordered.One n) = IsCounted place bits sent n

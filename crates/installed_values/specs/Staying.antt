@@ -20,7 +20,7 @@ use Rattle.installed_values.specs.Adapting.{Describes, countries_at, found_in}
 use Rattle.installed_values.specs.Keeping.{bits_of_row, has_place, total_bits}
 use Rattle.installed_values.specs.declared.adapting.AdaptError.{AdaptError}
 use Rattle.installed_values.specs.declared.adapting.Adaptation.{Adaptation}
-use Rattle.installed_values.specs.declared.adapting.Adaptation.TheVariants.{AsItIs}
+use Rattle.installed_values.specs.declared.adapting.Adaptation.TheVariants.{LeftUnchanged}
 
 -- where a packet stands in what was written: the packet 3 has 29 bits less, and what is after it stands 29 bits earlier
 abbrev pub moved : PacketPlace → PacketPlace → PacketPlace
@@ -43,9 +43,9 @@ pub record OthersStay (installed : PacketPlace) (old new : List ℕ) : Type 0 wh
   pub end : (at : ℕ) → (listing_of old).end ≡ EndMark at → (listing_of new).end ≡ EndMark (at - 29)
 
 -- There is nothing to adapt: the telegram is to be handed on as it is.
-abbrev pub IsLeftAsItIs : List ℕ → Type 0
-IsLeftAsItIs bytes =
-    (answer : Result Adaptation AdaptError) (old new : List ℕ) → Describes (found_in bytes) (bits_of bytes) answer old new → (answer ≡ Ok AsItIs) × (new ≡ old)
+abbrev pub IsLeftUnchanged : List ℕ → Type 0
+IsLeftUnchanged bytes =
+    (answer : Result Adaptation AdaptError) (old new : List ℕ) → Describes (found_in bytes) (bits_of bytes) answer old new → (answer ≡ Ok LeftUnchanged) × (new ≡ old)
 
 -- A packet is spelled at its place in what was sent; where that is the place of the packet 3, in what was written.
 abbrev pub IsThere : PacketPlace → List Bool → List Bool → Packet → PacketPlace → Type 0

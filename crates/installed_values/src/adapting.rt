@@ -19,7 +19,7 @@ use track_packets::{ListingEnd, PacketPlace, packets_in_order, rows_of};
 #[derive(Clone, Copy)]
 pub enum Adaptation {
     /// The telegram as it is.
-    AsItIs,
+    LeftUnchanged,
     /// What was written: so many bytes. The packet 3 that was sent stands at this place of the telegram.
     Written(usize, PacketPlace),
 }
@@ -66,11 +66,11 @@ fn write_front(
 )
     requires length { (176 ≤ place.length) × (place.length ≤ 486) }
     requires there { place.start + place.length ≤ length reader.old }
-    requires room { length writer.old + length reader.old ≤ 8 * TELEGRAM_BYTES }
+    requires space { length writer.old + length reader.old ≤ 8 * TELEGRAM_BYTES }
     ensures written { writer.new ≡ writer.old ++ front place reader.old }
     ensures rest { reader.new ≡ drop 23 (drop place.start reader.old) }
     ensures left { length reader.old ≡ length reader.new + place.start + 23 }
-    ensures room { length writer.new + length reader.new ≤ 8 * TELEGRAM_BYTES }
+    ensures space { length writer.new + length reader.new ≤ 8 * TELEGRAM_BYTES }
 {
     copy(reader, writer, place.start);
     copy(reader, writer, 10);
@@ -83,10 +83,10 @@ fn write_front(
 fn keep_all(countries: u32, reader: &mut BitReader<'_>, writer: &mut BitWriter<TELEGRAM_BYTES>)
     requires few { countries ≤ 31 }
     requires there { 153 + 10 * countries ≤ length reader.old }
-    requires room { length writer.old + length reader.old ≤ 8 * TELEGRAM_BYTES }
+    requires space { length writer.old + length reader.old ≤ 8 * TELEGRAM_BYTES }
     ensures written { writer.new ≡ writer.old ++ kept countries (rows_reported 3) reader.old }
     ensures rest { reader.new ≡ drop (153 + 10 * countries) reader.old }
-    ensures room { length writer.new + length reader.new ≤ 8 * TELEGRAM_BYTES }
+    ensures space { length writer.new + length reader.new ≤ 8 * TELEGRAM_BYTES }
 {
     keep_rows(rows_of(3), countries, reader, writer);
 }
@@ -101,7 +101,7 @@ fn write(
     requires few { countries ≤ 31 }
     requires length { place.length ≡ 176 + 10 * countries }
     requires there { place.start + place.length ≤ length bits.now }
-    requires room { length bits.now ≤ 8 * TELEGRAM_BYTES }
+    requires space { length bits.now ≤ 8 * TELEGRAM_BYTES }
     ensures written { Rewrites (adapted_bits countries place bits.now) out.old out.new result }
     ensures fits { result ≤ 104 }
 {
@@ -126,7 +126,7 @@ fn rewrite(
     let mut sent = [0; TELEGRAM_BYTES];
     match order(bytes, place, &mut sent) {
         Ordered::Neither => Err(AdaptError::NoLayout(place)),
-        Ordered::Both => Err(AdaptError::Ambiguous(place)),
+        Ordered::EitherOrder => Err(AdaptError::Ambiguous(place)),
         Ordered::One(countries) => {
             let bits = reader_of(&sent, bytes.len());
             Ok(Adaptation::Written(write(&bits, place, countries, out), place))
@@ -134,21 +134,21 @@ fn rewrite(
     }
 }
 
-/// Writes a telegram that has a packet 3 as a track of issue 2.3.0 sends it with this project's packet 3: its variables in
-/// the order of the track with the counter of its countries first, without those that this project has no place for
-/// (`has_place`), and all other bits as they were, padded with zero bits to whole bytes. It does so only where the packet 3
-/// fits one of the two layouts that are possible, and not the other. A telegram without one, with no end mark, or too long
-/// for a unit is to be handed on as it is. Where nothing is written, `out` stays.
+/// Writes a telegram that has a packet 3 as a track of issue 2.3.0 sends it with this project's packet 3: its variables
+/// in the order of the track with the counter of its countries first, without those that this project has no place for
+/// (`has_place`), and all other bits as they were, padded with zero bits to whole bytes. It does so only where the
+/// packet 3 fits one of the two layouts that are possible, and not the other. A telegram without one, with no end mark,
+/// or too long for a unit is to be handed on as it is. Where nothing is written, `out` stays.
 pub fn adapt(bytes: &[u8], out: &mut [u8; TELEGRAM_BYTES]) -> Result<Adaptation, AdaptError>
-    ensures long { 104 < length bytes.now → (result ≡ Ok Adaptation.AsItIs) × (out.new ≡ out.old) }
+    ensures long { 104 < length bytes.now → (result ≡ Ok Adaptation.LeftUnchanged) × (out.new ≡ out.old) }
     ensures reported { length bytes.now ≤ 104 → Describes (found_in bytes.now) (bits_of bytes.now) result out.old out.new }
     ensures fits { (n : ℕ) (place : a_place) → result ≡ Ok (Adaptation.Written n place) → n ≤ 104 }
 {
     if bytes.len() > TELEGRAM_BYTES {
-        return Ok(Adaptation::AsItIs);
+        return Ok(Adaptation::LeftUnchanged);
     }
     let place = match found_of(bytes) {
-        Found::Nothing => return Ok(Adaptation::AsItIs),
+        Found::Nothing => return Ok(Adaptation::LeftUnchanged),
         Found::Several(place) => return Err(AdaptError::Several(place)),
         Found::One(place) => place,
     };

@@ -24,9 +24,9 @@ const NO_ROOM: u32 = 252;
 #[repr(C)]
 #[derive(Clone, Copy)]
 pub struct EtcsAdapted {
-    /// 0 the telegram is to be handed on as it is; 1 what was written is to be handed on; 2 it has several packets 3 as a
-    /// track sends them, 3 one that fits neither layout, 4 one that fits both: nothing was written, and a unit refuses the
-    /// telegram.
+    /// 0 the telegram is to be handed on as it is; 1 what was written is to be handed on; 2 it has several packets 3 as
+    /// a track sends them, 3 one that fits neither layout, 4 one that fits both: nothing was written, and a unit
+    /// refuses the telegram.
     pub outcome: u32,
     /// How many bytes were written.
     pub len: u32,
@@ -42,8 +42,8 @@ pub struct EtcsAdapted {
 pub struct EtcsDropped {
     /// The number of its bits.
     pub number: u64,
-    /// Its variable, in the order of the packet: 0 Q_NVSRBKTRG, 1 Q_NVEMRRLS, 2 D_NVPOTRP, 3 M_NVCONTACT, 4 T_NVCONTACT,
-    /// 5 M_NVDERUN, 6 Q_NVDRIVER_ADHES.
+    /// Its variable, in the order of the packet: 0 Q_NVSRBKTRG, 1 Q_NVEMRRLS, 2 D_NVPOTRP, 3 M_NVCONTACT, 4
+    /// T_NVCONTACT, 5 M_NVDERUN, 6 Q_NVDRIVER_ADHES.
     pub variable: u32,
     /// How many bits it has.
     pub bits: u32,
@@ -67,7 +67,7 @@ fn reported_to_c(answer: Result<Adaptation, AdaptError>) -> EtcsAdapted
     ensures { result ≡ description_of answer }
 {
     match answer {
-        Ok(Adaptation::AsItIs) => EtcsAdapted {
+        Ok(Adaptation::LeftUnchanged) => EtcsAdapted {
             outcome: 0,
             len: 0,
             start: 0,
@@ -83,17 +83,17 @@ fn reported_to_c(answer: Result<Adaptation, AdaptError>) -> EtcsAdapted
 /// Copies so many bytes over the first ones of `out`.
 fn copy_front(from: &[u8; TELEGRAM_BYTES], count: usize, out: &mut [u8])
     requires few { count ≤ 104 }
-    requires room { 104 ≤ length out.old }
+    requires space { 104 ≤ length out.old }
     ensures front { take count out.new ≡ take count from.now }
     ensures rest { drop count out.new ≡ drop count out.old }
 {
     out[..count].copy_from_slice(&from[..count]);
 }
 
-/// As `adapt`, into a buffer that has room for a telegram.
+/// As `adapt`, into a buffer that has space for a telegram.
 fn adapt_into(bytes: &[u8], out: &mut [u8]) -> Result<Adaptation, AdaptError>
     requires { 104 ≤ length out.old }
-    ensures long { 104 < length bytes.now → (result ≡ Ok Adaptation.AsItIs) × (out.new ≡ out.old) }
+    ensures long { 104 < length bytes.now → (result ≡ Ok Adaptation.LeftUnchanged) × (out.new ≡ out.old) }
     ensures reported { length bytes.now ≤ 104 → Describes (found_in bytes.now) (bits_of bytes.now) result out.old out.new }
     ensures fits { (n : ℕ) (place : a_place) → result ≡ Ok (Adaptation.Written n place) → n ≤ 104 }
 {
@@ -103,7 +103,7 @@ fn adapt_into(bytes: &[u8], out: &mut [u8]) -> Result<Adaptation, AdaptError>
             copy_front(&written, count, out);
             Ok(Adaptation::Written(count, place))
         }
-        Ok(Adaptation::AsItIs) => Ok(Adaptation::AsItIs),
+        Ok(Adaptation::LeftUnchanged) => Ok(Adaptation::LeftUnchanged),
         Err(error) => Err(error),
     }
 }
@@ -117,8 +117,9 @@ fn adapt_reported(bytes: &[u8], out: &mut [u8]) -> EtcsAdapted
     reported_to_c(answer)
 }
 
-/// Writes the telegram that a unit is to be handed in place of one with a packet 3 as a track sends it, and says what came
-/// of it (`adapt`): 0, or 252 where `out` has room for fewer than 104 bytes; then nothing is written and reported.
+/// Writes the telegram that a unit is to be handed in place of one with a packet 3 as a track sends it, and says what
+/// came of it (`adapt`): 0, or 252 where `out` has space for fewer than 104 bytes; then nothing is written and
+/// reported.
 pub fn adapt_call(bytes: &[u8], out: &mut [u8], reported: &mut EtcsAdapted) -> u32
     ensures { DescribesC bytes.now out.old out.new reported.old reported.new result }
 {
@@ -156,8 +157,8 @@ fn value_to_c(value: Dropped) -> EtcsDropped
     }
 }
 
-/// Reports the value of this index, from 0 on, among those that `adapt` leaves out of a telegram, in the order of the packet 3:
-/// 0, or 38 where there are no more, or where `adapt` writes nothing; then nothing is reported.
+/// Reports the value of this index, from 0 on, among those that `adapt` leaves out of a telegram, in the order of the
+/// packet 3: 0, or 38 where there are no more, or where `adapt` writes nothing; then nothing is reported.
 pub fn dropped_call(bytes: &[u8], index: u32, reported: &mut EtcsDropped) -> u32
     ensures { DescribesValue bytes.now index reported.old reported.new result }
 {

@@ -81,8 +81,8 @@ fn dropped_there(
     nth_dropped(rows_of(3), countries, index, &mut reader)
 }
 
-/// The value of this index, from 0 on, among those that `adapt` leaves out of a telegram, in the order of the packet 3. None
-/// where there are no more, and where it writes nothing.
+/// The value of this index, from 0 on, among those that `adapt` leaves out of a telegram, in the order of the packet 3.
+/// None where there are no more, and where it writes nothing.
 pub fn dropped_of(bytes: &[u8], index: u32) -> Option<Dropped>
     ensures long { 104 < length bytes.now → result ≡ None }
     ensures reported { length bytes.now ≤ 104 → DescribesDropped (found_in bytes.now) (bits_of bytes.now) index result }
@@ -100,6 +100,6 @@ pub fn dropped_of(bytes: &[u8], index: u32) -> Option<Dropped>
             let bits = reader_of(&sent, bytes.len());
             dropped_there(&bits, place, countries, index)
         }
-        Ordered::Neither | Ordered::Both => None,
+        Ordered::Neither | Ordered::EitherOrder => None,
     }
 }

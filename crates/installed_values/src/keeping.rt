@@ -37,11 +37,11 @@ fn keep_row<const N: usize>(
 )
     requires few { countries ≤ 31 }
     requires there { bits_of_row countries row.now ≤ length reader.old }
-    requires room { length writer.old + length reader.old ≤ 8 * N }
+    requires space { length writer.old + length reader.old ≤ 8 * N }
     ensures written { writer.new ≡ writer.old ++ kept_row countries row.now reader.old }
     ensures rest { reader.new ≡ drop (bits_of_row countries row.now) reader.old }
     ensures left { length reader.new + bits_of_row countries row.now ≡ length reader.old }
-    ensures room { length writer.new + length reader.new ≤ 8 * N }
+    ensures space { length writer.new + length reader.new ≤ 8 * N }
 {
     let bits = row_bits(row, countries);
     if has_place(row.variable) {
@@ -60,10 +60,10 @@ pub(crate) fn keep_rows<const N: usize>(
 )
     requires few { countries ≤ 31 }
     requires there { total_bits countries rows.now ≤ length reader.old }
-    requires room { length writer.old + length reader.old ≤ 8 * N }
+    requires space { length writer.old + length reader.old ≤ 8 * N }
     ensures written { writer.new ≡ writer.old ++ kept countries rows.now reader.old }
     ensures rest { reader.new ≡ drop (total_bits countries rows.now) reader.old }
-    ensures room { length writer.new + length reader.new ≤ 8 * N }
+    ensures space { length writer.new + length reader.new ≤ 8 * N }
 {
     match rows.split_first() {
         Some((row, others)) => {

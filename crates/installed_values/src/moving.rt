@@ -17,11 +17,11 @@ pub(crate) fn pass(reader: &mut BitReader<'_>, bits: u32)
     }
 }
 
-/// Writes the next bits as they are. The caller owes that there are so many, and room for them.
+/// Writes the next bits as they are. The caller owes that there are so many, and space for them.
 #[tactic(auto, using(crate::proofs::Pieces::left_is, crate::proofs::Pieces::taken_is))]
 pub(crate) fn copy<const N: usize>(reader: &mut BitReader<'_>, writer: &mut BitWriter<N>, bits: u32)
     requires there { bits ≤ length reader.old }
-    requires room { length writer.old + bits ≤ 8 * N }
+    requires space { length writer.old + bits ≤ 8 * N }
     ensures written { writer.new ≡ writer.old ++ take bits reader.old }
     ensures rest { reader.new ≡ drop bits reader.old }
     ensures left { length reader.new + bits ≡ length reader.old }

@@ -14,7 +14,7 @@ pub(crate) enum Reading {
     /// Neither.
     Neither,
     /// Both.
-    Both,
+    EitherOrder,
     /// The one with the counter first, for so many countries.
     CounterFirst(u32),
     /// The one with a country first, for so many countries.
@@ -26,7 +26,7 @@ pub(crate) enum Ordered {
     /// It fits neither layout.
     Neither,
     /// It fits both.
-    Both,
+    EitherOrder,
     /// It fits one, and lists so many countries.
     One(u32),
 }
@@ -37,7 +37,7 @@ fn reading_of(bits: &BitReader<'_>, place: PacketPlace) -> Reading
 {
     match (counter_first(bits, place), country_first(bits, place)) {
         (None, None) => Reading::Neither,
-        (Some(_), Some(_)) => Reading::Both,
+        (Some(_), Some(_)) => Reading::EitherOrder,
         (Some(countries), None) => Reading::CounterFirst(countries),
         (None, Some(countries)) => Reading::CountryFirst(countries),
     }
@@ -52,7 +52,7 @@ fn write_in_order(
 ) -> usize
     requires few { countries ≤ 31 }
     requires there { place.start + 55 ≤ length bits.now }
-    requires room { length bits.now ≤ 8 * TELEGRAM_BYTES }
+    requires space { length bits.now ≤ 8 * TELEGRAM_BYTES }
     ensures len { result ≡ (length (in_order_of countries place bits.now) + 7) / 8 }
     ensures written { bits_of (take result sent.new) ≡ in_order_of countries place bits.now ++ replicate (8 * result - length (in_order_of countries place bits.now)) false }
 {
@@ -82,7 +82,7 @@ pub(crate) fn order(bytes: &[u8], place: PacketPlace, sent: &mut [u8; TELEGRAM_B
     let bits = BitReader::new(bytes);
     match reading_of(&bits, place) {
         Reading::Neither => Ordered::Neither,
-        Reading::Both => Ordered::Both,
+        Reading::EitherOrder => Ordered::EitherOrder,
         Reading::CounterFirst(countries) => {
             copy_telegram(bytes, sent);
             Ordered::One(countries)

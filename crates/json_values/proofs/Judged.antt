@@ -27,7 +27,7 @@ then f None h k = absurd (false≢true h)
 then f (Some a) h k = k a
 
 opened : (n : ℕ) (b : Bool) → (nat_lt n max_depth && b) ≡ true → (n < max_depth) × (b ≡ true)
-opened n b h = let both = and_parts (nat_lt n max_depth) b h in (ltb-true n max_depth both.0, both.1)
+opened n b h = let halves = and_parts (nat_lt n max_depth) b h in (ltb-true n max_depth halves.0, halves.1)
 
 closed : (n : ℕ) (ts : List Token) → is_plain (n + 1 - 1) ts ≡ true → is_plain n ts ≡ true
 closed n ts h = let same : n + 1 - 1 ≡ n = omega arith in ap (λ m. is_plain m ts) (sym same) ∙ h
@@ -36,7 +36,7 @@ mutual
   pub passed : (j : Json) (n : ℕ) (rest : List Token) → n ≤ max_depth → is_plain n (json_tokens j ++ rest) ≡ true → Passed n depth of_json j (is_plain n rest)
   passed null n rest le h = (omega arith, refl, h)
   passed (boolean b) n rest le h = (omega arith, refl, h)
-  passed (number s) n rest le h = let both = and_parts (is_some (number_of s)) (is_plain n rest) h in (omega arith, mapped reported.number (number_of s) both.0, both.1)
+  passed (number s) n rest le h = let halves = and_parts (is_some (number_of s)) (is_plain n rest) h in (omega arith, mapped reported.number (number_of s) halves.0, halves.1)
   passed (string s) n rest le h = (omega arith, refl, h)
   passed (array js) n rest le h =
       let o = opened n _ h in
@@ -70,10 +70,10 @@ mutual
 whole_of : (ts : List Token) (j : Json) → ts ≡ json_tokens j → is_plain 0 ts ≡ true
     → (option_and_then of_json (option_and_then (λ p. if_last p.0 p.1) (value max_depth ts)) ≡ of_json j) × (is_some (of_json j) ≡ true)
 whole_of ts j spelled plain =
-    let alone : ts ≡ json_tokens j ++ [] = spelled ∙ sym (append-nil (json_tokens j)) in
-    let p = passed j 0 [] (omega arith) (ap (is_plain 0) (sym alone) ∙ plain) in
+    let single : ts ≡ json_tokens j ++ [] = spelled ∙ sym (append-nil (json_tokens j)) in
+    let p = passed j 0 [] (omega arith) (ap (is_plain 0) (sym single) ∙ plain) in
     let shallow : depth j ≤ max_depth = omega (arith, p.0) in
-    (ap (λ o. option_and_then of_json (option_and_then (λ q. if_last q.0 q.1) o)) (ap (value max_depth) alone ∙ value-json_tokens j max_depth [] shallow), p.1)
+    (ap (λ o. option_and_then of_json (option_and_then (λ q. if_last q.0 q.1) o)) (ap (value max_depth) single ∙ value-json_tokens j max_depth [] shallow), p.1)
 
 pub judged : (text : List ℕ) (j : Json) (tape : List Token) → document text ≡ Some j → tape ≡ tokens text → BeginsWith tape j → is_plain 0 tape ≡ true
     → (is_some (read_at tape) ≡ true) × (read text ≡ Some (data_at tape))

@@ -1,4 +1,4 @@
-pub mod Alone
+pub mod Single
 pub mod Counted
 pub mod Judged
 pub mod Looked

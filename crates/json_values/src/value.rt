@@ -183,12 +183,12 @@ impl<'t, 'a> JsonList<'t, 'a> {
         ensures { result ≡ nat_le (length (listed self.now)) most }
     {
         let mut left = self.items();
-        let mut room = most;
+        let mut still_allowed = most;
         while let Some((_, rest)) = left.split_first() {
-            if room == 0 {
+            if still_allowed == 0 {
                 return false;
             }
-            room -= 1;
+            still_allowed -= 1;
             left = rest;
         }
         true

@@ -88,6 +88,6 @@ empty (why ∷ later) e s = absurd (each why (neither _ _ e) (neither _ _ s))
 
 pub none_commanded : (causes : List BrakeCause) → (by_causes causes ≡ brake.None) ↔ (causes ≡ [])
 none_commanded causes = (
-  (λ h. let it = none_so (for_emergency causes) (for_service causes) h in empty causes it.0 it.1),
+  (λ h. let none_left = none_so (for_emergency causes) (for_service causes) h in empty causes none_left.0 none_left.1),
   (λ h. ap by_causes h),
 )

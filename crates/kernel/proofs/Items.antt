@@ -121,16 +121,16 @@ module _ {A : Type 0} (reported : DriverEntry → ItemReport A) where
       ∙ by_all (datum_after reported kept (deeds entries)) (datum_after reported Unknown all) now same
       ∙ sym (ap value_of (in_turn Unknown now all))
 
-  given_alone : (entries : List DriverEntry) (value : A) → HasValue reported Unknown entries value → WasGiven reported entries value
-  given_alone entries value (inl given) = given
-  given_alone entries value (inr was) = absurd (let no : None ≡ Some value = was.1 in cc)
+  given_only : (entries : List DriverEntry) (value : A) → HasValue reported Unknown entries value → WasGiven reported entries value
+  given_only entries value (inl given) = given
+  given_only entries value (inr was) = absurd (let no : None ≡ Some value = was.1 in cc)
 
   pub last_given : ((entry : DriverEntry) → deletes (reported entry) ≡ false) → (kept : List Event → Option A) →
       ((events : List Event) → kept events ≡ value_of (datum_after reported Unknown (all_deeds events))) → IsLastGiven reported kept
   last_given never kept is events value =
       let all = all_deeds events in
       let so = value_so reported never Unknown all value in (
-        λ (h : kept events ≡ Some value). given_alone all value (so.0 (sym (is events) ∙ h)),
+        λ (h : kept events ≡ Some value). given_only all value (so.0 (sym (is events) ∙ h)),
         λ (h : WasGiven reported all value). is events ∙ so.1 (inl h),
       )
 
@@ -176,15 +176,15 @@ trip_is (Input input ∷ events) =
     ∙ ap (λ (b : Bool). after_all trip_after b now) (trip_is events)
     ∙ sym (trips_in_turn false now (all_deeds events))
 
-tripped_alone : (entries : List DriverEntry) → IsOutstanding false entries → HasTripped entries
-tripped_alone entries (inl tripped) = tripped
-tripped_alone entries (inr was) = absurd (let no : false ≡ true = was.0 in cc)
+tripped_only : (entries : List DriverEntry) → IsOutstanding false entries → HasTripped entries
+tripped_only entries (inl tripped) = tripped
+tripped_only entries (inr was) = absurd (let no : false ≡ true = was.0 in cc)
 
 pub trip_so : (events : List Event) → IsTrue (kept_by events).trip_outstanding ↔ HasTripped (all_deeds events)
 trip_so events =
     let all = all_deeds events in
     let so = outstanding_so false all in (
-      λ (h : IsTrue (kept_by events).trip_outstanding). tripped_alone all (so.0 (sym (trip_is events) ∙ h)),
+      λ (h : IsTrue (kept_by events).trip_outstanding). tripped_only all (so.0 (sym (trip_is events) ∙ h)),
       λ (h : HasTripped all). trip_is events ∙ so.1 (inl h),
     )
 

@@ -19,12 +19,12 @@ with_items kept level position = record kept { level = level; position = positio
 
 -- what is known of both lives, and what is answered, is the same
 abbrev Same : Cold → Kept → Type 0
-Same word kept =
-    (parts_of (initial_life kept word) ≡ parts_of (initial_life (left_by word kept) word))
-    × (supervision_parts_of (initial_life kept word) ≡ supervision_parts_of (initial_life (left_by word kept) word))
-    × (output_of (initial_life kept word) ≡ output_of (initial_life (left_by word kept) word))
+Same recorded_cold kept =
+    (parts_of (initial_life kept recorded_cold) ≡ parts_of (initial_life (left_by recorded_cold kept) recorded_cold))
+    × (supervision_parts_of (initial_life kept recorded_cold) ≡ supervision_parts_of (initial_life (left_by recorded_cold kept) recorded_cold))
+    × (output_of (initial_life kept recorded_cold) ≡ output_of (initial_life (left_by recorded_cold kept) recorded_cold))
 
-same_items : (word : Cold) (kept : Kept) (level : Datum TrainLevel) (position : Datum PositionFrom) → Same word (with_items kept level position)
+same_items : (recorded_cold : Cold) (kept : Kept) (level : Datum TrainLevel) (position : Datum PositionFrom) → Same recorded_cold (with_items kept level position)
 same_items cold.NotMoved kept level position = (refl, refl, refl)
 same_items cold.Unknown kept Unknown Unknown = (refl, refl, refl)
 same_items cold.Unknown kept Unknown (Valid p) = (refl, refl, refl)
@@ -45,34 +45,34 @@ same_items cold.Moved kept (Invalid l) Unknown = (refl, refl, refl)
 same_items cold.Moved kept (Invalid l) (Valid p) = (refl, refl, refl)
 same_items cold.Moved kept (Invalid l) (Invalid p) = (refl, refl, refl)
 
-same : (word : Cold) (kept : Kept) → Same word kept
-same word kept = same_items word kept kept.level kept.position
+same : (recorded_cold : Cold) (kept : Kept) → Same recorded_cold kept
+same recorded_cold kept = same_items recorded_cold kept kept.level kept.position
 
 module _ {G S : Type 0} {stores : Stores G S} {known : Knowledge G S} where
-  to_left : (word : Cold) (kept : Kept) → StandsForLife stores known (initial_life kept word) →
-      StandsForLife stores known (initial_life (left_by word kept) word)
-  to_left word kept s =
-      let is = same word kept in
+  to_left : (recorded_cold : Cold) (kept : Kept) → StandsForLife stores known (initial_life kept recorded_cold) →
+      StandsForLife stores known (initial_life (left_by recorded_cold kept) recorded_cold)
+  to_left recorded_cold kept s =
+      let is = same recorded_cold kept in
       record {
         parts_are = s.parts_are ∙ is.0;
         supervision_is = record { parts_are = s.supervision_is.parts_are ∙ is.1; track_is = s.supervision_is.track_is };
       }
 
-  from_left : (word : Cold) (kept : Kept) → StandsForLife stores known (initial_life (left_by word kept) word) →
-      StandsForLife stores known (initial_life kept word)
-  from_left word kept s =
-      let is = same word kept in
+  from_left : (recorded_cold : Cold) (kept : Kept) → StandsForLife stores known (initial_life (left_by recorded_cold kept) recorded_cold) →
+      StandsForLife stores known (initial_life kept recorded_cold)
+  from_left recorded_cold kept s =
+      let is = same recorded_cold kept in
       record {
         parts_are = s.parts_are ∙ sym is.0;
         supervision_is = record { parts_are = s.supervision_is.parts_are ∙ sym is.1; track_is = s.supervision_is.track_is };
       }
 
   -- where the same is left of both, what stands for the one life stands for the other
-  pub left_alike : (word : Cold) (one other : Kept) → left_by word one ≡ left_by word other →
-      StandsForLife stores known (initial_life one word) → StandsForLife stores known (initial_life other word)
-  left_alike word one other alike s =
-      from_left word other (subst (λ (k : Kept). StandsForLife stores known (initial_life k word)) alike (to_left word one s))
+  pub left_alike : (recorded_cold : Cold) (one other : Kept) → left_by recorded_cold one ≡ left_by recorded_cold other →
+      StandsForLife stores known (initial_life one recorded_cold) → StandsForLife stores known (initial_life other recorded_cold)
+  left_alike recorded_cold one other alike s =
+      from_left recorded_cold other (subst (λ (k : Kept). StandsForLife stores known (initial_life k recorded_cold)) alike (to_left recorded_cold one s))
 
-pub answered_alike : (word : Cold) (one other : Kept) → left_by word one ≡ left_by word other → output_of (initial_life one word) ≡ output_of (initial_life other word)
-answered_alike word one other alike =
-    (same word one).2 ∙ ap (λ (k : Kept). output_of (initial_life k word)) alike ∙ sym (same word other).2
+pub answered_alike : (recorded_cold : Cold) (one other : Kept) → left_by recorded_cold one ≡ left_by recorded_cold other → output_of (initial_life one recorded_cold) ≡ output_of (initial_life other recorded_cold)
+answered_alike recorded_cold one other alike =
+    (same recorded_cold one).2 ∙ ap (λ (k : Kept). output_of (initial_life k recorded_cold)) alike ∙ sym (same recorded_cold other).2

@@ -25,9 +25,9 @@ any_picked test holds [] = refl
 any_picked test holds (why ∷ later) =
     one_more test (holds why) why (filter holds later) ∙ ap (λ (b : Bool). (test why && holds why) || b) (any_picked test holds later)
 
-alone : (m : BrakeCauses) (why : BrakeCause) → list_any (λ other. is_cause why other && mark m other) all_causes ≡ mark m why
-alone m cause.NotRevalidated = or-false (mark m cause.NotRevalidated)
-alone m other = or-false (mark m other)
+single : (m : BrakeCauses) (why : BrakeCause) → list_any (λ other. is_cause why other && mark m other) all_causes ≡ mark m why
+single m cause.NotRevalidated = or-false (mark m cause.NotRevalidated)
+single m other = or-false (mark m other)
 
 pub mark_so : (m : BrakeCauses) (why : BrakeCause) → is_among why (marked m) ≡ mark m why
-mark_so m why = any_picked (is_cause why) (mark m) all_causes ∙ alone m why
+mark_so m why = any_picked (is_cause why) (mark m) all_causes ∙ single m why

@@ -1,8 +1,8 @@
 -- When the brakes are commanded, and why: a table, of which the first row counts that holds, and each row that holds is
 -- a cause (SUBSET-026; the rows, their order and their margins: this project's profile). Speeds are metres per hour,
--- distances centimetres, moments milliseconds; lists have the newest first. Reported elsewhere, and taken for granted here:
--- the limit that an event answered (`limit`, in speed_supervision), the speed of the last reading (`speed_of`; 0 before
--- the first one), and when an acknowledgement has been owed too long (`brakes`, in areas).
+-- distances centimetres, moments milliseconds; lists have the newest first. Reported elsewhere, and taken for granted
+-- here: the limit that an event answered (`limit`, in speed_supervision), the speed of the last reading (`speed_of`; 0
+-- before the first one), and when an acknowledgement has been owed too long (`brakes`, in areas).
 use Rattle.std.specs.Prelude.{ℕ, ◌+◌, ◌==◌, nat_lt, ℤ, pos, int_lt, Bool, false, not, ◌&&◌, ◌||◌, if◌then◌else◌, Option, List, [], ◌∷◌, sum_by}
 use Rattle.std.specs.Int.RustNames.{unsigned_abs}
 use Rattle.std.specs.List.{list_any}
@@ -96,7 +96,7 @@ has_rolled_too_far life = nat_lt (values_of life).roll (rolled_backward life)
 
 -- linking or a balise group asked for it
 abbrev pub service_brake_requested : Snapshot → Bool
-service_brake_requested snapshot = snapshot.event.track.used.happened.asked.service
+service_brake_requested snapshot = snapshot.event.track.used.happened.requested.service
 
 -- it moves in Stand By or in Post Trip
 abbrev pub must_stand : Life → Bool

@@ -7,11 +7,11 @@ use Rattle.track_picture.specs.Steps as track
 use Rattle.track_picture.specs.Stores.{Stores}
 use Rattle.kernel.specs.StandsFor.{Knowledge}
 
--- there is room for all packets that may be used by an event; none are by a power-up
-abbrev pub HasRoomFor : {G S : Type 0} → Stores G S → Knowledge G S → Event → Type 0
-HasRoomFor stores known (PowerUp cold) = ⊤
-HasRoomFor stores known (Input input) = track.HasRoomFor stores known.supervision.track input
+-- there is space for all packets that may be used by an event; none are by a power-up
+abbrev pub HasSpaceFor : {G S : Type 0} → Stores G S → Knowledge G S → Event → Type 0
+HasSpaceFor stores known (PowerUp cold) = ⊤
+HasSpaceFor stores known (Input input) = track.HasSpaceFor stores known.supervision.track input
 
--- no restriction and no profile of the track is kept, nor room for one
+-- no restriction and no profile of the track is kept, nor space for one
 abbrev pub HasNoTrack : {G S : Type 0} → Stores G S → Knowledge G S → Type 0
 HasNoTrack stores known = size_in stores known.supervision.track ≡ 0

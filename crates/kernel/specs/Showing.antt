@@ -1,7 +1,8 @@
--- What a display is reported along with the output, and how the train moves (SUBSET-026, 3.13, 5.7, 5.8, 5.9, 5.10; this
--- project's profile). Moments and times are milliseconds, speeds metres per hour, distances centimetres; lists of entries
--- have the newest first. Reported elsewhere, and taken for granted here: the limit, the acknowledgements, how long one may be
--- owed before the service brake (`brake_delay`, in areas), and what is left of an override (`left_of_override`).
+-- What a display is reported along with the output, and how the train moves (SUBSET-026, 3.13, 5.7, 5.8, 5.9, 5.10;
+-- this project's profile). Moments and times are milliseconds, speeds metres per hour, distances centimetres; lists of
+-- entries have the newest first. Reported elsewhere, and taken for granted here: the limit, the acknowledgements, how
+-- long one may be owed before the service brake (`brake_delay`, in areas), and what is left of an override
+-- (`left_of_override`).
 use Rattle.std.specs.Prelude.{ℕ, ◌+◌, ◌-◌, ◌^◌, min}
 use Rattle.areas.specs.Acknowledging.{brake_delay}
 use Rattle.areas.specs.declared.acknowledgement.Acknowledgement.{Acknowledgement}
@@ -44,8 +45,8 @@ service_speed life = limit life + 5_000
 abbrev pub emergency_speed : Life → ℕ
 emergency_speed life = limit life + 10_000
 
-abbrev pub shown_of : Life → DisplayValues
-shown_of life = record {
+abbrev pub display_of : Life → DisplayValues
+display_of life = record {
   waiting = acknowledgements_of life;
   overriding = left_of_override life;
   service_speed = service_speed life;
@@ -53,7 +54,8 @@ shown_of life = record {
   max_front = (span_of life).max_front;
 }
 
--- the speed of the last reading; how far the train has rolled backward, up to the greatest number of 64 bits; and D_NVROLL
+-- the speed of the last reading; how far the train has rolled backward, up to the greatest number of 64 bits; and
+-- D_NVROLL
 abbrev pub motion_of : Life → Motion
 motion_of life = record {
   speed = speed_of (tracks life.entries);

@@ -1,5 +1,5 @@
--- What the kernel knows represents a life, and so a past or a list of events (this project's profile). Distances are centimetres,
--- speeds metres per hour.
+-- What the kernel knows represents a life, and so a past or a list of events (this project's profile). Distances are
+-- centimetres, speeds metres per hour.
 use Rattle.std.specs.Prelude.{◌≡◌, ℕ, ◌-◌, ◌^◌, min, Option, Some, None, List, [], ◌∷◌}
 use Rattle.driver.specs.declared.datum.Datum.{Datum}
 use Rattle.events.specs.declared.input.Event.{Event}
@@ -46,7 +46,7 @@ abbrev pub sight_at : Life → SupervisionEntry → Sight
 sight_at life entry = record {
   stands = stands entry.track.initial.reading;
   backward = backward_at entry;
-  service_brake_requested = entry.track.used.happened.asked.service;
+  service_brake_requested = entry.track.used.happened.requested.service;
   speed = speed_of (tracks (entry ∷ life.entries));
   limit = limit (grown life entry);
 }

@@ -3,13 +3,13 @@ ghost use Rattle.std.specs.Prelude.{◌≡◌, List, ◌∷◌, IsOk, OnOk, OnEr
 ghost use Rattle.events.specs.declared.input.Event.{Event};
 ghost use Rattle.events.specs.declared.input.Event.TheVariants as event;
 ghost use Rattle.kernel.specs.Lives.{Past, past_after, counted};
-ghost use Rattle.kernel.specs.Quiet.{HasRoomFor, HasNoTrack};
+ghost use Rattle.kernel.specs.Quiet.{HasSpaceFor, HasNoTrack};
 ghost use Rattle.kernel.specs.StandsFor.{StandsForLife, StandsAt, StandsFor, parts_of, sight_at};
 ghost use Rattle.mode_control.specs.Entry.{SupervisionEntry};
 ghost use Rattle.mode_control.specs.Life.{Life, grown};
 ghost use Rattle.mode_control.specs.Sentences.{entry_of};
 ghost use Rattle.mode_control.specs.StandsFor.{StandsForLife as SupervisionStandsForLife};
-ghost use Rattle.track_picture.specs.Steps.{HasRoomFor as TrackHasRoomFor};
+ghost use Rattle.track_picture.specs.Steps.{HasSpaceFor as TrackHasSpaceFor};
 
 use crate::parts::Parts;
 use crate::sight::{Sight, backward_by, reading_of, stands};
@@ -42,7 +42,7 @@ fn sight_of<T: ProfileStores>(supervision: &SupervisionOver<T>, input: &Input) -
     Sight {
         stands: stands(&reading),
         backward: backward_by(happened.overrun, &reading),
-        service_brake_requested: happened.asked.service,
+        service_brake_requested: happened.requested.service,
         speed: supervision.track().speed(),
         limit: limit(supervision),
     }
@@ -51,8 +51,8 @@ fn sight_of<T: ProfileStores>(supervision: &SupervisionOver<T>, input: &Input) -
 impl<T: ProfileStores> StateOver<T> {
     // All that an input does. Where memory is refused, nothing changes.
     fn receive(&mut self, input: &Input) -> Result<(), NoMemory>
-        ensures quiet { TrackHasRoomFor T.stores self.old.supervision.track input.now → IsOk result }
-        ensures track { TrackHasRoomFor T.stores self.old.supervision.track input.now → HasNoTrack T.stores self.old
+        ensures quiet { TrackHasSpaceFor T.stores self.old.supervision.track input.now → IsOk result }
+        ensures track { TrackHasSpaceFor T.stores self.old.supervision.track input.now → HasNoTrack T.stores self.old
             → OnOk result (HasNoTrack T.stores self.new) }
         ensures life { OnOk result ((life : Life) → StandsForLife T.stores self.old life
             → StandsForLife T.stores self.new (grown life (entry_of life input.now))) }
@@ -66,7 +66,7 @@ impl<T: ProfileStores> StateOver<T> {
         Ok(())
     }
 
-    // A power-up. It stands out of line, so that an input clears no room for the new life.
+    // A power-up. It stands out of line, so that an input clears no memory for the new life.
     #[inline(never)]
     fn begin_again(&mut self, alloc: Global, cold: Cold)
         ensures stands { (events : List Event) → StandsFor T.stores self.old events
@@ -78,11 +78,11 @@ impl<T: ProfileStores> StateOver<T> {
         *self = StateOver::begin(alloc, self.kept(), cold);
     }
 
-    /// All that an event does. Where memory is refused, nothing changes; none is refused where there is room for the
+    /// All that an event does. Where memory is refused, nothing changes; none is refused where there is space for the
     /// event.
     pub(crate) fn take(&mut self, alloc: Global, event: &Event) -> Result<(), NoMemory>
-        ensures quiet { HasRoomFor T.stores self.old event.now → IsOk result }
-        ensures track { HasRoomFor T.stores self.old event.now → HasNoTrack T.stores self.old
+        ensures quiet { HasSpaceFor T.stores self.old event.now → IsOk result }
+        ensures track { HasSpaceFor T.stores self.old event.now → HasNoTrack T.stores self.old
             → OnOk result (HasNoTrack T.stores self.new) }
         ensures stands { OnOk result ((events : List Event) → StandsFor T.stores self.old events
             → StandsFor T.stores self.new (event.now ∷ events)) }

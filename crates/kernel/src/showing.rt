@@ -1,6 +1,6 @@
 //! What a display is reported along with the output.
 ghost use Rattle.std.specs.Prelude.{◌≡◌, is_some};
-ghost use Rattle.kernel.specs.Showing.{waiting, motion_of, shown_of};
+ghost use Rattle.kernel.specs.Showing.{waiting, motion_of, display_of};
 ghost use Rattle.kernel.specs.StandsFor.{StandsForLife};
 ghost use Rattle.mode_control.specs.Conditions.{is_overridden};
 ghost use Rattle.mode_control.specs.Life.{Life};
@@ -38,10 +38,10 @@ pub struct Acknowledgements {
 }
 
 // Whether the driver is waited for at this moment.
-fn waits_at(now: Ms, it: Acknowledgement) -> Waiting
-    ensures { result ≡ waiting now it }
+fn waits_at(now: Ms, acknowledgement: Acknowledgement) -> Waiting
+    ensures { result ≡ waiting now acknowledgement }
 {
-    match it {
+    match acknowledgement {
         Acknowledgement::Nothing | Acknowledgement::Done => Waiting::Nothing,
         Acknowledgement::Requested => Waiting::Requested,
         Acknowledgement::Owed(since) => {
@@ -72,8 +72,8 @@ pub struct DisplayValues {
     /// The speed above which the service brake comes, in metres per hour: the limit and 5 km/h (SUBSET-026, 3.13; the
     /// margin: this project's profile).
     pub service_speed: u32,
-    /// The speed above which the emergency brake comes, in metres per hour: the limit and 10 km/h (SUBSET-026, 3.13; the
-    /// margin: this project's profile).
+    /// The speed above which the emergency brake comes, in metres per hour: the limit and 10 km/h (SUBSET-026, 3.13;
+    /// the margin: this project's profile).
     pub emergency_speed: u32,
     /// The maximum safe front, in centimetres from where the life began (SUBSET-026, 3.6.4): from there on what lies
     /// ahead is braked for.
@@ -93,10 +93,10 @@ impl<T: ProfileStores> StateOver<T> {
         }
     }
 
-    /// What a display shows along with the output of the last event. Takes no memory, and is worked out where it is asked
-    /// alone.
-    pub fn shown(&self) -> DisplayValues
-        ensures shown { (life : Life) → StandsForLife T.stores self.now life → result ≡ shown_of life }
+    /// What a display shows along with the output of the last event. Takes no memory, and is worked out where it is
+    /// asked alone.
+    pub fn display_values(&self) -> DisplayValues
+        ensures display_values { (life : Life) → StandsForLife T.stores self.now life → result ≡ display_of life }
         ensures exact { (life : Life) → StandsForLife T.stores self.now life → is_some result.overriding ≡ is_overridden life }
     {
         let now = self.supervision.track().moment();

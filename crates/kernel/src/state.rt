@@ -3,7 +3,7 @@ ghost use Rattle.std.specs.Prelude.{◌≡◌, [], ◌∷◌, List, IsOk, IfOk};
 ghost use Rattle.events.specs.declared.input.Event.{Event};
 ghost use Rattle.events.specs.declared.input.Event.TheVariants.{PowerUp};
 ghost use Rattle.events.specs.declared.kept.Kept.{Kept as KeptItems};
-ghost use Rattle.mode_table.specs.declared.statuses.Cold.{Cold as ColdWord};
+ghost use Rattle.mode_table.specs.declared.statuses.Cold.{Cold as ColdValue};
 ghost use Rattle.kernel.specs.Lives.{counted, left_by, kept_by};
 ghost use Rattle.kernel.specs.Output.{output_after};
 ghost use Rattle.kernel.specs.Quiet.{HasNoTrack};
@@ -78,9 +78,9 @@ impl<T: ProfileStores> StateOver<T> {
 
     // The life begins, and is counted.
     fn set_out(&mut self)
-        ensures life { (kept : KeptItems) (cold : ColdWord) → WaitsFor T.stores self.old kept cold
+        ensures life { (kept : KeptItems) (cold : ColdValue) → WaitsFor T.stores self.old kept cold
             → StandsForLife T.stores self.new (initial_life kept cold) }
-        ensures counts { (cold : ColdWord) → self.new.counts ≡ counted self.old.counts (PowerUp cold) }
+        ensures counts { (cold : ColdValue) → self.new.counts ≡ counted self.old.counts (PowerUp cold) }
         ensures track { HasNoTrack T.stores self.old → HasNoTrack T.stores self.new }
     {
         self.supervision.set_out();
@@ -101,9 +101,9 @@ impl<T: ProfileStores> StateOver<T> {
     /// The life begins of which only what was kept is known (`before_power_up`), as `power_up` begins it: what is
     /// answered. Takes no memory.
     pub fn begin_life(&mut self) -> Output
-        ensures stands { (kept : KeptItems) (cold : ColdWord) (events : List Event) → WaitsFor T.stores self.old kept cold
+        ensures stands { (kept : KeptItems) (cold : ColdValue) (events : List Event) → WaitsFor T.stores self.old kept cold
             → left_by cold kept ≡ left_by cold (kept_by events) → StandsFor T.stores self.new (PowerUp cold ∷ events) }
-        ensures output { (kept : KeptItems) (cold : ColdWord) (events : List Event) → WaitsFor T.stores self.old kept cold
+        ensures output { (kept : KeptItems) (cold : ColdValue) (events : List Event) → WaitsFor T.stores self.old kept cold
             → left_by cold kept ≡ left_by cold (kept_by events) → result ≡ output_after (PowerUp cold ∷ events) }
         ensures track { HasNoTrack T.stores self.old → HasNoTrack T.stores self.new }
     {
@@ -112,7 +112,7 @@ impl<T: ProfileStores> StateOver<T> {
     }
 
     /// An equal value; NoMemory where memory is refused. None is taken where no restriction and no profile is kept, nor
-    /// room for one.
+    /// space for one.
     pub fn copy(&self, alloc: Global) -> Result<Self, NoMemory>
         ensures value { IfOk result (λ copy. copy ≡ self.now) }
         ensures quiet { HasNoTrack T.stores self.now → IsOk result }

@@ -4,7 +4,7 @@ ghost use Rattle.events.specs.declared.input.Event.{Event};
 ghost use Rattle.events.specs.declared.input.Event.TheVariants.{PowerUp};
 ghost use Rattle.kernel.specs.Lives.{Past, past_after};
 ghost use Rattle.kernel.specs.Output.{output_of, output_after};
-ghost use Rattle.kernel.specs.Quiet.{HasRoomFor, HasNoTrack};
+ghost use Rattle.kernel.specs.Quiet.{HasSpaceFor, HasNoTrack};
 ghost use Rattle.kernel.specs.StandsFor.{StandsAt, StandsFor};
 ghost use Rattle.mode_table.specs.declared.statuses.Cold.{Cold};
 
@@ -16,7 +16,7 @@ use units::NoMemory;
 
 /// One event: what is known after it, and what is answered (this project's profile). The old state is unchanged.
 /// NoMemory where memory for the new one is refused: a power-up takes none, and no event does that uses no packet while
-/// no restriction and no profile is kept, nor room for one. Else the old state is copied. The caller owes moments of
+/// no restriction and no profile is kept, nor space for one. Else the old state is copied. The caller owes moments of
 /// the clock that don't fall in a life (`Onboard::accept` tests that).
 pub fn step<T: ProfileStores>(
     alloc: Global,
@@ -24,7 +24,7 @@ pub fn step<T: ProfileStores>(
     event: &Event,
 ) -> Result<(StateOver<T>, Output), NoMemory>
     ensures power_up { (cold : Cold) → event.now ≡ PowerUp cold → IsOkAnd result (λ answer. HasNoTrack T.stores answer.0) }
-    ensures quiet { HasNoTrack T.stores state.now → HasRoomFor T.stores state.now event.now
+    ensures quiet { HasNoTrack T.stores state.now → HasSpaceFor T.stores state.now event.now
         → IsOkAnd result (λ answer. HasNoTrack T.stores answer.0) }
     ensures stands { IfOk result (λ answer. (events : List Event) → StandsFor T.stores state.now events
         → StandsFor T.stores answer.0 (event.now ∷ events)) }
@@ -42,12 +42,12 @@ pub fn step<T: ProfileStores>(
 }
 
 impl<T: ProfileStores> StateOver<T> {
-    /// The same in place; NoMemory where memory is refused, and then nothing changes. Room is made first for all that
-    /// the event can add, so that nothing is copied. None is refused where there is room for it: there always is for a
+    /// The same in place; NoMemory where memory is refused, and then nothing changes. Space is made first for all that
+    /// the event can add, so that nothing is copied. None is refused where there is space for it: there always is for a
     /// power-up, a moment, an action, and for a reading while no group is being read.
     pub fn apply(&mut self, alloc: Global, event: &Event) -> Result<Output, NoMemory>
-        ensures quiet { HasRoomFor T.stores self.old event.now → IsOk result }
-        ensures track { HasRoomFor T.stores self.old event.now → HasNoTrack T.stores self.old
+        ensures quiet { HasSpaceFor T.stores self.old event.now → IsOk result }
+        ensures track { HasSpaceFor T.stores self.old event.now → HasNoTrack T.stores self.old
             → OnOk result (HasNoTrack T.stores self.new) }
         ensures stands { OnOk result ((events : List Event) → StandsFor T.stores self.old events
             → StandsFor T.stores self.new (event.now ∷ events)) }

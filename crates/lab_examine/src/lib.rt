@@ -8,11 +8,11 @@ mod examining;
 mod file_facts;
 mod json;
 mod line;
+mod names;
 mod opening;
 mod reporting;
 mod slots;
 mod text;
-mod words;
 
 pub use error::ExamineError;
 pub use examining::{Verdict, examine};

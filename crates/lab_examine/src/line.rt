@@ -3,8 +3,8 @@ ghost use Rattle.std.specs.Prelude.{◌≡◌, ◌*◌, ◌<◌, ◌≤◌, ◌^
 ghost use Rattle.lab_examine.specs.Lines.{trailing_bytes, is_size, some_if, slots_by_size, sector_object, image_line, facts_of, is_in_journal, unreadable_block, content_of, slot_line, last_lost, lost_line, journal_object, journal_line, power_up_line};
 
 use crate::file_facts::FileFacts;
+use crate::names::{write_digest, write_field, write_format};
 use crate::opening::{JournalFacts, Opened};
-use crate::words::{write_digest, write_field, write_format};
 use blocks::{Block, Format};
 use events::Kept;
 use examination::{

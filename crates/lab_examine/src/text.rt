@@ -4,7 +4,7 @@ use crate::line::{
     OwnBlock, PowerUpLine, Refusal, SectorObject, SectorState, SlotContent, SlotLine,
     UnreadableBlock,
 };
-use crate::words::{field_word, format_number};
+use crate::names::{field_name, format_number};
 use line_sinks::describe_lines;
 use std::{fmt, str};
 
@@ -33,7 +33,7 @@ impl fmt::Display for SectorObject {
             write!(f, " slots {slots}")?;
         }
         if let (Some(field), Some(byte)) = (self.field, self.byte) {
-            let field = field_word(field);
+            let field = field_name(field);
             write!(f, " field {field} at byte {byte}")?;
         }
         let size = Known(self.size_slots);
@@ -104,7 +104,7 @@ impl fmt::Display for UnreadableBlock {
         let block = self.block;
         write!(f, "{block}")?;
         if let Some(field) = self.field {
-            let field = field_word(field);
+            let field = field_name(field);
             write!(f, " field {field}")?;
         }
         if let Some(record) = self.record {

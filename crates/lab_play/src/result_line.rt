@@ -11,7 +11,7 @@ use sessions::of_stop;
 use sha2::{Digest, Sha256};
 use std::io;
 use std::io::Write;
-use text_output::{Form, Piece, brake_word, known, mode_word, write_parts, write_pieces};
+use text_output::{Form, Piece, brake_name, known, mode_name, write_parts, write_pieces};
 
 /// Which outputs are printed.
 #[derive(Clone, Copy)]
@@ -106,9 +106,9 @@ fn counts_of(released: &[Released]) -> Counts {
 }
 
 fn is_same(one: &Output, other: &Output) -> bool {
-    mode_word(one.mode) == mode_word(other.mode)
+    mode_name(one.mode) == mode_name(other.mode)
         && level_number(one.level) == level_number(other.level)
-        && brake_word(one.brake) == brake_word(other.brake)
+        && brake_name(one.brake) == brake_name(other.brake)
         && one.limit.get() == other.limit.get()
         && one.indications.number() == other.indications.number()
 }
@@ -119,11 +119,11 @@ fn write_output<W: Write>(one: &Released, comma: bool, out: &mut W) -> io::Resul
         Piece::Same(if comma { ",{\"event\":" } else { "{\"event\":" }),
         Piece::Number(one.event()),
         Piece::Same(",\"mode\":\""),
-        Piece::Same(mode_word(output.mode)),
+        Piece::Same(mode_name(output.mode)),
         Piece::Same("\",\"level\":"),
         Piece::Same(level_number(output.level)),
         Piece::Same(",\"brake\":\""),
-        Piece::Same(brake_word(output.brake)),
+        Piece::Same(brake_name(output.brake)),
         Piece::Same("\",\"limit_m_per_h\":"),
         Piece::Number(u64::from(output.limit.get())),
         Piece::Same(",\"indications\":["),

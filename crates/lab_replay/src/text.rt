@@ -1,6 +1,6 @@
 //! The lines for people.
 use crate::line::{HeadLine, Outcome, RecordLine, ReplayLine, StretchLine};
-use crate::serializing::{KeptObject, kept_field_word, record_field_word};
+use crate::serializing::{KeptObject, kept_field_name, record_field_name};
 use lab_events::Reason;
 use line_sinks::describe_value;
 use std::fmt;
@@ -33,7 +33,7 @@ impl fmt::Display for StretchLine {
 impl fmt::Display for RecordLine {
     fn fmt<W: fmt::Write>(&self, f: &mut fmt::Formatter<W>) -> fmt::Result {
         let (life, block, event) = (self.life, self.block, self.event);
-        let field = record_field_word(self.field);
+        let field = record_field_name(self.field);
         write!(
             f,
             "life {life} block {block} event {event} differs in {field}\n  journal: "
@@ -46,7 +46,7 @@ impl fmt::Display for RecordLine {
 
 impl fmt::Display for HeadLine {
     fn fmt<W: fmt::Write>(&self, f: &mut fmt::Formatter<W>) -> fmt::Result {
-        let (life, block, field) = (self.life, self.block, kept_field_word(self.field));
+        let (life, block, field) = (self.life, self.block, kept_field_name(self.field));
         write!(
             f,
             "life {life} head of block {block} differs in {field}\n  journal: "

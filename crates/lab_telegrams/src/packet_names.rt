@@ -19,7 +19,7 @@ use track_packets::{
 #[derive(Clone, Copy)]
 struct FaultReport {
     says: &'static str,
-    word: &'static str,
+    keyword: &'static str,
     variable: Option<Variable>,
     bit: Option<u64>,
 }
@@ -85,29 +85,29 @@ fn field_fault(fault: FieldFault) -> FaultReport {
     match fault {
         FieldFault::CutOff(place) => FaultReport {
             says: "a field goes beyond its last bit",
-            word: "cut_off",
+            keyword: "cut_off",
             variable: Some(place.variable),
             bit: Some(u64::from(place.start)),
         },
         FieldFault::TooMany(place) => FaultReport {
             says: "a counter announces too many elements",
-            word: "too_many",
+            keyword: "too_many",
             variable: Some(place.variable),
             bit: Some(u64::from(place.start)),
         },
         FieldFault::TooLong(start) => FaultReport {
             says: "bits are left after its last field",
-            word: "too_long",
+            keyword: "too_long",
             variable: None,
             bit: Some(u64::from(start)),
         },
     }
 }
 
-fn without_place(says: &'static str, word: &'static str) -> FaultReport {
+fn without_place(says: &'static str, keyword: &'static str) -> FaultReport {
     FaultReport {
         says,
-        word,
+        keyword,
         variable: None,
         bit: None,
     }
@@ -149,7 +149,7 @@ fn fault_pieces(fault: FaultReport) -> [Piece; 8] {
             "  its fields can't be decoded: ",
             ",\"fields\":null,\"rest_bits\":null,\"fault\":{\"name\":\"",
         ),
-        Piece::Text(fault.says, fault.word),
+        Piece::Text(fault.says, fault.keyword),
         quote,
         name,
         end,
@@ -224,7 +224,7 @@ fn write_packet<W: Write>(
 }
 
 fn end_pieces(end: ListingEnd) -> [Piece; 5] {
-    let (says, word, at) = match end {
+    let (says, keyword, at) = match end {
         ListingEnd::EndMark(at) => ("end mark at ", "end_mark", at),
         ListingEnd::NoEnd(at) => ("no end mark at ", "no_end", at),
         ListingEnd::CutOff(at) => ("beyond the last bit goes what is at ", "cut_off", at),
@@ -233,7 +233,7 @@ fn end_pieces(end: ListingEnd) -> [Piece; 5] {
     };
     [
         Piece::Text("", "],\"end\":\""),
-        Piece::Text(says, word),
+        Piece::Text(says, keyword),
         Piece::Text("", "\",\"end_bit\":"),
         Piece::Number(u64::from(at)),
         Piece::Text("\n", "}\n"),

@@ -92,13 +92,18 @@ fn say_readings<R: AllocGlobal + Eprint>(rt: &R, bytes: &[u8], place: PacketPlac
 }
 
 // Says at which bit a packet 3 is that isn't adapted, and that nothing was changed.
-fn not_adapted<R: AllocGlobal + Eprint>(rt: &R, bytes: &[u8], place: PacketPlace, fits_both: bool) {
+fn not_adapted<R: AllocGlobal + Eprint>(
+    rt: &R,
+    bytes: &[u8],
+    place: PacketPlace,
+    fits_either_order: bool,
+) {
     let (start, length) = (place.start, place.length);
-    let which = if fits_both { "both" } else { "neither" };
+    let which = if fits_either_order { "both" } else { "neither" };
     let _ = eprint!(rt;
         "etcs_lab: HEX: has a packet 3 at bit {start}, of {length} bits, that fits {which} of its possible layouts"
     );
-    if fits_both {
+    if fits_either_order {
         say_readings(rt, bytes, place);
     }
     let _ = eprintln!(rt; ". Nothing was changed.");
@@ -140,7 +145,7 @@ pub fn adapted_reported<R: AllocGlobal + Eprint, W: Write>(
     let mut written = [0; TELEGRAM_BYTES];
     let done = match adapt(telegram.as_slice(), &mut written) {
         Ok(Adaptation::Written(count, _)) => write_hex(&written[..count], out),
-        Ok(Adaptation::AsItIs) => write_hex(telegram.as_slice(), out),
+        Ok(Adaptation::LeftUnchanged) => write_hex(telegram.as_slice(), out),
         Err(error) => return Err(refusal(rt, telegram.as_slice(), error)),
     };
     reported(rt, "HEX", done)?;

@@ -12,7 +12,7 @@ use Rattle.ring.specs.Slots.{valid_at, IsAtRest}
 use Rattle.ring.proofs.Numbers.{same_newest}
 use Rattle.ring.proofs.Rest.{at_rest}
 use Rattle.unit_start.specs.Events.{account_of, pairs_of}
-use Rattle.unit_start.specs.Lives.{IsReady, IsWord, IsBlank, IsOpenRefusal, IsNextNumber}
+use Rattle.unit_start.specs.Lives.{IsReady, IsRecordedCold, IsBlank, IsOpenRefusal, IsNextNumber}
 use Rattle.unit_start.specs.Releases.{Release}
 use Rattle.whole_lives.specs.Runs.{durable_by, NothingReleased}
 use Rattle.onboard.specs.Progress.{starting_with}
@@ -74,35 +74,35 @@ module _ (disk : Recording) (empty : IsEmpty disk) where
   -- ---- what it releases
 
   -- the power-up has the word that was handed in, or nothing was released
-  pub word_or_nothing : (cold word : Cold) (released : List Release) (P : Type 0) → IsWord (memory_state disk).sectors (contents_of (memory_state disk)) cold word ⊎ (P × NothingReleased released)
+  pub cold_or_nothing : (cold word : Cold) (released : List Release) (P : Type 0) → IsRecordedCold (memory_state disk).sectors (contents_of (memory_state disk)) cold word ⊎ (P × NothingReleased released)
       → (word ≡ cold) ⊎ (released ≡ [])
-  word_or_nothing cold word released P is = ⊎_elim (λ (its : IsWord (memory_state disk).sectors (contents_of (memory_state disk)) cold word). inl (its.blank blank)) (λ (none : P × NothingReleased released). inr none.1) is
+  cold_or_nothing cold word released P is = ⊎_elim (λ (its : IsRecordedCold (memory_state disk).sectors (contents_of (memory_state disk)) cold word). inl (its.blank blank)) (λ (none : P × NothingReleased released). inr none.1) is
 
 -- after steps that were carried out
 following : (cold word : Cold) (found : List Event) (done : List Step) (durable accepted : List Event) (released out : List Release) → found ≡ [] → out ≡ released
     → (word ≡ cold) ⊎ (released ≡ []) → AreAfter (an_event.PowerUp word ∷ found) done durable accepted released
     → pairs_of (durable_by (initial cold) done) ≡ pairs_of (initial cold) ++ out
-following cold word found done durable accepted released out none same word_is so =
+following cold word found done durable accepted released out none same cold_is so =
     let R : List Event → Type 0 = λ f. pairs_of (durable_by (an_event.PowerUp word ∷ f) done) ≡ pairs_of (an_event.PowerUp word ∷ f) ++ released in
-    let at_word : pairs_of (durable_by (initial word) done) ≡ pairs_of (initial word) ++ released = subst R none (ap pairs_of (sym so.0) ∙ so.2) in
+    let at_cold : pairs_of (durable_by (initial word) done) ≡ pairs_of (initial word) ++ released = subst R none (ap pairs_of (sym so.0) ∙ so.2) in
     ⊎_elim
-    (λ (it : word ≡ cold). subst (λ (w : Cold). pairs_of (durable_by (initial w) done) ≡ pairs_of (initial w) ++ out) it (at_word ∙ ap (λ (l : List Release). pairs_of (initial word) ++ l) (sym same)))
+    (λ (it : word ≡ cold). subst (λ (w : Cold). pairs_of (durable_by (initial w) done) ≡ pairs_of (initial w) ++ out) it (at_cold ∙ ap (λ (l : List Release). pairs_of (initial word) ++ l) (sym same)))
     (λ (nothing : released ≡ []).
-    ap pairs_of (nothing_durable word cold done (at_word ∙ ap (λ (l : List Release). pairs_of (initial word) ++ l) nothing))
+    ap pairs_of (nothing_durable word cold done (at_cold ∙ ap (λ (l : List Release). pairs_of (initial word) ++ l) nothing))
     ∙ sym (append-nil (pairs_of (initial cold)))
     ∙ ap (λ (l : List Release). pairs_of (initial cold) ++ l) (sym (same ∙ nothing)))
-    word_is
+    cold_is
 
 pub releases : (cold word : Cold) (found : List Event) (steps : List Step) (ended : Result (Unit {0}) LiveError) (U : Type 0) (taken : ℕ) (durable accepted : List Event) (released out : List Release)
     → found ≡ [] → out ≡ released → (word ≡ cold) ⊎ (released ≡ []) → IsDone (an_event.PowerUp word ∷ found) steps U ended taken durable accepted released
     → pairs_of (durable_by (initial cold) (carried_out steps (result_err ended))) ≡ pairs_of (initial cold) ++ out
-releases cold word found steps (Ok x) U taken durable accepted released out none same word_is done =
-    following cold word found steps durable accepted released out none same word_is done.1
-releases cold word found steps (Err (a_live.Open e)) U taken durable accepted released out none same word_is done =
+releases cold word found steps (Ok x) U taken durable accepted released out none same cold_is done =
+    following cold word found steps durable accepted released out none same cold_is done.1
+releases cold word found steps (Err (a_live.Open e)) U taken durable accepted released out none same cold_is done =
     sym (append-nil (pairs_of (initial cold))) ∙ ap (λ (l : List Release). pairs_of (initial cold) ++ l) (sym (same ∙ done.0))
-releases cold word found steps (Err (a_live.Accept k e)) U taken durable accepted released out none same word_is done =
-    following cold word found (take k steps) durable accepted released out none same word_is done.1
-releases cold word found steps (Err (a_live.Flush k e)) U taken durable accepted released out none same word_is done =
-    following cold word found (take k steps) durable accepted released out none same word_is done.1
-releases cold word found steps (Err (a_live.NoMemory k)) U taken durable accepted released out none same word_is done =
-    following cold word found (take k steps) durable accepted released out none same word_is done.1
+releases cold word found steps (Err (a_live.Accept k e)) U taken durable accepted released out none same cold_is done =
+    following cold word found (take k steps) durable accepted released out none same cold_is done.1
+releases cold word found steps (Err (a_live.Flush k e)) U taken durable accepted released out none same cold_is done =
+    following cold word found (take k steps) durable accepted released out none same cold_is done.1
+releases cold word found steps (Err (a_live.NoMemory k)) U taken durable accepted released out none same cold_is done =
+    following cold word found (take k steps) durable accepted released out none same cold_is done.1

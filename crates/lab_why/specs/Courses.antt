@@ -16,7 +16,7 @@ use Rattle.speed_supervision.specs.declared.cause.LimitCause.{LimitCause}
 use Rattle.lives.specs.Steps.{Step}
 use Rattle.lives.specs.declared.visit.Unknown.{Unknown}
 use Rattle.lives.specs.declared.visit.Unknown.TheVariants as an_unknown
-use Rattle.reasons.specs.LimitWords.{limit_reported, limit_word_of}
+use Rattle.reasons.specs.LimitTexts.{limit_reported, limit_name_of}
 use Rattle.reasons.specs.Runs.{runs_of}
 use Rattle.reasons.specs.Reported.{Reasoned, Reasons}
 use Rattle.lab_events.specs.LeftOut.{reason_of}
@@ -48,7 +48,7 @@ pub record IsSame (one other : Explanation) : Type 0 where
   pub brake : one.brake ≡ other.brake
   pub limit : one.limit ≡ other.limit
   pub runs : one.runs ≡ other.runs
-  pub kind : limit_word_of one.decides.kind ≡ limit_word_of other.decides.kind
+  pub kind : limit_name_of one.decides.kind ≡ limit_name_of other.decides.kind
   pub number : one.decides.number ≡ other.decides.number
 
 -- an event of this number, before which an event of its life was answered so, has a line: it is the one that is asked

@@ -7,8 +7,8 @@ use Rattle.packet_uses.specs.declared.fate.Fate.{Fate}
 use Rattle.packet_uses.specs.declared.fate.Fate.TheVariants as a_fate
 use Rattle.packets.specs.Packets.{number_of}
 use Rattle.packets.specs.declared.packet.Packet.{Packet}
-use Rattle.reasons.specs.GroupWords.{group_reported, is_accepted}
-use Rattle.reasons.specs.declared.group_words.GroupReport.{GroupReport}
+use Rattle.reasons.specs.GroupTexts.{group_reported, is_accepted}
+use Rattle.reasons.specs.declared.group_texts.GroupReport.{GroupReport}
 use Rattle.track_picture.specs.declared.closings.Closing.{Closing}
 use Rattle.track_picture.specs.declared.closings.Closing.TheVariants as closing
 use Rattle.lab_why.specs.declared.group.GroupLine.{GroupLine}

@@ -14,7 +14,7 @@ use Rattle.mode_control.specs.Sentences.{values_of}
 use Rattle.reasons.specs.Closings.{judged_in, closings_of}
 use Rattle.reasons.specs.Runs.{first_in}
 use Rattle.reasons.specs.Trips.{trip_of}
-use Rattle.reasons.specs.declared.limit_words.LimitReport.{LimitReport}
+use Rattle.reasons.specs.declared.limit_texts.LimitReport.{LimitReport}
 use Rattle.reasons.specs.declared.runs.Runs.{Runs}
 use Rattle.reasons.specs.declared.trips.TripReport.{TripReport}
 use Rattle.track_picture.specs.History.{speed_of}

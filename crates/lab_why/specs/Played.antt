@@ -8,7 +8,7 @@ use Rattle.kernel.specs.Lives.{Story, past_at}
 use Rattle.kernel.specs.Output.{estimate_in, uncertainty_in}
 use Rattle.mode_table.specs.declared.statuses.Cold.{Cold}
 use Rattle.reasons.specs.Closings.{judged_in, closings_of}
-use Rattle.reasons.specs.LimitWords.{limit_reported}
+use Rattle.reasons.specs.LimitTexts.{limit_reported}
 use Rattle.reasons.specs.Runs.{runs_of}
 use Rattle.reasons.specs.Trips.{trip_of}
 use Rattle.sessions.specs.Reasons.{stop_reason}

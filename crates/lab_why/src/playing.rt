@@ -66,8 +66,8 @@ fn empty_image(alloc: Global, steps: &[Step]) -> Result<Memory, NoMemory>
 
 // Runs a life on an empty image.
 fn run_life(alloc: Global, life: &PlayedLife) -> Result<Lived, NoMemory>
-    ensures released { IfOk result (λ it. pairs_of (released_in life.now it.stopped) ≡ pairs_of (PowerUp life.now.cold ∷ []) ++ it.released.items) }
-    ensures ends { IfOk result (λ it. PlayEnds life.now.steps.items it.stopped) }
+    ensures released { IfOk result (λ played. pairs_of (released_in life.now played.stopped) ≡ pairs_of (PowerUp life.now.cold ∷ []) ++ played.released.items) }
+    ensures ends { IfOk result (λ played. PlayEnds life.now.steps.items played.stopped) }
 {
     let steps = life.steps.as_slice();
     let disk = empty_image(alloc, steps)?;

@@ -1,10 +1,10 @@
 //! The names of values in JSON (`docs/reference/json.md`).
 use kernel::TripCause;
-use lab_events::cold_word;
+use lab_events::cold_name;
 use mode_table::Cold;
 use reasons::{
-    GroupKind, LimitKind, group_section, group_word, limit_section, limit_word, trip_section,
-    trip_word,
+    GroupKind, LimitKind, group_name, group_section, limit_name, limit_section, trip_name,
+    trip_section,
 };
 use serde::Serializer;
 use sessions::of_stop;
@@ -24,7 +24,7 @@ pub(crate) fn write_trip_cause<S: Serializer>(
     cause: &Option<TripCause>,
     out: &mut S,
 ) -> Result<(), S::Error> {
-    write_text(cause.map(|cause| trip_word(cause)), out)
+    write_text(cause.map(|cause| trip_name(cause)), out)
 }
 
 pub(crate) fn write_trip_section<S: Serializer>(
@@ -38,7 +38,7 @@ pub(crate) fn write_limit_cause<S: Serializer>(
     kind: &LimitKind,
     out: &mut S,
 ) -> Result<(), S::Error> {
-    out.str(limit_word(*kind))
+    out.str(limit_name(*kind))
 }
 
 pub(crate) fn write_limit_section<S: Serializer>(
@@ -60,7 +60,7 @@ pub(crate) fn write_direction<S: Serializer>(
 }
 
 pub(crate) fn write_outcome<S: Serializer>(kind: &GroupKind, out: &mut S) -> Result<(), S::Error> {
-    out.str(group_word(*kind))
+    out.str(group_name(*kind))
 }
 
 pub(crate) fn write_reaction<S: Serializer>(
@@ -86,7 +86,7 @@ pub(crate) fn write_packet_name<S: Serializer>(number: &u8, out: &mut S) -> Resu
 }
 
 pub(crate) fn write_cold<S: Serializer>(cold: &Cold, out: &mut S) -> Result<(), S::Error> {
-    out.str(cold_word(*cold))
+    out.str(cold_name(*cold))
 }
 
 pub(crate) fn write_refusal<S: Serializer>(error: &LiveError, out: &mut S) -> Result<(), S::Error> {

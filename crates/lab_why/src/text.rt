@@ -7,13 +7,13 @@ use reasons::{
     trip_sentence,
 };
 use std::fmt;
-use text_output::{brake_word, mode_word};
+use text_output::{brake_name, mode_name};
 use track_packets::kind_of;
 use vars::{LinkOrientation, LinkReaction};
 
 impl fmt::Display for Answer {
     fn fmt<W: fmt::Write>(&self, f: &mut fmt::Formatter<W>) -> fmt::Result {
-        let (event, brake) = (self.event, brake_word(self.brake));
+        let (event, brake) = (self.event, brake_name(self.brake));
         let (limit, speed) = (self.limit_m_per_h, self.speed_m_per_h);
         let (backward, allowed) = (self.backward_cm, self.allowed_backward_cm);
         write!(
@@ -114,7 +114,7 @@ fn reaction_text(reaction: LinkReaction) -> &'static str {
 
 impl fmt::Display for GroupLine {
     fn fmt<W: fmt::Write>(&self, f: &mut fmt::Formatter<W>) -> fmt::Result {
-        let (country, group, mode) = (self.country, self.group, mode_word(self.mode));
+        let (country, group, mode) = (self.country, self.group, mode_name(self.mode));
         let (direction, outcome) = (direction_text(self.direction), group_sentence(self.outcome));
         write!(
             f,

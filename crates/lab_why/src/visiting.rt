@@ -41,8 +41,8 @@ fn begin(
     ensures { OnOk result (Begins before.now event.now life.old life.new) }
 {
     match (before, event) {
-        (Ok(kept), Event::PowerUp(word)) => {
-            let (initial, _) = Reasoning::begin(alloc, kept, *word);
+        (Ok(kept), Event::PowerUp(cold)) => {
+            let (initial, _) = Reasoning::begin(alloc, kept, *cold);
             *life = Some(initial);
             Ok(())
         }

@@ -2,16 +2,16 @@
 use events::{Brake, Indications};
 use mode_table::{Mode, TrainLevel};
 use serde::Serializer;
-use text_output::{brake_word, mode_word};
+use text_output::{brake_name, mode_name};
 
 /// Sends a mode as its two letters.
 pub fn write_mode<S: Serializer>(mode: &Mode, out: &mut S) -> Result<(), S::Error> {
-    out.str(mode_word(*mode))
+    out.str(mode_name(*mode))
 }
 
 /// Sends a brake command as its name.
 pub fn write_brake<S: Serializer>(brake: &Brake, out: &mut S) -> Result<(), S::Error> {
-    out.str(brake_word(*brake))
+    out.str(brake_name(*brake))
 }
 
 /// The number of a level, 0 or 1.

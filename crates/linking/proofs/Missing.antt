@@ -6,17 +6,17 @@ use Rattle.std.specs.List.{list_any}
 use Rattle.std.proofs.lemmas.Bool.Decides.{nat_tests}
 use Rattle.linking.specs.declared.announcement.Announcement.{Announcement}
 use Rattle.linking.specs.declared.effect.Effect.{Effect}
-use Rattle.linking.specs.Linking.{both, no_effect, service, effect_of, misses, reactions}
+use Rattle.linking.specs.Linking.{combined_with, no_effect, service, effect_of, misses, reactions}
 
 -- one that is missed, where another was missed before or not
 abbrev pub miss : Bool → Announcement → Effect
-miss has_missed a = both (effect_of a.reaction) (if has_missed then service else no_effect)
+miss has_missed a = combined_with (effect_of a.reaction) (if has_missed then service else no_effect)
 
 -- what was asked for so far, and what the rest of the announcements make of it
 abbrev pub counted : (Announcement → Bool) → Bool → Effect → List Announcement → Effect
 counted is_missed has_missed effect [] = effect
 counted is_missed has_missed effect (a ∷ announcements) =
-    counted is_missed (cond (is_missed a) true has_missed) (cond (is_missed a) (both effect (miss has_missed a)) effect) announcements
+    counted is_missed (cond (is_missed a) true has_missed) (cond (is_missed a) (combined_with effect (miss has_missed a)) effect) announcements
 
 or_assoc : (a b c : Bool) → ((a || b) || c) ≡ (a || (b || c))
 or_assoc true b c = refl
@@ -26,11 +26,11 @@ or-false : (b : Bool) → b ≡ (b || false)
 or-false true = refl
 or-false false = refl
 
-both_assoc : (e f g : Effect) → both (both e f) g ≡ both e (both f g)
+both_assoc : (e f g : Effect) → combined_with (combined_with e f) g ≡ combined_with e (combined_with f g)
 both_assoc e f g = λ i. record { trip = or_assoc e.trip f.trip g.trip i; service = or_assoc e.service f.service g.service i }
 
-both-none : (e : Effect) → e ≡ both e no_effect
-both-none e = λ i. record { trip = or-false e.trip i; service = or-false e.service i }
+combined_with-none : (e : Effect) → e ≡ combined_with e no_effect
+combined_with-none e = λ i. record { trip = or-false e.trip i; service = or-false e.service i }
 
 or-true : (b : Bool) → (b || true) ≡ true
 or-true true = refl
@@ -68,7 +68,7 @@ service_first a b m n =
 
 -- the first of those that are missed, and the others
 first_and_others : (m : Bool) (a : Announcement) (announcements : List Announcement) →
-    both (miss m a) (misses true announcements) ≡ misses m (a ∷ announcements)
+    combined_with (miss m a) (misses true announcements) ≡ misses m (a ∷ announcements)
 first_and_others m a announcements =
     let others = reactions announcements in
     λ i. record {
@@ -81,15 +81,15 @@ none_missed true = refl
 none_missed false = refl
 
 counted_both : (is_missed : Announcement → Bool) (m : Bool) (effect : Effect) (announcements : List Announcement) →
-    counted is_missed m effect announcements ≡ both effect (misses m (filter is_missed announcements))
-counted_both is_missed m effect [] = both-none effect ∙ ap (both effect) (none_missed m)
+    counted is_missed m effect announcements ≡ combined_with effect (misses m (filter is_missed announcements))
+counted_both is_missed m effect [] = combined_with-none effect ∙ ap (combined_with effect) (none_missed m)
 counted_both is_missed m effect (a ∷ announcements) =
-    let cases : (b : Bool) → counted is_missed (cond b true m) (cond b (both effect (miss m a)) effect) announcements
-    ≡ both effect (misses m (cond b (a ∷ filter is_missed announcements) (filter is_missed announcements))) =
+    let cases : (b : Bool) → counted is_missed (cond b true m) (cond b (combined_with effect (miss m a)) effect) announcements
+    ≡ combined_with effect (misses m (cond b (a ∷ filter is_missed announcements) (filter is_missed announcements))) =
     elim [
-      | true ↦ counted_both is_missed true (both effect (miss m a)) announcements
+      | true ↦ counted_both is_missed true (combined_with effect (miss m a)) announcements
           ∙ both_assoc effect (miss m a) (misses true (filter is_missed announcements))
-          ∙ ap (both effect) (first_and_others m a (filter is_missed announcements))
+          ∙ ap (combined_with effect) (first_and_others m a (filter is_missed announcements))
       | false ↦ counted_both is_missed m effect announcements
     ] in
     cases (is_missed a)

@@ -103,8 +103,8 @@ trip = record { trip = true; service = false }
 abbrev pub service : Effect
 service = record { trip = false; service = true }
 
-abbrev pub both : Effect → Effect → Effect
-both e f = record { trip = e.trip || f.trip; service = e.service || f.service }
+abbrev pub combined_with : Effect → Effect → Effect
+combined_with e f = record { trip = e.trip || f.trip; service = e.service || f.service }
 
 abbrev pub effect_of : LinkReaction → Effect
 effect_of Trip = trip
@@ -123,7 +123,7 @@ reactions announcements =
 -- between
 abbrev pub misses : Bool → List Announcement → Effect
 misses has_missed announcements =
-    both (reactions announcements) (if nat_le 2 (from_bool has_missed + length announcements) then service else no_effect)
+    combined_with (reactions announcements) (if nat_le 2 (from_bool has_missed + length announcements) then service else no_effect)
 
 -- one entry for each, in the order of the list
 abbrev pub after_misses : List Announcement → List LinkEntry → List LinkEntry

@@ -1,7 +1,7 @@
 //! One announced group: where and how it is to be found, and what its miss asks for.
 ghost use Rattle.std.specs.Prelude.{◌≡◌, ◌≤◌, ◌^◌, if◌then◌else◌};
 ghost use Rattle.std.specs.Int.RustNames.{unsigned_abs};
-ghost use Rattle.linking.specs.Linking.{first_place, last_place, is_passed_by, no_effect, service, both, effect_of};
+ghost use Rattle.linking.specs.Linking.{first_place, last_place, is_passed_by, no_effect, service, combined_with, effect_of};
 ghost use Rattle.linking.specs.Judging.{is_of, is_too_early, is_passed_wrongly, is_before};
 
 use crate::{Effect, GroupRead};
@@ -27,7 +27,7 @@ pub struct Announcement {
     pub reaction: LinkReaction,
 }
 
-/// Fills room that isn't in use.
+/// Fills unused elements.
 impl Default for Announcement {
     fn default() -> Announcement {
         Announcement {
@@ -101,13 +101,13 @@ impl Announcement {
 
     /// What it asks for where it is missed, and where another was missed before.
     pub(crate) fn miss(&self, has_missed: bool) -> Effect
-        ensures { result ≡ both (effect_of self.now.reaction) (if has_missed then service else no_effect) }
+        ensures { result ≡ combined_with (effect_of self.now.reaction) (if has_missed then service else no_effect) }
     {
         let second = if has_missed {
             Effect::SERVICE
         } else {
             Effect::NONE
         };
-        Effect::of(self.reaction).both(second)
+        Effect::of(self.reaction).combined_with(second)
     }
 }

@@ -1,6 +1,6 @@
 //! A trip and the service brake, as linking asks for them, alone or together.
 ghost use Rattle.std.specs.Prelude.{◌≡◌};
-ghost use Rattle.linking.specs.Linking.{both, effect_of};
+ghost use Rattle.linking.specs.Linking.{combined_with, effect_of};
 
 use vars::LinkReaction;
 
@@ -44,8 +44,8 @@ impl Effect {
     }
 
     /// What one or the other asks for.
-    pub fn both(self, other: Effect) -> Effect
-        ensures { result ≡ both self other }
+    pub fn combined_with(self, other: Effect) -> Effect
+        ensures { result ≡ combined_with self other }
     {
         Effect {
             trip: self.trip || other.trip,

@@ -250,7 +250,7 @@ fn effect_before(announcements: &[Announcement], number: u8, has_missed: bool) -
     let mut effect = Effect::NONE;
     for announcement in announcements {
         if announcement.is_before(number) {
-            effect = effect.both(announcement.miss(missed));
+            effect = effect.combined_with(announcement.miss(missed));
             missed = true;
         }
     }
@@ -265,7 +265,7 @@ fn effect_of_passed(announcements: &[Announcement], min_front: Cm, has_missed: b
     let mut effect = Effect::NONE;
     for announcement in announcements {
         if announcement.is_passed_by(min_front) {
-            effect = effect.both(announcement.miss(missed));
+            effect = effect.combined_with(announcement.miss(missed));
             missed = true;
         }
     }

@@ -73,7 +73,7 @@ is_beyond_end life train = option_map_or (is_beyond train.min_front) (end_of (au
 abbrev pub trips : Life → Span → Bool
 trips life train =
     not (is_overridden life)
-    && (is_beyond_end life train || (happened_of (tracks life.entries)).asked.trip || is_stopped (tracks life.entries))
+    && (is_beyond_end life train || (happened_of (tracks life.entries)).requested.trip || is_stopped (tracks life.entries))
 
 -- ---- in Staff Responsible: the path since it was entered is above the national distance
 

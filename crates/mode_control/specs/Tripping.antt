@@ -1,7 +1,7 @@
 -- Why Trip is entered: which row of the mode table leads there (SUBSET-026, 4.6; the rows and their conditions: this
--- project's profile). Rows 3, 4 and 5 lead to Trip from Full Supervision, On Sight and Staff Responsible, where the train
--- is to be tripped; row 6 from Staff Responsible, after row 5; row 9 from Unfitted; no other row does. A reader may take
--- for granted that Trip is entered where this is asked.
+-- project's profile). Rows 3, 4 and 5 lead to Trip from Full Supervision, On Sight and Staff Responsible, where the
+-- train is to be tripped; row 6 from Staff Responsible, after row 5; row 9 from Unfitted; no other row does. A reader
+-- may take for granted that Trip is entered where this is asked.
 use Rattle.std.specs.Prelude.{Bool, ◌&&◌, if◌then◌else◌, Option, Some, None, [], ◌∷◌}
 use Rattle.std.specs.List.{list_any}
 use Rattle.units.specs.Stretches.{Span}
@@ -27,7 +27,7 @@ leads_to_trip mode = list_any (λ row. is_one_of row.sources mode && is_mode Tri
 abbrev pub why_trips : Life → Span → TripCause
 why_trips life train =
     if is_beyond_end life train then EndPassed
-    else if (happened_of (tracks life.entries)).asked.trip then Linking
+    else if (happened_of (tracks life.entries)).requested.trip then Linking
     else Stop
 
 -- the row to Trip from a mode

@@ -136,7 +136,7 @@ impl<T: ProfileStores> SupervisionOver<T> {
     {
         !self.is_overridden()
             && (self.is_beyond_end(train)
-                || self.track.happened().asked.trip
+                || self.track.happened().requested.trip
                 || self.track.is_stopped())
     }
 

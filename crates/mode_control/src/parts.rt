@@ -1,7 +1,7 @@
 //! The driver's data, the mode and the acknowledgements, as a life begins.
 ghost use Rattle.std.specs.Prelude.{◌≡◌, []};
 ghost use Rattle.driver.specs.Known.{powered_up};
-ghost use Rattle.mode_table.specs.declared.statuses.Cold.{Cold as ColdWord};
+ghost use Rattle.mode_table.specs.declared.statuses.Cold.{Cold as ColdValue};
 ghost use Rattle.mode_control.specs.Life.{entered, known_before, length_by};
 ghost use Rattle.mode_control.specs.StandsFor.{parts_of};
 

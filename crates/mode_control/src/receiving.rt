@@ -1,7 +1,7 @@
 //! What an input does, sentence by sentence in the order of one event.
 ghost use Rattle.std.specs.Prelude.{◌≡◌, ◌≤◌, IsOk, OnOk, OnErr, None};
 ghost use Rattle.track_picture.specs.StandsFor.{size_in};
-ghost use Rattle.track_picture.specs.Steps.{packets_by, HasRoomFor};
+ghost use Rattle.track_picture.specs.Steps.{packets_by, HasSpaceFor};
 ghost use Rattle.mode_control.specs.Entry.{SupervisionEntry, initial};
 ghost use Rattle.mode_control.specs.Life.{Life, grown};
 ghost use Rattle.mode_control.specs.Sentences.{reported, deed_of, passed_track_is_forgotten, entry_of};
@@ -15,7 +15,7 @@ use units::NoMemory;
 impl<T: ProfileStores> SupervisionOver<T> {
     /// What the input itself brings, and the groups that it closes.
     pub(crate) fn begin(&mut self, input: &Input) -> Result<(), NoMemory>
-        ensures quiet { HasRoomFor T.stores self.old.track input.now → IsOk result }
+        ensures quiet { HasSpaceFor T.stores self.old.track input.now → IsOk result }
         ensures idle { packets_by self.old.track.parts input.now ≡ 0 → OnOk result (size_in T.stores self.new.track ≡ size_in T.stores self.old.track) }
         ensures stands { OnOk result ((life : Life) → StandsForLife T.stores self.old life
             → StandsForLife T.stores self.new (grown life (initial (reported life input.now) (deed_of life input.now)))) }
@@ -38,10 +38,10 @@ impl<T: ProfileStores> SupervisionOver<T> {
         self.track.forget(self.parts.length());
     }
 
-    /// All that an input does. Where memory is refused, nothing changes; none is refused where there is room for what
+    /// All that an input does. Where memory is refused, nothing changes; none is refused where there is space for what
     /// the input may use. An input that uses no packet keeps no more track.
     pub fn receive(&mut self, input: &Input) -> Result<(), NoMemory>
-        ensures quiet { HasRoomFor T.stores self.old.track input.now → IsOk result }
+        ensures quiet { HasSpaceFor T.stores self.old.track input.now → IsOk result }
         ensures idle { packets_by self.old.track.parts input.now ≡ 0 → OnOk result (size_in T.stores self.new.track ≤ size_in T.stores self.old.track) }
         ensures stands { OnOk result ((life : Life) → StandsForLife T.stores self.old life
             → StandsForLife T.stores self.new (grown life (entry_of life input.now))) }

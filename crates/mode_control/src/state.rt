@@ -1,7 +1,7 @@
 //! The supervision of a train: as a life begins, copied, and what it says.
 ghost use Rattle.std.specs.Prelude.{◌≡◌, ◌≤◌, [], IsOk, IfOk};
 ghost use Rattle.events.specs.declared.kept.Kept.{Kept as KeptItems};
-ghost use Rattle.mode_table.specs.declared.statuses.Cold.{Cold as ColdWord};
+ghost use Rattle.mode_table.specs.declared.statuses.Cold.{Cold as ColdValue};
 ghost use Rattle.mode_control.specs.Life.{Life, length_by};
 ghost use Rattle.mode_control.specs.Sentences.{initial_life, span_of};
 ghost use Rattle.mode_control.specs.StandsFor.{StandsForLife};
@@ -58,10 +58,10 @@ impl<T: ProfileStores> SupervisionOver<T> {
         initial
     }
 
-    /// The life begins of which only what was kept is known (`new`): the track is forgotten that lies too far behind the
-    /// train. Takes no memory.
+    /// The life begins of which only what was kept is known (`new`): the track is forgotten that lies too far behind
+    /// the train. Takes no memory.
     pub fn set_out(&mut self)
-        ensures stands { (kept : KeptItems) (cold : ColdWord)
+        ensures stands { (kept : KeptItems) (cold : ColdValue)
             → StandsForLife T.stores self.old (record { kept = kept; cold = cold; entries = [] })
             → StandsForLife T.stores self.new (initial_life kept cold) }
         ensures size { size_in T.stores self.new.track ≤ size_in T.stores self.old.track }
@@ -77,7 +77,7 @@ impl<T: ProfileStores> SupervisionOver<T> {
     }
 
     /// An equal value; NoMemory where it is refused. None is taken where no restriction and no profile is kept, nor
-    /// room for one.
+    /// space for one.
     pub fn copy(&self, alloc: Global) -> Result<Self, NoMemory>
         ensures value { IfOk result (λ copy. copy ≡ self.now) }
         ensures quiet { size_in T.stores self.now.track ≡ 0 → IsOk result }

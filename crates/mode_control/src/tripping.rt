@@ -5,7 +5,7 @@ ghost use Rattle.mode_control.specs.Life.{Life};
 ghost use Rattle.mode_control.specs.StandsFor.{StandsForLife};
 ghost use Rattle.mode_control.specs.Tripping.{leads_to_trip, why_trips, row_from, trip_in, trip_by};
 ghost use Rattle.track_picture.specs.StandsFor.{size_in};
-ghost use Rattle.track_picture.specs.Steps.{HasRoomFor};
+ghost use Rattle.track_picture.specs.Steps.{HasSpaceFor};
 
 use crate::state::SupervisionOver;
 use events::Input;
@@ -48,7 +48,7 @@ impl<T: ProfileStores> SupervisionOver<T> {
     {
         if self.is_beyond_end(train) {
             TripCause::EndPassed
-        } else if self.track.happened().asked.trip {
+        } else if self.track.happened().requested.trip {
             TripCause::Linking
         } else {
             TripCause::Stop
@@ -84,12 +84,12 @@ impl<T: ProfileStores> SupervisionOver<T> {
 
     /// Why an input would enter Trip, as the next event; None where it wouldn't. It works on a copy: NoMemory where
     /// memory is refused for that, or for what the input adds. None is taken in a mode from which no row leads to Trip;
-    /// nor where no restriction and no profile is kept, nor room for one, of an input that uses no packet.
+    /// nor where no restriction and no profile is kept, nor space for one, of an input that uses no packet.
     pub fn trip_by(&self, alloc: Global, input: &Input) -> Result<Option<TripCause>, NoMemory>
         ensures cause { IfOk result (λ cause. (life : Life) → StandsForLife T.stores self.now life
             → cause ≡ trip_by life input.now) }
         ensures rowless { leads_to_trip self.now.parts.mode ≡ false → IsOk result }
-        ensures quiet { size_in T.stores self.now.track ≡ 0 → HasRoomFor T.stores self.now.track input.now
+        ensures quiet { size_in T.stores self.now.track ≡ 0 → HasSpaceFor T.stores self.now.track input.now
             → IsOk result }
     {
         if !leads_to_trip(self.mode()) {

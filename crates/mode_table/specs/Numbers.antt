@@ -1,5 +1,5 @@
--- The numbers by which one of several values is reported, in blocks and in scenarios (this project's profile; those of modes
--- are M_MODE: SUBSET-026, 7.5.1).
+-- The numbers by which one of several values is reported, in blocks and in scenarios (this project's profile; those of
+-- modes are M_MODE: SUBSET-026, 7.5.1).
 use Rattle.std.specs.Prelude.{ℕ, List, [], ◌∷◌, Option, Some, None, nat_eq, if◌then◌else◌}
 use Rattle.mode_table.specs.Modes.{number_of}
 use Rattle.mode_table.specs.declared.mode.Mode.{Mode}
@@ -7,7 +7,7 @@ use Rattle.mode_table.specs.declared.mode.Mode.TheVariants as a_mode
 use Rattle.mode_table.specs.declared.level.TrainLevel.{TrainLevel}
 use Rattle.mode_table.specs.declared.level.TrainLevel.TheVariants.{Level0, Level1}
 use Rattle.mode_table.specs.declared.statuses.Cold.{Cold}
-use Rattle.mode_table.specs.declared.statuses.Cold.TheVariants as a_word
+use Rattle.mode_table.specs.declared.statuses.Cold.TheVariants as a_cold
 
 -- the first of these values that has the number
 abbrev pub by_number : {A : Type 0} → (A → ℕ) → List A → ℕ → Option A
@@ -27,10 +27,10 @@ abbrev pub level_by : ℕ → Option TrainLevel
 level_by = by_number level_number (Level0 ∷ Level1 ∷ [])
 
 -- whether the train was moved while power was off
-abbrev pub word_number : Cold → ℕ
-word_number a_word.Unknown = 0
-word_number a_word.Moved = 1
-word_number a_word.NotMoved = 2
+abbrev pub cold_number : Cold → ℕ
+cold_number a_cold.Unknown = 0
+cold_number a_cold.Moved = 1
+cold_number a_cold.NotMoved = 2
 
-abbrev pub word_by : ℕ → Option Cold
-word_by = by_number word_number (a_word.Unknown ∷ a_word.Moved ∷ a_word.NotMoved ∷ [])
+abbrev pub cold_by : ℕ → Option Cold
+cold_by = by_number cold_number (a_cold.Unknown ∷ a_cold.Moved ∷ a_cold.NotMoved ∷ [])

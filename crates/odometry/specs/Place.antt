@@ -86,13 +86,13 @@ stretch place length = stretch_about (estimate place) (uncertainty place) length
 abbrev pub is_near : ℤ → Bool
 is_near place = nat_le (unsigned_abs place) farthest
 
--- a movement has room where it takes neither the path of the life nor the estimate too far
-abbrev pub has_room : KnownPlace → ℤ → Bool
-has_room place by = nat_le (place.sums.path + unsigned_abs by) farthest && is_near (estimate_at place.fix (moved_on place.sums by))
+-- a movement stays in range where it takes neither the path of the life nor the estimate too far
+abbrev pub stays_in_range : KnownPlace → ℤ → Bool
+stays_in_range place by = nat_le (place.sums.path + unsigned_abs by) farthest && is_near (estimate_at place.fix (moved_on place.sums by))
 
--- a movement without room is not added
+-- a movement out of range is not added
 abbrev pub after_movement : List PlaceEntry → ℤ → List PlaceEntry
-after_movement entries by = if has_room (known entries) by then Moved by ∷ entries else entries
+after_movement entries by = if stays_in_range (known entries) by then Moved by ∷ entries else entries
 
 -- a fix is made where neither its place nor the estimate that it gives now lies too far
 abbrev pub is_made : Sums → Fix → Bool

@@ -2,7 +2,7 @@
 ghost use Rattle.std.specs.Prelude.{◌≡◌, ◌↔◌, ◌+◌, ◌*◌, ◌^◌, ◌≤◌, ◌-ℤ◌, List, [], pos, IsTrue, IsOk, IfOk, OnErr};
 ghost use Rattle.std.specs.Int.RustNames.{unsigned_abs};
 ghost use Rattle.units.specs.Limits.{farthest, HasReach};
-ghost use Rattle.odometry.specs.Place.{PlaceEntry, known, estimate, uncertainty, min_front, max_front, min_rear, stretch, stretch_about, place_at, is_near, has_room, after_movement, is_made, after_fix};
+ghost use Rattle.odometry.specs.Place.{PlaceEntry, known, estimate, uncertainty, min_front, max_front, min_rear, stretch, stretch_about, place_at, is_near, stays_in_range, after_movement, is_made, after_fix};
 
 use crate::{EarlierPlace, Fix, Overrun, Sums};
 use std::marker::Model;
@@ -52,7 +52,7 @@ impl Place {
     /// estimate would lie beyond 2^40 cm; then nothing changes. The caller owes each movement of the odometer once, in
     /// order.
     pub fn moved(&mut self, movement: Movement) -> Result<(), Overrun>
-        ensures room { IsOk result ↔ IsTrue (has_room self.old movement) }
+        ensures range_kept { IsOk result ↔ IsTrue (stays_in_range self.old movement) }
         ensures stands { (entries : List PlaceEntry) → self.old ≡ known entries
             → self.new ≡ known (after_movement entries movement) }
         ensures overrun { OnErr result (self.new ≡ self.old) }

@@ -16,9 +16,9 @@ pub struct Sums {
 }
 
 impl Model for Sums {
-    ghost use Rattle.odometry.specs.Sums.{Sums as Both, AreSums};
+    ghost use Rattle.odometry.specs.Sums.{Sums as SumsState, AreSums};
 
-    ghost Value = { Both };
+    ghost Value = { SumsState };
 
     ghost view = { λ s. record { moved = s.moved; path = s.path } };
 

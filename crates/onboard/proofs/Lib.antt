@@ -1,5 +1,6 @@
 pub mod GateRead
 pub mod Going
+pub mod Holding
 pub mod Numbering
 pub mod Pending
 pub mod Resting

@@ -47,7 +47,7 @@ impl Released {
 }
 
 impl Default for Released {
-    ghost is_default = { λ it. it ≡ nothing_released };
+    ghost is_default = { λ released. released ≡ nothing_released };
 
     /// Before the first event: Stand By, no valid level, the emergency brake, the limit 0, and shown alone that nothing
     /// is revalidated.

@@ -9,15 +9,15 @@ use bits::{BitWriter, Full, VariableName};
 use packets::{FieldSink, Packet, put};
 
 /// Hands a whole packet to a sink, NID_PACKET first; stops with the sink's error where it takes no more. The caller
-/// owes the packet's own length in bits (`Packet::length`), and room in the sink. Where L_PACKET can't hold the length,
-/// the packet has no spelling, and nothing is said of what the sink takes.
+/// owes the packet's own length in bits (`Packet::length`), and space in the sink. Where L_PACKET can't hold the
+/// length, the packet has no spelling, and nothing is said of what the sink takes.
 pub fn hand_packet<S: FieldSink>(
     packet: &Packet<'_>,
     length: u64,
     sink: &mut S,
 ) -> Result<(), S::Error>
     requires length { length ≡ length_of packet.now }
-    requires room { S.held sink.old + length ≤ S.most }
+    requires space { S.held sink.old + length ≤ S.most }
     ensures { length < 2 ^ 13 → OnOk result (S.seen sink.new ≡ packet_taken S.took length packet.now (S.took (S.seen sink.old) (named names.NidPacket 8 (number_of packet.now)))) }
 {
     put(sink, VariableName::NidPacket, &packet.number())?;
@@ -31,12 +31,12 @@ pub fn write_packet<const N: usize>(
     writer: &mut BitWriter<N>,
 ) -> Result<(), Full>
     requires { (bits : List Bool) × Spells packet_layout packet.now bits }
-    ensures room { (bits : List Bool) → Spells packet_layout packet.now bits → IsOk result ↔ (length writer.old + length bits ≤ 8 * N) }
+    ensures space { (bits : List Bool) → Spells packet_layout packet.now bits → IsOk result ↔ (length writer.old + length bits ≤ 8 * N) }
     ensures ok { OnOk result ((bits : List Bool) → Spells packet_layout packet.now bits → writer.new ≡ writer.old ++ bits) }
     ensures err { OnErr result (writer.new ≡ writer.old) }
 {
     let length = packet.length();
-    if !writer.has_room(length) {
+    if !writer.has_space(length) {
         return Err(Full);
     }
     match hand_packet(packet, length, writer) {

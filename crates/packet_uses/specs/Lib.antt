@@ -4,4 +4,4 @@ pub mod Laws
 pub mod Lists
 pub mod Never
 pub mod Description
-pub mod Words
+pub mod Texts

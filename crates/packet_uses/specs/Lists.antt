@@ -3,7 +3,7 @@
 use Rattle.std.specs.Prelude.{ℕ, List, [], ◌∷◌, ◌++◌, Bool, true, false, codes}
 use Rattle.text_output.specs.declared.piece.Form.TheVariants.{Json}
 use Rattle.packet_uses.specs.declared.description.ReportedPacket.{ReportedPacket}
-use Rattle.packet_uses.specs.Words.{number_text, name_reported, place_text, why_text}
+use Rattle.packet_uses.specs.Texts.{number_text, name_reported, place_text, why_text}
 
 abbrev pub packet_text : Bool → ReportedPacket → List ℕ
 packet_text later p =

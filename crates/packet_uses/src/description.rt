@@ -38,7 +38,7 @@ fn describe_read(
     start: u64,
     reported: &mut ArrayVec<ReportedPacket, MOST_REPORTED>,
 )
-    requires room { length reported.old.items + length packets.now ≤ 34 }
+    requires space { length reported.old.items + length packets.now ≤ 34 }
     requires near { start + 2 ^ 33 * length packets.now ≤ 2 ^ 40 }
     ensures { reported.new.items ≡ reported.old.items ++ reported_from mode direction is_after_infill start packets.now }
 {

@@ -8,7 +8,7 @@ mod fate;
 mod laws;
 mod list;
 mod never;
-mod words;
+mod texts;
 
 pub use calls::{EtcsPacket, unused_call};
 pub use description::{MOST_REPORTED, ReportedPacket, reported_packets};
@@ -16,4 +16,4 @@ pub use fate::{Fate, fate_of};
 pub use laws::{never_used_is_so, reported_as_used_is_used};
 pub use list::{write_never_used, write_reported};
 pub use never::never_used_packets;
-pub use words::{name_pieces, number_pieces, place_pieces, why_piece};
+pub use texts::{name_pieces, number_pieces, place_pieces, why_piece};

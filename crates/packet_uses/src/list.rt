@@ -7,7 +7,7 @@ ghost use Rattle.packet_uses.specs.declared.description.ReportedPacket.{Reported
 
 use crate::description::ReportedPacket;
 use crate::never::never_used_packets;
-use crate::words::{name_pieces, number_pieces, place_pieces, why_piece};
+use crate::texts::{name_pieces, number_pieces, place_pieces, why_piece};
 use std::io;
 use std::io::Write;
 use text_output::{Form, Piece, write_parts};

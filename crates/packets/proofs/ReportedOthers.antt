@@ -121,7 +121,7 @@ reported-mode_profile = record {
 pub reported-skipped : (number : ℕ) → Describes (skipped_description number) Anything (λ p. (p.number ≡ number) × HasNumber untested_direction p.direction)
 unfolding skipped_description
 reported-skipped number = record {
-  found = λ t. (back (plain_back 2), λ _ _. (back (plain_back 13), λ _ small. λ room. λ _ e. (small.small, tt, (refl, (sym e, (tt, (refl, tt)))))));
+  found = λ t. (back (plain_back 2), λ _ _. (back (plain_back 13), λ _ small. λ space. λ _ e. (small.small, tt, (refl, (sym e, (tt, (refl, tt)))))));
   anyhow = λ g h p bits s. s;
   sized = λ g h c. refl;
   ready = λ t c r h e. (sym (ap (λ (o : Option (ℕ × Other)). option_map_or (λ p. p.1.number) o 0) e), h.0);

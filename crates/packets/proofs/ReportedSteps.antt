@@ -91,11 +91,11 @@ found_step s good k h = (
       back q_front_back,
       λ delay has_delay. (
         back (plain_back 5),
-        λ count has_count. λ room. (
+        λ count has_count. λ space. (
           found-difference,
           λ own long fits.
               let step : StaticStep = record { distance = d; speed = v; delay = delay; differences = count } in
-              let few : length s.differences.items + count ≤ 70 = ltb-false 70 (length s.differences.items + count) room in
+              let few : length s.differences.items + count ≤ 70 = ltb-false 70 (length s.differences.items + count) space in
               h _ _ (record {
                 ahead = record { steps = step ∷ []; own = own; direction = refl; scale = refl; all_steps = refl; all_differences = refl };
                 count = length-append s.steps.items (step ∷ []);

@@ -48,10 +48,10 @@ one_step_fits p s x xs b few each =
     let count : length (drop (length s.differences.items) (differences_to i p)) ≡ (step_at i p).differences =
     ap length own ∙ omega (arith, length-take x.differences (drop n p.differences.items), length-drop n p.differences.items, enough, own_count) in
     let fits : StepFits (step_at i p) = subst StepFits (sym there) b.fits.0 in
-    let room : ltb 70 (length s.differences.items + (step_at i p).differences) ≡ false = le-ltb 70 (length s.differences.items + (step_at i p).differences) (omega (arith, long, own_count, enough, few)) in
+    let space : ltb 70 (length s.differences.items + (step_at i p).differences) ≡ false = le-ltb 70 (length s.differences.items + (step_at i p).differences) (omega (arith, long, own_count, enough, few)) in
     let each_own : Each DifferenceFits (drop (length s.differences.items) (differences_to i p)) =
     subst (λ (ds : List Difference). Each DifferenceFits ds) (sym own) (each_take DifferenceFits x.differences (drop n p.differences.items) (each_drop DifferenceFits n p.differences.items each)) in
-    (fits.0, (fits.1, (fits.2, (fits.3, (room, ((front, count, each_own), tt))))))
+    (fits.0, (fits.1, (fits.2, (fits.3, (space, ((front, count, each_own), tt))))))
 
 -- a step further
 after_next : (p s : StaticSpeeds) (x : StaticStep) (xs : List StaticStep) → Afterwards p s (x ∷ xs) → Afterwards p (after_step p s) xs

@@ -1,7 +1,7 @@
 -- Any packet: its layout by its number, its length and its fields (SUBSET-026, 7.4.2). Lengths are bits.
 use Rattle.std.specs.Prelude.{ℕ, ◌+◌, ◌==◌, List, Option, Some, None}
 use Rattle.bits.specs.Layout.{Layout, unless, choice, kind, measured, ◌>>=◌}
-use Rattle.bits.specs.Writing.{ListedField, taken, size, shown}
+use Rattle.bits.specs.Writing.{ListedField, taken, size, field_list}
 use Rattle.bits.specs.declared.name.VariableName.TheVariants as names
 use Rattle.vars.specs.Variables.{nid_packet}
 use Rattle.packets.specs.Parts.{variable}
@@ -132,5 +132,5 @@ abbrev pub packet_taken : {S : Type 0} → (S → ListedField → S) → ℕ →
 packet_taken t reported p s = by_layout (λ C m c. taken t (m (λ _. reported)) c s) p
 
 -- The fields of a packet after its number, L_PACKET reporting so much.
-abbrev pub packet_shown : ℕ → Packet → List ListedField
-packet_shown reported p = by_layout (λ C m c. shown (m (λ _. reported)) c) p
+abbrev pub packet_field_list : ℕ → Packet → List ListedField
+packet_field_list reported p = by_layout (λ C m c. field_list (m (λ _. reported)) c) p

@@ -44,7 +44,7 @@ pub struct Section {
     pub timer: Option<SectionTimer>,
 }
 
-/// Fills room that isn't in use.
+/// Fills unused elements.
 impl Default for Section {
     fn default() -> Section {
         Section {
@@ -169,7 +169,7 @@ impl MovementAuthority {
     #[tactic(auto, unfolding(crate::specs::Layouts::movement_authority_description, crate::specs::Layouts::authority_end))]
     pub(crate) fn fields<S: FieldSink>(&self, reported: u64, sink: &mut S) -> Result<(), S::Error>
         requires reported { reported < 2 ^ 13 }
-        requires room { S.held sink.old + size (movement_authority_description (λ _. 0)) self.now ≤ S.most }
+        requires space { S.held sink.old + size (movement_authority_description (λ _. 0)) self.now ≤ S.most }
         ensures { OnOk result (S.seen sink.new ≡ taken S.took (movement_authority_description (λ _. reported)) self.now (S.seen sink.old)) }
     {
         ok!(put_head(sink, &self.direction, reported, &self.scale));

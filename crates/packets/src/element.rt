@@ -25,7 +25,7 @@ pub(crate) trait Element: Copy {
 
     /// Hands its fields to a sink.
     fn fields<S: FieldSink>(&self, sink: &mut S) -> Result<(), S::Error>
-        requires room { S.held sink.old + size layout self.now ≤ S.most }
+        requires space { S.held sink.old + size layout self.now ≤ S.most }
         ensures value { OnOk result (S.seen sink.new ≡ taken S.took layout self.now (S.seen sink.old)) }
         ensures held { OnOk result (S.held sink.new ≤ S.held sink.old + size layout self.now) };
 

@@ -33,7 +33,7 @@ pub struct Gradient {
     pub steepness: Steepness,
 }
 
-/// Fills room that isn't in use.
+/// Fills unused elements.
 impl Default for Gradient {
     fn default() -> Gradient {
         Gradient {
@@ -134,7 +134,7 @@ impl Gradients {
     #[tactic(auto, unfolding(crate::specs::Layouts::gradients_description))]
     pub(crate) fn fields<S: FieldSink>(&self, reported: u64, sink: &mut S) -> Result<(), S::Error>
         requires reported { reported < 2 ^ 13 }
-        requires room { S.held sink.old + size (gradients_description (λ _. 0)) self.now ≤ S.most }
+        requires space { S.held sink.old + size (gradients_description (λ _. 0)) self.now ≤ S.most }
         ensures { OnOk result (S.seen sink.new ≡ taken S.took (gradients_description (λ _. reported)) self.now (S.seen sink.old)) }
     {
         ok!(put_head(sink, &self.direction, reported, &self.scale));

@@ -31,7 +31,7 @@ pub(crate) fn put_head<S: FieldSink>(
     scale: &Scale,
 ) -> Result<(), S::Error>
     requires reported { reported < 2 ^ 13 }
-    requires room { S.held sink.old + 17 ≤ S.most }
+    requires space { S.held sink.old + 17 ≤ S.most }
     ensures value { OnOk result (S.seen sink.new ≡ head_taken S.took direction.now reported scale.now (S.seen sink.old)) }
     ensures held { OnOk result (S.held sink.new ≤ S.held sink.old + 17) }
 {

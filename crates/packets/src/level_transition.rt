@@ -71,7 +71,7 @@ pub struct LevelOrder {
     pub acknowledgement: Distance,
 }
 
-/// Fills room that isn't in use.
+/// Fills unused elements.
 impl Default for LevelOrder {
     fn default() -> LevelOrder {
         LevelOrder {
@@ -185,7 +185,7 @@ impl LevelTransition {
     #[tactic(auto, unfolding(crate::specs::Layouts::level_transition_description))]
     pub(crate) fn fields<S: FieldSink>(&self, reported: u64, sink: &mut S) -> Result<(), S::Error>
         requires reported { reported < 2 ^ 13 }
-        requires room { S.held sink.old + size (level_transition_description (λ _. 0)) self.now ≤ S.most }
+        requires space { S.held sink.old + size (level_transition_description (λ _. 0)) self.now ≤ S.most }
         ensures { OnOk result (S.seen sink.new ≡ taken S.took (level_transition_description (λ _. reported)) self.now (S.seen sink.old)) }
     {
         ok!(put_head(sink, &self.direction, reported, &self.scale));

@@ -39,7 +39,7 @@ pub struct Link {
     pub accuracy: LocationAccuracy,
 }
 
-/// Fills room that isn't in use.
+/// Fills unused elements.
 impl Default for Link {
     fn default() -> Link {
         Link {
@@ -161,7 +161,7 @@ impl Linking {
     #[tactic(auto, unfolding(crate::specs::Layouts::linking_description))]
     pub(crate) fn fields<S: FieldSink>(&self, reported: u64, sink: &mut S) -> Result<(), S::Error>
         requires reported { reported < 2 ^ 13 }
-        requires room { S.held sink.old + size (linking_description (λ _. 0)) self.now ≤ S.most }
+        requires space { S.held sink.old + size (linking_description (λ _. 0)) self.now ≤ S.most }
         ensures { OnOk result (S.seen sink.new ≡ taken S.took (linking_description (λ _. reported)) self.now (S.seen sink.old)) }
     {
         ok!(put_head(sink, &self.direction, reported, &self.scale));

@@ -37,7 +37,7 @@ pub struct ModeArea {
     pub acknowledgement: Distance,
 }
 
-/// Fills room that isn't in use.
+/// Fills unused elements.
 impl Default for ModeArea {
     fn default() -> ModeArea {
         ModeArea {
@@ -151,7 +151,7 @@ impl ModeProfile {
     #[tactic(auto, unfolding(crate::specs::Layouts::mode_profile_description))]
     pub(crate) fn fields<S: FieldSink>(&self, reported: u64, sink: &mut S) -> Result<(), S::Error>
         requires reported { reported < 2 ^ 13 }
-        requires room { S.held sink.old + size (mode_profile_description (λ _. 0)) self.now ≤ S.most }
+        requires space { S.held sink.old + size (mode_profile_description (λ _. 0)) self.now ≤ S.most }
         ensures { OnOk result (S.seen sink.new ≡ taken S.took (mode_profile_description (λ _. reported)) self.now (S.seen sink.old)) }
     {
         ok!(put_head(sink, &self.direction, reported, &self.scale));

@@ -153,7 +153,7 @@ impl NationalValues {
     #[tactic(auto, unfolding(crate::specs::Layouts::national_values_description, crate::specs::Layouts::mode_speeds, crate::specs::Layouts::override_values))]
     pub(crate) fn fields<S: FieldSink>(&self, reported: u64, sink: &mut S) -> Result<(), S::Error>
         requires reported { reported < 2 ^ 13 }
-        requires room { S.held sink.old + size (national_values_description (λ _. 0)) self.now ≤ S.most }
+        requires space { S.held sink.old + size (national_values_description (λ _. 0)) self.now ≤ S.most }
         ensures { OnOk result (S.seen sink.new ≡ taken S.took (national_values_description (λ _. reported)) self.now (S.seen sink.old)) }
     {
         ok!(put_head(sink, &self.direction, reported, &self.scale));

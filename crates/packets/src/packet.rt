@@ -101,7 +101,7 @@ impl<'a> Other<'a> {
     #[tactic(auto, unfolding(crate::specs::Layouts::skipped_description))]
     fn fields<S: FieldSink>(&self, reported: u64, sink: &mut S) -> Result<(), S::Error>
         requires reported { reported < 2 ^ 13 }
-        requires room { S.held sink.old + size (skipped_description self.now.number (λ _. 0)) self.now ≤ S.most }
+        requires space { S.held sink.old + size (skipped_description self.now.number (λ _. 0)) self.now ≤ S.most }
         ensures { OnOk result (S.seen sink.new ≡ taken S.took (skipped_description self.now.number (λ _. reported)) self.now (S.seen sink.old)) }
     {
         ok!(put(sink, VariableName::QDir, &self.direction));
@@ -193,7 +193,7 @@ impl<'a> Packet<'a> {
     /// Hands the fields after NID_PACKET to a sink, with its L_PACKET.
     fn fields_description<S: FieldSink>(&self, reported: u64, sink: &mut S) -> Result<(), S::Error>
         requires reported { reported < 2 ^ 13 }
-        requires room { S.held sink.old + length_of self.now ≤ S.most + 8 }
+        requires space { S.held sink.old + length_of self.now ≤ S.most + 8 }
         ensures { OnOk result (S.seen sink.new ≡ packet_taken S.took reported self.now (S.seen sink.old)) }
     {
         match self {
@@ -211,18 +211,18 @@ impl<'a> Packet<'a> {
     }
 
     /// Hands the fields after NID_PACKET to the sink, and then the bits that are skipped; stops with the sink's error
-    /// where it takes no more. The caller owes the packet's own length in bits (`length`), and room in the sink. Where
+    /// where it takes no more. The caller owes the packet's own length in bits (`length`), and space in the sink. Where
     /// L_PACKET can't hold the length, the packet has no spelling, and nothing is said of what the sink takes.
     pub fn fields<S: FieldSink>(&self, length: u64, sink: &mut S) -> Result<(), S::Error>
         requires length { length ≡ length_of self.now }
-        requires room { S.held sink.old + length ≤ S.most + 8 }
+        requires space { S.held sink.old + length ≤ S.most + 8 }
         ensures { length < 2 ^ 13 → OnOk result (S.seen sink.new ≡ packet_taken S.took length self.now (S.seen sink.old)) }
     {
         self.fields_description(reported_length(length), sink)
     }
 }
 
-/// A packet to fill room that isn't in use.
+/// A packet that fills unused elements.
 impl<'a> Default for Packet<'a> {
     fn default() -> Packet<'a> {
         Packet::RestrictionRevocation(RestrictionRevocation {

@@ -116,7 +116,7 @@ impl SpeedRestriction {
     #[tactic(auto, unfolding(crate::specs::Layouts::speed_restriction_description))]
     pub(crate) fn fields<S: FieldSink>(&self, reported: u64, sink: &mut S) -> Result<(), S::Error>
         requires reported { reported < 2 ^ 13 }
-        requires room { S.held sink.old + size (speed_restriction_description (λ _. 0)) self.now ≤ S.most }
+        requires space { S.held sink.old + size (speed_restriction_description (λ _. 0)) self.now ≤ S.most }
         ensures { OnOk result (S.seen sink.new ≡ taken S.took (speed_restriction_description (λ _. reported)) self.now (S.seen sink.old)) }
     {
         ok!(put_head(sink, &self.direction, reported, &self.scale));
@@ -150,7 +150,7 @@ impl RestrictionRevocation {
     #[tactic(auto, unfolding(crate::specs::Layouts::restriction_revocation_description))]
     pub(crate) fn fields<S: FieldSink>(&self, reported: u64, sink: &mut S) -> Result<(), S::Error>
         requires reported { reported < 2 ^ 13 }
-        requires room { S.held sink.old + size (restriction_revocation_description (λ _. 0)) self.now ≤ S.most }
+        requires space { S.held sink.old + size (restriction_revocation_description (λ _. 0)) self.now ≤ S.most }
         ensures { OnOk result (S.seen sink.new ≡ taken S.took (restriction_revocation_description (λ _. reported)) self.now (S.seen sink.old)) }
     {
         ok!(put(sink, VariableName::QDir, &self.direction));

@@ -16,7 +16,7 @@ pub trait FieldSink {
     /// What becomes of it when it takes a field.
     ghost took: { Seen → ListedField → Seen };
 
-    /// The bits that it holds, where it has room for so many alone.
+    /// The bits that it holds, where it has space for so many alone.
     ghost held: { Self → ℕ };
 
     ghost most: { ℕ };
@@ -28,25 +28,25 @@ pub trait FieldSink {
     fn field(&mut self, name: VariableName, width: u32, number: u64) -> Result<(), Self::Error>
         requires width { width ≤ 64 }
         requires number { number < 2 ^ width }
-        requires room { held self.old + width ≤ most }
+        requires space { held self.old + width ≤ most }
         ensures value { OnOk result (seen self.new ≡ took (seen self.old) (named name width number)) }
         ensures held { OnOk result (held self.new ≤ held self.old + width) };
 
     /// Takes the bits after the fields as they are.
     fn run(&mut self, bits: &Run<'_>) -> Result<(), Self::Error>
-        requires room { held self.old + length bits.now ≤ most }
+        requires space { held self.old + length bits.now ≤ most }
         ensures value { OnOk result (seen self.new ≡ took (seen self.old) (raw bits.now)) }
         ensures held { OnOk result (held self.new ≤ held self.old + length bits.now) };
 }
 
-/// Hands the value of a variable to a sink. The error is the sink's. The caller owes room in the sink.
+/// Hands the value of a variable to a sink. The error is the sink's. The caller owes space in the sink.
 #[inline(always)]
 pub fn put<V: Variable, S: FieldSink>(
     sink: &mut S,
     name: VariableName,
     value: &V,
 ) -> Result<(), S::Error>
-    requires room { S.held sink.old + (V.codes).width ≤ S.most }
+    requires space { S.held sink.old + (V.codes).width ≤ S.most }
     ensures value { OnOk result (S.seen sink.new ≡ S.took (S.seen sink.old) (named name (V.codes).width ((V.codes).number value.now))) }
     ensures held { OnOk result (S.held sink.new ≤ S.held sink.old + (V.codes).width) }
 {

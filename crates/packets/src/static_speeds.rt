@@ -33,7 +33,7 @@ pub struct Difference {
     pub speed: SpeedStep,
 }
 
-/// Fills room that isn't in use.
+/// Fills unused elements.
 impl Default for Difference {
     fn default() -> Difference {
         Difference {
@@ -85,7 +85,7 @@ pub struct StaticStep {
     pub differences: Iterations,
 }
 
-/// Fills room that isn't in use.
+/// Fills unused elements.
 impl Default for StaticStep {
     ghost use Rattle.packets.specs.Layouts.{no_step};
 
@@ -197,7 +197,7 @@ impl StaticSpeeds {
     #[tactic(auto, using(crate::proofs::StaticSteps::speeds_size))]
     pub(crate) fn fields<S: FieldSink>(&self, reported: u64, sink: &mut S) -> Result<(), S::Error>
         requires reported { reported < 2 ^ 13 }
-        requires room { S.held sink.old + size (static_speeds_description (λ _. 0)) self.now ≤ S.most }
+        requires space { S.held sink.old + size (static_speeds_description (λ _. 0)) self.now ≤ S.most }
         ensures { OnOk result (S.seen sink.new ≡ taken S.took (static_speeds_description (λ _. reported)) self.now (S.seen sink.old)) }
     {
         ok!(put_head(sink, &self.direction, reported, &self.scale));

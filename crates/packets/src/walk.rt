@@ -45,7 +45,7 @@ pub(crate) fn qualified_bits<T: Element>(part: &Option<T>) -> u64
 
 /// Hands elements to a sink.
 pub(crate) fn list<T: Element, S: FieldSink>(elements: &[T], sink: &mut S) -> Result<(), S::Error>
-    requires room { S.held sink.old + total (λ x. size T.layout x) elements.now ≤ S.most }
+    requires space { S.held sink.old + total (λ x. size T.layout x) elements.now ≤ S.most }
     ensures value { OnOk result (S.seen sink.new ≡ each_taken (λ x s. taken S.took T.layout x s) elements.now (S.seen sink.old)) }
     ensures held { OnOk result (S.held sink.new ≤ S.held sink.old + total (λ x. size T.layout x) elements.now) }
 {
@@ -60,7 +60,7 @@ pub(crate) fn all<T: Element, S: FieldSink, const N: usize>(
     elements: &ArrayVec<T, N>,
     sink: &mut S,
 ) -> Result<(), S::Error>
-    requires room { S.held sink.old + total (λ x. size T.layout x) elements.now.items ≤ S.most }
+    requires space { S.held sink.old + total (λ x. size T.layout x) elements.now.items ≤ S.most }
     ensures value { OnOk result (S.seen sink.new ≡ each_taken (λ x s. taken S.took T.layout x s) elements.now.items (S.seen sink.old)) }
     ensures held { OnOk result (S.held sink.new ≤ S.held sink.old + total (λ x. size T.layout x) elements.now.items) }
 {
@@ -73,7 +73,7 @@ pub(crate) fn from_first<T: Element, S: FieldSink>(
     sink: &mut S,
 ) -> Result<(), S::Error>
     requires few { length elements.now ≤ 32 }
-    requires room { S.held sink.old + from_first_size T.layout elements.now ≤ S.most }
+    requires space { S.held sink.old + from_first_size T.layout elements.now ≤ S.most }
     ensures value { OnOk result (S.seen sink.new ≡ from_first_taken S.took T.layout elements.now (S.seen sink.old)) }
     ensures held { OnOk result (S.held sink.new ≤ S.held sink.old + from_first_size T.layout elements.now) }
 {
@@ -91,7 +91,7 @@ pub(crate) fn qualified<T: Element, S: FieldSink>(
     name: VariableName,
     part: &Option<T>,
 ) -> Result<(), S::Error>
-    requires room { S.held sink.old + qualified_size T.layout part.now ≤ S.most }
+    requires space { S.held sink.old + qualified_size T.layout part.now ≤ S.most }
     ensures value { OnOk result (S.seen sink.new ≡ qualified_taken S.took T.layout name part.now (S.seen sink.old)) }
     ensures held { OnOk result (S.held sink.new ≤ S.held sink.old + qualified_size T.layout part.now) }
 {

@@ -1,8 +1,8 @@
 pub mod Runs
 pub mod Closings
 pub mod Reported
-pub mod Words
-pub mod LimitWords
-pub mod GroupWords
+pub mod CauseTexts
+pub mod LimitTexts
+pub mod GroupTexts
 pub mod Trips
-pub mod TripWords
+pub mod TripTexts

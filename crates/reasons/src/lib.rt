@@ -3,22 +3,22 @@
 //! from 0, over all lives.
 #![tactic(auto)]
 
+mod cause_texts;
 mod closings;
-mod group_words;
-mod limit_words;
+mod group_texts;
+mod limit_texts;
 mod reasoning;
 mod runs;
 mod trips;
-mod words;
 
+pub use cause_texts::{cause_name, ending, sentence};
 pub use closings::GroupsReport;
-pub use group_words::{
-    GroupKind, GroupReport, group_reported, group_section, group_sentence, group_word, is_accepted,
+pub use group_texts::{
+    GroupKind, GroupReport, group_name, group_reported, group_section, group_sentence, is_accepted,
 };
-pub use limit_words::{
-    LimitKind, LimitReport, limit_reported, limit_section, limit_sentence, limit_word,
+pub use limit_texts::{
+    LimitKind, LimitReport, limit_name, limit_reported, limit_section, limit_sentence,
 };
 pub use reasoning::Reasoning;
 pub use runs::Runs;
-pub use trips::{TripReport, trip_section, trip_sentence, trip_word};
-pub use words::{ending, sentence, word};
+pub use trips::{TripReport, trip_name, trip_section, trip_sentence};

@@ -57,13 +57,13 @@ impl Reasoning {
     ghost use Rattle.reasons.specs.Reported.{Reasons};
 
     /// Begins a life after what was kept, and answers its power-up. It takes no memory.
-    pub fn begin(alloc: Global, kept: &Kept, word: Cold) -> (Reasoning, Output)
-        ensures stands { (story : Story) → left_by word kept.now ≡ left_by word (past_at story).kept
-            → Reasons (onward story (PowerUp word)) result.0 }
-        ensures output { (story : Story) → left_by word kept.now ≡ left_by word (past_at story).kept
-            → result.1 ≡ output_at (onward story (PowerUp word)) }
+    pub fn begin(alloc: Global, kept: &Kept, cold: Cold) -> (Reasoning, Output)
+        ensures stands { (story : Story) → left_by cold kept.now ≡ left_by cold (past_at story).kept
+            → Reasons (onward story (PowerUp cold)) result.0 }
+        ensures output { (story : Story) → left_by cold kept.now ≡ left_by cold (past_at story).kept
+            → result.1 ≡ output_at (onward story (PowerUp cold)) }
     {
-        let (state, output) = State::power_up(alloc, kept, word);
+        let (state, output) = State::power_up(alloc, kept, cold);
         let causes = causes_in(&state);
         let number = kept.events;
         let runs = Runs::initial(&causes, number);

@@ -62,8 +62,8 @@ impl Runs {
 
     /// After a power-up of this number, after which these causes hold.
     pub fn initial(causes: &BrakeCauses, number: u64) -> Runs
-        ensures { (story : Story) (word : Cold) → marked causes.now ≡ later_causes (onward story (PowerUp word))
-            → number ≡ number_after story → result ≡ runs_of (onward story (PowerUp word)) }
+        ensures { (story : Story) (cold : Cold) → marked causes.now ≡ later_causes (onward story (PowerUp cold))
+            → number ≡ number_after story → result ≡ runs_of (onward story (PowerUp cold)) }
     {
         Runs::NONE.held(causes, number)
     }

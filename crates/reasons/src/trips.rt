@@ -2,7 +2,7 @@
 ghost use Rattle.std.specs.Prelude.{◌≡◌};
 ghost use Rattle.reasons.specs.Runs.{in_this_life};
 ghost use Rattle.reasons.specs.Trips.{trip_held};
-ghost use Rattle.reasons.specs.TripWords.{trip_word_of, trip_sentence_of, trip_section_of};
+ghost use Rattle.reasons.specs.TripTexts.{trip_name_of, trip_sentence_of, trip_section_of};
 
 use events::Event;
 use kernel::TripCause;
@@ -45,9 +45,9 @@ pub(crate) fn trip_held(
     }
 }
 
-/// The word of a cause, as JSON has it.
-pub fn trip_word(cause: TripCause) -> &'static str
-    ensures { result.now ≡ trip_word_of cause }
+/// The name of a cause in JSON.
+pub fn trip_name(cause: TripCause) -> &'static str
+    ensures { result.now ≡ trip_name_of cause }
 {
     match cause {
         TripCause::EndPassed => "end_passed",

@@ -2,5 +2,5 @@ pub mod Keeping
 pub mod Lending
 pub mod Nearing
 pub mod Refusing
-pub mod Room
+pub mod Space
 pub mod Standing

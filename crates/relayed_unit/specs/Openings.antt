@@ -10,8 +10,8 @@ use Rattle.request_disk.specs.Requesting.{Requesting, nothing_of, request_state,
 use Rattle.ring.specs.ScanState.{ScanState}
 use Rattle.relayed_unit.specs.Needs.{needed, needed_later}
 
--- The disk that hands out its requests, what was found of the slots (None before the first sector was read), and the word
--- on movements without power that was handed in.
+-- The disk that hands out its requests, what was found of the slots (None before the first sector was read), and the
+-- word on movements without power that was handed in.
 pub record Opening : Type 0 where
   pub disk : Requesting
   pub scan : Option ScanState
@@ -27,14 +27,14 @@ medium_state medium sectors = request_state (nothing_of medium sectors)
 
 -- a disk of so many sectors has the slots that were found
 abbrev pub IsSized : ℕ → Option ScanState → Type 0
-IsSized sectors scan = IfSome scan (λ it. sectors ≡ sectors_of it.slots)
+IsSized sectors scan = IfSome scan (λ started. sectors ≡ sectors_of started.slots)
 
 -- so many slots were looked at
 pub record IsLooked (slots : ℕ) (scan : ScanState) : Type 0 where
   pub looked : scan.next ≡ slots
   pub order : scan.next ≤ scan.slots
 
--- There is room for what is to come: a power-up takes ten units, and the sync before it one.
+-- There is space for what is to come: a power-up takes ten units, and the sync before it one.
 abbrev pub HasUnits : Option ScanState → ℕ → Type 0
 HasUnits None units = 11 < units
 HasUnits (Some scan) units = 10 < units
@@ -45,8 +45,8 @@ pub record CanGoOn (disk : Requesting) (scan : Option ScanState) (slots : ℕ) :
   pub looked : IfSome scan (IsLooked slots)
   pub units : HasUnits scan (request_reserve disk)
 
--- what was found of the slots goes on from there: it is of the same slots, and of no fewer of them, and where no slot more
--- was looked at it is the same
+-- what was found of the slots goes on from there: it is of the same slots, and of no fewer of them, and where no slot
+-- more was looked at it is the same
 abbrev pub IsFurther : Option ScanState → Option ScanState → Type 0
 IsFurther None new = Unit {0}
 IsFurther (Some old) None = ⊥
@@ -57,8 +57,8 @@ abbrev pub IsFoundOf : ℕ → (ℕ → List ℕ) → Option ScanState → Type 
 IsFoundOf sectors image None = Unit {0}
 IsFoundOf sectors image (Some scan) = IsUnderWay sectors image scan
 
--- It is under way over a medium of these bytes: since it began the medium was settled at most, and nothing on it changed;
--- what was found so far is what the medium has.
+-- It is under way over a medium of these bytes: since it began the medium was settled at most, and nothing on it
+-- changed; what was found so far is what the medium has.
 pub record IsGoing (medium : List ℕ) (o : Opening) : Type 0 where
   pub settled : Touches 0 0 (medium_state medium o.disk.sectors) (request_state o.disk)
   pub synced : IsSynced (request_state o.disk)
@@ -75,7 +75,7 @@ pub record IsWanted (o : Opening) (s : ℕ) : Type 0 where
 abbrev pub slots_in : ℕ → ℕ
 slots_in sectors = (sectors - 1) / 6
 
--- How many sectors it wants at most, until it is open or refused: those of the next step that weren't handed in last, and
--- those of the steps after it.
+-- How many sectors it wants at most, until it is open or refused: those of the next step that weren't handed in last,
+-- and those of the steps after it.
 abbrev pub still_needed : Opening → ℕ
 still_needed o = (length (needed o.scan) - handed_last (needed o.scan) o.disk.known) + needed_later (slots_in o.disk.sectors) o.scan

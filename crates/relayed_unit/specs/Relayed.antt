@@ -1,6 +1,7 @@
 -- What contracts see of a unit that hands out its requests (this project's profile). Requests are counted from the
 -- first of the list.
 use Rattle.std.specs.Prelude.{◌≡◌, ℕ, ◌+◌, ◌%◌, ◌≤◌, Bool, true, false, not, ◌&&◌, ◌||◌, nat_lt, if◌then◌else◌, List, [], ◌∷◌, length, Option, Some, None, option_map, Result, Ok, Err}
+use Rattle.arrayvec.specs.ArrayVec.{ArrayVec}
 use Rattle.disk.specs.State.{contents_of}
 use Rattle.disk.specs.declared.record.Call.{Call}
 use Rattle.events.specs.declared.input.Event.{Event}
@@ -9,8 +10,9 @@ use Rattle.mode_table.specs.declared.statuses.Cold.{Cold}
 use Rattle.request_disk.specs.Requests.{ends_in_sync}
 use Rattle.request_disk.specs.Requesting.{request_state, knows}
 use Rattle.onboard.specs.Answers.{flush_refusal, puts_block}
+use Rattle.onboard.specs.Flushes.{releases_in, without_disk, Flushes}
 use Rattle.unit_start.specs.Events.{record_of, IsAhead}
-use Rattle.unit_start.specs.Lives.{IsWord}
+use Rattle.unit_start.specs.Lives.{IsRecordedCold}
 use Rattle.unit_start.specs.Releases.{Release}
 use Rattle.unit_start.specs.Written.{HasNewest}
 use Rattle.onboard.specs.declared.errors.FlushError.{FlushError}
@@ -62,40 +64,45 @@ Turns None after So = Unit {0}
 Turns (Some before) None So = ⊥
 Turns (Some before) (Some after) So = So before after
 
+-- what was pending was flushed onto the disk, and these outputs of it are held back
+abbrev pub IsFlushed : List Release → Moored → Moored → Type 0
+IsFlushed outputs current next = (let answer : Result (ArrayVec Release) FlushError = Ok (record { items = outputs }) in
+    Flushes releases_in (request_state current.reading.disk) (request_state next.reading.disk) (without_disk current.unit) (without_disk next.unit) answer)
+
 -- ---- what a power-up puts on the disk
 
--- It was powered up with this word after what an image of so many sectors has: the newest block of its disk is of format 3,
--- and has just the power-up's record and what is kept after it. The word that is recorded is the one that the image
--- leaves.
+-- It was powered up with this cold movement value after what an image of so many sectors has: the newest block of its disk is of format 3,
+-- and has just the power-up's record and what is kept after it. The value that is recorded is the one that
+-- the image leaves.
 abbrev pub HasPowerUp : ℕ → (ℕ → List ℕ) → Cold → Moored → Type 0
-HasPowerUp sectors image cold it = (found : List Event) × (power_up_word : Cold)
-    × IsAhead (PowerUp power_up_word ∷ found) (PowerUp power_up_word ∷ found) it.unit.life
-    × HasNewest it.reading.disk.sectors (record_of found (PowerUp power_up_word) ∷ []) (PowerUp power_up_word ∷ found)
-    (contents_of (request_state it.reading.disk))
-    × IsWord sectors image cold power_up_word
+HasPowerUp sectors image cold current = (found : List Event) × (power_up_cold : Cold)
+    × IsAhead (PowerUp power_up_cold ∷ found) (PowerUp power_up_cold ∷ found) current.unit.life
+    × HasNewest current.reading.disk.sectors (record_of found (PowerUp power_up_cold) ∷ []) (PowerUp power_up_cold ∷ found)
+    (contents_of (request_state current.reading.disk))
+    × IsRecordedCold sectors image cold power_up_cold
 
 -- ---- the gate that a flush has to know
 
 -- a flush of now puts a block into the slot after the greatest number
 abbrev pub flush_puts : Moored → Bool
-flush_puts it = puts_block it.unit.journal.failed (length it.unit.life.records) it.unit.journal.newest
+flush_puts current = puts_block current.unit.journal.failed (length current.unit.life.records) current.unit.journal.newest
 
 -- the sector with the gate of that slot
 abbrev pub next_gate : Moored → ℕ
-next_gate it = gate_at ((it.unit.journal.newest + 1) % it.unit.journal.slots)
+next_gate current = gate_at ((current.unit.journal.newest + 1) % current.unit.journal.slots)
 
 -- a flush needs it, and it isn't known
 abbrev pub wants_gate : Moored → Bool
-wants_gate it = flush_puts it && not (knows (next_gate it) it.reading.disk)
+wants_gate current = flush_puts current && not (knows (next_gate current) current.reading.disk)
 
 -- this is whether the gate is closed, where a flush needs it
 abbrev pub IsNextGate : Bool → Moored → Type 0
-IsNextGate is_shut it = flush_puts it ≡ true
-    → is_shut ≡ next_is_closed it.unit.journal.slots it.unit.journal.newest (contents_of (request_state it.reading.disk))
+IsNextGate is_shut current = flush_puts current ≡ true
+    → is_shut ≡ next_is_closed current.unit.journal.slots current.unit.journal.newest (contents_of (request_state current.reading.disk))
 
 -- no sector is wanted
 abbrev pub WantsNothing : Moored → Type 0
-WantsNothing it = it.reading.disk.wanted ≡ None
+WantsNothing current = current.reading.disk.wanted ≡ None
 
 -- ---- why calls are refused
 
@@ -108,11 +115,11 @@ refused_as a_flush.DeviceFault = a_prepare.Failed
 -- why a flush isn't prepared, before the disk is written: the first of these that holds, and a flush that needs a gate is
 -- refused for nothing else
 abbrev pub prepare_refusal : Bool → Moored → Option PrepareError
-prepare_refusal failed it =
+prepare_refusal failed current =
     if failed then Some a_prepare.Failed
-    else if nat_lt 0 (length it.reading.disk.requests) then Some a_prepare.RequestsOwed
-    else if wants_gate it then Some a_prepare.SectorWanted
-    else option_map refused_as (flush_refusal it.unit.journal.failed (length it.unit.life.records) it.unit.journal.newest)
+    else if nat_lt 0 (length current.reading.disk.requests) then Some a_prepare.RequestsOwed
+    else if wants_gate current then Some a_prepare.SectorWanted
+    else option_map refused_as (flush_refusal current.unit.journal.failed (length current.unit.life.records) current.unit.journal.newest)
 
 -- whether the unit can't go on after this answer
 abbrev pub prepare_failed : {T : Type 0} → Result T PrepareError → Bool
@@ -127,8 +134,8 @@ abbrev pub IsLeftBy : PrepareError → Option Moored → Option Moored → Type 
 IsLeftBy a_prepare.Failed before after = after ≡ before
 IsLeftBy a_prepare.RequestsOwed before after = after ≡ before
 IsLeftBy a_prepare.WornOut before after = after ≡ before
-IsLeftBy a_prepare.SectorWanted before after = Turns before after (λ it next. (next.unit ≡ it.unit)
-    × (next.reading.disk ≡ record it.reading.disk { wanted = Some (next_gate it) }))
+IsLeftBy a_prepare.SectorWanted before after = Turns before after (λ current next. (next.unit ≡ current.unit)
+    × (next.reading.disk ≡ record current.reading.disk { wanted = Some (next_gate current) }))
 
 -- why nothing is released: the first of these that holds
 abbrev pub release_refusal : Relayed → Option ReleaseError
@@ -142,4 +149,4 @@ release_refusal u =
 
 -- it isn't released yet: it is pending, or its requests are still in the list
 abbrev pub is_unreleased : Moored → Bool
-is_unreleased it = nat_lt 0 (length it.reading.disk.requests) || nat_lt 0 (length it.unit.life.records)
+is_unreleased current = nat_lt 0 (length current.reading.disk.requests) || nat_lt 0 (length current.unit.life.records)

@@ -22,7 +22,7 @@ same_situation _ one differs = differs
 
 same_record : (field : RecordField) (one : BlockRecord) → DiffersIn field one one → ⊥
 same_record a_field.Number one differs = differs refl
-same_record a_field.Word one differs = differs.1 refl
+same_record a_field.ColdMovement one differs = differs.1 refl
 same_record a_field.Moment one differs = differs.2 refl
 same_record a_field.Mode one differs = differs.1 refl
 same_record a_field.Level one differs = differs.2 refl

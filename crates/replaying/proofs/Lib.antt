@@ -1,4 +1,4 @@
-pub mod Shown
+pub mod IndicationFlags
 pub mod Units
 pub mod Verdicts
 pub mod Excluding

@@ -53,7 +53,7 @@ earlier s (x ∷ xs) ys are = (are.0, earlier (x.event ∷ s) xs ys are.1)
 
 -- format 3 reports the event as it is
 reported_so : (event : Event) → event_reported Three event ≡ event
-reported_so (an_event.PowerUp word) = refl
+reported_so (an_event.PowerUp cold) = refl
 reported_so (an_event.Input input) = refl
 
 -- the records of a list of events are those after its story

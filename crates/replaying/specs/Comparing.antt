@@ -11,8 +11,8 @@ use Rattle.replaying.specs.declared.differences.RecordField.{RecordField}
 use Rattle.replaying.specs.declared.differences.RecordField.TheVariants as a_field
 
 -- what is shown, as a list
-abbrev pub shown_of : Indications → List Bool
-shown_of a = a.on_sight ∷ a.shunting ∷ a.level_0 ∷ a.trip ∷ a.overridden ∷ a.not_revalidated ∷ a.overspeed ∷ []
+abbrev pub indication_flags : Indications → List Bool
+indication_flags a = a.on_sight ∷ a.shunting ∷ a.level_0 ∷ a.trip ∷ a.overridden ∷ a.not_revalidated ∷ a.overspeed ∷ []
 
 -- both are reported, and differ so
 abbrev pub BothReported : (Situation → Situation → Type 0) → Option Situation → Option Situation → Type 0
@@ -42,7 +42,7 @@ SameCommands one other =
 -- this is the first field in which two records differ
 abbrev pub DiffersIn : RecordField → BlockRecord → BlockRecord → Type 0
 DiffersIn a_field.Number one other = one.number ≢ other.number
-DiffersIn a_field.Word one other = (one.number ≡ other.number) × (one.event ≢ other.event)
+DiffersIn a_field.ColdMovement one other = (one.number ≡ other.number) × (one.event ≢ other.event)
 DiffersIn a_field.Moment one other =
     (one.number ≡ other.number) × (one.event ≡ other.event) × (one.moment ≢ other.moment)
 DiffersIn a_field.Mode one other = SameEvent one other × (one.mode ≢ other.mode)

@@ -20,9 +20,9 @@ abbrev pub AreAnswers : Format → Story → List BlockRecord → Type 0
 AreAnswers format at [] = Unit {0}
 AreAnswers format at (reported ∷ rest) = (reported ≡ answer_to format at reported.event) × AreAnswers format (onward at reported.event) rest
 
--- After this the same is kept, as far as a power-up by this word leaves it.
-pub record IsAfter (kept : Kept) (word : Cold) (at : Story) : Type 0 where
-  pub left : left_by word kept ≡ left_by word (past_at at).kept
+-- After this the same is kept, as far as a power-up with this cold movement value leaves it.
+pub record IsAfter (kept : Kept) (cold : Cold) (at : Story) : Type 0 where
+  pub left : left_by cold kept ≡ left_by cold (past_at at).kept
   pub counted : kept.events ≡ number_at at
 
 -- what a format says about what is kept after a story

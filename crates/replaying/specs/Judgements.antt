@@ -25,7 +25,7 @@ use Rattle.replaying.specs.declared.judging.Judged.TheVariants as is
 abbrev pub IsVerdict : Format → Story → BlockRecord → ReplayState → Option Found → Type 0
 IsVerdict format at r replay found = MatchOption found
     ((r ≡ answer_to format at r.event) × StandsAfter (onward at r.event) replay)
-    (λ it. (it.answer ≡ answer_to format at r.event) × DiffersIn it.field r it.answer)
+    (λ difference. (difference.answer ≡ answer_to format at r.event) × DiffersIn difference.field r difference.answer)
 
 -- .. after any such story
 abbrev pub IsRun : (Story → Type 0) → Format → BlockRecord → Judged → Option Found → Type 0
@@ -40,7 +40,7 @@ GoesOn format r old judged found = (judged ≡ old) × (found ≡ None)
 
 -- a power-up, after any story after which this is kept
 abbrev pub PowersUp : Event → Format → Kept → BlockRecord → Judged → Judged → Option Found → Type 0
-PowersUp (PowerUp word) format kept r old judged found = IsRun (λ at. IsAfter kept word at) format r judged found
+PowersUp (PowerUp cold) format kept r old judged found = IsRun (λ at. IsAfter kept cold at) format r judged found
 PowersUp (Input input) format kept r old judged found = GoesOn format r old judged found
 
 -- within a block a life goes on from what the kernel keeps of the one before, where that is replayed
@@ -64,5 +64,5 @@ Begins (Err unknown) format r old judged found = GoesOn format r (unknown_after 
 -- nothing is found
 abbrev pub IsHeadFound : Judged → Block → Option HeadFound → Type 0
 IsHeadFound (is.Agrees replay) b found = (at : Story) → StandsAfter at replay →
-    MatchOption found (b.kept ≡ head_after b.format at) (λ it. (it.kept ≡ head_after b.format at) × KeptDiffersIn it.field b.kept it.kept)
+    MatchOption found (b.kept ≡ head_after b.format at) (λ difference. (difference.kept ≡ head_after b.format at) × KeptDiffersIn difference.field b.kept difference.kept)
 IsHeadFound _ b found = found ≡ None

@@ -15,10 +15,10 @@ use Rattle.replaying.specs.Judgements.{IsVerdict}
 use Rattle.replaying.specs.ReplayState.{ReplayState}
 use Rattle.replaying.specs.declared.following.Found.{Found}
 
--- whatever a head says, and by each word: there is a story after which that is kept, so that no verdict on what
--- comes after a head is one about nothing
+-- whatever a head says, and with each cold movement value: there is a story after which that is kept, so that no
+-- verdict on what comes after a head is one about nothing
 abbrev pub EachHeadIsLed : Type 0
-EachHeadIsLed = (kept : Kept) (word : Cold) → IsAfter kept word (story_by kept)
+EachHeadIsLed = (kept : Kept) (cold : Cold) → IsAfter kept cold (story_by kept)
 
 -- what a block of format 3 says about the events of a unit are the kernel's answers, after some of these events
 abbrev pub UnitsAgree : Type 0

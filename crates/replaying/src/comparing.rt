@@ -1,7 +1,7 @@
 //! What a block says about an event, along with what the kernel answers to it.
 ghost use Rattle.std.specs.Prelude.{◌≡◌, ◌↔◌, IsTrue, MatchOption};
 ghost use Rattle.blocks.specs.Blocks.{event_reported};
-ghost use Rattle.replaying.specs.Comparing.{shown_of, DiffersIn, SituationDiffers};
+ghost use Rattle.replaying.specs.Comparing.{indication_flags, DiffersIn, SituationDiffers};
 
 use crate::differences::RecordField;
 use blocks::{BlockRecord, Format, Situation};
@@ -37,24 +37,24 @@ fn same_brake(one: Brake, other: Brake) -> bool
 }
 
 // What is shown, in the order of its fields.
-fn shown_of(shown: &Indications) -> [bool; 7]
-    ensures { result ≡ shown_of shown.now }
+fn indication_flags(flags: &Indications) -> [bool; 7]
+    ensures { result ≡ indication_flags flags.now }
 {
     [
-        shown.on_sight,
-        shown.shunting,
-        shown.level_0,
-        shown.trip,
-        shown.overridden,
-        shown.not_revalidated,
-        shown.overspeed,
+        flags.on_sight,
+        flags.shunting,
+        flags.level_0,
+        flags.trip,
+        flags.overridden,
+        flags.not_revalidated,
+        flags.overspeed,
     ]
 }
 
-fn same_shown(one: &Indications, other: &Indications) -> bool
+fn same_indications(one: &Indications, other: &Indications) -> bool
     ensures { IsTrue result ↔ one.now ≡ other.now }
 {
-    shown_of(one) == shown_of(other)
+    indication_flags(one) == indication_flags(other)
 }
 
 fn situation_differs(one: Option<Situation>, other: Option<Situation>) -> Option<RecordField>
@@ -88,8 +88,8 @@ fn is_reported(format: Format, event: &Event) -> bool
     }
 }
 
-/// The first field in which a record differs from what its format says about the kernel's answer to the same event; None
-/// exactly where it is that. The caller owes the same event.
+/// The first field in which a record differs from what its format says about the kernel's answer to the same event;
+/// None exactly where it is that. The caller owes the same event.
 pub(crate) fn differs(
     format: Format,
     reported: &BlockRecord,
@@ -102,7 +102,7 @@ pub(crate) fn differs(
         return Some(RecordField::Number);
     }
     if !is_reported(format, &reported.event) {
-        return Some(RecordField::Word);
+        return Some(RecordField::ColdMovement);
     }
     if reported.moment != answer.moment {
         return Some(RecordField::Moment);
@@ -116,7 +116,7 @@ pub(crate) fn differs(
     if !same_brake(reported.brake, answer.brake) {
         return Some(RecordField::Brake);
     }
-    if !same_shown(&reported.indications, &answer.indications) {
+    if !same_indications(&reported.indications, &answer.indications) {
         return Some(RecordField::Indications);
     }
     situation_differs(reported.situation, answer.situation)

@@ -27,7 +27,7 @@ fn event_in(format: Format, event: Event) -> Event
 {
     match (format, event) {
         (Format::One | Format::Two, Event::PowerUp(_)) => Event::PowerUp(Cold::Unknown),
-        (Format::Three, Event::PowerUp(word)) => Event::PowerUp(word),
+        (Format::Three, Event::PowerUp(cold)) => Event::PowerUp(cold),
         (_, Event::Input(input)) => Event::Input(input),
     }
 }

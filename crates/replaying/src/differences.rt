@@ -5,8 +5,8 @@
 pub enum RecordField {
     /// The number of the event.
     Number,
-    /// The word of a power-up, in a format that doesn't say it.
-    Word,
+    /// The cold movement value of a power-up, in a format that doesn't have it.
+    ColdMovement,
     /// The moment, in milliseconds.
     Moment,
     /// The mode.

@@ -28,7 +28,7 @@ pub put_sectors : (start written ys : List ℕ) (span : Span) (to k : ℕ) → t
     → 512 * span.first + 512 * span.sectors ≤ length start → span.from + 512 * span.sectors ≤ length written
     → ys ≡ take k (drop span.from written) → (s : ℕ)
     → sector_of (put_mid to k start ys) s ≡ reported_at start written s (found_next s None (Written span))
-put_sectors start written ys span to k here wide room there is s =
+put_sectors start written ys span to k here wide space there is s =
     let size : length ys ≡ k = ap length is ∙ length-take-le k (drop span.from written) (omega (arith, length-drop span.from written)) in
     let next : List ℕ = put_mid to k start ys in
     let T : Bool → List ℕ = λ b. reported_at start written s (if b then Some (span.from + 512 * (s - span.first)) else None) in

@@ -15,7 +15,7 @@ use Rattle.request_disk.specs.declared.held.Held.{Held}
 use Rattle.request_disk.specs.declared.held.Held.TheVariants.{Whole, Few}
 use Rattle.request_disk.proofs.Found.{bytes_now}
 use Rattle.request_disk.specs.declared.known.Known.{Known}
-use Rattle.request_disk.specs.Known.{numbers_of, has_number, with_room, IsHeld, reported_or, renewed}
+use Rattle.request_disk.specs.Known.{numbers_of, has_number, with_space, IsHeld, reported_or, renewed}
 use Rattle.request_disk.specs.Medium.{with_sectors, carried}
 use Rattle.request_disk.specs.Requesting.{Requesting, knows, request_state}
 use Rattle.request_disk.proofs.Carried.{carried_reported, put_one, put_other, put_same_bytes, reported_other}
@@ -68,21 +68,21 @@ pub knows_held : (s : ℕ) (w : Requesting) → found_in s w.requests ≡ None �
 knows_held s w is = ap (λ (o : Option ℕ). is_some o || is_held s w.known) is
 
 -- one more is held
-room_if : (P : Known → Type 0) (b : Bool) (known : List Known) → All P known → All P (if b then drop 1 known else known)
-room_if P true known all = All-drop P 1 known all
-room_if P false known all = all
+space_if : (P : Known → Type 0) (b : Bool) (known : List Known) → All P known → All P (if b then drop 1 known else known)
+space_if P true known all = All-drop P 1 known all
+space_if P false known all = all
 
-pub held_more : (P : Known → Type 0) (known : List Known) (it : Known) → All P known → P it → All P (with_room known ++ it ∷ [])
-held_more P known it all one = All-push P (with_room known) it (room_if P (length known == 16) known all) one
+pub held_more : (P : Known → Type 0) (known : List Known) (entry : Known) → All P known → P entry → All P (with_space known ++ entry ∷ [])
+held_more P known entry all one = All-push P (with_space known) entry (space_if P (length known == 16) known all) one
 
 numbers_if : (b : Bool) (known : List Known) → map (λ k. k.sector) (if b then drop 1 known else known) ≡ (if b then drop 1 (numbers_of known) else numbers_of known)
 numbers_if true known = sym (drop-map (λ (k : Known). k.sector) 1 known)
 numbers_if false known = refl
 
-pub numbers_more : (known : List Known) (it : Known) → numbers_of (with_room known ++ it ∷ []) ≡ with_room (numbers_of known) ++ it.sector ∷ []
-numbers_more known it =
-    map_push (λ (k : Known). k.sector) (with_room known) it
-    ∙ ap (λ (ns : List ℕ). ns ++ it.sector ∷ []) (numbers_if (length known == 16) known
+pub numbers_more : (known : List Known) (entry : Known) → numbers_of (with_space known ++ entry ∷ []) ≡ with_space (numbers_of known) ++ entry.sector ∷ []
+numbers_more known entry =
+    map_push (λ (k : Known). k.sector) (with_space known) entry
+    ∙ ap (λ (ns : List ℕ). ns ++ entry.sector ∷ []) (numbers_if (length known == 16) known
     ∙ ap (λ (n : ℕ). if n == 16 then drop 1 (numbers_of known) else numbers_of known) (sym (length-map known (λ (k : Known). k.sector))))
 
 -- of a sector that isn't known the disk holds what the medium held when the list was last empty
@@ -183,7 +183,7 @@ held_whole sectors medium (Few known) size is = tt
 -- a sector that is handed in is held
 pub has_added : (s : ℕ) (known : Option (List ℕ)) → is_held s (with_number s known) ≡ true
 has_added s None = refl
-has_added s (Some numbers) = has_last s (with_room numbers)
+has_added s (Some numbers) = has_last s (with_space numbers)
 
 -- what is so of what an answer has
 pub if_some : (T : Type 0) (P Q : T → Type 0) (each : (x : T) → P x → Q x) (o : Option T) → IfSome o P → IfSome o Q

@@ -44,9 +44,9 @@ each_of false b is = absurd cc
 -- to be lent is to lie between
 pub lent_between : (first count s : ℕ) → is_lent first count s ≡ true → (first ≤ s) × (s < first + count)
 lent_between first count s is =
-    let both = each_of (nat_le first s) (nat_lt (s - first) count) is in
-    let from : first ≤ s = grind (both.0, arith, nat_tests) in
-    let to : s - first < count = grind (both.1, arith, nat_tests) in
+    let halves = each_of (nat_le first s) (nat_lt (s - first) count) is in
+    let from : first ≤ s = grind (halves.0, arith, nat_tests) in
+    let to : s - first < count = grind (halves.1, arith, nat_tests) in
     (from, omega (arith, from, to))
 
 pub between_lent : (first count s : ℕ) → first ≤ s → s < first + count → is_lent first count s ≡ true
@@ -59,8 +59,8 @@ missing_fails d first count s is = fails_so (is_lent first count s) (knows s d) 
 
 pub fails_missing : (d : Requesting) (first count s : ℕ) → s < d.sectors → fails_at d first count s ≡ true → IsMissing d first count s
 fails_missing d first count s below is =
-    let both = failing (is_lent first count s) (knows s d) is in
-    record { lent = lent_between first count s both.0; below = below; unknown = both.1 }
+    let halves = failing (is_lent first count s) (knows s d) is in
+    record { lent = lent_between first count s halves.0; below = below; unknown = halves.1 }
 
 same_missing : (old new : Lent) (wanted : Option ℕ) → new.disk.sectors ≡ old.disk.sectors
     → ((s : ℕ) → fails_at new.disk new.first new.count s ≡ fails_at old.disk old.first old.count s)

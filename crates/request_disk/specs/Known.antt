@@ -13,13 +13,13 @@ numbers_of known = map (λ k. k.sector) known
 abbrev pub has_number : ℕ → List ℕ → Bool
 has_number s numbers = is_some (position (λ number. number == s) numbers)
 
--- there is room for 16, and there are no more
-abbrev pub HasRoom : {X Z : Type 0} → Vec X Z → Type 0
-HasRoom known = (vec_len known ≤ 16) × (16 ≤ vec_capacity known)
+-- there is space for 16, and there are no more
+abbrev pub HasSpace : {X Z : Type 0} → Vec X Z → Type 0
+HasSpace known = (vec_len known ≤ 16) × (16 ≤ vec_capacity known)
 
--- with room for one more: where there are 16 the first of them is forgotten
-abbrev pub with_room : {X : Type 0} → List X → List X
-with_room xs = if length xs == 16 then drop 1 xs else xs
+-- with space for one more: where there are 16 the first of them is forgotten
+abbrev pub with_space : {X : Type 0} → List X → List X
+with_space xs = if length xs == 16 then drop 1 xs else xs
 
 -- a sector that is held is one of the medium's, and holds the medium's bytes
 pub record IsHeld (sectors : ℕ) (medium : List ℕ) (k : Known) : Type 0 where

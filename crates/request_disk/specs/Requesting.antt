@@ -7,12 +7,13 @@ use Rattle.disk.specs.declared.record.Call.{Call}
 use Rattle.disk.specs.declared.record.Call.TheVariants.{Written}
 use Rattle.request_disk.specs.Requests.{IsRequest, found_in}
 use Rattle.request_disk.specs.Medium.{with_sectors, carried}
-use Rattle.request_disk.specs.Held.{is_held, with_number, AreHeld, IsRoomy}
+use Rattle.request_disk.specs.Held.{is_held, with_number, AreHeld, HasSpaces}
 use Rattle.request_disk.specs.declared.requesting.RequestDisk.TheInside.{Inside}
 
 -- How many sectors the medium has, the bytes that it held when its list of requests was last empty, the sectors whose
--- bytes were handed in, from the one that came first on (None where all the medium is held), the requests since the list
--- was empty, the bytes that they write, one after the other, how many calls failed, and which sector a read wanted last.
+-- bytes were handed in, from the one that came first on (None where all the medium is held), the requests since the
+-- list was empty, the bytes that they write, one after the other, how many calls failed, and which sector a read wanted
+-- last.
 pub record Requesting : Type 0 where
   pub sectors : ℕ
   pub medium : List ℕ
@@ -47,11 +48,11 @@ nothing_of medium sectors = new_on medium sectors (Some [])
 abbrev pub request_state : Requesting → State
 request_state d = state_of d.sectors d.faults d.medium d.written d.requests
 
--- there is room for a request that writes so many bytes
-abbrev pub has_room_for : ℕ → Requesting → Bool
-has_room_for bytes d = nat_lt (length d.requests) 16 && nat_le bytes (8192 - length d.written)
+-- there is space for a request that writes so many bytes
+abbrev pub has_space_for : ℕ → Requesting → Bool
+has_space_for bytes d = nat_lt (length d.requests) 16 && nat_le bytes (8192 - length d.written)
 
--- how many units of calls there is room for: each takes a request, and each sector of a write its bytes
+-- how many units of calls there is space for: each takes a request, and each sector of a write its bytes
 abbrev pub request_reserve : Requesting → ℕ
 request_reserve d = min (16 - length d.requests) ((8192 - length d.written) / 512)
 
@@ -63,12 +64,12 @@ pub record IsRequesting (d : Requesting) : Type 0 where
   pub only : All IsRequest d.requests
   pub none : length d.requests ≡ 0 → length d.written ≡ 0
 
--- The same of its fields. What it holds is the medium's, and the room for 16 sectors, 16 requests and 8,192 bytes was
+-- The same of its fields. What it holds is the medium's, and the space for 16 sectors, 16 requests and 8,192 bytes was
 -- taken.
 pub record IsKept (m : Inside) : Type 0 where
   pub whole : length m.medium.bytes ≡ 512 * m.sectors
   pub held : AreHeld m.sectors m.medium.bytes m.held
-  pub held_fit : IsRoomy m.held
+  pub held_fit : HasSpaces m.held
   pub within : All (IsWithin m.sectors (vec_len m.written)) m.requests.items
   pub only : All IsRequest m.requests.items
   pub none : vec_len m.requests ≡ 0 → vec_len m.written ≡ 0

@@ -2,7 +2,7 @@
 ghost use Rattle.std.specs.Prelude.{◌≡◌, ◌==◌, ℕ, ◌*◌, ◌<◌, false, length, List, All, IfSome, is_some};
 ghost use Rattle.disk.specs.State.{sector_of};
 ghost use Rattle.disk.specs.Record.{IsWithin};
-ghost use Rattle.request_disk.specs.Held.{known_of, is_held, with_number, AreHeld, IsRoomy, IsWhole};
+ghost use Rattle.request_disk.specs.Held.{known_of, is_held, with_number, AreHeld, HasSpaces, IsWhole};
 ghost use Rattle.request_disk.specs.Known.{IsHeld};
 ghost use Rattle.request_disk.specs.Medium.{carried};
 
@@ -52,19 +52,19 @@ impl Held {
     }
 
     /// Holds one sector more; nothing where all is held. It takes no memory.
-    pub fn add(&mut self, it: Known)
-        requires { IsRoomy self.old }
-        ensures known { known_of self.new ≡ with_number it.sector (known_of self.old) }
-        ensures room { IsRoomy self.new }
+    pub fn add(&mut self, entry: Known)
+        requires { HasSpaces self.old }
+        ensures known { known_of self.new ≡ with_number entry.sector (known_of self.old) }
+        ensures space { HasSpaces self.new }
 
         // What was held stays, and this sector is held, on a medium that differs in no other one.
-        ensures held { (sectors : ℕ) (medium after : List ℕ) → is_held it.sector (known_of self.old) ≡ false →
-            ((t : ℕ) → (t == it.sector) ≡ false → sector_of after t ≡ sector_of medium t) → IsHeld sectors after it →
+        ensures held { (sectors : ℕ) (medium after : List ℕ) → is_held entry.sector (known_of self.old) ≡ false →
+            ((t : ℕ) → (t == entry.sector) ≡ false → sector_of after t ≡ sector_of medium t) → IsHeld sectors after entry →
             AreHeld sectors medium self.old → AreHeld sectors after self.new }
     {
         match self {
             Held::Whole(_) => {}
-            Held::Few(known) => add(known, it),
+            Held::Few(known) => add(known, entry),
         }
     }
 
@@ -75,7 +75,7 @@ impl Held {
         ensures known { known_of self.new ≡ known_of self.old }
         ensures held { (medium : List ℕ) → length medium ≡ 512 * sectors → AreHeld sectors medium self.old →
             AreHeld sectors (carried written.now medium requests.now) self.new }
-        ensures room { IsRoomy self.old → IsRoomy self.new }
+        ensures space { HasSpaces self.old → HasSpaces self.new }
     {
         match self {
             Held::Whole(bytes) => carry(bytes, written, requests, sectors),

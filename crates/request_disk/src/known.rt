@@ -1,7 +1,7 @@
 //! Sectors whose bytes are known.
 ghost use Rattle.std.specs.Prelude.{◌≡◌, ◌==◌, ◌∷◌, ◌++◌, [], length, map, position, All};
 ghost use Rattle.disk.specs.Record.{IsWithin};
-ghost use Rattle.request_disk.specs.Known.{HasRoom, with_room, renewed};
+ghost use Rattle.request_disk.specs.Known.{HasSpace, with_space, renewed};
 
 use crate::requests::found;
 use disk::{Call, SECTOR_BYTES};
@@ -18,33 +18,33 @@ pub struct Known {
     pub bytes: [u8; SECTOR_BYTES],
 }
 
-/// Adds one after the others; where there are 16, the first of them goes. It takes no memory. The caller owes room for
+/// Adds one after the others; where there are 16, the first of them goes. It takes no memory. The caller owes space for
 /// 16.
-pub fn add(known: &mut Vec<Known>, it: Known)
-    requires { HasRoom known.old }
-    ensures items { known.new.items ≡ with_room known.old.items ++ it ∷ [] }
-    ensures room { HasRoom known.new }
+pub fn add(known: &mut Vec<Known>, entry: Known)
+    requires { HasSpace known.old }
+    ensures items { known.new.items ≡ with_space known.old.items ++ entry ∷ [] }
+    ensures space { HasSpace known.new }
 {
     if known.len() == MOST_KNOWN {
         known.remove(0);
     }
-    known.push(it).unwrap();
+    known.push(entry).unwrap();
 }
 
 /// The first place of a sector among these.
 pub fn place_in(known: &[Known], sector: u64) -> Option<usize>
     ensures { result ≡ position (λ k. k.sector == sector) known.now }
 {
-    known.iter().position(|it| it.sector == sector)
+    known.iter().position(|entry| entry.sector == sector)
 }
 
 // Carries the requests out on one.
-fn renew_one(it: &mut Known, written: &[u8], requests: &[Call], sectors: u64)
+fn renew_one(entry: &mut Known, written: &[u8], requests: &[Call], sectors: u64)
     requires { All (IsWithin sectors (length written.now)) requests.now }
-    ensures { it.new ≡ renewed written.now requests.now it.old }
+    ensures { entry.new ≡ renewed written.now requests.now entry.old }
 {
-    if let Some(at) = found(requests, it.sector, sectors, written.len()) {
-        it.bytes.copy_from_slice(&written[at..at + SECTOR_BYTES]);
+    if let Some(at) = found(requests, entry.sector, sectors, written.len()) {
+        entry.bytes.copy_from_slice(&written[at..at + SECTOR_BYTES]);
     }
 }
 

@@ -15,7 +15,7 @@ pub struct Reading {
 }
 
 impl WriteDisk for Reading {
-    ghost use Rattle.request_disk.specs.Requesting.{has_room_for, write_of, IsNoted};
+    ghost use Rattle.request_disk.specs.Requesting.{has_space_for, write_of, IsNoted};
     ghost use Rattle.disk.specs.declared.record.Call.TheVariants.{Synced};
 
     ghost state = { λ r. request_state r.disk };
@@ -37,8 +37,8 @@ impl WriteDisk for Reading {
         ensures others_open { SameOpenOutside first (length bytes.now) (request_state self.old.disk) (request_state self.new.disk) }
         ensures written { OnOk result (Holds (contents_of (request_state self.new.disk)) first bytes.now) }
 
-        // It fails exactly beyond the room, and else is the next request.
-        ensures room { is_err result ≡ (if has_room_for (length bytes.now) self.old.disk then false else true) }
+        // It fails exactly beyond the space, and else is the next request.
+        ensures space { is_err result ≡ (if has_space_for (length bytes.now) self.old.disk then false else true) }
         ensures noted { OnOk result
             (IsNoted (write_of first bytes.now self.old.disk) bytes.now self.old.disk self.new.disk) }
         ensures beyond { OnErr result (self.new.disk ≡ record self.old.disk { faults = (self.old.disk.faults + 1) % 2 ^ 64 }) }
@@ -53,8 +53,8 @@ impl WriteDisk for Reading {
         ensures synced { OnOk result (IsSynced (request_state self.new.disk)) }
         ensures failed { OnErr result (SameOpen (request_state self.old.disk) (request_state self.new.disk)) }
 
-        // It fails exactly beyond the room, and else is the next request.
-        ensures room { is_err result ≡ (if has_room_for 0 self.old.disk then false else true) }
+        // It fails exactly beyond the space, and else is the next request.
+        ensures space { is_err result ≡ (if has_space_for 0 self.old.disk then false else true) }
         ensures noted { OnOk result (IsNoted Synced [] self.old.disk self.new.disk) }
         ensures beyond { OnErr result (self.new.disk ≡ record self.old.disk { faults = (self.old.disk.faults + 1) % 2 ^ 64 }) }
     {

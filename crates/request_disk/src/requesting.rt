@@ -13,14 +13,14 @@ use std::alloc::Global;
 use std::marker::Model;
 use units::NoMemory;
 
-/// How many requests there is room for: a power-up makes seven, a flush six.
+/// How many requests there is space for: a power-up makes seven, a flush six.
 pub const MOST_REQUESTS: usize = 16;
 
-/// How many bytes there is room for: a commit writes seven sectors.
+/// How many bytes there is space for: a commit writes seven sectors.
 pub const MOST_BYTES: usize = 8192;
 
 /// A disk that notes each write and each sync as a request. It holds all of its medium or only some sectors, takes all
-/// its memory where it is made, and says which sector is wanted. A call beyond its room answers DiskFault and changes
+/// its memory where it is made, and says which sector is wanted. A call beyond its space answers DiskFault and changes
 /// nothing else.
 #[derive(Drop)]
 pub struct RequestDisk {
@@ -48,9 +48,9 @@ impl Model for RequestDisk {
 }
 
 impl RequestDisk {
-    ghost use Rattle.request_disk.specs.Held.{known_of, handed_in, AreHeld, IsRoomy};
+    ghost use Rattle.request_disk.specs.Held.{known_of, handed_in, AreHeld, HasSpaces};
     ghost use Rattle.request_disk.specs.Requests.{IsRequest, ends_in_sync};
-    ghost use Rattle.request_disk.specs.Requesting.{new_on, copy_of, nothing_of, request_state, request_reserve, has_room_for, knows, with_sector, with_carried, wanting_nothing, IsRequesting, KnowsAll, IsFirstUnknown, IsNoted};
+    ghost use Rattle.request_disk.specs.Requesting.{new_on, copy_of, nothing_of, request_state, request_reserve, has_space_for, knows, with_sector, with_carried, wanting_nothing, IsRequesting, KnowsAll, IsFirstUnknown, IsNoted};
 
     /// A copy of these sectors; bytes after the last whole one are left out. NoMemory where there is none for it.
     pub fn copy_of(alloc: Global, bytes: &[u8]) -> Result<RequestDisk, NoMemory>
@@ -82,7 +82,7 @@ impl RequestDisk {
         ghost medium: { List ℕ }
         requires whole { length medium ≡ 512 * sectors }
         requires held { AreHeld sectors medium held }
-        requires room { IsRoomy held }
+        requires space { HasSpaces held }
         ensures { IfOk result (λ d. d ≡ new_on medium sectors (known_of held)) }
     {
         Ok(RequestDisk {
@@ -166,10 +166,10 @@ impl RequestDisk {
         });
     }
 
-    /// How many requests there are since the list was last emptied. Where there is none, there is room for 16 units.
+    /// How many requests there are since the list was last emptied. Where there is none, there is space for 16 units.
     pub fn count(&self) -> usize
         ensures count { result ≡ length self.now.requests }
-        ensures room { result ≡ 0 → request_reserve self.now ≡ 16 }
+        ensures space { result ≡ 0 → request_reserve self.now ≡ 16 }
     {
         // That no request has no bytes.
         let _written = &self.written;
@@ -246,9 +246,9 @@ impl RequestDisk {
         self.wanted = None;
     }
 
-    // Whether there is room for a request that writes so many bytes.
-    fn has_room(&self, bytes: usize) -> bool
-        ensures room { result ≡ has_room_for bytes self.now }
+    // Whether there is space for a request that writes so many bytes.
+    fn has_space(&self, bytes: usize) -> bool
+        ensures space { result ≡ has_space_for bytes self.now }
         ensures kept { IsRequesting self.now }
     {
         self.requests.len() < MOST_REQUESTS && bytes <= MOST_BYTES - self.written.len()
@@ -256,7 +256,7 @@ impl RequestDisk {
 
     // Notes a request, and the bytes that it writes. It takes no memory.
     fn note(&mut self, request: Call, bytes: &[u8])
-        requires room { IsTrue (has_room_for (length bytes.now) self.old) }
+        requires space { IsTrue (has_space_for (length bytes.now) self.old) }
         requires within { IsWithin self.old.sectors (length self.old.written + length bytes.now) request }
         requires only { IsRequest request }
         ensures { IsNoted request bytes.now self.old self.new }
@@ -281,8 +281,8 @@ impl RequestDisk {
         self.fault()
     }
 
-    /// What the medium holds of a sector after these requests, None where that isn't known. The caller owes a sector that
-    /// the medium has.
+    /// What the medium holds of a sector after these requests, None where that isn't known. The caller owes a sector
+    /// that the medium has.
     pub fn sector(&self, sector: u64) -> Option<&[u8]>
         requires { sector < self.now.sectors }
         ensures known { is_some result ≡ knows sector self.now }
@@ -318,7 +318,7 @@ impl RequestDisk {
 }
 
 impl WriteDisk for RequestDisk {
-    ghost use Rattle.request_disk.specs.Requesting.{request_state, request_reserve, has_room_for, write_of, IsNoted};
+    ghost use Rattle.request_disk.specs.Requesting.{request_state, request_reserve, has_space_for, write_of, IsNoted};
     ghost use Rattle.disk.specs.declared.record.Call.TheVariants.{Synced};
 
     ghost state = { request_state };
@@ -339,12 +339,12 @@ impl WriteDisk for RequestDisk {
         ensures others_open { SameOpenOutside first (length bytes.now) (request_state self.old) (request_state self.new) }
         ensures written { OnOk result (Holds (contents_of (request_state self.new)) first bytes.now) }
 
-        // It fails exactly beyond the room, and else is the next request.
-        ensures room { is_err result ≡ (if has_room_for (length bytes.now) self.old then false else true) }
+        // It fails exactly beyond the space, and else is the next request.
+        ensures space { is_err result ≡ (if has_space_for (length bytes.now) self.old then false else true) }
         ensures noted { OnOk result (IsNoted (write_of first bytes.now self.old) bytes.now self.old self.new) }
         ensures beyond { OnErr result (self.new ≡ record self.old { faults = (self.old.faults + 1) % 2 ^ 64 }) }
     {
-        if !self.has_room(bytes.len()) {
+        if !self.has_space(bytes.len()) {
             return Err(self.fault());
         }
         let span = Span {
@@ -363,12 +363,12 @@ impl WriteDisk for RequestDisk {
         ensures synced { OnOk result (IsSynced (request_state self.new)) }
         ensures failed { OnErr result (SameOpen (request_state self.old) (request_state self.new)) }
 
-        // It fails exactly beyond the room, and else is the next request.
-        ensures room { is_err result ≡ (if has_room_for 0 self.old then false else true) }
+        // It fails exactly beyond the space, and else is the next request.
+        ensures space { is_err result ≡ (if has_space_for 0 self.old then false else true) }
         ensures noted { OnOk result (IsNoted Synced [] self.old self.new) }
         ensures beyond { OnErr result (self.new ≡ record self.old { faults = (self.old.faults + 1) % 2 ^ 64 }) }
     {
-        if !self.has_room(0) {
+        if !self.has_space(0) {
             return Err(self.fault());
         }
         self.note(Call::Synced, &[]);

@@ -9,24 +9,24 @@ use Rattle.units.proofs.Gathering.{IsIn}
 use Rattle.safety_laws.specs.Outputs.{IsOf}
 
 pub record IsFound (pair : Released) (events : List Event) : Type 0 where
-  pub it : IsOf pair events
-  pub same : pair ≡ pair_of it.earlier it.event
+  pub position : IsOf pair events
+  pub same : pair ≡ pair_of position.earlier position.event
 
 one_more : (event : Event) (events : List Event) (pair : Released) → IsFound pair events → IsFound pair (event ∷ events)
 one_more event events pair found = record {
-  it = record {
-    later = event ∷ found.it.later;
-    event = found.it.event;
-    earlier = found.it.earlier;
-    in_turn = ap (λ (es : List Event). event ∷ es) found.it.in_turn;
-    number = found.it.number;
+  position = record {
+    later = event ∷ found.position.later;
+    event = found.position.event;
+    earlier = found.position.earlier;
+    in_turn = ap (λ (es : List Event). event ∷ es) found.position.in_turn;
+    number = found.position.number;
   };
   same = found.same;
 }
 
 newest : (event : Event) (events : List Event) (pair : Released) → pair ≡ pair_of events event → IsFound pair (event ∷ events)
 newest event events pair same = record {
-  it = record { later = []; event = event; earlier = events; in_turn = refl; number = ap (λ (p : Released). p.number) same };
+  position = record { later = []; event = event; earlier = events; in_turn = refl; number = ap (λ (p : Released). p.number) same };
   same = same;
 }
 

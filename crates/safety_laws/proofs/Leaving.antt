@@ -19,7 +19,7 @@ use Rattle.mode_table.specs.declared.conditions.Conditions.{Conditions}
 use Rattle.mode_table.specs.declared.mode.Mode.{Mode}
 use Rattle.mode_table.specs.declared.mode.Mode.TheVariants.{FullSupervision, OnSight, StaffResponsible, Shunting, Unfitted, StandBy, Trip, PostTrip, SystemFailure}
 use Rattle.mode_table.specs.Modes.{is_one_of}
-use Rattle.odometry.specs.Place.{has_room}
+use Rattle.odometry.specs.Place.{stays_in_range}
 use Rattle.track_picture.specs.Entry.{TrackEntry, InputEffect, Used}
 use Rattle.track_picture.specs.History.{place_of, speed_of, groups_of, authorities, happened_of, is_stopped}
 use Rattle.track_picture.specs.Sentences.{initial, happened_first, with_closed, closed_by, used_by}
@@ -90,7 +90,7 @@ overrun_first mode entries input =
 
 module _ (life : Life) where
   by_first : (input : Input) → (happened_first (tracks life.entries) input).overrun ≡ true → IsOverrun life input
-  by_first (Odometer reading) h = record { reading = reading; is = refl; has_none = not-true (has_room (place_of (tracks life.entries)) reading.movement) h }
+  by_first (Odometer reading) h = record { reading = reading; is = refl; has_none = not-true (stays_in_range (place_of (tracks life.entries)) reading.movement) h }
   by_first other h = absurd (let no : false ≡ true = h in cc)
 
   overran : (input : Input) → (found life input).overrun ≡ true → IsOverrun life input
@@ -159,8 +159,8 @@ module _ (life : Life) where
 
   -- ---- one event
 
-  is_tripping : (overridden beyond asked stopped : Bool) → overridden ≡ false → beyond ≡ true → (not overridden && (beyond || asked || stopped)) ≡ true
-  is_tripping overridden beyond asked stopped free is = rw (free, is) refl
+  is_tripping : (overridden beyond requested stopped : Bool) → overridden ≡ false → beyond ≡ true → (not overridden && (beyond || requested || stopped)) ≡ true
+  is_tripping overridden beyond requested stopped free is = rw (free, is) refl
 
   is_past : (place : ℤ) (end : Option End) (reported : End) → end ≡ Some reported → reported.speed ≡ 0 → reported.place <ℤ place →
       option_map_or (is_beyond place) end false ≡ true
@@ -178,7 +178,7 @@ module _ (life : Life) where
       let beyond = is_past (train_in now (seen_by life input)).min_front (end_of (authorities (tracks now.entries))) passed.end passed.known passed.no_speed passed.is_past in
       let tripped : c.trip ≡ true =
       is_tripping (is_overridden now) (is_beyond_end now (train_in now (seen_by life input)))
-      (happened_of (tracks now.entries)).asked.trip (is_stopped (tracks now.entries)) free beyond in
+      (happened_of (tracks now.entries)).requested.trip (is_stopped (tracks now.entries)) free beyond in
       let same : record c { trip = true } ≡ c = ap (λ (b : Bool). record c { trip = b }) (sym tripped) in
       let each = subst (λ (other : Conditions). past_end (mode_of life.entries) (turned (mode_of life.entries) other) other) same
       (from_each (mode_of life.entries) c c.overrun c.desk_closed watched) in

@@ -95,8 +95,8 @@ module _ (setting : Setting) (track : TrackSpeeds) (more : List Restriction)
       let in_areas = map (areas.speed_in track.national) (filter (areas.is_met setting.train) track.areas) in
       least_of_more (least_speed (record { mark = mark; restrictions = more }) setting.train static) (least_speed track.restrictions setting.train static) in_areas in_areas one (λ v there. there)
 
-  asked_too : (place : ℤ) (t : Target) → IsIn t (targets_at setting.bounds track place) → IsIn t (targets_at setting.bounds (with track more) place)
-  asked_too place t there =
+  requested_too : (place : ℤ) (t : Target) → IsIn t (targets_at setting.bounds track place) → IsIn t (targets_at setting.bounds (with track more) place)
+  requested_too place t there =
       let static = static_targets setting.bounds track.static place in
       let in_areas = area_targets track.national track.areas place in
       let theirs = restriction_targets mark fewer place in
@@ -115,7 +115,7 @@ module _ (setting : Setting) (track : TrackSpeeds) (more : List Restriction)
       let some = targets_ahead setting.train.max_front setting.bounds track in
       let all = targets_ahead setting.train.max_front setting.bounds (with track more) in
       elim (in_either t some last there) [
-        | inl here ↦ in_left t all last (over_more (targets_at setting.bounds track) (targets_at setting.bounds (with track more)) (setting.train.max_front +ℤ pos 1) greatest_place asked_too t here)
+        | inl here ↦ in_left t all last (over_more (targets_at setting.bounds track) (targets_at setting.bounds (with track more)) (setting.train.max_front +ℤ pos 1) greatest_place requested_too t here)
         | inr here ↦ in_right t all last here
       ]
 

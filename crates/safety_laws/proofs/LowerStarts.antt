@@ -29,7 +29,7 @@ use Rattle.track_store.specs.Profiles.{listed}
 use Rattle.track_store.proofs.Jumps.{least_below, least_one_of, natural_is}
 use Rattle.units.proofs.Gathering.{IsIn, over_at, in_over}
 use Rattle.units.specs.Stretches.{natural, least}
-use Rattle.safety_laws.specs.Starts.{least_asked, asked_before, is_lower, lower_start, lower_starts, starts_by_kind}
+use Rattle.safety_laws.specs.Starts.{least_requested, requested_before, is_lower, lower_start, lower_starts, starts_by_kind}
 use Rattle.safety_laws.proofs.Lessening.{least_of}
 
 abbrev speeds : List Target → List ℕ
@@ -46,7 +46,7 @@ in_speeds : (t : Target) (targets : List Target) → IsIn t targets → IsIn t.s
 in_speeds t [] there = absurd there
 in_speeds t (x ∷ targets) there = elim there [ inl is ↦ inl (ap (λ (y : Target). y.speed) is) | inr later ↦ inr (in_speeds t targets later) ]
 
-attained : (targets : List Target) (speed : ℕ) → least_asked targets ≡ Some speed → (t : Target) × IsIn t targets × (t.speed ≡ speed)
+attained : (targets : List Target) (speed : ℕ) → least_requested targets ≡ Some speed → (t : Target) × IsIn t targets × (t.speed ≡ speed)
 attained [] speed is = absurd (let no : None ≡ Some speed = is in cc)
 attained (t ∷ targets) speed is =
     let least_is = same_Some (least t.speed (speeds targets)) speed is in
@@ -55,7 +55,7 @@ attained (t ∷ targets) speed is =
       | inr there ↦ (let of = of_speeds targets (least t.speed (speeds targets)) there in (of.0, inr of.1, sym of.2 ∙ least_is))
     ]
 
-no_lower_one : (targets : List Target) (t : Target) → IsIn t targets → (speed : ℕ) × (least_asked targets ≡ Some speed) × (speed ≤ t.speed)
+no_lower_one : (targets : List Target) (t : Target) → IsIn t targets → (speed : ℕ) × (least_requested targets ≡ Some speed) × (speed ≤ t.speed)
 no_lower_one [] t there = absurd there
 no_lower_one (x ∷ targets) t there = (
   least x.speed (speeds targets),
@@ -72,69 +72,69 @@ one_listed false x t there = absurd there
 
 -- ---- each centimetre asks at its own place
 
-module _ (front : ℤ) (asked : ℤ → List Target) (own : (c : ℤ) (t : Target) → IsIn t (asked c) → t.place ≡ c) where
+module _ (front : ℤ) (requested : ℤ → List Target) (own : (c : ℤ) (t : Target) → IsIn t (requested c) → t.place ≡ c) where
   abbrev start_at : ℤ → Option Target
-  start_at c = lower_start c (asked_before front asked c) (least_asked (asked c))
+  start_at c = lower_start c (requested_before front requested c) (least_requested (requested c))
 
   abbrev start_listed : ℤ → List Target
   start_listed c = listed (start_at c)
 
-  one_of : (c : ℤ) (speed : ℕ) → least_asked (asked c) ≡ Some speed → IsIn (at_place c speed) (asked c)
+  one_of : (c : ℤ) (speed : ℕ) → least_requested (requested c) ≡ Some speed → IsIn (at_place c speed) (requested c)
   one_of c speed is =
-      let of = attained (asked c) speed is in
+      let of = attained (requested c) speed is in
       let same : of.0 ≡ at_place c speed = λ i. record { place = own c of.0 of.1 i; speed = of.2 i } in
-      subst (λ (x : Target). IsIn x (asked c)) same of.1
+      subst (λ (x : Target). IsIn x (requested c)) same of.1
 
-  of_start : (c : ℤ) (t : Target) → IsIn t (start_listed c) → IsIn t (asked c)
+  of_start : (c : ℤ) (t : Target) → IsIn t (start_listed c) → IsIn t (requested c)
   of_start c t there =
-      let cases : (known : Option ℕ) → least_asked (asked c) ≡ known → IsIn t (listed (lower_start c (asked_before front asked c) known)) → IsIn t (asked c) = elim [
+      let cases : (known : Option ℕ) → least_requested (requested c) ≡ known → IsIn t (listed (lower_start c (requested_before front requested c) known)) → IsIn t (requested c) = elim [
         | None ↦ λ is k. absurd k
         | Some speed ↦ λ is k.
-            subst (λ (x : Target). IsIn x (asked c)) (sym (one_listed (is_lower (asked_before front asked c) speed) (at_place c speed) t k)) (one_of c speed is)
+            subst (λ (x : Target). IsIn x (requested c)) (sym (one_listed (is_lower (requested_before front requested c) speed) (at_place c speed) t k)) (one_of c speed is)
       ] in
-      cases (least_asked (asked c)) refl there
+      cases (least_requested (requested c)) refl there
 
-  start_here : (c : ℤ) (speed : ℕ) → front <ℤ c → c ≤ℤ greatest_place → least_asked (asked c) ≡ Some speed →
-      is_lower (asked_before front asked c) speed ≡ true → IsIn (at_place c speed) (lower_starts front asked)
+  start_here : (c : ℤ) (speed : ℕ) → front <ℤ c → c ≤ℤ greatest_place → least_requested (requested c) ≡ Some speed →
+      is_lower (requested_before front requested c) speed ≡ true → IsIn (at_place c speed) (lower_starts front requested)
   start_here c speed ahead within is lower =
-      let there : IsIn (at_place c speed) (listed (cond (is_lower (asked_before front asked c) speed) (Some (at_place c speed)) None)) =
+      let there : IsIn (at_place c speed) (listed (cond (is_lower (requested_before front requested c) speed) (Some (at_place c speed)) None)) =
       subst (λ (b : Bool). IsIn (at_place c speed) (listed (cond b (Some (at_place c speed)) None))) (sym lower) (inl refl) in
       let here : IsIn (at_place c speed) (start_listed c) =
-      subst (λ (known : Option ℕ). IsIn (at_place c speed) (listed (lower_start c (asked_before front asked c) known))) (sym is) there in
+      subst (λ (known : Option ℕ). IsIn (at_place c speed) (listed (lower_start c (requested_before front requested c) known))) (sym is) there in
       in_over start_listed (front +ℤ pos 1) greatest_place (at_place c speed) c (omega (arith, ints, ahead)) within here
 
   -- what is asked for before lies ahead of the front
-  before_is : (c : ℤ) (before : ℕ) → asked_before front asked c ≡ Some before →
-      (front <ℤ (c -ℤ pos 1)) × (least_asked (asked (c -ℤ pos 1)) ≡ Some before)
+  before_is : (c : ℤ) (before : ℕ) → requested_before front requested c ≡ Some before →
+      (front <ℤ (c -ℤ pos 1)) × (least_requested (requested (c -ℤ pos 1)) ≡ Some before)
   before_is c before is =
-      let cases : (b : Bool) → int_lt front (c -ℤ pos 1) ≡ b → cond b (least_asked (asked (c -ℤ pos 1))) None ≡ Some before →
-      (front <ℤ (c -ℤ pos 1)) × (least_asked (asked (c -ℤ pos 1)) ≡ Some before) = elim [
+      let cases : (b : Bool) → int_lt front (c -ℤ pos 1) ≡ b → cond b (least_requested (requested (c -ℤ pos 1))) None ≡ Some before →
+      (front <ℤ (c -ℤ pos 1)) × (least_requested (requested (c -ℤ pos 1)) ≡ Some before) = elim [
         | true ↦ λ e k. (grind (arith, ints), k)
         | false ↦ λ e k. absurd (let no : None ≡ Some before = k in cc)
       ] in
       cases (int_lt front (c -ℤ pos 1)) refl is
 
   abbrev HasStart : ℤ → ℕ → Type 0
-  HasStart c speed = (near : Target) × IsIn near (lower_starts front asked) × IsNoNearer near (at_place c speed)
+  HasStart c speed = (near : Target) × IsIn near (lower_starts front requested) × IsNoNearer near (at_place c speed)
 
   -- a centimetre ahead is a start, or the one before asks for no greater speed
-  start_or_before : (c : ℤ) (speed : ℕ) → front <ℤ c → c ≤ℤ greatest_place → least_asked (asked c) ≡ Some speed →
-      ((before : ℕ) → front <ℤ (c -ℤ pos 1) → least_asked (asked (c -ℤ pos 1)) ≡ Some before → before ≤ speed → HasStart c speed) → HasStart c speed
+  start_or_before : (c : ℤ) (speed : ℕ) → front <ℤ c → c ≤ℤ greatest_place → least_requested (requested c) ≡ Some speed →
+      ((before : ℕ) → front <ℤ (c -ℤ pos 1) → least_requested (requested (c -ℤ pos 1)) ≡ Some before → before ≤ speed → HasStart c speed) → HasStart c speed
   start_or_before c speed ahead within is earlier =
-      let itself : is_lower (asked_before front asked c) speed ≡ true → HasStart c speed = λ lower.
+      let itself : is_lower (requested_before front requested c) speed ≡ true → HasStart c speed = λ lower.
       (at_place c speed, start_here c speed ahead within is lower, record { place = omega (arith, ints); speed = omega arith }) in
-      let compared : (before : ℕ) → asked_before front asked c ≡ Some before → (b : Bool) → nat_lt speed before ≡ b → HasStart c speed = λ before e. elim [
+      let compared : (before : ℕ) → requested_before front requested c ≡ Some before → (b : Bool) → nat_lt speed before ≡ b → HasStart c speed = λ before e. elim [
         | true ↦ λ f. itself (ap (λ (o : Option ℕ). is_lower o speed) e ∙ f)
         | false ↦ λ f. earlier before (before_is c before e).0 (before_is c before e).1 (grind (arith, nat_tests))
       ] in
-      let cases : (known : Option ℕ) → asked_before front asked c ≡ known → HasStart c speed = elim [
+      let cases : (known : Option ℕ) → requested_before front requested c ≡ known → HasStart c speed = elim [
         | None ↦ λ e. itself (ap (λ (o : Option ℕ). is_lower o speed) e)
         | Some before ↦ λ e. compared before e (nat_lt speed before) refl
       ] in
-      cases (asked_before front asked c) refl
+      cases (requested_before front requested c) refl
 
   -- so at or before each centimetre ahead lies a start that asks for no greater speed
-  reached : (n : ℕ) (c : ℤ) (speed : ℕ) → c ≡ front +ℤ pos (suc n) → c ≤ℤ greatest_place → least_asked (asked c) ≡ Some speed → HasStart c speed
+  reached : (n : ℕ) (c : ℤ) (speed : ℕ) → c ≡ front +ℤ pos (suc n) → c ≤ℤ greatest_place → least_requested (requested c) ≡ Some speed → HasStart c speed
   reached zero c speed at within is =
       start_or_before c speed (omega (arith, ints, at)) within is (λ before ahead asks lower. absurd (omega (arith, ints, at, ahead)))
   reached (suc n) c speed at within is =
@@ -143,11 +143,11 @@ module _ (front : ℤ) (asked : ℤ → List Target) (own : (c : ℤ) (t : Targe
       let place : near.0.place ≤ℤ (c -ℤ pos 1) = near.2.place in
       (near.0, near.1, record { place = omega (arith, ints, place); speed = omega (arith, near.2.speed, lower) }))
 
-  nearer : (t : Target) → IsIn t (over_ahead front asked) → (near : Target) × (IsIn near (lower_starts front asked) ⊎ IsIn near []) × IsNoNearer near t
+  nearer : (t : Target) → IsIn t (over_ahead front requested) → (near : Target) × (IsIn near (lower_starts front requested) ⊎ IsIn near []) × IsNoNearer near t
   nearer t there =
-      let at = over_at asked (front +ℤ pos 1) greatest_place t there in
+      let at = over_at requested (front +ℤ pos 1) greatest_place t there in
       let c : ℤ = at.0 in
-      let least_there = no_lower_one (asked c) t at.3 in
+      let least_there = no_lower_one (requested c) t at.3 in
       let ahead : (front +ℤ pos 1) ≤ℤ c = at.1 in
       let count : pos (natural (c -ℤ (front +ℤ pos 1))) ≡ c -ℤ (front +ℤ pos 1) = natural_is (c -ℤ (front +ℤ pos 1)) (omega (arith, ints, ahead)) in
       let near = reached (natural (c -ℤ (front +ℤ pos 1))) c least_there.0 (omega (arith, ints, count)) at.2 least_there.1 in
@@ -155,14 +155,14 @@ module _ (front : ℤ) (asked : ℤ → List Target) (own : (c : ℤ) (t : Targe
       let here : t.place ≡ c = own c t at.3 in
       (near.0, inl near.1, record { place = omega (arith, ints, place, here); speed = omega (arith, near.2.speed, least_there.2) })
 
-  pub starts_ask : AskTheSame (over_ahead front asked) (lower_starts front asked)
+  pub starts_ask : AskTheSame (over_ahead front requested) (lower_starts front requested)
   starts_ask =
-      let all = over_ahead front asked in
-      let starts = lower_starts front asked in
+      let all = over_ahead front requested in
+      let starts = lower_starts front requested in
       through all (starts ++ []) starts
       (covered_ask starts [] all (record {
         first_in = λ t there. let at = over_at start_listed (front +ℤ pos 1) greatest_place t there in
-            in_over asked (front +ℤ pos 1) greatest_place t at.0 at.1 at.2 (of_start at.0 t at.3);
+            in_over requested (front +ℤ pos 1) greatest_place t at.0 at.1 at.2 (of_start at.0 t at.3);
         second_in = λ t never. absurd never;
         nearer = nearer;
       }))
@@ -259,9 +259,9 @@ module _ (front : ℤ) (bounds : Bounds) (track : TrackSpeeds) where
 
   all_ask : (last : Option Target) → AskTheSame (targets_ahead front bounds track ++ listed last) (lower_starts front (targets_at bounds track) ++ listed last)
   all_ask last =
-      let asked = targets_at bounds track in
-      joined (targets_ahead front bounds track) (listed last) (lower_starts front asked) (listed last)
-      (starts_ask front asked (of_any bounds track)) (same (listed last))
+      let requested = targets_at bounds track in
+      joined (targets_ahead front bounds track) (listed last) (lower_starts front requested) (listed last)
+      (starts_ask front requested (of_any bounds track)) (same (listed last))
 
   -- ---- so the same speed is permitted
 

@@ -181,14 +181,14 @@ module _ (life : Life) (train : Train) where
     by_mode OnSight h = refl
     by_mode other h = absurd (let no : false ≡ true = h in cc)
 
-    module _ (it : IsSupervised life train end) where
+    module _ (supervised : IsSupervised life train end) where
       pub limit_is : limit life ≡ by_rule
       limit_is =
-          by_mode (mode_of life.entries) it.in_mode ∙ ap (permitted_for life) it.by_data
-          ∙ ap (λ (e : Option End). released_by (permitted_to life train) e (values_of life).release) it.by_authority
+          by_mode (mode_of life.entries) supervised.in_mode ∙ ap (permitted_for life) supervised.by_data
+          ∙ ap (λ (e : Option End). released_by (permitted_to life train) e (values_of life).release) supervised.by_authority
 
       pub stops : end.speed ≡ 0 → can_meet stop (limit life)
-      stops none = subst (can_meet stop) (sym limit_is) (at_location (end_located (authorities (tracks life.entries)) end it.by_authority) none)
+      stops none = subst (can_meet stop) (sym limit_is) (at_location (end_located (authorities (tracks life.entries)) end supervised.by_authority) none)
 
       pub ends : release_speed end.release (values_of life).release ≡ 0 → can_meet to_end (limit life)
       ends none = subst (can_meet to_end) (sym limit_is) (at_end none)
@@ -229,9 +229,9 @@ module _ (life : Life) (train : Train) where
               let within : int_lt place e.place ≡ true = is_less place e.place short in
               let inside : IsIn (at 0) (listed (cond (int_lt place e.place) (Some (at 0)) None)) =
               subst (λ (b : Bool). IsIn (at 0) (listed (cond b (Some (at 0)) None))) (sym within) (inl refl) in
-              let asked : IsIn (at 0) (listed (unknown_target (end_of (authorities (tracks life.entries))) place)) =
+              let requested : IsIn (at 0) (listed (unknown_target (end_of (authorities (tracks life.entries))) place)) =
               subst (λ (o : Option End). IsIn (at 0) (listed (unknown_target o place))) (sym known) inside in
-              subst (λ (known : Option CategorySpeeds). IsIn (at 0) (listed (static_target bounds place known))) (sym is) asked
+              subst (λ (known : Option CategorySpeeds). IsIn (at 0) (listed (static_target bounds place known))) (sym is) requested
 
           abbrev static : List Target
           static = static_targets bounds track.static place

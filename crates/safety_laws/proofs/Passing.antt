@@ -19,7 +19,7 @@ enough_taken : (v way d vv s none : ℕ) → none ≡ 0 → (v ≤ 0 → (vv ≡
 enough_taken v way d vv s none is stands h =
     elim (or_cases (nat_le v 0) (nat_lt way d && nat_le vv (none + s)) h) [
       | inl still ↦ (let no = stands (leb-true v 0 still) in (omega (arith, no.1), omega (arith, no.0)))
-      | inr both ↦ (let parts = and_parts (nat_lt way d) (nat_le vv (none + s)) both in
+      | inr halves ↦ (let parts = and_parts (nat_lt way d) (nat_le vv (none + s)) halves in
           let acts = ltb-true way d parts.0 in
           let enough = leb-true vv (none + s) parts.1 in
           (omega (arith, acts), omega (arith, enough, is)))

@@ -58,7 +58,7 @@ module _ (life : Life) (train : Train) where
         ]
       ]))
 
-  module _ (end : End) (it : IsSupervised life train end) where
+  module _ (end : End) (supervised : IsSupervised life train end) where
     abbrev to_end : ℕ
     to_end = limit_to_end life train end
 
@@ -69,7 +69,7 @@ module _ (life : Life) (train : Train) where
     release = release_of life end
 
     pub by_starts : limit life ≡ with_release_speed (braking_limit life train) end (values_of life).release
-    by_starts = limit_is life train end it ∙ ap (λ (permitted : Option Target → ℕ). with_release_speed permitted end (values_of life).release) (λ i last. last_is last i)
+    by_starts = limit_is life train end supervised ∙ ap (λ (permitted : Option Target → ℕ). with_release_speed permitted end (values_of life).release) (λ i last. last_is last i)
 
     limit_by : limit life ≡ max to_end (min release to_location)
     limit_by = by_starts

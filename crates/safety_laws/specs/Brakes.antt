@@ -1,6 +1,6 @@
--- What is so where no brake is commanded: one record for who assesses the kernel (SUBSET-026; the rows and margins of the
--- brake table: this project's profile). Speeds are metres per hour, distances centimetres, moments milliseconds. Lists
--- of events have the newest first.
+-- What is so where no brake is commanded: one record for who assesses the kernel (SUBSET-026; the rows and margins of
+-- the brake table: this project's profile). Speeds are metres per hour, distances centimetres, moments milliseconds.
+-- Lists of events have the newest first.
 --
 -- It doesn't say that the train may run: the limit may be 0, and up to 5,000 above each limit nothing brakes. Nor that
 -- these suffice: the service brake is kept on until the speed is at or below the limit again.
@@ -42,7 +42,7 @@ pub record IsFree (events : List Event) : Type 0 where
   pub rolled_little : rolled_backward (life_of events) ≤ (values_of (life_of events)).roll
   pub owes_not_long : (kind : Kind) (from : ℕ) → acknowledgement kind (life_of events).entries ≡ Owed from →
       moment_of (tracks (life_of events).entries) < from + 5_000
-  pub asked_nothing : (snapshot : Snapshot) → IsAmong snapshot (since_standstill (life_of events)) → service_brake_requested snapshot ≡ false
+  pub requested_nothing : (snapshot : Snapshot) → IsAmong snapshot (since_standstill (life_of events)) → service_brake_requested snapshot ≡ false
 
 abbrev pub NoBrakeOnlyWhere : Type 0
 NoBrakeOnlyWhere = (events : List Event) → (output_after events).brake ≡ brake.None → IsFree events

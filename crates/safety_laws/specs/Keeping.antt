@@ -2,7 +2,7 @@
 -- its lives (SUBSET-026, 4.10; the statuses at a power-up: this project's profile). Distances are centimetres. Lists of
 -- events have the newest first.
 --
--- They don't say that the word of a power-up on movements is true.
+-- They don't say that the cold movement value of a power-up is true.
 use Rattle.std.specs.Prelude.{◌≡◌, List, [], ◌∷◌}
 use Rattle.driver.specs.declared.datum.Datum.{Datum}
 use Rattle.driver.specs.declared.datum.Datum.TheVariants.{Unknown}
@@ -20,8 +20,8 @@ use Rattle.mode_control.specs.Sentences.{entry_of}
 use Rattle.kernel.specs.Lives.{life_of, kept_by}
 use Rattle.kernel.specs.Position.{position_by}
 
--- ---- the level: a power-up meets it by its word; an input, by what the driver does, by a level that comes into force
--- and by the mode that is entered
+-- ---- the level: a power-up meets it by its cold movement value; an input, by what the driver does, by a level that
+-- comes into force and by the mode that is entered
 
 abbrev pub level_over : List Event → Datum TrainLevel
 level_over [] = Unknown

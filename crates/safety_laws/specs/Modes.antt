@@ -17,7 +17,7 @@ use Rattle.events.specs.declared.input.Reading.{Reading}
 use Rattle.mode_table.specs.declared.mode.Mode.{Mode}
 use Rattle.mode_table.specs.declared.mode.Mode.TheVariants.{FullSupervision, StaffResponsible, Shunting, Unfitted, StandBy, Trip, PostTrip, SystemFailure}
 use Rattle.mode_table.specs.Modes.{is_one_of}
-use Rattle.odometry.specs.Place.{has_room}
+use Rattle.odometry.specs.Place.{stays_in_range}
 use Rattle.track_picture.specs.History.{place_of, speed_of}
 use Rattle.mode_control.specs.History.{tracks}
 use Rattle.mode_control.specs.Life.{Life, driver_of}
@@ -32,11 +32,11 @@ mode_after events = (output_after events).mode
 abbrev pub mode_beyond : List Event → Input → Mode
 mode_beyond events input = mode_after (an_event.Input input ∷ events)
 
--- the odometer reports a movement for which there is no room: it leads beyond the farthest path or place
+-- the odometer reports a movement out of range: it leads beyond the farthest path or place
 pub record IsOverrun (life : Life) (input : Input) : Type 0 where
   pub reading : Reading
   pub is : input ≡ Odometer reading
-  pub has_none : has_room (place_of (tracks life.entries)) reading.movement ≡ false
+  pub has_none : stays_in_range (place_of (tracks life.entries)) reading.movement ≡ false
 
 -- the driver does this, it is accepted, and the train stands
 pub record IsDoneAtStandstill (life : Life) (input : Input) (action : Action) : Type 0 where

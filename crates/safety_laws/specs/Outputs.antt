@@ -28,7 +28,7 @@ pub record IsOf (pair : Released) (events : List Event) : Type 0 where
 
 -- a life as the event left it
 abbrev pub life_at : (pair : Released) (events : List Event) → IsOf pair events → Life
-life_at pair events it = life_of (it.event ∷ it.earlier)
+life_at pair events position = life_of (position.event ∷ position.earlier)
 
 -- .. in which a train that brakes from a speed up to a limit stands at the supervised location at the latest
 abbrev pub Halts : ℕ → Life → Type 0
@@ -38,9 +38,9 @@ Halts limit life = (train : Train) (end : End) (speed : ℕ) (square : ℕ → �
 -- each output that stands among those released of some events is of one of these, and its limit is such a one
 abbrev pub ReleasedHalts : Type 0
 ReleasedHalts = (events : List Event) (pair : Released) → StandsIn pair (pairs_of events) →
-    (it : IsOf pair events) × Halts pair.output.limit (life_at pair events it)
+    (position : IsOf pair events) × Halts pair.output.limit (life_at pair events position)
 
 -- .. and it commands the emergency brake, where a trip that was entered by then in any life isn't acknowledged
 abbrev pub ReleasedBrakesForTrips : Type 0
 ReleasedBrakesForTrips = (events : List Event) (pair : Released) → StandsIn pair (pairs_of events) →
-    (it : IsOf pair events) × (HasTripped (all_deeds (it.event ∷ it.earlier)) → pair.output.brake ≡ brake.Emergency)
+    (position : IsOf pair events) × (HasTripped (all_deeds (position.event ∷ position.earlier)) → pair.output.brake ≡ brake.Emergency)

@@ -25,14 +25,14 @@ use Rattle.safety_laws.specs.Stopping.{front_of, gradient_along, IsSupervised}
 
 -- the least speed that the targets of a centimetre ask for; from centimetre to centimetre, their most restrictive speed
 -- profile
-abbrev pub least_asked : List Target → Option ℕ
-least_asked [] = None
-least_asked (target ∷ targets) = Some (least target.speed (map (λ other. other.speed) targets))
+abbrev pub least_requested : List Target → Option ℕ
+least_requested [] = None
+least_requested (target ∷ targets) = Some (least target.speed (map (λ other. other.speed) targets))
 
 -- .. those of the centimetre before a place, where that one lies ahead of the front too
-abbrev pub asked_before : ℤ → (ℤ → List Target) → ℤ → Option ℕ
-asked_before front asked place =
-    if int_lt front (place -ℤ pos 1) then least_asked (asked (place -ℤ pos 1)) else None
+abbrev pub requested_before : ℤ → (ℤ → List Target) → ℤ → Option ℕ
+requested_before front requested place =
+    if int_lt front (place -ℤ pos 1) then least_requested (requested (place -ℤ pos 1)) else None
 
 -- a speed is lower than the one before it; where none was asked for, each is
 abbrev pub is_lower : Option ℕ → ℕ → Bool
@@ -47,8 +47,8 @@ lower_start place before (Some speed) =
 
 -- the starts of lower speeds ahead of a front, of what each centimetre asks for
 abbrev pub lower_starts : ℤ → (ℤ → List Target) → List Target
-lower_starts front asked =
-    over_ahead front (λ place. listed (lower_start place (asked_before front asked place) (least_asked (asked place))))
+lower_starts front requested =
+    over_ahead front (λ place. listed (lower_start place (requested_before front requested place) (least_requested (requested place))))
 
 -- ---- they decide, with the last target
 

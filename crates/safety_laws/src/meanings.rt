@@ -1,5 +1,5 @@
 //! Law: what the definitions mean that the promises rest on.
-ghost use Rattle.safety_laws.specs.Meanings.{ImagesMayBeLeft, ReadyHolds, MomentsHold, OpeningHolds, WordIsOfFormat, LifeHolds, LeftAtEachMoment, FlushedIsDurable, EachHasItsOutput, ReleasedIsKept, EachStands, LivesFollow, LeftWithReleased};
+ghost use Rattle.safety_laws.specs.Meanings.{ImagesMayBeLeft, ReadyHolds, MomentsHold, OpeningHolds, ColdIsOfFormat, LifeHolds, LeftAtEachMoment, FlushedIsDurable, EachHasItsOutput, ReleasedIsKept, EachStands, LivesFollow, LeftWithReleased};
 
 /// A law: the definitions that the promises rest on mean at least this. Where one of them is weakened, a clause fails.
 pub fn promises_keep_their_meaning()
@@ -7,7 +7,7 @@ pub fn promises_keep_their_meaning()
     ensures ready { ReadyHolds }
     ensures moments { MomentsHold }
     ensures opening { OpeningHolds }
-    ensures word { WordIsOfFormat }
+    ensures recorded_cold { ColdIsOfFormat }
     ensures life { LifeHolds }
     ensures left { LeftAtEachMoment }
     ensures flushed { FlushedIsDurable }

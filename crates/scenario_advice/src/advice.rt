@@ -9,7 +9,7 @@ use std::alloc::Global;
 use std::fmt;
 use std::fmt::{Formatter, Write};
 use telegram::{TelegramFault, decode};
-use text_output::mode_word;
+use text_output::mode_name;
 
 /// What is probably not meant.
 #[derive(Clone, Copy)]
@@ -34,7 +34,7 @@ impl fmt::Display for Advice {
             Advice::Skipped(number) => write!(f, "packet {number} is skipped"),
             Advice::NotReached => write!(f, "no drive leads over the balise"),
             Advice::NotAccepted(mode) => {
-                let mode = mode_word(*mode);
+                let mode = mode_name(*mode);
                 write!(f, "the kernel doesn't accept the action, in mode {mode}")
             }
         }

@@ -274,7 +274,7 @@ impl Located<'_> {
         Faults { first, others }
     }
 
-    fn alone(self, first: LocatedFault) -> Faults
+    fn with_only(self, first: LocatedFault) -> Faults
         ensures { result.first ≡ first }
     {
         let others = Vec::new(self.alloc);
@@ -288,10 +288,10 @@ impl Located<'_> {
         match Value::from_slice(self.alloc, text) {
             Ok(value) => match self.in_parts(&value) {
                 Ok(found) => self.with_first(fault, found),
-                Err(_) => self.alone(self.at_whole(ScenarioFault::NoMemory)),
+                Err(_) => self.with_only(self.at_whole(ScenarioFault::NoMemory)),
             },
             Err(error) if error.is_memory() => {
-                self.alone(self.at_whole(ScenarioFault::NoMemory))
+                self.with_only(self.at_whole(ScenarioFault::NoMemory))
             }
             Err(error) => {
                 let mut first = self.at_whole(fault);
@@ -300,7 +300,7 @@ impl Located<'_> {
                     line: error.line(),
                     column: error.column(),
                 });
-                self.alone(first)
+                self.with_only(first)
             }
         }
     }

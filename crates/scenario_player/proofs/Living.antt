@@ -12,7 +12,7 @@ use Rattle.ring.specs.Slots.{valid_at, IsAtRest}
 use Rattle.ring.proofs.Numbers.{same_newest}
 use Rattle.ring.proofs.Rest.{at_rest}
 use Rattle.unit_start.specs.Events.{account_of, pairs_of}
-use Rattle.unit_start.specs.Lives.{IsReady, IsWord, IsBlank, IsNextNumber}
+use Rattle.unit_start.specs.Lives.{IsReady, IsRecordedCold, IsBlank, IsNextNumber}
 use Rattle.unit_start.specs.Releases.{Release}
 use Rattle.whole_lives.specs.Runs.{Lives, durable_by, NothingReleased}
 use Rattle.whole_lives.specs.Stops.{AllStand, Stopped, LifeEnds, OnlyOpens, IsUnopened, AreAfter, IsDone}
@@ -63,64 +63,64 @@ module _ (slots : ℕ) (two : 2 ≤ slots) (disk : State) (empty : IsEmpty slots
 
   -- ---- what it releases
 
-  -- the power-up has the word that was handed in, or nothing was released
-  pub word_or_nothing : (cold word : Cold) (released : List Release) (P : Type 0) → IsWord disk.sectors (contents_of disk) cold word ⊎ (P × NothingReleased released)
-      → (word ≡ cold) ⊎ (released ≡ [])
-  word_or_nothing cold word released P is = ⊎_elim (λ (its : IsWord disk.sectors (contents_of disk) cold word). inl (its.blank blank)) (λ (none : P × NothingReleased released). inr none.1) is
+  -- the power-up has the cold movement value that was handed in, or nothing was released
+  pub cold_or_nothing : (cold recorded_cold : Cold) (released : List Release) (P : Type 0) → IsRecordedCold disk.sectors (contents_of disk) cold recorded_cold ⊎ (P × NothingReleased released)
+      → (recorded_cold ≡ cold) ⊎ (released ≡ [])
+  cold_or_nothing cold recorded_cold released P is = ⊎_elim (λ (its : IsRecordedCold disk.sectors (contents_of disk) cold recorded_cold). inl (its.blank blank)) (λ (none : P × NothingReleased released). inr none.1) is
 
 -- after steps that were carried out
-following : (cold word : Cold) (done : List Step) (durable accepted : List Event) (released out : List Release) → out ≡ released
-    → (word ≡ cold) ⊎ (released ≡ []) → AreAfter (initial word) done durable accepted released
+following : (cold recorded_cold : Cold) (done : List Step) (durable accepted : List Event) (released out : List Release) → out ≡ released
+    → (recorded_cold ≡ cold) ⊎ (released ≡ []) → AreAfter (initial recorded_cold) done durable accepted released
     → pairs_of (durable_by (initial cold) done) ≡ pairs_of (initial cold) ++ out
-following cold word done durable accepted released out same word_is so =
-    let at_word : pairs_of (durable_by (initial word) done) ≡ pairs_of (initial word) ++ released = ap pairs_of (sym so.0) ∙ so.2 in
+following cold recorded_cold done durable accepted released out same cold_is so =
+    let at_cold : pairs_of (durable_by (initial recorded_cold) done) ≡ pairs_of (initial recorded_cold) ++ released = ap pairs_of (sym so.0) ∙ so.2 in
     ⊎_elim
-    (λ (it : word ≡ cold). subst (λ (w : Cold). pairs_of (durable_by (initial w) done) ≡ pairs_of (initial w) ++ out) it (at_word ∙ ap (λ (l : List Release). pairs_of (initial word) ++ l) (sym same)))
+    (λ (ended_life : recorded_cold ≡ cold). subst (λ (w : Cold). pairs_of (durable_by (initial w) done) ≡ pairs_of (initial w) ++ out) ended_life (at_cold ∙ ap (λ (l : List Release). pairs_of (initial recorded_cold) ++ l) (sym same)))
     (λ (nothing : released ≡ []).
-    ap pairs_of (nothing_durable word cold done (at_word ∙ ap (λ (l : List Release). pairs_of (initial word) ++ l) nothing))
+    ap pairs_of (nothing_durable recorded_cold cold done (at_cold ∙ ap (λ (l : List Release). pairs_of (initial recorded_cold) ++ l) nothing))
     ∙ sym (append-nil (pairs_of (initial cold)))
     ∙ ap (λ (l : List Release). pairs_of (initial cold) ++ l) (sym (same ∙ nothing)))
-    word_is
+    cold_is
 
-pub releases : (cold word : Cold) (steps : List Step) (ended : Result (Unit {0}) LiveError) (U : Type 0) (taken : ℕ) (durable accepted : List Event) (released out : List Release)
-    → out ≡ released → (word ≡ cold) ⊎ (released ≡ []) → IsDone (initial word) steps U ended taken durable accepted released
+pub releases : (cold recorded_cold : Cold) (steps : List Step) (ended : Result (Unit {0}) LiveError) (U : Type 0) (taken : ℕ) (durable accepted : List Event) (released out : List Release)
+    → out ≡ released → (recorded_cold ≡ cold) ⊎ (released ≡ []) → IsDone (initial recorded_cold) steps U ended taken durable accepted released
     → pairs_of (durable_by (initial cold) (carried_out steps ended)) ≡ pairs_of (initial cold) ++ out
-releases cold word steps (Ok x) U taken durable accepted released out same word_is done =
-    following cold word steps durable accepted released out same word_is done.1
-releases cold word steps (Err (a_live.Open e)) U taken durable accepted released out same word_is done =
+releases cold recorded_cold steps (Ok x) U taken durable accepted released out same cold_is done =
+    following cold recorded_cold steps durable accepted released out same cold_is done.1
+releases cold recorded_cold steps (Err (a_live.Open e)) U taken durable accepted released out same cold_is done =
     sym (append-nil (pairs_of (initial cold))) ∙ ap (λ (l : List Release). pairs_of (initial cold) ++ l) (sym (same ∙ done.0))
-releases cold word steps (Err (a_live.Accept k e)) U taken durable accepted released out same word_is done =
-    following cold word (take k steps) durable accepted released out same word_is done.1
-releases cold word steps (Err (a_live.Flush k e)) U taken durable accepted released out same word_is done =
-    following cold word (take k steps) durable accepted released out same word_is done.1
-releases cold word steps (Err (a_live.NoMemory k)) U taken durable accepted released out same word_is done =
-    following cold word (take k steps) durable accepted released out same word_is done.1
+releases cold recorded_cold steps (Err (a_live.Accept k e)) U taken durable accepted released out same cold_is done =
+    following cold recorded_cold (take k steps) durable accepted released out same cold_is done.1
+releases cold recorded_cold steps (Err (a_live.Flush k e)) U taken durable accepted released out same cold_is done =
+    following cold recorded_cold (take k steps) durable accepted released out same cold_is done.1
+releases cold recorded_cold steps (Err (a_live.NoMemory k)) U taken durable accepted released out same cold_is done =
+    following cold recorded_cold (take k steps) durable accepted released out same cold_is done.1
 
 -- ---- all of a life that was played
 
 -- What `live` says of its disks, for what the caller's list had before, and for the list of events that it found.
 abbrev pub IsLived : Cold → List Step → State → State → Result (Unit {0}) LiveError → List Release → List Release → List Event → Type 0
 IsLived cold steps old new ended released before found =
-    (word : Cold) × (it : Lives 0 [] [] found cold word steps old new before released)
-    × IsDone (an_event.PowerUp word ∷ found) steps (OnlyOpens 0 [] [] found word old new) ended it.steps_taken it.durable_at_end it.accepted_at_end it.released
-    × LeavesLast found word steps ended new
+    (recorded_cold : Cold) × (ended_life : Lives 0 [] [] found cold recorded_cold steps old new before released)
+    × IsDone (an_event.PowerUp recorded_cold ∷ found) steps (OnlyOpens 0 [] [] found recorded_cold old new) ended ended_life.steps_taken ended_life.durable_at_end ended_life.accepted_at_end ended_life.released
+    × LeavesLast found recorded_cold steps ended new
 
 pub played : (slots : ℕ) (two : 2 ≤ slots) (cold : Cold) (steps : List Step) (old new : State) (ended : Result (Unit {0}) LiveError) (released : List Release) (image : List ℕ)
     → IsTrue old.honest → IsEmpty slots old → is_played ended ≡ true → LifeEnds old steps ended → new.sectors ≡ sectors_of slots → AreBytesOf new image
     → IsLived cold steps old new ended released [] [] → IsPlayed slots cold steps ended released image
 played slots two cold steps old new ended released image honest empty plays how sectors bytes lived =
-    let it = lived.1 in
-    let out : released ≡ it.released = it.out_is in
-    let word = word_or_nothing slots two old empty cold lived.0 it.released _ it.word_is in
+    let ended_life = lived.1 in
+    let out : released ≡ ended_life.released = ended_life.out_is in
+    let recorded_cold = cold_or_nothing slots two old empty cold lived.0 ended_life.released _ ended_life.cold_is in
     record {
       old = old;
       new = new;
       empty = empty;
-      word = lived.0;
-      life = it;
+      recorded_cold = lived.0;
+      life = ended_life;
       done = lived.2;
       last = lived.3;
       image_is = (sectors, bytes);
       ends = ends slots two old empty honest steps ended plays how;
-      outputs = releases cold lived.0 steps ended _ it.steps_taken it.durable_at_end it.accepted_at_end it.released released out word lived.2;
+      outputs = releases cold lived.0 steps ended _ ended_life.steps_taken ended_life.durable_at_end ended_life.accepted_at_end ended_life.released released out recorded_cold lived.2;
     }

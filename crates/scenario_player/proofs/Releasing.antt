@@ -1,4 +1,4 @@
--- What is released of a life whose power-up has one word or another.
+-- What is released of a life whose power-up has one cold movement value or another.
 use Rattle.std.proofs.Common.{◌≡◌, ◌+◌, List, [], ◌∷◌, ◌++◌, length, refl, sym, ◌∙◌, ap, arith, length-append}
 use Rattle.events.specs.declared.input.Event.{Event}
 use Rattle.events.specs.declared.input.Event.TheVariants as an_event
@@ -16,7 +16,7 @@ length_pairs (event ∷ events) =
     omega (arith, more, length-append (pairs_of events) (pair_of events event ∷ []))
 
 abbrev pub initial : Cold → List Event
-initial word = an_event.PowerUp word ∷ []
+initial recorded_cold = an_event.PowerUp recorded_cold ∷ []
 
 -- what is durable goes on from what there was
 flushed_on : (d a events : List Event) (steps : List Step) → flushed_by (d ++ events) (a ++ events) steps ≡ flushed_by d a steps ++ events
@@ -25,10 +25,10 @@ flushed_on d a events (Accept input ∷ steps) = flushed_on d (an_event.Input in
 flushed_on d a events (Flush ∷ steps) = flushed_on a a events steps
 
 -- where nothing was released after one power-up, nothing is durable after another one
-pub nothing_durable : (word other : Cold) (steps : List Step) → pairs_of (durable_by (initial word) steps) ≡ pairs_of (initial word) ++ [] → durable_by (initial other) steps ≡ initial other
-nothing_durable word other steps none =
-    let count : length (durable_by (initial word) steps) ≡ 1 = sym (length_pairs (durable_by (initial word) steps)) ∙ ap length none in
-    let more : length (durable_by (initial word) steps) ≡ length (durable_by [] steps) + 1 =
-    ap length (flushed_on [] [] (initial word) steps) ∙ length-append (durable_by [] steps) (initial word) in
+pub nothing_durable : (recorded_cold other : Cold) (steps : List Step) → pairs_of (durable_by (initial recorded_cold) steps) ≡ pairs_of (initial recorded_cold) ++ [] → durable_by (initial other) steps ≡ initial other
+nothing_durable recorded_cold other steps none =
+    let count : length (durable_by (initial recorded_cold) steps) ≡ 1 = sym (length_pairs (durable_by (initial recorded_cold) steps)) ∙ ap length none in
+    let more : length (durable_by (initial recorded_cold) steps) ≡ length (durable_by [] steps) + 1 =
+    ap length (flushed_on [] [] (initial recorded_cold) steps) ∙ length-append (durable_by [] steps) (initial recorded_cold) in
     let empty : durable_by [] steps ≡ [] = empty_of (durable_by [] steps) (omega (arith, count, more)) in
     flushed_on [] [] (initial other) steps ∙ ap (λ (l : List Event). l ++ initial other) empty

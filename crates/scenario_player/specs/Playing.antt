@@ -79,14 +79,14 @@ pub record IsPlayed {T : Type 0} (slots : ℕ) (cold : Cold) (steps : List Step)
   pub new : State
   -- before it the journal was empty
   pub empty : IsEmpty slots old
-  -- the word that the power-up recorded
-  pub word : Cold
+  -- the cold movement value that the power-up recorded
+  pub recorded_cold : Cold
   -- it is a life by the contract of `live`
-  pub life : Lives 0 [] [] [] cold word steps old new [] released
+  pub life : Lives 0 [] [] [] cold recorded_cold steps old new [] released
   -- it released exactly what the steps before its end ask for
-  pub done : IsDone (PowerUp word ∷ []) steps (OnlyOpens 0 [] [] [] word old new) ended life.steps_taken life.durable_at_end life.accepted_at_end life.released
+  pub done : IsDone (PowerUp recorded_cold ∷ []) steps (OnlyOpens 0 [] [] [] recorded_cold old new) ended life.steps_taken life.durable_at_end life.accepted_at_end life.released
   -- where it didn't stop, the newest block is that of its last flush of something pending
-  pub last : LeavesLast [] word steps ended new
+  pub last : LeavesLast [] recorded_cold steps ended new
   -- the image is the disk that it handed back, byte by byte
   pub image_is : (new.sectors ≡ sectors_of slots) × AreBytesOf new image
   -- no step has a cause to be refused, or it stopped at the first one that has

@@ -47,7 +47,7 @@ fn is_played(ended: &Result<(), LiveError>) -> bool
 /// stopped for a cause of its own is played.
 pub fn play_life(alloc: Global, slots: u32, cold: Cold, steps: &[Step]) -> Result<Played, NoMemory>
     requires slots { (least_slots ≤ slots) × (slots ≤ most_slots) }
-    ensures { IfOk result (λ it. IsPlayed slots cold steps.now it.ended it.released.items it.image.items) }
+    ensures { IfOk result (λ played. IsPlayed slots cold steps.now played.ended played.released.items played.image.items) }
 {
     let disk = empty_journal(alloc, slots, steps)?;
     let mut released = Vec::new(alloc);

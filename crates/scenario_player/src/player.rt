@@ -38,8 +38,8 @@ pub fn play(
     slots: u32,
 ) -> Result<Played, PlayError>
     // The life of the scenario was played, and what is answered is all that `live` answers on that journal.
-    ensures ok { IfOk result (λ it. PlaysOne scenario.now.bytes.items given slots it.ended it.released.items
-        it.image.items) }
+    ensures ok { IfOk result (λ outcome. PlaysOne scenario.now.bytes.items given slots outcome.ended outcome.released.items
+        outcome.image.items) }
     ensures err { IfErr result (IsCause scenario.now.bytes.items slots) }
     ensures slots { HasNoJournal slots → result ≡ Err PlayError.BadSlots }
 {

@@ -30,7 +30,7 @@ full_or_not : (full : Bool) → (IsTrue full → most_pending < most_pending) �
 full_or_not true want = absurd (omega (arith, want refl))
 full_or_not false want = refl
 
--- where all writes succeeded, there was room for each release
+-- where all writes succeeded, there was space for each release
 pub no_want : {E : Type 0} (answer : Result Status E) (ended : Result (Unit {0}) LiveError) (reported : Result (Unit {0}) E) (x : Unit {0}) → reported ≡ Ok x
     → IfErr ended (λ e. IsTrue (is_full e) → (if is_ok reported then most_pending else 0) < most_pending) → IfOk answer (λ status. IfErr ended (λ e. is_full e ≡ false))
 no_want (Ok status) (Ok y) reported x is want = tt

@@ -39,9 +39,9 @@ stop_reason (a_live.Accept k e) = accept_reason e
 stop_reason (a_live.Flush k e) = flush_reason e
 stop_reason (a_live.NoMemory k) = accept_reason an_accept.NoMemory
 
--- a word, a number and a name, in a line
+-- a label, a number and a name, in a line
 abbrev pub line_with : List ℕ → ℕ × List ℕ → List ℕ
-line_with word reason = word ++ codes " " ++ decimal reason.0 ++ codes " " ++ reason.1 ++ codes "\n"
+line_with label reason = label ++ codes " " ++ decimal reason.0 ++ codes " " ++ reason.1 ++ codes "\n"
 
 -- the last line of a life that stopped; one that came to its end has none
 abbrev pub ending_of : {T : Type 0} → Result T LiveError → List ℕ

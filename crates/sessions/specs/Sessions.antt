@@ -52,37 +52,37 @@ report_of released ended = lines_of released ++ ending_of ended
 pub record Session {E : Type 0} (whole_from : ℕ) (durable accepted : List Event) (cold : Cold) (steps : List Step) (old new : State) (before after : Option (List ℕ)) (answer : Result Status E) : Type 0 where
   -- the events on which the life goes on, the newest first
   pub found : List Event
-  -- the word that the power-up recorded
-  pub power_up_word : Cold
+  -- the cold movement value that the power-up recorded
+  pub power_up_cold : Cold
   -- the outputs that the life released, the oldest first
   pub released : List Released
   -- how the life ended: where it stopped, the step and why
   pub ended : Result (Unit {0}) LiveError
   -- it is a life by the contract of `onboard::live_into`
-  pub life : Lives whole_from durable accepted found cold power_up_word steps old new [] released
+  pub life : Lives whole_from durable accepted found cold power_up_cold steps old new [] released
   -- it released exactly what the steps before its end ask for, and nothing where it wasn't opened
-  pub done : IsDone (PowerUp power_up_word ∷ found) steps (OnlyOpens whole_from durable accepted found power_up_word old new) ended life.steps_taken life.durable_at_end life.accepted_at_end life.released
-  -- a flush that found no room put nothing on the disk
-  pub unflushed : IsUnflushed whole_from (IsOfLife whole_from old.sectors durable accepted found power_up_word) steps ended life.durable_at_end old new
+  pub done : IsDone (PowerUp power_up_cold ∷ found) steps (OnlyOpens whole_from durable accepted found power_up_cold old new) ended life.steps_taken life.durable_at_end life.accepted_at_end life.released
+  -- a flush that found no space put nothing on the disk
+  pub unflushed : IsUnflushed whole_from (IsOfLife whole_from old.sectors durable accepted found power_up_cold) steps ended life.durable_at_end old new
   -- where it didn't stop, the newest block is that of its last flush of something pending
-  pub last : LeavesLast found power_up_word steps ended new
+  pub last : LeavesLast found power_up_cold steps ended new
   -- where it stopped, that is at the first step that isn't carried out, for its cause
   pub stopped : LifeEnds old steps ended
   -- where all writes succeeded, just the report of what was released came after the text, with the status of the end
   pub reported : Says (status_of ended) (report_of released ended) before after answer
-  -- and there was room for each release
-  pub roomy : IfOk answer (λ status. IfErr ended (λ e. is_full e ≡ false))
+  -- and there was space for each release
+  pub has_space_left : IfOk answer (λ status. IfErr ended (λ e. is_full e ≡ false))
 
 -- ---- from the bytes of a scenario to what is written
 
--- the bytes say this life, of a word and steps
+-- the bytes say this life, of a cold movement value and steps
 abbrev pub DescribesOne : List ℕ → (Cold → List Step → Type 0) → Type 0
 DescribesOne bytes P = (cold : Cold) × (steps : List Step) × Describes bytes cold steps × P cold steps
 
 -- A scenario and an image, end to end: by what became of the image. It was not opened, for the scenario has a fault, or
 -- memory was refused; it is missing; or it was opened, and on an honest disk the session is that of the life which the
--- scenario reports. Whatever the disk does, the status is that of a device exactly where the device failed. The image is
--- opened by a call, which `gives` relates to its answers, and `state` is how contracts see a disk.
+-- scenario reports. Whatever the disk does, the status is that of a device exactly where the device failed. The image
+-- is opened by a call, which `gives` relates to its answers, and `state` is how contracts see a disk.
 abbrev pub Plays : {D O E : Type 0} → (D → State) → (O → Option D → Type 0) → List ℕ → O → Image D O → Option (List ℕ) → Option (List ℕ) → Result Status E → Type 0
 Plays state gives bytes opener (Unopened same) before after answer =
     (same ≡ opener) × (fault : ScenarioFault) × ((fault ≡ NoMemory) ⊎ FaultOf bytes fault) × Says Refused (refusal_of (fault_reason fault)) before after answer

@@ -27,8 +27,8 @@ fn print<W: Write>(pairs: &[Released], out: &mut W) -> io::Result<()>
 }
 
 /// Prints a line for each release as it comes, and hands the text on at once. After a write that failed it prints
-/// nothing more, and has room for no more: so a life stops before its next flush, and nothing is released that can't be
-/// written.
+/// nothing more, and has space for no more: so a life stops before its next flush, and nothing is released that can't
+/// be written.
 pub(crate) struct Printer<W> {
     /// What the lines are written to.
     pub out: W,
@@ -44,13 +44,13 @@ impl<W: Write> ReleaseSink for Printer<W> {
 
     ghost Gave = { λ old pairs new. Printed (is_ok old.reported) (W.contents old.out) pairs (is_ok new.reported) (W.contents new.out) };
 
-    ghost room = { λ s. if is_ok s.reported then most_pending else 0 };
+    ghost space = { λ s. if is_ok s.reported then most_pending else 0 };
 
     ghost none = { λ s. printed_none (is_ok s.reported) (W.contents s.out) };
 
     ghost more = { λ s t u first rest. printed_more (is_ok s.reported) (is_ok t.reported) (is_ok u.reported) (W.contents s.out) (W.contents t.out) (W.contents u.out) first rest };
 
-    fn make_room(&mut self) -> Result<(), NoMemory> {
+    fn make_space(&mut self) -> Result<(), NoMemory> {
         if self.reported.is_err() {
             return Err(NoMemory);
         }

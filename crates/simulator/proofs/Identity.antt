@@ -19,9 +19,9 @@ passes (x ∷ xs) h = and_from _ (list_all is_printable xs) (and_from (nat_le 0x
 reported : (text : List ℕ) → list_all is_printable text ≡ true → AllByRecursion IsPrintable text
 reported [] e = tt
 reported (x ∷ xs) e =
-    let both = and_parts (is_printable x) (list_all is_printable xs) e in
-    let here = and_parts (nat_le 0x20 x) (nat_le x 0x7E) both.0 in
-    ((leb-true 0x20 x here.0, leb-true x 0x7E here.1), reported xs both.1)
+    let halves = and_parts (is_printable x) (list_all is_printable xs) e in
+    let here = and_parts (nat_le 0x20 x) (nat_le x 0x7E) halves.0 in
+    ((leb-true 0x20 x here.0, leb-true x 0x7E here.1), reported xs halves.1)
 
 pub identity-true : (text : List ℕ) → IsIdentity text → is_identity text ≡ true
 identity-true text is =
@@ -31,9 +31,9 @@ identity-true text is =
 
 none_reported : (b : Bool) (text : List ℕ) → is_identity text ≡ b → (IsIdentity text → ⊥) → b ≡ false
 none_reported true text e never =
-    let both = and_parts (nat_le 1 (length text) && nat_le (length text) 16) (list_all is_printable text) e in
-    let long = and_parts (nat_le 1 (length text)) (nat_le (length text) 16) both.0 in
-    absurd (never (leb-true 1 (length text) long.0, leb-true (length text) 16 long.1, All-from_recursion IsPrintable text (reported text both.1)))
+    let halves = and_parts (nat_le 1 (length text) && nat_le (length text) 16) (list_all is_printable text) e in
+    let long = and_parts (nat_le 1 (length text)) (nat_le (length text) 16) halves.0 in
+    absurd (never (leb-true 1 (length text) long.0, leb-true (length text) 16 long.1, All-from_recursion IsPrintable text (reported text halves.1)))
 none_reported false text e never = refl
 
 pub identity-false : (text : List ℕ) → (IsIdentity text → ⊥) → is_identity text ≡ false

@@ -5,9 +5,9 @@ use Rattle.std.proofs.lemmas.Slice.Eq.{bytes_eq-Decides}
 use Rattle.serde_json.specs.Data.{Data}
 use Rattle.serde_json.specs.Find.{get}
 use Rattle.json_values.specs.Shapes.{object_of_one}
-use Rattle.json_values.proofs.Alone.{at_name}
+use Rattle.json_values.proofs.Single.{at_name}
 use Rattle.simulator.specs.Steps.{drive, telegram, clock, driver, flush, or_else, by_key}
-use Rattle.simulator.specs.declared.asked.StepKind.{StepKind}
+use Rattle.simulator.specs.declared.step_kinds.StepKind.{StepKind}
 use Rattle.simulator.specs.declared.fault.ScenarioFault.{ScenarioFault}
 use Rattle.simulator.specs.declared.fault.ScenarioFault.TheVariants.{Shape, NoMemory}
 

@@ -33,13 +33,13 @@ joined_one : {X : Type 0} (p q r : X → Bool) (x : X) (xs : List X) (a b : Bool
     → (b ≡ true → (a ≡ false) × (filter p xs ≡ []))
     → filter p xs ++ filter q xs ≡ filter r xs
     → filter p (x ∷ xs) ++ filter q (x ∷ xs) ≡ filter r (x ∷ xs)
-joined_one p q r x xs false false ep eq er alone rest = rw (ep, eq, er) rest
-joined_one p q r x xs true false ep eq er alone rest = rw (ep, eq, er) (ap (λ l. x ∷ l) rest)
-joined_one p q r x xs false true ep eq er alone rest =
-    let empty : filter p xs ≡ [] = (alone refl).1 in
+joined_one p q r x xs false false ep eq er single rest = rw (ep, eq, er) rest
+joined_one p q r x xs true false ep eq er single rest = rw (ep, eq, er) (ap (λ l. x ∷ l) rest)
+joined_one p q r x xs false true ep eq er single rest =
+    let empty : filter p xs ≡ [] = (single refl).1 in
     let last = rw empty at rest in
     rw (ep, eq, er, empty) (ap (λ l. x ∷ l) last)
-joined_one p q r x xs true true ep eq er alone rest = absurd (false≢true (sym (alone refl).0))
+joined_one p q r x xs true true ep eq er single rest = absurd (false≢true (sym (single refl).0))
 
 -- what passes p, and then what passes q, is what passes either, where nothing that passes p lies beyond what passes q
 pub joined : {X : Type 0} (n : X → ℕ) (p q r : X → Bool) (xs : List X) → IsNonDecreasingBy n xs

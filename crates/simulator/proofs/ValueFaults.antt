@@ -7,11 +7,11 @@ use Rattle.hex.specs.declared.error.FromHexError.{FromHexError}
 use Rattle.simulator.specs.Course.{Run, start, taken}
 use Rattle.simulator.specs.Limits.{farthest_back, farthest}
 use Rattle.simulator.specs.Passing.{passed}
-use Rattle.simulator.specs.declared.asked.StepKind.{StepKind}
+use Rattle.simulator.specs.declared.step_kinds.StepKind.{StepKind}
 use Rattle.simulator.specs.declared.balise.Balise.{Balise}
 use Rattle.driver.specs.declared.action.Action.{Action}
 use Rattle.driver.specs.declared.action.Action.TheVariants.{Start, ChooseShunting, LeaveShunting, Override, CloseDesk}
-use Rattle.mode_table.specs.Numbers.{level_by, word_by}
+use Rattle.mode_table.specs.Numbers.{level_by, cold_by}
 use Rattle.driver.specs.declared.action_kind.ActionKind.{ActionKind}
 use Rattle.driver.specs.declared.action_kind.ActionKind.TheVariants as a_kind
 use Rattle.driver.specs.Numbers.{action_by, item_by, reason_by}
@@ -19,8 +19,8 @@ use Rattle.simulator.specs.Values.{◌>>=◌, shaped, given, whole, within, know
 use Rattle.json_values.specs.Shapes.{has_members, list_in}
 use Rattle.simulator.specs.Groups.{whole_at, list_at, are_texts, laid_one, laid, group, groups}
 use Rattle.simulator.specs.Actions.{is_identity, level, confirmed, acknowledged, identity, entered_identity, lone_value, entered_number, brakes, train, entered_train, chosen_level, confirmed_item, acknowledged_kind, bare, or_shape, by_kind, action}
-use Rattle.simulator.specs.Steps.{drive, telegram, clock, driver, flush, or_else, by_key, asked}
-use Rattle.simulator.specs.Lives.{lived, steps_in, has_keys, cold_word, cold_of, items_at, life_in}
+use Rattle.simulator.specs.Steps.{drive, telegram, clock, driver, flush, or_else, by_key, step_of}
+use Rattle.simulator.specs.Lives.{lived, steps_in, has_keys, cold_value, cold_of, items_at, life_in}
 use Rattle.simulator.specs.declared.fault.ScenarioFault.{ScenarioFault}
 use Rattle.simulator.specs.declared.fault.ScenarioFault.TheVariants.{NotJson, Shape, OutOfRange, BadHex, NoMemory}
 
@@ -226,27 +226,27 @@ of_key d =
     or_other (get (codes "drive") d) drive _ of_drive (or_other (get (codes "telegram") d) telegram _ of_telegram (or_other (get (codes "clock") d) clock _ of_clock
     (or_other (get (codes "driver") d) driver _ of_driver (or_other (get (codes "flush") d) flush _ of_flush (of_err Shape tt)))))
 
-of_asked : (d : Data) → Fits (asked d)
-unfolding asked
-of_asked d = either (has_members 1 d) _ _ (of_key d) (of_err Shape tt)
+of_step_kind : (d : Data) → Fits (step_of d)
+unfolding step_of
+of_step_kind d = either (has_members 1 d) _ _ (of_key d) (of_err Shape tt)
 
 -- ---- a life
 
 of_lived : (ahead : ℤ → ℕ → List Balise) (ds : List Data) (r : Run) → Fits (lived ahead ds r)
 of_lived ahead [] r = of_ok r
-of_lived ahead (d ∷ ds) r = bind _ _ (of_asked d) (λ step. of_lived ahead ds (taken ahead step r))
+of_lived ahead (d ∷ ds) r = bind _ _ (of_step_kind d) (λ step. of_lived ahead ds (taken ahead step r))
 
 of_steps : (ahead : ℤ → ℕ → List Balise) (ds : List Data) → Fits (steps_in ahead ds)
 unfolding steps_in
 of_steps ahead ds = bind _ _ (of_lived ahead ds start) (λ run. of_ok _)
 
-of_cold_word : (z : ℤ) → Fits (cold_word z)
-of_cold_word z = of_numbered word_by z
+of_cold_value : (z : ℤ) → Fits (cold_value z)
+of_cold_value z = of_numbered cold_by z
 
 of_cold : (o : Option Data) → Fits (cold_of o)
 unfolding cold_of
 of_cold None = of_ok _
-of_cold (Some v) = bind _ _ (of_shaped (whole v)) of_cold_word
+of_cold (Some v) = bind _ _ (of_shaped (whole v)) of_cold_value
 
 of_items : (key : List ℕ) (d : Data) → Fits (items_at key d)
 unfolding items_at

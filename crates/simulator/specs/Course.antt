@@ -8,8 +8,8 @@ use Rattle.events.specs.declared.step.Step.{Step}
 use Rattle.events.specs.declared.step.Step.TheVariants.{Accept, Flush}
 use Rattle.simulator.specs.Numbers.{natural}
 use Rattle.simulator.specs.declared.balise.Balise.{Balise}
-use Rattle.simulator.specs.declared.asked.StepKind.{StepKind}
-use Rattle.simulator.specs.declared.asked.StepKind.TheVariants as an_asked
+use Rattle.simulator.specs.declared.step_kinds.StepKind.{StepKind}
+use Rattle.simulator.specs.declared.step_kinds.StepKind.TheVariants as a_step_kind
 use Rattle.simulator.specs.declared.driving.Course.{Course}
 
 -- where the front is, how many events are pending, and the steps so far
@@ -29,16 +29,16 @@ start = record { front = pos 0; pending = 0; steps = [] }
 abbrev pub flushed : Run → Run
 flushed r = record { front = r.front; pending = 0; steps = r.steps ++ Flush ∷ [] }
 
--- room for one more event
-abbrev pub roomy : Run → Run
-roomy r = if r.pending == most_pending then flushed r else r
+-- space for one more event
+abbrev pub has_space_left : Run → Run
+has_space_left r = if r.pending == most_pending then flushed r else r
 
 abbrev pub added : Input → Run → Run
 added i r = record { front = r.front; pending = r.pending + 1; steps = r.steps ++ Accept i ∷ [] }
 
 -- one more event
 abbrev pub accepted : Input → Run → Run
-accepted i r = added i (roomy r)
+accepted i r = added i (has_space_left r)
 
 -- the end: a flush where something is pending
 abbrev pub ended : Run → Run
@@ -87,6 +87,6 @@ driven ahead cm speed r =
 
 -- what becomes of a step that is asked for, where `ahead` reports the balises that a way leads over
 abbrev pub taken : (ℤ → ℕ → List Balise) → StepKind → Run → Run
-taken ahead (an_asked.Drive cm speed) r = driven ahead cm speed r
-taken ahead (an_asked.Happens i) r = accepted i r
-taken ahead an_asked.Flush r = flushed r
+taken ahead (a_step_kind.Drive cm speed) r = driven ahead cm speed r
+taken ahead (a_step_kind.Happens i) r = accepted i r
+taken ahead a_step_kind.Flush r = flushed r

@@ -8,8 +8,8 @@ use Rattle.simulator.specs.declared.fault.ScenarioFault.TheVariants.{NotJson}
 use Rattle.simulator.specs.Scenarios.{IsReading, Describes, FaultOf}
 
 -- NotJson comes exactly where a text has no reading as a JSON value.
-abbrev pub NotJsonAlone : Type 0
-NotJsonAlone = (bytes : List ℕ) → FaultOf bytes NotJson ↔ ((d : Data) → ¬ IsReading bytes d)
+abbrev pub NotJsonExactly : Type 0
+NotJsonExactly = (bytes : List ℕ) → FaultOf bytes NotJson ↔ ((d : Data) → ¬ IsReading bytes d)
 
 abbrev pub DescribesALife : List ℕ → Type 0
 DescribesALife bytes = (cold : Cold) × (steps : List Step) × Describes bytes cold steps

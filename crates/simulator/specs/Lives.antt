@@ -5,7 +5,7 @@ use Rattle.serde_json.specs.Data.{Data}
 use Rattle.serde_json.specs.Find.{get}
 use Rattle.mode_table.specs.declared.statuses.Cold.{Cold}
 use Rattle.mode_table.specs.declared.statuses.Cold.TheVariants.{Unknown}
-use Rattle.mode_table.specs.Numbers.{word_by}
+use Rattle.mode_table.specs.Numbers.{cold_by}
 use Rattle.events.specs.declared.step.Step.{Step}
 use Rattle.simulator.specs.Passing.{passed}
 use Rattle.simulator.specs.Course.{Run, start, taken, ended}
@@ -13,7 +13,7 @@ use Rattle.simulator.specs.declared.balise.Balise.{Balise}
 use Rattle.simulator.specs.Values.{◌>>=◌, shaped, given, whole, numbered}
 use Rattle.json_values.specs.Shapes.{has_members, list_in}
 use Rattle.simulator.specs.Groups.{groups}
-use Rattle.simulator.specs.Steps.{asked}
+use Rattle.simulator.specs.Steps.{step_of}
 use Rattle.simulator.specs.declared.fault.ScenarioFault.{ScenarioFault}
 use Rattle.simulator.specs.declared.fault.ScenarioFault.TheVariants.{Shape}
 
@@ -21,7 +21,7 @@ use Rattle.simulator.specs.declared.fault.ScenarioFault.TheVariants.{Shape}
 abbrev pub lived : (ℤ → ℕ → List Balise) → List Data → Run → Result Run ScenarioFault
 lived ahead [] r = Ok r
 lived ahead (d ∷ ds) r = do
-  step ← asked d
+  step ← step_of d
   lived ahead ds (taken ahead step r)
 
 unfoldable pub steps_in : (ℤ → ℕ → List Balise) → List Data → Result (List Step) ScenarioFault
@@ -34,12 +34,12 @@ unfoldable pub has_keys : Data → Bool
 has_keys d = has_members (if is_some (get (codes "cold") d) then 3 else 2) d && is_some (get (codes "groups") d) && is_some (get (codes "steps") d)
 
 -- whether the train was moved without power
-abbrev pub cold_word : ℤ → Result Cold ScenarioFault
-cold_word z = numbered word_by z
+abbrev pub cold_value : ℤ → Result Cold ScenarioFault
+cold_value z = numbered cold_by z
 
 unfoldable pub cold_of : Option Data → Result Cold ScenarioFault
 cold_of None = Ok Unknown
-cold_of (Some v) = shaped (whole v) >>= cold_word
+cold_of (Some v) = shaped (whole v) >>= cold_value
 
 -- the items of a list that stands at a key
 unfoldable pub items_at : List ℕ → Data → Result (List Data) ScenarioFault
@@ -47,7 +47,7 @@ items_at key d = do
   v ← shaped (get key d)
   shaped (list_in v)
 
--- the word and the steps of a life, or the first fault
+-- the cold movement value and the steps of a life, or the first fault
 unfoldable pub life_in : Data → Result (Cold × List Step) ScenarioFault
 life_in d = do
   _ ← given (has_keys d) Shape
@@ -64,7 +64,7 @@ life_in d = do
 abbrev pub ends_by : (ℤ → ℕ → List Balise) → List Data → Run → List ℕ → Result (List ℕ) ScenarioFault
 ends_by ahead [] r ends = Ok ends
 ends_by ahead (d ∷ ds) r ends = do
-  step ← asked d
+  step ← step_of d
   ends_by ahead ds (taken ahead step r) (ends ++ length (taken ahead step r).steps ∷ [])
 
 -- .. of all steps of a value

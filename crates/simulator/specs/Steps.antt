@@ -9,8 +9,8 @@ use Rattle.simulator.specs.Values.{◌>>=◌, shaped, given, whole, whole_item, 
 use Rattle.json_values.specs.Shapes.{has_members, list_in}
 use Rattle.simulator.specs.Limits.{farthest_back, farthest}
 use Rattle.simulator.specs.Actions as actions
-use Rattle.simulator.specs.declared.asked.StepKind.{StepKind}
-use Rattle.simulator.specs.declared.asked.StepKind.TheVariants.{Drive, Happens, Flush}
+use Rattle.simulator.specs.declared.step_kinds.StepKind.{StepKind}
+use Rattle.simulator.specs.declared.step_kinds.StepKind.TheVariants.{Drive, Happens, Flush}
 use Rattle.simulator.specs.declared.fault.ScenarioFault.{ScenarioFault}
 use Rattle.simulator.specs.declared.fault.ScenarioFault.TheVariants.{Shape, OutOfRange}
 
@@ -63,5 +63,5 @@ by_key d =
     (or_else (get (codes "flush") d) flush (Err Shape)))))
 
 -- an object of one member, whose key says what is asked
-unfoldable pub asked : Data → Result StepKind ScenarioFault
-asked d = if has_members 1 d then by_key d else Err Shape
+unfoldable pub step_of : Data → Result StepKind ScenarioFault
+step_of d = if has_members 1 d then by_key d else Err Shape

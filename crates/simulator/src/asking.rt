@@ -2,12 +2,12 @@
 ghost use Rattle.std.specs.Prelude.{◌≡◌, ◌⊎◌, IfOk, IfErr};
 ghost use Rattle.json_values.specs.Looking.{reported};
 ghost use Rattle.json_values.specs.Shapes.{object_of_one};
-ghost use Rattle.simulator.specs.Steps.{drive, telegram, clock, driver, flush, by_key, asked};
+ghost use Rattle.simulator.specs.Steps.{drive, telegram, clock, driver, flush, by_key, step_of};
 
 use crate::ScenarioFault;
 use crate::actions::action_of;
-use crate::asked::StepKind;
 use crate::distance::Distance;
+use crate::step_kinds::StepKind;
 use crate::telegrams::bytes_of;
 use crate::values::{whole_item, within};
 use events::Input;
@@ -96,10 +96,10 @@ fn by_key(alloc: Global, name: &str, value: JsonValue) -> Result<StepKind, Scena
 }
 
 /// What an item of the steps asks for.
-#[tactic(auto, unfolding(crate::specs::Steps::asked))]
-pub(crate) fn asked_of(alloc: Global, value: &JsonValue) -> Result<StepKind, ScenarioFault>
-    ensures ok { IfOk result (λ step. asked (reported value.now) ≡ Ok step) }
-    ensures err { IfErr result (λ fault. (fault ≡ ScenarioFault.NoMemory) ⊎ (asked (reported value.now) ≡ Err fault)) }
+#[tactic(auto, unfolding(crate::specs::Steps::step_of))]
+pub(crate) fn step_kind_of(alloc: Global, value: &JsonValue) -> Result<StepKind, ScenarioFault>
+    ensures ok { IfOk result (λ step. step_of (reported value.now) ≡ Ok step) }
+    ensures err { IfErr result (λ fault. (fault ≡ ScenarioFault.NoMemory) ⊎ (step_of (reported value.now) ≡ Err fault)) }
 {
     match value.only_member() {
         Some((name, member)) => by_key(alloc, name, member),

@@ -5,9 +5,9 @@ ghost use Rattle.events.specs.Limits.{most_pending};
 ghost use Rattle.simulator.specs.Numbers.{natural};
 ghost use Rattle.simulator.specs.Passing.{passed};
 
-use crate::asked::StepKind;
 use crate::balise::Balise;
 use crate::distance::Distance;
+use crate::step_kinds::StepKind;
 use crate::track::Track;
 use events::{Input, MOST_PENDING, Reading, Step};
 use std::alloc::Global;
@@ -38,7 +38,7 @@ fn way(from: i128, to: i128) -> u64
 }
 
 /// The steps of a life so far, where the front is, and how many events are pending (this project's profile). A front of
-/// 128 bits has room for any number of drives.
+/// 128 bits has space for any number of drives.
 #[derive(Drop)]
 pub struct Course {
     /// Where the front is, in centimetres ahead of where it started.
@@ -73,7 +73,7 @@ impl Course {
         Ok(())
     }
 
-    // One more event, after a flush where there is no room for it.
+    // One more event, after a flush where there is no space for it.
     fn accept(&mut self, input: Input) -> Result<(), NoMemory>
         ensures ok { OnOk result (run_of self.new ≡ accepted input (run_of self.old)) }
     {
@@ -173,14 +173,14 @@ impl Course {
 
     /// Takes a step that is asked for, which moves the front by at most 1,000,000 cm. NoMemory where memory was
     /// refused; the course may then have a part of the step. The caller owes a front within 2^99 cm of the start.
-    pub fn take(&mut self, track: &Track, asked: StepKind) -> Result<(), NoMemory>
+    pub fn take(&mut self, track: &Track, step: StepKind) -> Result<(), NoMemory>
         requires low { neg_ℤ (pos (2 ^ 99)) ≤ℤ self.old.front }
         requires high { self.old.front ≤ℤ pos (2 ^ 99) }
-        ensures ok { OnOk result (run_of self.new ≡ taken (passed track.now.balises.items) asked (run_of self.old)) }
+        ensures ok { OnOk result (run_of self.new ≡ taken (passed track.now.balises.items) step (run_of self.old)) }
         ensures least { OnOk result (self.old.front ≤ℤ (self.new.front +ℤ pos 1_000_000)) }
         ensures most { OnOk result (self.new.front ≤ℤ (self.old.front +ℤ pos 1_000_000)) }
     {
-        match asked {
+        match step {
             StepKind::Drive(distance, speed) => self.drive(track, distance, speed),
             StepKind::Happens(input) => self.accept(input),
             StepKind::Flush => self.flush(),

@@ -6,7 +6,7 @@ ghost use Rattle.simulator.specs.Passing.{passed};
 ghost use Rattle.simulator.specs.Lives.{ends_by, ends_in};
 
 use crate::ScenarioFault;
-use crate::asking::asked_of;
+use crate::asking::step_kind_of;
 use crate::driving::Course;
 use crate::lives::{items_at, track_of};
 use crate::track::Track;
@@ -39,8 +39,8 @@ fn count(
     let mut left = items.items();
     let mut taken: u64 = 0;
     while let Some((item, rest)) = left.split_first() {
-        let asked = asked_of(alloc, &item)?;
-        course.take(track, asked)?;
+        let step = step_kind_of(alloc, &item)?;
+        course.take(track, step)?;
         note(course, ends)?;
         // No text has so many steps.
         if taken == u64::MAX {
@@ -64,9 +64,9 @@ fn ends_by(alloc: Global, track: &Track, items: &JsonList) -> Result<Vec<usize>,
     Ok(ends)
 }
 
-/// Of each step of a scenario, how many steps of the life that `life_of` answers there are up to its end: so the step at
-/// a place of that life comes from the first step of the scenario whose end is beyond the place; a last flush comes from
-/// none. An error is the first fault of the groups and the steps; NoMemory may come in the place of any.
+/// Of each step of a scenario, how many steps of the life that `life_of` answers there are up to its end: so the step
+/// at a place of that life comes from the first step of the scenario whose end is beyond the place; a last flush comes
+/// from none. An error is the first fault of the groups and the steps; NoMemory may come in the place of any.
 #[tactic(auto, unfolding(crate::specs::Lives::ends_in))]
 pub(crate) fn ends_of(alloc: Global, value: &JsonValue) -> Result<Vec<usize>, ScenarioFault>
     ensures ok { IfOk result (λ ends. ends_in (reported value.now) ≡ Ok ends.items) }

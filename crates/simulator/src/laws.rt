@@ -1,9 +1,9 @@
 //! What follows from the definitions alone.
-ghost use Rattle.simulator.specs.Laws.{NotJsonAlone, DescribesOrFails, OneAnswer};
+ghost use Rattle.simulator.specs.Laws.{NotJsonExactly, DescribesOrFails, OneAnswer};
 
 /// A law: NotJson is the fault of exactly those texts that have no reading as a JSON value.
-pub fn not_json_alone()
-    ensures { NotJsonAlone }
+pub fn not_json_exactly()
+    ensures { NotJsonExactly }
 {}
 
 /// A law: each text reports a life, or has a first fault.

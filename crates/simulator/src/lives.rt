@@ -6,10 +6,10 @@ ghost use Rattle.serde_json.specs.Find.{get};
 ghost use Rattle.simulator.specs.Course.{run_of};
 ghost use Rattle.simulator.specs.Passing.{passed};
 ghost use Rattle.simulator.specs.Groups.{groups};
-ghost use Rattle.simulator.specs.Lives.{lived, steps_in, has_keys, cold_word, cold_of, items_at, life_in};
+ghost use Rattle.simulator.specs.Lives.{lived, steps_in, has_keys, cold_value, cold_of, items_at, life_in};
 
 use crate::ScenarioFault;
-use crate::asking::asked_of;
+use crate::asking::step_kind_of;
 use crate::driving::Course;
 use crate::groups::lay_all;
 use crate::track::Track;
@@ -28,8 +28,8 @@ fn has_keys(value: &JsonValue) -> bool
     value.has_members(count) && value.get("groups").is_some() && value.get("steps").is_some()
 }
 
-fn cold_word(number: i64) -> Result<Cold, ScenarioFault>
-    ensures { result ≡ cold_word number }
+fn cold_value(number: i64) -> Result<Cold, ScenarioFault>
+    ensures { result ≡ cold_value number }
 {
     Cold::of_number(byte_of(number)?).ok_or(ScenarioFault::OutOfRange)
 }
@@ -39,7 +39,7 @@ fn cold_word(number: i64) -> Result<Cold, ScenarioFault>
 pub(crate) fn cold_in(value: &JsonValue) -> Result<Cold, ScenarioFault>
     ensures { result ≡ cold_of (Some (reported value.now)) }
 {
-    cold_word(value.as_i64().ok_or(ScenarioFault::Shape)?)
+    cold_value(value.as_i64().ok_or(ScenarioFault::Shape)?)
 }
 
 #[tactic(auto, unfolding(crate::specs::Lives::cold_of))]
@@ -98,8 +98,8 @@ fn live(
     let mut left = items.items();
     let mut count: u64 = 0;
     while let Some((item, rest)) = left.split_first() {
-        let asked = asked_of(alloc, &item)?;
-        course.take(track, asked)?;
+        let step = step_kind_of(alloc, &item)?;
+        course.take(track, step)?;
         // No text has so many steps.
         if count == u64::MAX {
             return Err(ScenarioFault::NoMemory);

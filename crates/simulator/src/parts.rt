@@ -5,10 +5,10 @@ ghost use Rattle.serde_json.specs.View.{view};
 ghost use Rattle.simulator.specs.Groups.{laid_one, group};
 ghost use Rattle.simulator.specs.Lives.{cold_of};
 ghost use Rattle.simulator.specs.Parts.{number_in};
-ghost use Rattle.simulator.specs.Steps.{asked};
+ghost use Rattle.simulator.specs.Steps.{step_of};
 
 use crate::ScenarioFault;
-use crate::asking::asked_of;
+use crate::asking::step_kind_of;
 use crate::groups::{lay_group, lay_one};
 use crate::lives::cold_in;
 use crate::values::within;
@@ -62,7 +62,7 @@ pub fn fault_of_spacing(value: &Value) -> Option<ScenarioFault>
 
 /// The fault of a step. NoMemory may come in its place.
 pub fn fault_of_step(alloc: Global, value: &Value) -> Option<ScenarioFault>
-    ensures { (result ≡ Some ScenarioFault.NoMemory) ⊎ (result ≡ result_err (asked (view value.now))) }
+    ensures { (result ≡ Some ScenarioFault.NoMemory) ⊎ (result ≡ result_err (step_of (view value.now))) }
 {
-    asked_of(alloc, &JsonValue::Tree(value)).err()
+    step_kind_of(alloc, &JsonValue::Tree(value)).err()
 }

@@ -121,9 +121,9 @@ nothing_more targets front gradient brakes v =
 pub nothing_by : (targets others : List Target) → targets ≡ others → AskNothing others → AskNothing targets
 nothing_by targets others is none = through targets others [] (equal targets others is) none
 
-pub asked_at : (all all' others : List Target) (reported reported' : Option Target) → all ≡ all' → reported ≡ reported' →
+pub requested_at : (all all' others : List Target) (reported reported' : Option Target) → all ≡ all' → reported ≡ reported' →
     AskTheSame all' (listed reported' ++ others) → AskTheSame all (listed reported ++ others)
-asked_at all all' others reported reported' a t h =
+requested_at all all' others reported reported' a t h =
     through all all' (listed reported ++ others) (equal all all' a)
     (through all' (listed reported' ++ others) (listed reported ++ others) h
     (equal (listed reported' ++ others) (listed reported ++ others) (ap (λ (x : Option Target). listed x ++ others) (sym t))))

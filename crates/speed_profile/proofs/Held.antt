@@ -45,14 +45,14 @@ nearer_asks near far h =
     through (near ∷ []) (near ∷ far ∷ []) (far ∷ near ∷ []) (farther_asks near far h) (moved far (near ∷ []) [])
 
 -- of one that is held, if there is one, and another one
-with_known : (known : Option Target) (asked : List Target) (t kept : Target) → asked ≡ listed known → AskTheSame (kept ∷ []) (asked ++ (t ∷ [])) →
+with_known : (known : Option Target) (requested : List Target) (t kept : Target) → requested ≡ listed known → AskTheSame (kept ∷ []) (requested ++ (t ∷ [])) →
     AskTheSame (kept ∷ []) (listed known ++ (t ∷ []))
-with_known known asked t kept is h =
-    through (kept ∷ []) (asked ++ (t ∷ [])) (listed known ++ (t ∷ [])) h
-    (equal (asked ++ (t ∷ [])) (listed known ++ (t ∷ [])) (ap (λ (some : List Target). some ++ (t ∷ [])) is))
+with_known known requested t kept is h =
+    through (kept ∷ []) (requested ++ (t ∷ [])) (listed known ++ (t ∷ [])) h
+    (equal (requested ++ (t ∷ [])) (listed known ++ (t ∷ [])) (ap (λ (some : List Target). some ++ (t ∷ [])) is))
 
-pub alone_asks : (known : Option Target) (t : Target) → known ≡ None → AskTheSame (t ∷ []) (listed known ++ (t ∷ []))
-alone_asks known t is = with_known known [] t t (sym (ap listed is)) (same (t ∷ []))
+pub single_asks : (known : Option Target) (t : Target) → known ≡ None → AskTheSame (t ∷ []) (listed known ++ (t ∷ []))
+single_asks known t is = with_known known [] t t (sym (ap listed is)) (same (t ∷ []))
 
 pub known_asks : (known : Option Target) (k t : Target) → known ≡ Some k → IsNoNearer k t → AskTheSame (k ∷ []) (listed known ++ (t ∷ []))
 known_asks known k t is h = with_known known (k ∷ []) t k (sym (ap listed is)) (farther_asks k t h)
@@ -79,11 +79,11 @@ held_more places i other within =
 gathered : (places : List (Option Target)) (i n : ℕ) (other : Option Target) (rest now all : List Target) → i < length places → n ≡ i + 1 →
     AskTheSame (held (take n places) ++ rest) all → AskTheSame now (listed (slice_index_or places i other) ++ rest) →
     AskTheSame (held (take i places) ++ now) all
-gathered places i n other rest now all within next h asked =
+gathered places i n other rest now all within next h requested =
     let before = held (take i places) in
     let here = listed (slice_index_or places i other) in
     let left = held (take n places) in
-    through (before ++ now) (before ++ (here ++ rest)) all (joined before now before (here ++ rest) (same before) asked)
+    through (before ++ now) (before ++ (here ++ rest)) all (joined before now before (here ++ rest) (same before) requested)
     (through (before ++ (here ++ rest)) (left ++ rest) all
     (equal (before ++ (here ++ rest)) (left ++ rest)
     (sym (append_assoc before here rest)
@@ -100,11 +100,11 @@ gathered_none places i n other rest all within next is h =
 pub gathered_one : (places after : List (Option Target)) (i n : ℕ) (other : Option Target) (t : Target) (rest now all : List Target) →
     i < length places → n ≡ i + 1 → slice_index_or places i other ≡ Some t → take i after ≡ take i places →
     AskTheSame now (t ∷ rest) → AskTheSame (held (take n places) ++ rest) all → AskTheSame (held (take i after) ++ now) all
-gathered_one places after i n other t rest now all within next is left asked h =
+gathered_one places after i n other t rest now all within next is left requested h =
     through (held (take i after) ++ now) (held (take i places) ++ now) all
     (equal (held (take i after) ++ now) (held (take i places) ++ now) (ap (λ (some : List (Option Target)). held some ++ now) left))
     (gathered places i n other rest now all within next h
-    (through now (t ∷ rest) (listed (slice_index_or places i other) ++ rest) asked
+    (through now (t ∷ rest) (listed (slice_index_or places i other) ++ rest) requested
     (equal (t ∷ rest) (listed (slice_index_or places i other) ++ rest) (ap (λ (place : Option Target). listed place ++ rest) (sym is)))))
 
 -- of one that is held, if there is one
@@ -173,10 +173,10 @@ module _ {G : Type 0} (value : G → ℤ → Option ℤ) where
       ∙ sym (fit_both course.front (value course.gradient) course.brakes some others' v)
 
   -- where only one asks something
-  pub of_alone : (t : Target) (all beyond left : List Target) (course : Course G) →
+  pub of_single : (t : Target) (all beyond left : List Target) (course : Course G) →
       AskTheSameOf (value course.gradient) course all (t ∷ beyond) → AskTheSameOf (value course.gradient) course beyond left → AskNothing left →
       AskTheSameOf (value course.gradient) course all (t ∷ [])
-  of_alone t all beyond left course h k none =
+  of_single t all beyond left course h k none =
       of_through all (t ∷ beyond) (t ∷ []) course h
       (of_more t beyond [] course (of_through beyond left [] course k (of_all left [] course none)))
 

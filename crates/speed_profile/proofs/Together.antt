@@ -36,11 +36,11 @@ in_turn_test true true i e = refl
 in_turn : (s r i e : List Target) → AskTheSame (s ++ (r ++ (i ++ e))) (s ++ r ++ i ++ e)
 in_turn s r i e front gradient brakes v =
     let fit = λ (ts : List Target). fits_all front gradient brakes ts v in
-    let both = λ (some others : List Target). fit_both front gradient brakes some others v in
+    let fit_two = λ (some others : List Target). fit_both front gradient brakes some others v in
     let here : fit (s ++ (r ++ (i ++ e))) ≡ (fit s && (fit r && (fit i && fit e))) =
-    both s (r ++ (i ++ e)) ∙ ap (λ (b : Bool). fit s && b) (both r (i ++ e) ∙ ap (λ (b : Bool). fit r && b) (both i e)) in
+    fit_two s (r ++ (i ++ e)) ∙ ap (λ (b : Bool). fit s && b) (fit_two r (i ++ e) ∙ ap (λ (b : Bool). fit r && b) (fit_two i e)) in
     let there : fit (s ++ r ++ i ++ e) ≡ (((fit s && fit r) && fit i) && fit e) =
-    both (s ++ r ++ i) e ∙ ap (λ (b : Bool). b && fit e) (both (s ++ r) i ∙ ap (λ (b : Bool). b && fit i) (both s r)) in
+    fit_two (s ++ r ++ i) e ∙ ap (λ (b : Bool). b && fit e) (fit_two (s ++ r) i ∙ ap (λ (b : Bool). b && fit i) (fit_two s r)) in
     here ∙ in_turn_test (fit s) (fit r) (fit i) (fit e) ∙ sym there
 
 module _ (front : ℤ) (bounds : Bounds) (track : TrackSpeeds) where
@@ -59,10 +59,10 @@ module _ (front : ℤ) (bounds : Bounds) (track : TrackSpeeds) where
       let restrictions = restriction_targets track.restrictions.mark track.restrictions.restrictions in
       let areas = area_targets track.national track.areas in
       let first : ℤ = front +ℤ pos 1 in
-      let both = over (λ c. static c ++ restrictions c) first greatest_place in
-      through (targets_ahead front bounds track) (both ++ inside) (speeds ++ restricted ++ inside)
+      let fit_two = over (λ c. static c ++ restrictions c) first greatest_place in
+      through (targets_ahead front bounds track) (fit_two ++ inside) (speeds ++ restricted ++ inside)
       (both_ask (λ c. static c ++ restrictions c) areas first greatest_place)
-      (joined both inside (speeds ++ restricted) inside (both_ask static restrictions first greatest_place) (same inside))
+      (joined fit_two inside (speeds ++ restricted) inside (both_ask static restrictions first greatest_place) (same inside))
 
   -- as they are reported
   pub reported_ask : (last : Option Target) →

@@ -2,7 +2,7 @@
 ghost use Rattle.std.specs.Prelude.{◌≡◌, ◌≤◌, ◌≤ℤ◌, ◌++◌, None, Some, List};
 ghost use Rattle.std.specs.Iterator.{Drains};
 ghost use Rattle.track_store.specs.Profiles.{listed};
-ghost use Rattle.braking.specs.declared.target.Target.{Target as TargetAsked};
+ghost use Rattle.braking.specs.declared.target.Target.{Target as RequestedTarget};
 ghost use Rattle.braking.specs.Approaches.{lowered_by};
 ghost use Rattle.speed_profile.specs.Ahead.{targets_ahead, permitted_ahead, setting_out};
 ghost use Rattle.speed_profile.specs.Targets.{AskTheSame, Describes};
@@ -107,7 +107,7 @@ impl<'a, S: Profile<CategorySpeeds>, G: Profile<Permille>> Ahead<'a, S, G> {
     pub fn targets(&self, last: Option<Target>) -> Targets<'a, S>
         ensures left { AskTheSame result.targets
             (targets_ahead self.now.front self.now.bounds.now (speeds_along S.value self.now.track.now) ++ listed last) }
-        ensures reported { (reported : List TargetAsked) → Drains Describes result reported → AskTheSame reported
+        ensures reported { (reported : List RequestedTarget) → Drains Describes result reported → AskTheSame reported
             (targets_ahead self.now.front self.now.bounds.now (speeds_along S.value self.now.track.now) ++ listed last) }
     {
         Targets::new(self.front, self.bounds, self.track, last)

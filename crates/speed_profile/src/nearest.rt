@@ -2,7 +2,7 @@
 //! summed once.
 ghost use Rattle.std.specs.Prelude.{◌≡◌, ℕ, ◌+◌, ◌<◌, ◌≤◌, ◌≤ℤ◌, List, ◌∷◌, [], ◌++◌, None, false, length, take, drop, IsTrue, IfSome};
 ghost use Rattle.track_store.specs.Profiles.{listed};
-ghost use Rattle.braking.specs.declared.target.Target.{Target as TargetAsked};
+ghost use Rattle.braking.specs.declared.target.Target.{Target as RequestedTarget};
 ghost use Rattle.braking.specs.Approaches.{lowered_by};
 ghost use Rattle.speed_profile.specs.Targets.{AskNothing, AskTheSame, AskTheSameOf, held};
 
@@ -97,7 +97,7 @@ fn next_to_brake_for<'a, G: Profile<Permille>>(
     approach: &Approach<'a, G>,
     others: &mut OtherTargets<'a>,
 ) -> Option<Target>
-    ensures asked { AskTheSameOf (G.value approach.now.gradient) approach.now others.old.targets (listed result ++ others.new.targets) }
+    ensures requested { AskTheSameOf (G.value approach.now.gradient) approach.now others.old.targets (listed result ++ others.new.targets) }
     ensures none { result ≡ None → AskNothing others.new.targets }
 {
     while let Some(target) = others.next() {
@@ -131,8 +131,8 @@ fn lower_by_nearest<'a, S: Profile<CategorySpeeds>, G: Profile<Permille>>(
 }
 
 // The same, in places that hold none. Of those of one speed only the nearest is gone to, and of those of several only
-// the ones that are nearer than each slower one, the fastest first. So they lie farther and farther ahead, and what lies
-// between is summed once.
+// the ones that are nearer than each slower one, the fastest first. So they lie farther and farther ahead, and what
+// lies between is summed once.
 #[inline(never)]
 fn lower_by_held<'a, S: Profile<CategorySpeeds>, G: Profile<Permille>>(
     approach: &mut Approach<'a, G>,
@@ -179,7 +179,7 @@ fn take<'a, G: Profile<Permille>>(
 )
     requires { 1 ≤ length nearest.old }
     ensures length { length nearest.new ≡ length nearest.old }
-    ensures asked { (others : List TargetAsked) → lowered_by (G.value approach.new.gradient) (held nearest.new ++ others) approach.new
+    ensures requested { (others : List RequestedTarget) → lowered_by (G.value approach.new.gradient) (held nearest.new ++ others) approach.new
         ≡ lowered_by (G.value approach.old.gradient) (target.now ∷ (held nearest.old ++ others)) approach.old }
 {
     if !hold(nearest, target) {
@@ -187,8 +187,8 @@ fn take<'a, G: Profile<Permille>>(
     }
 }
 
-// Holds a target in the place of its step, or in the first one where its speed is above the greatest step, where it asks
-// for all that the one there does, or that one for all that it does; else false, and nothing changes.
+// Holds a target in the place of its step, or in the first one where its speed is above the greatest step, where it
+// asks for all that the one there does, or that one for all that it does; else false, and nothing changes.
 fn hold(nearest: &mut [Option<Target>], target: &Target) -> bool
     requires { 1 ≤ length nearest.old }
     ensures length { length nearest.new ≡ length nearest.old }
@@ -234,7 +234,7 @@ fn is_no_nearer(near: &Target, far: &Target) -> bool
 // come to stand at the end, in their order; answers where they begin.
 fn gather_deciding(nearest: &mut [Option<Target>]) -> usize
     ensures within { result ≤ length nearest.new }
-    ensures asked { AskTheSame (held (drop result nearest.new)) (held nearest.old) }
+    ensures requested { AskTheSame (held (drop result nearest.new)) (held nearest.old) }
 {
     let mut first = nearest.len();
     for step in (0..nearest.len()).rev() {
@@ -255,7 +255,7 @@ fn put_before(nearest: &mut [Option<Target>], first: usize, target: &Target) -> 
     ensures most { result ≤ first }
     ensures least { first ≤ result + 1 }
     ensures left { (count : ℕ) → count < first → take count nearest.new ≡ take count nearest.old }
-    ensures asked { AskTheSame (held (drop result nearest.new)) (target.now ∷ held (drop first nearest.old)) }
+    ensures requested { AskTheSame (held (drop result nearest.new)) (target.now ∷ held (drop first nearest.old)) }
 {
     if first < nearest.len() && is_decided(&nearest[first], target) {
         return first;
@@ -296,7 +296,7 @@ fn lower_if_held<'a, S: Profile<CategorySpeeds>, G: Profile<Permille>>(
     speeds: &mut SpeedTargets<'a, S>,
     place: &Option<Target>,
 )
-    ensures { (others : List TargetAsked) → lowered_by (G.value approach.new.gradient) (speeds.new.targets ++ others) approach.new
+    ensures { (others : List RequestedTarget) → lowered_by (G.value approach.new.gradient) (speeds.new.targets ++ others) approach.new
         ≡ lowered_by (G.value approach.old.gradient) (speeds.old.targets ++ (listed place.now ++ others)) approach.old }
 {
     if let Some(target) = place {

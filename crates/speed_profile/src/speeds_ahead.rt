@@ -1,6 +1,6 @@
 //! An approach to the static speeds ahead, and to another target between them.
 ghost use Rattle.std.specs.Prelude.{◌≡◌, ◌<◌, List, ◌∷◌, ◌++◌, Some, IfSome};
-ghost use Rattle.braking.specs.declared.target.Target.{Target as TargetAsked};
+ghost use Rattle.braking.specs.declared.target.Target.{Target as RequestedTarget};
 ghost use Rattle.braking.specs.Approaches.{lowered_by};
 
 use crate::CategorySpeeds;
@@ -29,7 +29,7 @@ pub fn lower_up_to<'a, S: Profile<CategorySpeeds>, G: Profile<Permille>>(
     speeds: &mut SpeedTargets<'a, S>,
     target: &Target,
 )
-    ensures { (others : List TargetAsked) → lowered_by (G.value approach.new.gradient) (speeds.new.targets ++ others) approach.new
+    ensures { (others : List RequestedTarget) → lowered_by (G.value approach.new.gradient) (speeds.new.targets ++ others) approach.new
         ≡ lowered_by (G.value approach.old.gradient) (speeds.old.targets ++ (target.now ∷ others)) approach.old }
 {
     while let Some(place) = speeds.start() {
@@ -49,7 +49,7 @@ fn lower_by_next<'a, S: Profile<CategorySpeeds>, G: Profile<Permille>>(
     place: Cm,
 )
     requires { speeds.old.speeds_from ≡ Some place }
-    ensures asked { lowered_by (G.value approach.new.gradient) speeds.new.targets approach.new
+    ensures requested { lowered_by (G.value approach.new.gradient) speeds.new.targets approach.new
         ≡ lowered_by (G.value approach.old.gradient) speeds.old.targets approach.old }
     ensures fewer { IfSome speeds.new.speeds_from (λ left. speeds.new.most < speeds.old.most) }
 {
@@ -65,7 +65,7 @@ pub fn lower_by_piece<'a, S: Profile<CategorySpeeds>, G: Profile<Permille>>(
     approach: &mut Approach<'a, G>,
     speeds: &mut SpeedTargets<'a, S>,
 )
-    ensures asked { lowered_by (G.value approach.new.gradient) speeds.new.targets approach.new
+    ensures requested { lowered_by (G.value approach.new.gradient) speeds.new.targets approach.new
         ≡ lowered_by (G.value approach.old.gradient) speeds.old.targets approach.old }
     ensures fewer { IfSome speeds.old.speeds_from (λ place. speeds.new.most < speeds.old.most) }
 {

@@ -65,18 +65,18 @@ module _ (journey : Journey) (limit : ℕ) where
       let test = fits_all_on journey (ahead ++ []) in
       let w : ℕ = speed + 1 in
       let fail : test w ≡ false = above_fails test limit w (omega (arith, is)) (omega (arith, less)) in
-      let both : test w ≡ (fits_all_on journey ahead w && true) = fit_both journey.front journey.gradient journey.brakes ahead [] w in
-      absurd (let no : true ≡ false = sym (both ∙ ap (λ (b : Bool). b && true) fit) ∙ fail in cc)
+      let two_fit : test w ≡ (fits_all_on journey ahead w && true) = fit_both journey.front journey.gradient journey.brakes ahead [] w in
+      absurd (let no : true ≡ false = sym (two_fit ∙ ap (λ (b : Bool). b && true) fit) ∙ fail in cc)
   last_decides (Some l) speed is last less fit =
       let ahead : List Target = along_track journey in
       let t : Target = l.target in
       let test = fits_all_on journey (ahead ++ (t ∷ [])) in
       let w : ℕ = speed + 1 in
       let fail : test w ≡ false = above_fails test limit w (omega (arith, is)) (omega (arith, less)) in
-      let both : test w ≡ (fits_all_on journey ahead w && (fits_on journey t w && true)) =
+      let two_fit : test w ≡ (fits_all_on journey ahead w && (fits_on journey t w && true)) =
       fit_both journey.front journey.gradient journey.brakes ahead (t ∷ []) w in
       let unfit : fits_on journey t w ≡ false =
-      last_fails (fits_on journey t w) (sym (both ∙ ap (λ (b : Bool). b && (fits_on journey t w && true)) fit) ∙ fail) in
+      last_fails (fits_on journey t w) (sym (two_fit ∙ ap (λ (b : Bool). b && (fits_on journey t w && true)) fit) ∙ fail) in
       let below : greatest test limit < limit = omega (arith, is, less) in
       let next : w ≡ greatest test limit + 1 = omega (arith, is) in
       let gives : greatest (fits_on journey t) limit ≡ speed =

@@ -84,9 +84,9 @@ module _ (journey : Journey) (speed : ℕ) where
       let areas = inside journey.track.areas in
       let all = along_track journey in
       let fit = λ (ts : List Target). fits_all_on journey ts speed in
-      let both = λ (some others : List Target) (a : fit some ≡ true) (b : fit others ≡ true).
+      let two_fit = λ (some others : List Target) (a : fit some ≡ true) (b : fit others ≡ true).
       fit_both front journey.gradient journey.brakes some others speed ∙ and_from (fit some) (fit others) a b in
-      let reported : fit (static ++ (rs ++ (areas ++ []))) ≡ true = both static (rs ++ (areas ++ [])) s (both rs (areas ++ []) r (both areas [] i refl)) in
+      let reported : fit (static ++ (rs ++ (areas ++ []))) ≡ true = two_fit static (rs ++ (areas ++ [])) s (two_fit rs (areas ++ []) r (two_fit areas [] i refl)) in
       sym (nothing_more all front journey.gradient journey.brakes speed)
       ∙ sym (reported_ask front journey.bounds journey.track None front journey.gradient journey.brakes speed)
       ∙ reported

@@ -31,8 +31,8 @@ module _ (national : NationalSpeeds) (areas : List Area) (train : Span) (limit :
   pub area_named : (area : Area) → find makes_it areas ≡ Some area → IsAreaOver national areas train limit area
   area_named area h =
       let w = found makes_it areas area h in
-      let both = and_parts (is_met train area) (speed_in national area == limit) w.1 in
-      (w.0, both.0, eqb-true (speed_in national area) limit both.1)
+      let halves = and_parts (is_met train area) (speed_in national area == limit) w.1 in
+      (w.0, halves.0, eqb-true (speed_in national area) limit halves.1)
 
   pub none_over : find makes_it areas ≡ None → (area : Area) → IsAreaOver national areas train limit area → ⊥
   none_over none area named =
@@ -57,9 +57,9 @@ module _ (track : InForce) (train : Span) (limit : ℕ) where
   restriction_named restriction h =
       let first : ℤ = int_max track.mark train.rear in
       let w = found (limits_so first) track.restrictions restriction h in
-      let both = and_parts (meets first train restriction) (restriction.speed == limit) w.1 in
-      let there = met_limits restriction.delay track.mark train restriction.start (end_of restriction) both.0 in
-      (w.0, eqb-true restriction.speed limit both.1, (there.0, (there.1, there.2), there.3))
+      let halves = and_parts (meets first train restriction) (restriction.speed == limit) w.1 in
+      let there = met_limits restriction.delay track.mark train restriction.start (end_of restriction) halves.0 in
+      (w.0, eqb-true restriction.speed limit halves.1, (there.0, (there.1, there.2), there.3))
 
   no_restriction : find (limits_so (int_max track.mark train.rear)) track.restrictions ≡ None →
       (speed : ℕ) → least_speed track train speed ≡ limit → speed ≡ limit
@@ -117,8 +117,8 @@ not_within first last there (Some next) h a b c = grind (arith, ints)
 pub within : (first last : ℤ) (next : Option ℤ) → (is_before first next && not (int_lt last first)) ≡ true →
     (is_before first next ≡ true) × (first ≤ℤ last)
 within first last next h =
-    let both = and_parts (is_before first next) (not (int_lt last first)) h in
-    (both.0, grind (arith, ints))
+    let halves = and_parts (is_before first next) (not (int_lt last first)) h in
+    (halves.0, grind (arith, ints))
 
 module _ (value : ℤ → Option CategorySpeeds) (category : ℕ) (train : Span) (limit : ℕ) where
   abbrev pub limits_here : ℤ → Option CategorySpeeds → Type 0

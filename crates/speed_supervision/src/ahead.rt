@@ -71,8 +71,8 @@ fn unfit_static_speed<S: Profile<CategorySpeeds>, G: Profile<Permille>>(
     let mut near = 0;
     while let Some(place) = start {
         let here = ahead.track.speeds.piece(place, near);
-        let asked = static_target(ahead.bounds, place, here.value);
-        if let Some(target) = unfit(approach, asked) {
+        let requested = static_target(ahead.bounds, place, here.value);
+        if let Some(target) = unfit(approach, requested) {
             let kind = static_kind(&here.value);
             return Some(TargetAhead { target, kind });
         }
@@ -108,8 +108,8 @@ fn unfit_restriction<S: Profile<CategorySpeeds>, G: Profile<Permille>>(
     let mark = ahead.track.restrictions.mark();
     let restrictions = ahead.track.restrictions.as_slice();
     for restriction in restrictions {
-        let asked = first_target(ahead.front, mark, restriction);
-        if let Some(target) = unfit(approach, asked) {
+        let requested = first_target(ahead.front, mark, restriction);
+        if let Some(target) = unfit(approach, requested) {
             let kind = TargetKind::Restriction(*restriction);
             return Some(TargetAhead { target, kind });
         }
@@ -132,8 +132,8 @@ fn unfit_area<S: Profile<CategorySpeeds>, G: Profile<Permille>>(
 {
     let areas = ahead.track.areas.as_slice();
     for area in areas {
-        let asked = first_in_area(ahead.front, &ahead.track.national, area);
-        if let Some(target) = unfit(approach, asked) {
+        let requested = first_in_area(ahead.front, &ahead.track.national, area);
+        if let Some(target) = unfit(approach, requested) {
             let kind = TargetKind::Area(*area);
             return Some(TargetAhead { target, kind });
         }

@@ -57,7 +57,7 @@ pub fn restriction_over(
     ensures over { MatchOption result
         ((speed : ℕ) → least_speed restrictions.now.track train.now speed ≡ limit → speed ≡ limit)
         (IsRestrictionOver restrictions.now.track train.now limit) }
-    ensures none { IfNone result ((it : a_restriction) → IsRestrictionOver restrictions.now.track train.now limit it → ⊥) }
+    ensures none { IfNone result ((speed_restriction : a_restriction) → IsRestrictionOver restrictions.now.track train.now limit speed_restriction → ⊥) }
 {
     let first = restrictions.mark().max(train.rear());
     first_met(restrictions.as_slice(), first, train, limit)

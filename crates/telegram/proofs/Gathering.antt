@@ -14,10 +14,10 @@ each_count [] bytes = refl
 each_count (extent ∷ extents) bytes = ap suc (each_count extents (drop extent.bytes bytes))
 
 -- each has at most 104 bytes
-pub gathered_room : (extents : List Extent) (bytes : List ℕ) → AreGathered extents bytes → length bytes ≤ length extents * 104
-gathered_room [] bytes held = omega (arith, ap length held)
-gathered_room (extent ∷ extents) bytes held =
-    let others = gathered_room extents (drop extent.bytes bytes) held.2 in
+pub gathered_space : (extents : List Extent) (bytes : List ℕ) → AreGathered extents bytes → length bytes ≤ length extents * 104
+gathered_space [] bytes held = omega (arith, ap length held)
+gathered_space (extent ∷ extents) bytes held =
+    let others = gathered_space extents (drop extent.bytes bytes) held.2 in
     let first : length (take extent.bytes bytes) ≤ 104 = held.1.small in
     omega (arith, others, first, held.0, length-drop extent.bytes bytes, length-take-le extent.bytes bytes held.0)
 

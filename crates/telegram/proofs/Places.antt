@@ -71,13 +71,13 @@ all_stand bytes start [] bits rest here within b = All-nil StandsInPlace
 all_stand bytes start (p ∷ ps) bits rest here within b =
     let long = length-next_packet p b.1.front b.1.spelled in
     let following = ap length here in
-    let room : start + length_of p ≤ 8 * length bytes =
+    let space : start + length_of p ≤ 8 * length bytes =
     omega (arith, following, ap length b.1.parts, length-append b.1.front b.0, length-drop start (bits_of bytes), length-bits_of bytes, long) in
     let next : drop (start + length_of p) (bits_of bytes) ≡ b.0 =
     sym (drop-drop (length_of p) start (bits_of bytes)) ∙ ap (drop (length_of p)) (here ∙ b.1.parts) ∙ drop_at b.1.front b.0 (length_of p) long in
     All-cons StandsInPlace (place bytes start p) (located_from bytes (start + length_of p) ps)
-    (stands bytes start p b.1.front b.0 room (here ∙ b.1.parts) b.1.spelled)
-    (all_stand bytes (start + length_of p) ps b.0 rest next room b.2)
+    (stands bytes start p b.1.front b.0 space (here ∙ b.1.parts) b.1.spelled)
+    (all_stand bytes (start + length_of p) ps b.0 rest next space b.2)
 
 -- after a front of so many bits
 pub after_front : (front rest bits : List Bool) (n : ℕ) → bits ≡ front ++ rest → length rest + n ≡ length bits → drop n bits ≡ rest

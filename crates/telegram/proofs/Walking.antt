@@ -85,7 +85,7 @@ packets_after bytes t c =
 pub all_after : (bytes : List ℕ) (t : Telegram) (n : ℕ) → Carries bytes t → n ≡ length t.packets.items → packets_in n (drop header_bits (bits_of bytes)) ≡ t.packets.items
 all_after bytes t n c e = subst (λ (k : ℕ). packets_in k (drop header_bits (bits_of bytes)) ≡ t.packets.items) (sym e) (packets_after bytes t c)
 
--- what has room after the header and before the end mark
+-- what has space after the header and before the end mark
 pub few_packets : (bytes : List ℕ) (t : Telegram) → Carries bytes t → length t.packets.items ≤ 33
 few_packets bytes t c =
     let b = carried bytes t c in

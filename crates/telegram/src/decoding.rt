@@ -35,7 +35,7 @@ pub(crate) fn read_next<'a>(
 }
 
 /// Reads packets up to the end mark. After the header of at most `TELEGRAM_BYTES` there are at most 34 of them, and 34
-/// leave no room for the end mark.
+/// leave no space for the end mark.
 fn read_packets<'a>(
     reader: &mut BitReader<'a>,
     packets: &mut ArrayVec<Packet<'a>, 33>,

@@ -35,7 +35,7 @@ fn write_header(header: &Header, writer: &mut BitWriter<TELEGRAM_BYTES>)
 /// Writes packets that have a spelling, and the end mark.
 fn write_packets(packets: &[Packet<'_>], writer: &mut BitWriter<TELEGRAM_BYTES>) -> Result<(), Full>
     requires { (bits : List Bool) × SpellsPackets packets.now bits }
-    ensures room { (bits : List Bool) → SpellsPackets packets.now bits → (IsOk result ↔ (length writer.old + length bits ≤ 8 * TELEGRAM_BYTES)) }
+    ensures space { (bits : List Bool) → SpellsPackets packets.now bits → (IsOk result ↔ (length writer.old + length bits ≤ 8 * TELEGRAM_BYTES)) }
     ensures ok { OnOk result ((bits : List Bool) → SpellsPackets packets.now bits → writer.new ≡ writer.old ++ bits) }
 {
     for packet in packets {
@@ -51,7 +51,7 @@ fn write_packets(packets: &[Packet<'_>], writer: &mut BitWriter<TELEGRAM_BYTES>)
 /// (`Telegram::has_spelling`).
 pub fn encode(telegram: &Telegram<'_>, out: &mut [u8; TELEGRAM_BYTES]) -> Result<usize, TooLong>
     requires { (bits : List Bool) × SpellsTelegram telegram.now bits }
-    ensures room { (bits : List Bool) → SpellsTelegram telegram.now bits → (IsOk result ↔ (length bits ≤ 8 * TELEGRAM_BYTES)) }
+    ensures space { (bits : List Bool) → SpellsTelegram telegram.now bits → (IsOk result ↔ (length bits ≤ 8 * TELEGRAM_BYTES)) }
     ensures ok { IfOk result (λ n. Encoded telegram.now out.old out.new n) }
     ensures again { IfOk result (λ n. Carries (take n out.new) telegram.now) }
     ensures err { OnErr result (out.new ≡ out.old) }

@@ -24,7 +24,7 @@ pub struct Extent {
     pub(crate) packets: u32,
 }
 
-/// Fills room that isn't in use.
+/// Fills unused elements.
 impl Default for Extent {
     fn default() -> Extent {
         Extent {

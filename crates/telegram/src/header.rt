@@ -53,10 +53,10 @@ impl Default for Header {
 
 impl Header {
     /// Hands all fields to the sink, `HEADER_BITS` in all; stops with the sink's error where it takes no more. The
-    /// caller owes room in the sink.
+    /// caller owes space in the sink.
     #[tactic(auto, unfolding(crate::specs::Telegrams::header))]
     pub fn fields<S: FieldSink>(&self, sink: &mut S) -> Result<(), S::Error>
-        requires room { S.held sink.old + HEADER_BITS ≤ S.most }
+        requires space { S.held sink.old + HEADER_BITS ≤ S.most }
         ensures { OnOk result (S.seen sink.new ≡ taken S.took header_layout self.now (S.seen sink.old)) }
     {
         ok!(sink.field(VariableName::QUpdown, 1, 1));

@@ -1,6 +1,6 @@
 //! Laws: how many packets a telegram has, how it is spelled, where its packets stand, what sinks take.
 ghost use Rattle.std.specs.Prelude.{◌≡◌, ◌≤◌, ◌++◌, ℕ, List, Bool, length, All};
-ghost use Rattle.bits.specs.Writing.{taken, shown, each_field};
+ghost use Rattle.bits.specs.Writing.{taken, field_list, each_field};
 ghost use Rattle.telegram.specs.Telegrams.{header, Carries, SpellsTelegram};
 ghost use Rattle.telegram.specs.declared.header.Header.{Header};
 ghost use Rattle.telegram.specs.Walks.{Walk, IsWalkOf, StandsInPlace};
@@ -26,5 +26,5 @@ pub fn packets_stand_in_place()
 
 /// Whatever sink a header is handed to takes the list of the header's fields, one after another, and nothing else.
 pub fn sinks_take_header_fields<S: FieldSink>()
-    ensures { (h : Header) (s : S.Seen) → taken S.took header h s ≡ each_field S.took (shown header h) s }
+    ensures { (h : Header) (s : S.Seen) → taken S.took header h s ≡ each_field S.took (field_list header h) s }
 {}

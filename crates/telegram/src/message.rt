@@ -79,7 +79,7 @@ impl<'a> Telegram<'a> {
     /// Appends a packet. TooLong where there are 33 packets already, and then nothing changes. A telegram that has a
     /// spelling has one still where the packet has one (`Packet::has_spelling`).
     pub fn push(&mut self, packet: Packet<'a>) -> Result<(), TooLong>
-        ensures room { IsOk result ↔ (length self.old.packets.items < 33) }
+        ensures space { IsOk result ↔ (length self.old.packets.items < 33) }
         ensures packets { OnOk result (self.new.packets.items ≡ self.old.packets.items ++ packet.entry ∷ []) }
         ensures header { self.new.header ≡ self.old.header }
         ensures spelled { ((bits : List Bool) × SpellsTelegram self.old bits) → ((bits : List Bool) × Spells packet_layout packet.entry bits)

@@ -46,11 +46,11 @@ pub put_next : (w0 w1 w2 : List Bool) (f : FieldValue) (fs reported : List Field
 put_next w0 w1 w2 f fs reported one two e =
     two ∙ ap (λ (t : List Bool). t ++ fields_bits fs) one ∙ append_assoc w0 (number_bits f.width f.number) (fields_bits fs) ∙ ap (λ (l : List FieldValue). w0 ++ fields_bits l) (sym e)
 
-pub room_first : (w0 : List Bool) (f : FieldValue) (fs reported : List FieldValue) → reported ≡ f ∷ fs → length w0 + fields_size reported ≤ 832 → length w0 + f.width ≤ 832
-room_first w0 f fs reported e room = omega (arith, ap fields_size e)
+pub space_first : (w0 : List Bool) (f : FieldValue) (fs reported : List FieldValue) → reported ≡ f ∷ fs → length w0 + fields_size reported ≤ 832 → length w0 + f.width ≤ 832
+space_first w0 f fs reported e space = omega (arith, ap fields_size e)
 
-pub room_next : (w0 w1 : List Bool) (f : FieldValue) (fs reported : List FieldValue) → reported ≡ f ∷ fs → length w0 + fields_size reported ≤ 832 → w1 ≡ w0 ++ number_bits f.width f.number → length w1 + fields_size fs ≤ 832
-room_next w0 w1 f fs reported e room one = omega (arith, ap fields_size e, ap length one, length-append w0 (number_bits f.width f.number), length-number_bits f.width f.number)
+pub space_next : (w0 w1 : List Bool) (f : FieldValue) (fs reported : List FieldValue) → reported ≡ f ∷ fs → length w0 + fields_size reported ≤ 832 → w1 ≡ w0 ++ number_bits f.width f.number → length w1 + fields_size fs ≤ 832
+space_next w0 w1 f fs reported e space one = omega (arith, ap fields_size e, ap length one, length-append w0 (number_bits f.width f.number), length-number_bits f.width f.number)
 
 -- ---- the parts of a packet
 
@@ -75,10 +75,10 @@ all_put d bits w0 w1 w2 w3 l n same one two three =
 pub body_put : (d : Data) (others : List FieldValue) (body w2 w3 : List Bool) (r : Bool) (count : ℕ) → (BeginWithOther others × (body ≡ [])) ⊎ ((others ≡ []) × DescribesBits d body) → count ≡ length body
     → length w2 + length body ≤ 832 → ((b : List Bool) → DescribesBits d b → count ≡ length b → length w2 + length b ≤ 832 → (r ≡ true) × (w3 ≡ w2 ++ b)) → (count ≡ 0 → (r ≡ true) × (w3 ≡ w2))
     → (r ≡ true) × (w3 ≡ w2 ++ body)
-body_put d others body w2 w3 r count (inl h) long room some none =
+body_put d others body w2 w3 r count (inl h) long space some none =
     let n = none (long ∙ ap length h.1) in
     (n.0, n.1 ∙ sym (append-nil w2) ∙ ap (λ (t : List Bool). w2 ++ t) (sym h.1))
-body_put d others body w2 w3 r count (inr h) long room some none = some body h.1 long room
+body_put d others body w2 w3 r count (inr h) long space some none = some body h.1 long space
 
 pub begins_or_none : (d : Data) (others : List FieldValue) (body : List Bool) → (BeginWithOther others × (body ≡ [])) ⊎ ((others ≡ []) × DescribesBits d body) → BeginWithOther others ⊎ (others ≡ [])
 begins_or_none d others body (inl h) = inl h.0

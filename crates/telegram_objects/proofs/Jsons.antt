@@ -42,7 +42,7 @@ next_pair x xs (f ∷ fields) e = record { first = f; others = fields; fields_ar
 
 pub list_reported : (d : Data) (vs ws : List Value) (ds : List Data) → Some (items_view vs) ≡ as_array d → ws ≡ vs → d ≡ array (items_of ds) → map view ws ≡ ds
 list_reported d vs ws ds e w reported =
-    let both : Some (items_of (map view vs)) ≡ Some (items_of ds) = e ∙ ap as_array reported in
+    let items_alike : Some (items_of (map view vs)) ≡ Some (items_of ds) = e ∙ ap as_array reported in
     let same : items_of (map view vs) ≡ items_of ds = cc in
     ap (map view) w ∙ items_same (map view vs) ds same
 

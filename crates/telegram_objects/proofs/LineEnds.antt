@@ -47,12 +47,12 @@ unfolding lex print_from ArePrintable
 same_lexemes c [] tail e none h = none
 same_lexemes c (t ∷ ts) tail e none h =
     let more = print_from (ends t) ts in
-    let both : lex between (token_text t ++ (more ++ tail)) ≡ lex between (token_text t ++ more) =
+    let lexed_alike : lex between (token_text t ++ (more ++ tail)) ≡ lex between (token_text t ++ more) =
     token_first t (more ++ tail) h.0 (λ is. ap (λ b. ends_word (print_from b ts ++ tail)) is ∙ value_ends ts tail e)
     ∙ ap (λ l. token_lexemes t ++ l) (same_lexemes (ends t) ts tail e none h.1)
     ∙ sym (token_first t more h.0 (λ is. ap (λ b. ends_word (print_from b ts)) is ∙ ap ends_word (sym (append-nil (print_from true ts))) ∙ value_ends ts [] refl)) in
     ap (lex between) (append_assoc (cond (c && begins t) (44 ∷ []) []) (token_text t ++ more) tail ∙ ap (λ l. cond (c && begins t) (44 ∷ []) [] ++ l) (append_assoc (token_text t) more tail))
-    ∙ comma_first (c && begins t) (token_text t ++ (more ++ tail)) (token_text t ++ more) both
+    ∙ comma_first (c && begins t) (token_text t ++ (more ++ tail)) (token_text t ++ more) lexed_alike
 
 -- the tokens of a line are those that were printed
 pub tokens-line : (ts : List Token) → ArePrintable ts → tokens (print ts ++ 10 ∷ []) ≡ ts

@@ -5,8 +5,8 @@ use Rattle.json.specs.Json.{document}
 use Rattle.json.specs.Strict.{HasUniqueKeys}
 use Rattle.json_values.specs.Names.{HasUniqueNames, HasRepeats}
 
-pub unique_alone : (text : List ℕ) → HasUniqueNames text → HasRepeats text → ⊥
-unique_alone text u r =
+pub unique_without_repeats : (text : List ℕ) → HasUniqueNames text → HasRepeats text → ⊥
+unique_without_repeats text u r =
     let same : u.0 ≡ r.0 = same_Some u.0 r.0 (sym u.1 ∙ r.1) in
     r.2 (subst HasUniqueKeys same u.2)
 

@@ -154,13 +154,13 @@ line_read d h shallow =
     ap (λ (s : List ℕ). tokens (s ++ 10 ∷ [])) (sym (print-outline d)) ∙ tokens-line all (ArePrintable-json_tokens (outline d) (HasNumbers-outline d h)) in
     ap whole (ap (json.value max_depth) (found ∙ sym (append-nil all)) ∙ value-json_tokens (outline d) max_depth [] (omega (arith, depth-outline d))) ∙ of_json-outline d h
 
-abbrev alone : Option (json.Json × List Token) → Option json.Json
-alone o = option_and_then (λ p. json.if_last p.0 p.1) o
+abbrev single : Option (json.Json × List Token) → Option json.Json
+single o = option_and_then (λ p. json.if_last p.0 p.1) o
 
 pub line_document : (d : Data) → IsWritable d → depth d ≤ max_depth → json.document (compact_text d ++ 10 ∷ []) ≡ Some (outline d)
 line_document d h shallow =
     let all = json_tokens (outline d) in
     let found : tokens (compact_text d ++ 10 ∷ []) ≡ all =
     ap (λ (s : List ℕ). tokens (s ++ 10 ∷ [])) (sym (print-outline d)) ∙ tokens-line all (ArePrintable-json_tokens (outline d) (HasNumbers-outline d h)) in
-    ap alone
+    ap single
     (ap (json.value json.max_depth) (found ∙ sym (append-nil all)) ∙ value-json_tokens (outline d) json.max_depth [] (omega (arith, shallow, depth-outline d)))

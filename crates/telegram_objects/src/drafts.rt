@@ -15,7 +15,7 @@ pub(crate) const MOST_BITS: u64 = 832;
 // The bits of NID_PACKET, Q_DIR and L_PACKET.
 const HEAD_BITS: u64 = 23;
 
-/// Writes a number in so many bits. Full where it doesn't fit them, or there is no room.
+/// Writes a number in so many bits. Full where it doesn't fit them, or there is no space.
 pub(crate) fn put(
     writer: &mut BitWriter<TELEGRAM_BYTES>,
     width: u32,

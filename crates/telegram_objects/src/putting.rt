@@ -131,7 +131,7 @@ fn put_front(bytes: &[u8], count: u64, writer: &mut BitWriter<TELEGRAM_BYTES>) -
     ensures { (body : List Bool) (n : ℕ) → bits_of bytes.now ≡ body ++ replicate n false → count ≡ length body → length writer.old + length body ≤ 832
         → (result ≡ true) × (writer.new ≡ writer.old ++ body) }
 {
-    if count > 832 || !writer.has_room(count) {
+    if count > 832 || !writer.has_space(count) {
         return false;
     }
     match BitReader::new(bytes).run(count as u32) {

@@ -46,7 +46,7 @@ fn carry_reported(bytes: &[u8], object: &Value) -> bool
 
 fn bytes_reported(object: &Value) -> Option<TelegramBytes>
     ensures found { IfSome result (λ bytes. (t : Telegram) × Carries bytes.items t × DescribesTelegram (view object.now) t) }
-    ensures each { (t : Telegram) (bytes : List ℕ) (it : Carries bytes t) → DescribesTelegram (view object.now) t → IsSomeAnd result (λ reported. Carries reported.items t × ArePadded it.front reported.items) }
+    ensures each { (t : Telegram) (bytes : List ℕ) (carried : Carries bytes t) → DescribesTelegram (view object.now) t → IsSomeAnd result (λ reported. Carries reported.items t × ArePadded carried.front reported.items) }
 {
     let mut writer: BitWriter<TELEGRAM_BYTES> = BitWriter::new();
     if put_telegram(object, &mut writer) {
@@ -61,12 +61,12 @@ fn bytes_reported(object: &Value) -> Option<TelegramBytes>
     }
 }
 
-/// The bytes of the telegram that an object reports (SUBSET-026, 8.4.2), padded with zero bits to whole bytes. The fault
-/// is that of the first place in the object's order, the header before the packets.
+/// The bytes of the telegram that an object reports (SUBSET-026, 8.4.2), padded with zero bits to whole bytes. The
+/// fault is that of the first place in the object's order, the header before the packets.
 pub fn bytes_of(object: &Value) -> Result<TelegramBytes, ObjectFault>
     ensures found { IsOk result ↔ IsReported (view object.now) }
     ensures reported { IfOk result (λ bytes. (t : Telegram) × Carries bytes.items t × DescribesTelegram (view object.now) t) }
-    ensures each { (t : Telegram) (bytes : List ℕ) (it : Carries bytes t) → DescribesTelegram (view object.now) t → IfOk result (λ reported. Carries reported.items t × ArePadded it.front reported.items) }
+    ensures each { (t : Telegram) (bytes : List ℕ) (carried : Carries bytes t) → DescribesTelegram (view object.now) t → IfOk result (λ reported. Carries reported.items t × ArePadded carried.front reported.items) }
 {
     match bytes_reported(object) {
         Some(bytes) => Ok(bytes),
@@ -84,11 +84,11 @@ fn no_memory() -> ObjectFault
 }
 
 // The bytes of the telegram that an object reports whose text this is.
-#[tactic(auto, using(crate::proofs::NoRepeats::unique_alone, crate::proofs::NoRepeats::unique_is_json))]
+#[tactic(auto, using(crate::proofs::NoRepeats::unique_without_repeats, crate::proofs::NoRepeats::unique_is_json))]
 fn bytes_of_unique(alloc: Global, text: &[u8], object: &Value) -> Result<TelegramBytes, ObjectFault>
     ensures unique { IsOk result → HasUniqueNames text.now }
     ensures reported { IfOk result (λ bytes. (t : Telegram) × Carries bytes.items t × DescribesTelegram (view object.now) t) }
-    ensures each { IsUtf8 text.now → HasUniqueNames text.now → (t : Telegram) (bytes : List ℕ) (it : Carries bytes t) → DescribesTelegram (view object.now) t → IfOk result (λ reported. Carries reported.items t × ArePadded it.front reported.items) }
+    ensures each { IsUtf8 text.now → HasUniqueNames text.now → (t : Telegram) (bytes : List ℕ) (carried : Carries bytes t) → DescribesTelegram (view object.now) t → IfOk result (λ reported. Carries reported.items t × ArePadded carried.front reported.items) }
     ensures refused { IsUtf8 text.now → HasUniqueNames text.now → IfErr result (λ fault. fault.reason ≢ Reason.NoMemory → (t : Telegram) (bytes : List ℕ) → Carries bytes t → DescribesTelegram (view object.now) t → ⊥) }
 {
     match has_repeats(alloc, text) {
@@ -99,12 +99,12 @@ fn bytes_of_unique(alloc: Global, text: &[u8], object: &Value) -> Result<Telegra
     }
 }
 
-/// The bytes of the telegram that the text of an object reports. They are its bits, up to and with the end mark, whatever
-/// stood beyond the end mark in the bytes that it was written of. A text in which a name comes twice in one object
-/// reports none.
+/// The bytes of the telegram that the text of an object reports. They are its bits, up to and with the end mark,
+/// whatever stood beyond the end mark in the bytes that it was written of. A text in which a name comes twice in one
+/// object reports none.
 pub fn bytes_of_text(alloc: Global, text: &[u8]) -> Result<TelegramBytes, ObjectFault>
     ensures reported { IfOk result (λ bytes. (t : Telegram) × Carries bytes.items t × DescribesText text.now t) }
-    ensures each { (t : Telegram) (bytes : List ℕ) (it : Carries bytes t) → DescribesText text.now t → IfOk result (λ reported. Carries reported.items t × ArePadded it.front reported.items) }
+    ensures each { (t : Telegram) (bytes : List ℕ) (carried : Carries bytes t) → DescribesText text.now t → IfOk result (λ reported. Carries reported.items t × ArePadded carried.front reported.items) }
     ensures refused { IfErr result (λ fault. fault.reason ≢ Reason.NoMemory → (t : Telegram) (bytes : List ℕ) → Carries bytes t → DescribesText text.now t → ⊥) }
 {
     match Value::from_slice(alloc, text) {

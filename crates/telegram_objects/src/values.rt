@@ -126,7 +126,7 @@ pub(crate) fn has_only(value: &Value, keys: &[&str]) -> bool
 }
 
 // The number that stands alone in a list.
-fn number_alone(items: &[Value]) -> Option<u64>
+fn single_number(items: &[Value]) -> Option<u64>
     ensures { (n : ℕ) → map view items.now ≡ number (unsigned n) ∷ [] → result ≡ Some n }
 {
     match items.split_first() {
@@ -147,7 +147,7 @@ fn pair_of_parts<'a>(name: &'a Value, others: &[Value]) -> Option<(&'a str, u64)
         → IsSomeAnd result (λ pair. (pair.0.now ≡ codes) × (pair.1 ≡ n)) }
 {
     match name.as_str() {
-        Some(text) => match number_alone(others) {
+        Some(text) => match single_number(others) {
             Some(number) => Some((text, number)),
             None => None,
         },

@@ -1,3 +1,3 @@
 pub mod OutputLine
-pub mod OutputWords
+pub mod OutputNames
 pub mod Pieces

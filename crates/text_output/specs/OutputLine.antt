@@ -2,7 +2,7 @@
 use Rattle.std.specs.Prelude.{ℕ, List, ◌++◌, codes, decimal}
 use Rattle.events.specs.Indications.{number_of}
 use Rattle.events.specs.declared.output.Output.{Output}
-use Rattle.text_output.specs.OutputWords.{mode_text, level_text, brake_text}
+use Rattle.text_output.specs.OutputNames.{mode_text, level_text, brake_text}
 
 unfoldable pub front_of : ℕ → Output → List ℕ
 front_of number output =

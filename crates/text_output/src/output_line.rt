@@ -4,7 +4,7 @@ ghost use Rattle.std.specs.Io.KnownBytes.{Appends};
 ghost use Rattle.text_output.specs.OutputLine.{front_of, back_of, line_of};
 
 use crate::description::write_texts;
-use crate::output_words::{brake_word, level_word, mode_word};
+use crate::output_names::{brake_name, level_name, mode_name};
 use events::Output;
 use itoa::Buffer;
 use std::io;
@@ -16,8 +16,8 @@ fn write_front<W: Write>(number: u64, output: &Output, out: &mut W) -> io::Resul
     ensures { OnOk result (Appends (W.contents out.old) (W.contents out.new) (front_of number output.now)) }
 {
     write_texts("event ", Buffer::new().format(number), out)?;
-    write_texts(" mode ", mode_word(output.mode), out)?;
-    write_texts(" level ", level_word(output.level), out)?;
+    write_texts(" mode ", mode_name(output.mode), out)?;
+    write_texts(" level ", level_name(output.level), out)?;
     Ok(())
 }
 
@@ -27,17 +27,17 @@ fn write_back<W: Write>(output: &Output, out: &mut W) -> io::Result<()>
     ensures { OnOk result (Appends (W.contents out.old) (W.contents out.new) (back_of output.now)) }
 {
     let limit = output.limit.get();
-    let shown = output.indications.number();
-    write_texts(" brake ", brake_word(output.brake), out)?;
+    let indication_bits = output.indications.number();
+    write_texts(" brake ", brake_name(output.brake), out)?;
     write_texts(" limit ", Buffer::new().format(limit), out)?;
-    write_texts(" ind ", Buffer::new().format(shown), out)?;
+    write_texts(" ind ", Buffer::new().format(indication_bits), out)?;
     out.write_all(b"\n")?;
     Ok(())
 }
 
 /// Writes the line of an event's output (this project's profile): `event N mode M level L brake B limit V ind I`. N
-/// counts from 0, V is in metres per hour, I is the sum of the indications' bits (`docs/reference/glossary.md`). The error is
-/// that of a write.
+/// counts from 0, V is in metres per hour, I is the sum of the indications' bits (`docs/reference/glossary.md`). The
+/// error is that of a write.
 pub fn write_line<W: Write>(number: u64, output: &Output, out: &mut W) -> io::Result<()>
     ensures { OnOk result (Appends (W.contents out.old) (W.contents out.new) (line_of number output.now)) }
 {

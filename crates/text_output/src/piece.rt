@@ -23,15 +23,15 @@ pub enum Piece {
     Number(u64),
     /// A number in decimal digits, with a minus before it where it is below zero.
     Signed(i64),
-    /// No text, where an array has room for more pieces than a text has.
+    /// No text, where an array has space for more pieces than a text has.
     Nothing,
 }
 
-/// A word that is the same in both forms.
-pub fn both(word: &'static str) -> Piece
-    ensures { (form : a_form) → text_of form result ≡ word.now }
+/// A text that is the same in both forms.
+pub fn shared_text(text: &'static str) -> Piece
+    ensures { (form : a_form) → text_of form result ≡ text.now }
 {
-    Piece::Same(word)
+    Piece::Same(text)
 }
 
 /// A number; a question mark or `null` where it isn't known.

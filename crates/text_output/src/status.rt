@@ -7,7 +7,7 @@ pub enum Status {
     Done = 0,
     /// The input was refused, or the answer could not be written.
     Refused = 1,
-    /// The words are none of the program's.
+    /// The arguments are none of the program's.
     Usage = 2,
     /// A file could not be opened, made or read, or the device failed later.
     Device = 3,

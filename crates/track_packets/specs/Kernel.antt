@@ -14,10 +14,10 @@ pub record Shows : Type 0 where
   pub at : ℕ
 
 -- with one more; bits that are skipped have no field
-abbrev pub with_shown : Shows → ListedField → Shows
-with_shown s (named name width v) = record { fields = s.fields ++ record { variable = Shared name; start = s.at; width = width; number = v } ∷ []; at = s.at + width }
-with_shown s (raw bits) = record s { at = s.at + length bits }
+abbrev pub with_listed : Shows → ListedField → Shows
+with_listed s (named name width v) = record { fields = s.fields ++ record { variable = Shared name; start = s.at; width = width; number = v } ∷ []; at = s.at + width }
+with_listed s (raw bits) = record s { at = s.at + length bits }
 
 -- The fields of a packet.
 abbrev pub kernel_fields : Packet → List Field
-kernel_fields p = (packet_taken with_shown (length_of p) p (with_shown (record { fields = []; at = 0 }) (named names.NidPacket 8 (number_of p)))).fields
+kernel_fields p = (packet_taken with_listed (length_of p) p (with_listed (record { fields = []; at = 0 }) (named names.NidPacket 8 (number_of p)))).fields

@@ -22,7 +22,7 @@ takes_all bodies.RowsThenBits = false
 takes_all bodies.Bits = false
 takes_all bodies.Kernel = false
 takes_all bodies.OwnOrRows = true
-takes_all bodies.NumberAlone = false
+takes_all bodies.NumberOnly = false
 
 abbrev pub takes_all_in : Option Kind → Bool
 takes_all_in (Some kind) = takes_all kind.body
@@ -46,7 +46,7 @@ by_kernel bodies.RowsThenBits length = false
 by_kernel bodies.Bits length = false
 by_kernel bodies.Kernel length = true
 by_kernel bodies.OwnOrRows length = length % 10 == 7
-by_kernel bodies.NumberAlone length = false
+by_kernel bodies.NumberOnly length = false
 
 abbrev pub is_kernels : Option Kind → ℕ → Bool
 is_kernels (Some kind) length = by_kernel kind.body length

@@ -20,7 +20,7 @@ fn takes_all(body: Body) -> bool
 {
     match body {
         Body::Rows | Body::OwnOrRows => true,
-        Body::RowsThenBits | Body::Bits | Body::Kernel | Body::NumberAlone => false,
+        Body::RowsThenBits | Body::Bits | Body::Kernel | Body::NumberOnly => false,
     }
 }
 
@@ -58,7 +58,7 @@ fn is_kernels(kind: Option<Kind>, length: u32) -> bool
         Some(kind) => match kind.body {
             Body::Kernel => true,
             Body::OwnOrRows => length % 10 == 7,
-            Body::Rows | Body::RowsThenBits | Body::Bits | Body::NumberAlone => false,
+            Body::Rows | Body::RowsThenBits | Body::Bits | Body::NumberOnly => false,
         },
         None => false,
     }

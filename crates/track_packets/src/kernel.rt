@@ -21,13 +21,13 @@ struct FieldTaker {
 
 /// It keeps each field with its place; bits that are skipped have none.
 impl FieldSink for FieldTaker {
-    ghost use Rattle.track_packets.specs.Kernel.{Shows, with_shown};
+    ghost use Rattle.track_packets.specs.Kernel.{Shows, with_listed};
 
     ghost Seen = { Shows };
 
     ghost seen = { λ t. record { fields = t.fields.items; at = t.at } };
 
-    ghost took = { with_shown };
+    ghost took = { with_listed };
 
     ghost held = { λ t. t.at };
 

@@ -192,11 +192,12 @@ pub enum Body {
     Bits,
     /// By `packets`, which has its layout.
     Kernel,
-    /// By `packets` where its length is that of this project's order (147 + 10 N_ITER), else by the rows of one of its two
-    /// possible layouts, the one with N_ITER before the first NID_C, which take all its bits (176 + 10 N_ITER): packet 3.
+    /// By `packets` where its length is that of this project's order (147 + 10 N_ITER), else by the rows of one of its
+    /// two possible layouts, the one with N_ITER before the first NID_C, which take all its bits (176 + 10 N_ITER):
+    /// packet 3.
     OwnOrRows,
     /// It has its number alone.
-    NumberAlone,
+    NumberOnly,
 }
 
 /// How sure name, sender and layout are: nobody who wrote them had a copy of the issue.
@@ -207,7 +208,7 @@ pub enum Sureness {
     /// Fairly sure (F).
     FairlySure,
     /// The name alone; the layout is to be looked up (B).
-    NameAlone,
+    NameOnly,
 }
 
 /// What is known of a packet by its number.
@@ -242,11 +243,11 @@ macro_rules! kind {
 
 /// All packets that have a name here, by their numbers.
 pub const KINDS: [Kind; 48] = [
-    kind!(0, VirtualBaliseCoverMarker, Balise, Later, Bits, NameAlone),
-    kind!(2, SystemVersionOrder, Balise, Later, Bits, NameAlone),
-    kind!(3, NationalValues, Balise, This, OwnOrRows, NameAlone),
+    kind!(0, VirtualBaliseCoverMarker, Balise, Later, Bits, NameOnly),
+    kind!(2, SystemVersionOrder, Balise, Later, Bits, NameOnly),
+    kind!(3, NationalValues, Balise, This, OwnOrRows, NameOnly),
     kind!(5, Linking, Balise, This, Kernel, Sure),
-    kind!(6, VirtualBaliseCoverOrder, Balise, Later, Bits, NameAlone),
+    kind!(6, VirtualBaliseCoverOrder, Balise, Later, Bits, NameOnly),
     kind!(12, MovementAuthority, Balise, This, Kernel, Sure),
     kind!(16, Repositioning, Balise, This, Rows, FairlySure),
     kind!(21, GradientProfile, Balise, This, Kernel, Sure),
@@ -259,7 +260,7 @@ pub const KINDS: [Kind; 48] = [
     kind!(46, ConditionalLevelTransition, Balise, This, Rows, Sure),
     kind!(49, ShuntingBalises, Balise, This, Rows, Sure),
     kind!(51, AxleLoadSpeedProfile, Balise, This, Rows, FairlySure),
-    kind!(52, PermittedBrakingDistance, Balise, Later, Bits, NameAlone),
+    kind!(52, PermittedBrakingDistance, Balise, Later, Bits, NameOnly),
     kind!(57, AuthorityRequests, Radio, This, Rows, FairlySure),
     kind!(58, PositionReports, Radio, This, Rows, FairlySure),
     kind!(63, StaffResponsibleBalises, Radio, This, Rows, FairlySure),
@@ -285,11 +286,11 @@ pub const KINDS: [Kind; 48] = [
     kind!(139, ReversingSupervision, Balise, This, Rows, FairlySure),
     kind!(140, RunningNumber, Radio, This, Rows, Sure),
     kind!(141, DefaultGradient, Balise, This, Rows, Sure),
-    kind!(145, ConsistencyReaction, Balise, Later, Bits, NameAlone),
-    kind!(180, SupervisionDisplay, Balise, Later, Bits, NameAlone),
-    kind!(181, SupervisionMarker, Balise, Later, Bits, NameAlone),
+    kind!(145, ConsistencyReaction, Balise, Later, Bits, NameOnly),
+    kind!(180, SupervisionDisplay, Balise, Later, Bits, NameOnly),
+    kind!(181, SupervisionMarker, Balise, Later, Bits, NameOnly),
     kind!(254, DefaultInformation, Balise, This, Rows, Sure),
-    kind!(255, EndOfInformation, Balise, This, NumberAlone, Sure),
+    kind!(255, EndOfInformation, Balise, This, NumberOnly, Sure),
 ];
 
 /// The first of some kinds that has a number.

@@ -18,7 +18,7 @@ pub mod Limits
 pub mod Chain
 pub mod Counted
 pub mod ByLine
-pub mod Alone
+pub mod OnlyLatest
 pub mod Placed
 pub mod SameParts
 pub mod OneGroup

@@ -23,10 +23,10 @@ module _ {G S : Type 0} {stores : Stores G S} {known : Knowledge G S} {parts : K
         speeds_are = s.speeds_are;
       })
 
-  pub moved_alone : (mode : Mode) (life : Life) (reading : Reading) → parts ≡ known_moved life reading → left_by life.entries reading ≡ None →
+  pub only_moved : (mode : Mode) (life : Life) (reading : Reading) → parts ≡ known_moved life reading → left_by life.entries reading ≡ None →
       StandsForColumns stores known life → StandsForColumns stores (record known { parts = parts })
       (grown_so_far life (moved life.entries reading) (with_groups mode life.entries (moved life.entries reading) (happened_by life.entries reading)))
-  moved_alone mode life reading is none s =
+  only_moved mode life reading is none s =
       subst (λ (ended : Option Closed). StandsForColumns stores (record known { parts = parts }) (grown_so_far life (moved life.entries reading)
       (with_closed mode life.entries (moved life.entries reading) ended (after_moving life.entries reading))))
       (sym none) (moved_only life reading is s)

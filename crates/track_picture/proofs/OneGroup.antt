@@ -19,9 +19,9 @@ use Rattle.track_picture.specs.StandsFor.{Life, KnownTrack, grown_so_far}
 use Rattle.track_picture.proofs.SameParts.{same_parts}
 
 -- where none closes after it
-pub alone : (ended : Option Closing) → all_of (record { ended = ended; whole = None }) ≡ listed ended
-alone None = refl
-alone (Some one) = refl
+pub entry_with : (ended : Option Closing) → all_of (record { ended = ended; whole = None }) ≡ listed ended
+entry_with None = refl
+entry_with (Some one) = refl
 
 -- the fix and the packets of an accepted group don't matter
 at_first : (mode : Mode) (now : List TrackEntry) (links : KnownLinks) (message : Message) (verdict : Verdict) →

@@ -158,17 +158,17 @@ module _ {X : Type 0} (kind : Kind X) where
   by_mode inner clear cleared true es = lost_all (inner es) ∙ sym (cleared es)
   by_mode inner clear cleared false es = filter-true (inner es)
 
-  pub stays : (it : Item) → ((mode : Mode) → deleting it mode ≡ false) → ((mode : Mode) (x : X) → ended (Happening.Entered mode) x ≡ deleting it mode) →
+  pub stays : (item : Item) → ((mode : Mode) → deleting item mode ≡ false) → ((mode : Mode) (x : X) → ended (Happening.Entered mode) x ≡ deleting item mode) →
       (mode : Mode) (hs : List Happening) → value (Happening.Entered mode ∷ hs) ≡ value hs
-  stays it none by_mode mode hs = unmoved (Happening.Entered mode) hs refl (λ x. by_mode mode x ∙ none mode)
+  stays item none by_mode mode hs = unmoved (Happening.Entered mode) hs refl (λ x. by_mode mode x ∙ none mode)
 
   lost_if : (b : Bool) (xs : List X) → b ≡ true → filter (λ x. not b) xs ≡ []
   lost_if true xs e = lost_all xs
   lost_if false xs e = absurd cc
 
-  pub deleted : (it : Item) → ((mode : Mode) (x : X) → ended (Happening.Entered mode) x ≡ deleting it mode) →
-      (mode : Mode) (hs : List Happening) → deleting it mode ≡ true → value (Happening.Entered mode ∷ hs) ≡ []
-  deleted it by_mode mode hs e =
+  pub deleted : (item : Item) → ((mode : Mode) (x : X) → ended (Happening.Entered mode) x ≡ deleting item mode) →
+      (mode : Mode) (hs : List Happening) → deleting item mode ≡ true → value (Happening.Entered mode ∷ hs) ≡ []
+  deleted item by_mode mode hs e =
       step (Happening.Entered mode) hs
-      ∙ (filter_agree (λ x. not (ended (Happening.Entered mode) x)) (λ x. not (deleting it mode)) (λ x. ap not (by_mode mode x)) (value hs)
-      ∙ lost_if (deleting it mode) (value hs) e)
+      ∙ (filter_agree (λ x. not (ended (Happening.Entered mode) x)) (λ x. not (deleting item mode)) (λ x. ap not (by_mode mode x)) (value hs)
+      ∙ lost_if (deleting item mode) (value hs) e)

@@ -1,5 +1,5 @@
--- What is known of a life by the facts that count is what the lists of its parts give: so what stands for the one stands
--- for the other.
+-- What is known of a life by the facts that count is what the lists of its parts give: so what stands for the one
+-- stands for the other.
 use Rattle.std.proofs.Common.{◌≡◌, List, [], ◌∷◌, Option, Some, None, refl, ap, sym, ◌∙◌}
 use Rattle.std.specs.Prelude.{not, filter}
 use Rattle.std.specs.Option.{option_map}
@@ -17,7 +17,7 @@ use Rattle.track_picture.specs.Happenings.{happenings}
 use Rattle.track_picture.specs.Parts.{newest, granted_in, looks_in, looked, acceptance, authorities_in}
 use Rattle.track_picture.specs.History.{place_of, group_of_fix, speed_of, groups_of, moment_of, happened_of, is_stopped}
 use Rattle.track_picture.specs.History as picture
-use Rattle.track_picture.specs.Sentences.{alone, with_path}
+use Rattle.track_picture.specs.Sentences.{entry_with, with_path}
 use Rattle.track_picture.specs.Sentences as sentences
 use Rattle.track_picture.specs.StandsFor.{Life, Knowledge, StandsForLife, parts_of, national_of}
 use Rattle.track_picture.specs.Columns as columns
@@ -126,12 +126,12 @@ module _ {G S : Type 0} {stores : Stores G S} {known : Knowledge G S} where
 pub same_moved : (events : List TrackEntry) (reading : Reading) → sentences.moved events reading ≡ columns.moved events reading
 same_moved events reading =
     let went : InputEffect = with_path events (record nothing { reading = Some reading }) in
-    (λ i. record went { missed = filter (is_passed_by (odometry.min_front (place_of (alone went ∷ events)))) (links_are (happenings events) i).left })
+    (λ i. record went { missed = filter (is_passed_by (odometry.min_front (place_of (entry_with went ∷ events)))) (links_are (happenings events) i).left })
 
 pub same_happened : (events : List TrackEntry) (reading : Reading) →
     sentences.happened_by events reading ≡ columns.happened_by events reading
 same_happened events reading =
     (λ i. record {
-      overrun = not (odometry.has_room (place_of events) reading.movement);
-      asked = misses (links_are (happenings events) i).has_missed (same_moved events reading i).missed;
+      overrun = not (odometry.stays_in_range (place_of events) reading.movement);
+      requested = misses (links_are (happenings events) i).has_missed (same_moved events reading i).missed;
     })

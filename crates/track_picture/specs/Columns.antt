@@ -39,7 +39,7 @@ use Rattle.track_picture.specs.Entry.{TrackEntry, InputEffect, Used, Fact, nothi
 use Rattle.track_picture.specs.Live.{Happening, deleting, restriction_of}
 use Rattle.track_picture.specs.Happenings.{happenings}
 use Rattle.track_picture.specs.History.{place_of, group_of_fix, speed_of, groups_of, moment_of, happened_of, is_stopped}
-use Rattle.track_picture.specs.Sentences.{alone, with_path, closed_by}
+use Rattle.track_picture.specs.Sentences.{entry_with, with_path, closed_by}
 use Rattle.track_picture.specs.StandsFor.{Life, KnownTrack, Knowledge, grown_so_far}
 use Rattle.track_picture.specs.Stores.{Stores}
 
@@ -226,7 +226,7 @@ abbrev pub links_left : List TrackEntry → linking.KnownLinks
 links_left entries = linking.known (description_of entries).links
 
 abbrev pub passed : List TrackEntry → InputEffect → List Announcement
-passed entries initial = filter (is_passed_by (odometry.min_front (place_of (alone initial ∷ entries)))) (links_left entries).left
+passed entries initial = filter (is_passed_by (odometry.min_front (place_of (entry_with initial ∷ entries)))) (links_left entries).left
 
 abbrev pub moved : List TrackEntry → Reading → InputEffect
 moved entries reading =
@@ -235,8 +235,8 @@ moved entries reading =
 abbrev pub happened_by : List TrackEntry → Reading → Happened
 happened_by entries reading =
     record {
-      overrun = not (odometry.has_room (place_of entries) reading.movement);
-      asked = misses (links_left entries).has_missed (moved entries reading).missed;
+      overrun = not (odometry.stays_in_range (place_of entries) reading.movement);
+      requested = misses (links_left entries).has_missed (moved entries reading).missed;
     }
 
 -- the group that a movement leaves

@@ -44,8 +44,8 @@ pub record OneAtMost (events : List TrackEntry) : Type 0 where
   pub levels : length (filter_map as_level (live (happenings events))) ≤ 1
   pub values : length (filter_map as_values (live (happenings events))) ≤ 1
 
-abbrev pub LatestCountsAlone : Type 0
-LatestCountsAlone = (events : List TrackEntry) → OneAtMost events
+abbrev pub OnlyLatestCounts : Type 0
+OnlyLatestCounts = (events : List TrackEntry) → OneAtMost events
 
 -- a power-up leaves none
 abbrev pub NoneAtPowerUp : Type 0

@@ -10,7 +10,7 @@ use Rattle.balise_groups.specs.declared.message.Message.{Message}
 use Rattle.balise_groups.specs.Groups as groups
 use Rattle.linking.specs.declared.announcement.Announcement.{Announcement}
 use Rattle.linking.specs.declared.effect.Effect.{Effect}
-use Rattle.linking.specs.Linking.{no_effect, both}
+use Rattle.linking.specs.Linking.{no_effect, combined_with}
 use Rattle.mode_table.specs.declared.mode.Mode.{Mode}
 use Rattle.odometry.specs.declared.fix.Fix.{Fix}
 use Rattle.events.specs.declared.input.Reading.{Reading}
@@ -60,11 +60,11 @@ pub record TrackEntry : Type 0 where
 -- ---- what it has brought about
 
 abbrev pub nothing_happened : Happened
-nothing_happened = record { overrun = false; asked = no_effect }
+nothing_happened = record { overrun = false; requested = no_effect }
 
 -- linking asks for something more
 abbrev pub asking : Happened → Effect → Happened
-asking happened effect = record happened { asked = both happened.asked effect }
+asking happened effect = record happened { requested = combined_with happened.requested effect }
 
 abbrev pub no_groups : Used
 no_groups = record { groups = []; happened = nothing_happened }

@@ -1,9 +1,9 @@
 -- What an input brings in a life of the track and of the train on it, sentence by sentence in the order of one event
--- (this project's profile; balise groups and their packets: SUBSET-026, 3.4, 3.4.4, 3.16.2 and 4.8). Distances and places
--- are centimetres, moments milliseconds. Lists of entries and of the groups that closed have the newest first; the
--- packets of a message stand in its order. A reader may take for granted that the entries are all that the life brought
--- before the event, that a clock's moment comes before what it bears on, and that an event closes at most two groups.
--- The driver's actions don't matter here.
+-- (this project's profile; balise groups and their packets: SUBSET-026, 3.4, 3.4.4, 3.16.2 and 4.8). Distances and
+-- places are centimetres, moments milliseconds. Lists of entries and of the groups that closed have the newest first;
+-- the packets of a message stand in its order. A reader may take for granted that the entries are all that the life
+-- brought before the event, that a clock's moment comes before what it bears on, and that an event closes at most two
+-- groups. The driver's actions don't matter here.
 use Rattle.std.specs.Prelude.{ℕ, ◌*◌, ℤ, pos, ◌-ℤ◌, Bool, true, false, not, ◌&&◌, Option, Some, None, is_some, List, [], ◌∷◌, map, filter, if◌then◌else◌}
 use Rattle.std.specs.Option.{option_map, option_map_or, option_or}
 use Rattle.units.specs.Stretches.{Span}
@@ -46,15 +46,15 @@ use Rattle.track_picture.specs.History.{place_of, groups_of, links_of, moment_of
 -- ---- first what the input itself does: a movement, then the path and the announced groups that the train has passed;
 -- or a telegram; or a moment
 
-abbrev pub alone : InputEffect → TrackEntry
-alone initial = record blank { initial = initial }
+abbrev pub entry_with : InputEffect → TrackEntry
+entry_with initial = record blank { initial = initial }
 
 abbrev pub with_path : List TrackEntry → InputEffect → InputEffect
-with_path entries initial = record initial { heard = Some (Went (place_of (alone initial ∷ entries)).sums.path) }
+with_path entries initial = record initial { heard = Some (Went (place_of (entry_with initial ∷ entries)).sums.path) }
 
 -- the announced groups left that the train has passed
 abbrev pub passed : List TrackEntry → InputEffect → List Announcement
-passed entries initial = filter (is_passed_by (odometry.min_front (place_of (alone initial ∷ entries)))) (links_of entries).left
+passed entries initial = filter (is_passed_by (odometry.min_front (place_of (entry_with initial ∷ entries)))) (links_of entries).left
 
 abbrev pub moved : List TrackEntry → Reading → InputEffect
 moved entries reading =
@@ -70,12 +70,12 @@ initial entries (Odometer reading) = moved entries reading
 initial entries (Clock moment) = record nothing { clock = Some moment }
 initial entries (Driver action) = nothing
 
--- what a movement brings about: it is an overrun where it has no room, and the missed groups ask for something
+-- what a movement brings about: it is an overrun where it leaves the range, and the missed groups ask for something
 abbrev pub happened_by : List TrackEntry → Reading → Happened
 happened_by entries reading =
     record {
-      overrun = not (odometry.has_room (place_of entries) reading.movement);
-      asked = misses (links_of entries).has_missed (moved entries reading).missed;
+      overrun = not (odometry.stays_in_range (place_of entries) reading.movement);
+      requested = misses (links_of entries).has_missed (moved entries reading).missed;
     }
 
 abbrev pub happened_first : List TrackEntry → inputs.Input → Happened

@@ -72,17 +72,17 @@ pub record StandsForLife {G S : Type 0} (stores : Stores G S) (known : Knowledge
   pub gradients_are : stores.gradients known.gradients ≡ gradients_of life.entries
   pub speeds_are : stores.speeds known.speeds ≡ speeds_of life.entries
 
--- for how many packets there is room in all of them
-abbrev pub room_in : {G S : Type 0} → Stores G S → Knowledge G S → ℕ
-room_in stores known =
-    min known.restrictions.room (min (stores.gradients_room known.gradients) (stores.speeds_room known.speeds))
+-- for how many packets there is space in all of them
+abbrev pub space_in : {G S : Type 0} → Stores G S → Knowledge G S → ℕ
+space_in stores known =
+    min known.restrictions.space (min (stores.gradients_space known.gradients) (stores.speeds_space known.speeds))
 
--- how many restrictions and pieces of profiles it keeps or has room for
+-- how many restrictions and pieces of profiles it keeps or has space for
 abbrev pub size_in : {G S : Type 0} → Stores G S → Knowledge G S → ℕ
 size_in stores known =
     track.size_of known.restrictions + (stores.gradients_size known.gradients + stores.speeds_size known.speeds)
 
--- the restrictions and profiles are the same, with their room
+-- the restrictions and profiles are the same, with their space
 pub record SameTrack {G S : Type 0} (old new : Knowledge G S) : Type 0 where
   pub restrictions_same : new.restrictions ≡ old.restrictions
   pub gradients_same : new.gradients ≡ old.gradients

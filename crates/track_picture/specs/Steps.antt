@@ -4,14 +4,14 @@ use Rattle.std.specs.Option.{option_map_or}
 use Rattle.packets.specs.declared.packet.Packet.{Packet}
 use Rattle.linking.specs.declared.announcement.Announcement.{Announcement}
 use Rattle.track_picture.specs.declared.fixing.Wanted.{Wanted}
-use Rattle.balise_groups.specs.Rooms.{packets_in}
+use Rattle.balise_groups.specs.PacketCounts.{packets_in}
 use Rattle.events.specs.declared.input.Input.{Input}
 use Rattle.events.specs.declared.input.Input.TheVariants.{Telegram, Odometer, Clock, Driver}
 use Rattle.track_picture.specs.declared.using.Use.{Use}
 use Rattle.track_picture.specs.Bytes.{telegram_in}
 use Rattle.track_picture.specs.Entry.{Fact}
 use Rattle.track_picture.specs.Sentences.{is_used}
-use Rattle.track_picture.specs.StandsFor.{KnownTrack, Knowledge, room_in}
+use Rattle.track_picture.specs.StandsFor.{KnownTrack, Knowledge, space_in}
 use Rattle.track_picture.specs.Stores.{Stores}
 
 -- a packet that is used so, and all that are used of a message
@@ -34,6 +34,6 @@ packets_by known (Odometer reading) = if is_none known.groups.current then 0 els
 packets_by known (Clock moment) = 0
 packets_by known (Driver action) = 0
 
--- there is room for them
-abbrev pub HasRoomFor : {G S : Type 0} → Stores G S → Knowledge G S → Input → Type 0
-HasRoomFor stores known input = packets_by known.parts input ≤ room_in stores known
+-- there is space for them
+abbrev pub HasSpaceFor : {G S : Type 0} → Stores G S → Knowledge G S → Input → Type 0
+HasSpaceFor stores known input = packets_by known.parts input ≤ space_in stores known

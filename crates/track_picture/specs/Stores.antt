@@ -7,12 +7,12 @@ use Rattle.track_store.specs.Remembered.{Listed, profile_listed}
 use Rattle.track_store.specs.Segments as segments
 use Rattle.track_store.specs.Segments.{Segmented, profile_kept}
 
--- the gradients and the static speeds that are read off them; for how many packets each has room; how much each keeps
+-- the gradients and the static speeds that are read off them; for how many packets each has space; how much each keeps
 pub record Stores (G S : Type 0) : Type 0 where
   pub gradients : G → Profile ℤ
   pub speeds : S → Profile CategorySpeeds
-  pub gradients_room : G → ℕ
-  pub speeds_room : S → ℕ
+  pub gradients_space : G → ℕ
+  pub speeds_space : S → ℕ
   pub gradients_size : G → ℕ
   pub speeds_size : S → ℕ
 
@@ -22,8 +22,8 @@ segment_stores =
     record {
       gradients = profile_kept;
       speeds = profile_kept;
-      gradients_room = λ kept. kept.room;
-      speeds_room = λ kept. kept.room;
+      gradients_space = λ kept. kept.space;
+      speeds_space = λ kept. kept.space;
       gradients_size = segments.size_of;
       speeds_size = segments.size_of;
     }
@@ -34,8 +34,8 @@ fact_stores =
     record {
       gradients = profile_listed;
       speeds = profile_listed;
-      gradients_room = λ listed. listed.room;
-      speeds_room = λ listed. listed.room;
+      gradients_space = λ listed. listed.space;
+      speeds_space = λ listed. listed.space;
       gradients_size = remembered.size_of;
       speeds_size = remembered.size_of;
     }

@@ -3,7 +3,7 @@ ghost use Rattle.std.specs.Prelude.{◌≡◌, ◌∷◌, ◌+◌, ◌≤◌, []
 ghost use Rattle.std.specs.Option.{option_map, option_or};
 ghost use Rattle.balise_groups.specs.declared.message.Closed.TheVariants as closed;
 ghost use Rattle.balise_groups.specs.declared.message.Message.{Message};
-ghost use Rattle.balise_groups.specs.Rooms.{packets_of_closed};
+ghost use Rattle.balise_groups.specs.PacketCounts.{packets_of_closed};
 ghost use Rattle.linking.specs.declared.announcement.Announcement.{Announcement};
 ghost use Rattle.linking.specs.Judging.{judgement, broken_effect};
 ghost use Rattle.odometry.specs.declared.fix.Fix.{Fix};
@@ -11,7 +11,7 @@ ghost use Rattle.track_picture.specs.Entry.{InputEffect, Used, added, asking_for
 ghost use Rattle.track_picture.specs.Entry.Outcome.{Accepted, Broken as NoMessage};
 ghost use Rattle.track_picture.specs.Sentences.{group_read, accepted, outcome_at_first, outcome, after_group, with_closed};
 ghost use Rattle.track_picture.specs.Steps.{facts};
-ghost use Rattle.track_picture.specs.StandsFor.{Life, SameTrack, grown, grown_so_far, room_in};
+ghost use Rattle.track_picture.specs.StandsFor.{Life, SameTrack, grown, grown_so_far, space_in};
 ghost use Rattle.track_picture.specs.Columns.{TrackReports, StandsForColumns, known_by, after_judging, after_breaking};
 
 use crate::parts::Parts;
@@ -60,21 +60,21 @@ impl Parts {
             → self.new ≡ known_by (grown_so_far life initial (added (NoMessage group.now)
             (asking_for (broken_effect self.old.links group.now.group group.now.linked) used))) (after_breaking self.old.links group.now reported) }
     {
-        let asked = self.links.broken(group.group, group.linked);
-        self.happened = self.happened.asking(asked);
+        let requested = self.links.broken(group.group, group.linked);
+        self.happened = self.happened.asking(requested);
     }
 }
 
 impl<T: ProfileStores> TracksideOver<T> {
     // The packets of an accepted group are used: in rising number, equal numbers in the order of the message. A message
-    // without a packet for the second walk is read once. There is room for them, so that no memory is taken; so it is
+    // without a packet for the second walk is read once. There is space for them, so that no memory is taken; so it is
     // up to `close`.
     fn take_packets(&mut self, packets: &GroupPackets, used: &Use)
-        requires { length packets.now ≤ room_in T.stores self.old }
+        requires { length packets.now ≤ space_in T.stores self.old }
         ensures stands { (life : Life) (initial : InputEffect) (groups : Used) (message : Message) (announced : Option Announcement) (fix : Option Fix)
             → StandsForColumns T.stores self.old (grown_so_far life initial (added (Accepted message announced fix []) groups))
             → StandsForColumns T.stores self.new (grown_so_far life initial (added (Accepted message announced fix (facts used.now packets.now)) groups)) }
-        ensures room { room_in T.stores self.old ≤ room_in T.stores self.new + length packets.now }
+        ensures space { space_in T.stores self.old ≤ space_in T.stores self.new + length packets.now }
         ensures idle { length packets.now ≡ 0 → SameTrack self.old self.new }
     {
         if take_all::<TracksideOver<T>, Earlier>(self, packets, used) {
@@ -84,12 +84,12 @@ impl<T: ProfileStores> TracksideOver<T> {
 
     // An accepted group is used.
     fn accept(&mut self, mode: Mode, message: &Message, announced: &Option<Announcement>)
-        requires { length message.now.packets ≤ room_in T.stores self.old }
+        requires { length message.now.packets ≤ space_in T.stores self.old }
         ensures stands { (life : Life) (initial : InputEffect) (used : Used)
             → (let judged_only = record blank { initial = initial; used = added (Accepted message.now announced.now None []) used } in
             StandsForColumns T.stores self.old (grown life judged_only)
             → StandsForColumns T.stores self.new (grown_so_far life initial (added (accepted mode (judged_only ∷ life.entries) message.now announced.now) used))) }
-        ensures room { room_in T.stores self.old ≤ room_in T.stores self.new + length message.now.packets }
+        ensures space { space_in T.stores self.old ≤ space_in T.stores self.new + length message.now.packets }
         ensures idle { length message.now.packets ≡ 0 → SameTrack self.old self.new }
     {
         let free = self.is_free();
@@ -106,12 +106,12 @@ impl<T: ProfileStores> TracksideOver<T> {
 
     // A whole group that was judged: one that is accepted is used.
     fn follow(&mut self, mode: Mode, message: &Message, verdict: Verdict)
-        requires { length message.now.packets ≤ room_in T.stores self.old }
+        requires { length message.now.packets ≤ space_in T.stores self.old }
         ensures stands { (life : Life) (initial : InputEffect) (used : Used)
             → (let judged_only = record blank { initial = initial; used = added (outcome_at_first message.now verdict) used } in
             StandsForColumns T.stores self.old (grown life judged_only)
             → StandsForColumns T.stores self.new (grown_so_far life initial (added (outcome mode (judged_only ∷ life.entries) message.now verdict) used))) }
-        ensures room { room_in T.stores self.old ≤ room_in T.stores self.new + length message.now.packets }
+        ensures space { space_in T.stores self.old ≤ space_in T.stores self.new + length message.now.packets }
         ensures idle { length message.now.packets ≡ 0 → SameTrack self.old self.new }
     {
         match verdict {
@@ -122,10 +122,10 @@ impl<T: ProfileStores> TracksideOver<T> {
 
     // A whole group.
     fn close_whole(&mut self, mode: Mode, message: &Message)
-        requires { length message.now.packets ≤ room_in T.stores self.old }
+        requires { length message.now.packets ≤ space_in T.stores self.old }
         ensures stands { (life : Life) (initial : InputEffect) (used : Used) → StandsForColumns T.stores self.old (grown_so_far life initial used)
             → StandsForColumns T.stores self.new (grown_so_far life initial (after_group mode life.entries initial used (closed.Whole message.now))) }
-        ensures room { room_in T.stores self.old ≤ room_in T.stores self.new + length message.now.packets }
+        ensures space { space_in T.stores self.old ≤ space_in T.stores self.new + length message.now.packets }
         ensures idle { length message.now.packets ≡ 0 → SameTrack self.old self.new }
     {
         let verdict = self.parts.judge(message);
@@ -135,10 +135,10 @@ impl<T: ProfileStores> TracksideOver<T> {
     // A group that closed. It stands out of line, since few events close one.
     #[inline(never)]
     fn close_one(&mut self, mode: Mode, group: &Closed)
-        requires { packets_of_closed (Some group.now) ≤ room_in T.stores self.old }
+        requires { packets_of_closed (Some group.now) ≤ space_in T.stores self.old }
         ensures stands { (life : Life) (initial : InputEffect) (used : Used) → StandsForColumns T.stores self.old (grown_so_far life initial used)
             → StandsForColumns T.stores self.new (grown_so_far life initial (after_group mode life.entries initial used group.now)) }
-        ensures room { room_in T.stores self.old ≤ room_in T.stores self.new + packets_of_closed (Some group.now) }
+        ensures space { space_in T.stores self.old ≤ space_in T.stores self.new + packets_of_closed (Some group.now) }
         ensures idle { packets_of_closed (Some group.now) ≡ 0 → SameTrack self.old self.new }
     {
         match group {
@@ -149,10 +149,10 @@ impl<T: ProfileStores> TracksideOver<T> {
 
     /// A group that closed, if one did.
     pub(crate) fn close(&mut self, mode: Mode, group: &Option<Closed>)
-        requires { packets_of_closed group.now ≤ room_in T.stores self.old }
+        requires { packets_of_closed group.now ≤ space_in T.stores self.old }
         ensures stands { (life : Life) (initial : InputEffect) (used : Used) → StandsForColumns T.stores self.old (grown_so_far life initial used)
             → StandsForColumns T.stores self.new (grown_so_far life initial (with_closed mode life.entries initial group.now used)) }
-        ensures room { room_in T.stores self.old ≤ room_in T.stores self.new + packets_of_closed group.now }
+        ensures space { space_in T.stores self.old ≤ space_in T.stores self.new + packets_of_closed group.now }
         ensures idle { packets_of_closed group.now ≡ 0 → SameTrack self.old self.new }
     {
         match group {

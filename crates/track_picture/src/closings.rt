@@ -1,7 +1,7 @@
 //! What becomes of the groups that an input would close, for who asks why nothing of a telegram was used.
 ghost use Rattle.std.specs.Prelude.{◌≡◌, ◌≤◌, [], IsOk, IfOk};
 ghost use Rattle.balise_groups.specs.declared.message.Closed.TheVariants as closed;
-ghost use Rattle.balise_groups.specs.Rooms.{packets_of_closed};
+ghost use Rattle.balise_groups.specs.PacketCounts.{packets_of_closed};
 ghost use Rattle.events.specs.declared.input.Input.TheVariants as inputs;
 ghost use Rattle.mode_table.specs.declared.mode.Mode.{Mode as AMode};
 ghost use Rattle.track_picture.specs.Closings.{why_rejected, closing_as, closing_if, closings_in, closings_by, all_of};
@@ -10,8 +10,8 @@ ghost use Rattle.track_picture.specs.declared.closings.Closing.TheVariants as cl
 ghost use Rattle.track_picture.specs.declared.happened.Happened.{Happened as HasHappened};
 ghost use Rattle.track_picture.specs.Entry.{InputEffect, Used, nothing_happened};
 ghost use Rattle.track_picture.specs.Sentences.{heard, with_closed, with_groups};
-ghost use Rattle.track_picture.specs.StandsFor.{Life, StandsForLife, grown_so_far, room_in, size_in};
-ghost use Rattle.track_picture.specs.Steps.{HasRoomFor};
+ghost use Rattle.track_picture.specs.StandsFor.{Life, StandsForLife, grown_so_far, space_in, size_in};
+ghost use Rattle.track_picture.specs.Steps.{HasSpaceFor};
 
 use crate::parts::Parts;
 use crate::state::TracksideOver;
@@ -133,10 +133,10 @@ impl<T: ProfileStores> TracksideOver<T> {
             → parts ≡ columns_of (grown_so_far life initial (record { groups = []; happened = happened }))
             → StandsForColumns T.stores next
             (grown_so_far life initial (with_closed mode life.entries initial ended.now (record { groups = []; happened = happened })))) }
-        ensures quiet { size_in T.stores self.now ≡ 0 → packets ≤ room_in T.stores self.now → IsOk result }
+        ensures quiet { size_in T.stores self.now ≡ 0 → packets ≤ space_in T.stores self.now → IsOk result }
     {
         let mut next = self.copy(alloc)?;
-        next.make_room(packets)?;
+        next.make_space(packets)?;
         next.parts = parts;
         next.close(mode, ended);
         Ok(next)
@@ -160,7 +160,7 @@ impl<T: ProfileStores> TracksideOver<T> {
             parts ≡ columns_of (grown_so_far life initial first)
             → all_of closings ≡ closings_in life.entries initial
             (with_closed mode life.entries initial whole (with_closed mode life.entries initial ended first)).groups)) }
-        ensures quiet { size_in T.stores self.now ≡ 0 → packets ≤ room_in T.stores self.now → IsOk result }
+        ensures quiet { size_in T.stores self.now ≡ 0 → packets ≤ space_in T.stores self.now → IsOk result }
     {
         let Some(second) = whole else {
             return Ok(Closings {
@@ -186,7 +186,7 @@ impl<T: ProfileStores> TracksideOver<T> {
         ensures closings { IfOk result (λ closings. (life : Life) → StandsForColumns T.stores self.now life
             → all_of closings ≡ closings_in life.entries (heard life.entries bytes.now)
             (with_groups mode life.entries (heard life.entries bytes.now) nothing_happened).groups) }
-        ensures quiet { size_in T.stores self.now ≡ 0 → HasRoomFor T.stores self.now (inputs.Telegram bytes.now)
+        ensures quiet { size_in T.stores self.now ≡ 0 → HasSpaceFor T.stores self.now (inputs.Telegram bytes.now)
             → IsOk result }
     {
         let Ok(telegram) = Received::new(bytes) else {
@@ -223,7 +223,7 @@ impl<T: ProfileStores> TracksideOver<T> {
     /// What becomes of each group that an input would close as the next event in a mode, in their order (SUBSET-026,
     /// 3.4.4 and 3.16.2). Nothing changes. It works on a copy where two groups close, since the packets of the first
     /// may bring the links by which the second is judged: NoMemory where memory is refused for that. None is taken
-    /// where no restriction and no profile is kept, nor room for one, of an input that uses no packet.
+    /// where no restriction and no profile is kept, nor space for one, of an input that uses no packet.
     pub fn closings_by(
         &self,
         alloc: Global,
@@ -232,7 +232,7 @@ impl<T: ProfileStores> TracksideOver<T> {
     ) -> Result<Closings, NoMemory>
         ensures closings { IfOk result (λ closings. (life : Life) → StandsForLife T.stores self.now life
             → all_of closings ≡ closings_by mode life.entries input.now) }
-        ensures quiet { size_in T.stores self.now ≡ 0 → HasRoomFor T.stores self.now input.now → IsOk result }
+        ensures quiet { size_in T.stores self.now ≡ 0 → HasSpaceFor T.stores self.now input.now → IsOk result }
     {
         match input {
             Input::Telegram(bytes) => self.closings_heard(alloc, mode, bytes.as_slice()),

@@ -1,5 +1,5 @@
 //! Laws: when a fact counts, and what ends it.
-ghost use Rattle.track_picture.specs.Ending.{CountsWhileNotEnded, EndedCountsNoMore, LatestCountsAlone, NoneAtPowerUp, EachByItsLine, ModesDeleteByTheTable, PlaceIsRead};
+ghost use Rattle.track_picture.specs.Ending.{CountsWhileNotEnded, EndedCountsNoMore, OnlyLatestCounts, NoneAtPowerUp, EachByItsLine, ModesDeleteByTheTable, PlaceIsRead};
 
 /// A law: a fact counts exactly where it came and nothing later has ended it.
 pub fn counts_while_not_ended()
@@ -12,8 +12,8 @@ pub fn ended_counts_no_more()
 {}
 
 /// A law: of authorities, mode areas, announced levels and national values that wait, one counts at most.
-pub fn latest_counts_alone()
-    ensures { LatestCountsAlone }
+pub fn only_latest_counts()
+    ensures { OnlyLatestCounts }
 {}
 
 /// A law: a power-up leaves no fact.

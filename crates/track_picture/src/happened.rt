@@ -10,14 +10,14 @@ pub struct Happened {
     /// Whether its movement led too far, and wasn't added.
     pub overrun: bool,
     /// What linking asks of the train.
-    pub asked: Effect,
+    pub requested: Effect,
 }
 
 impl Happened {
     /// Nothing.
     pub const NOTHING: Happened = Happened {
         overrun: false,
-        asked: Effect {
+        requested: Effect {
             trip: false,
             service: false,
         },
@@ -29,7 +29,7 @@ impl Happened {
     {
         Happened {
             overrun: self.overrun,
-            asked: self.asked.both(effect),
+            requested: self.requested.combined_with(effect),
         }
     }
 }

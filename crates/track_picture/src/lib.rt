@@ -15,7 +15,7 @@ mod laws;
 mod looking;
 mod parts;
 mod receiving;
-mod rooms;
+mod reserving;
 mod state;
 mod stores;
 mod using;
@@ -23,8 +23,8 @@ mod using;
 pub use closing::direction_by;
 pub use closings::{Closing, Closings, MessageOutcome};
 pub use ending::{
-    counts_while_not_ended, each_by_its_line, ended_counts_no_more, latest_counts_alone,
-    modes_delete_by_the_table, none_at_power_up, place_is_read,
+    counts_while_not_ended, each_by_its_line, ended_counts_no_more, modes_delete_by_the_table,
+    none_at_power_up, only_latest_counts, place_is_read,
 };
 pub use happened::Happened;
 pub use laws::telegrams_are_carried;

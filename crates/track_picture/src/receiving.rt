@@ -1,15 +1,15 @@
 //! What an input does: its own effect, and then that of the groups which it closes.
 ghost use Rattle.std.specs.Prelude.{◌≡◌, ◌≤◌, ◌+◌, ℕ, length, true, false, List, ◌∷◌, IsOk, OnOk, OnErr, Some, None, is_none};
 ghost use Rattle.events.specs.declared.input.Reading.{Reading as Reported};
-ghost use Rattle.balise_groups.specs.Rooms.{packets_in, packets_of_closed};
+ghost use Rattle.balise_groups.specs.PacketCounts.{packets_in, packets_of_closed};
 ghost use Rattle.track_picture.specs.Bytes.{telegram_in};
 ghost use Rattle.track_picture.specs.Entry.{nothing_happened, no_groups, nothing};
 ghost use Rattle.track_picture.specs.History.{groups_of};
 ghost use Rattle.track_picture.specs.Sentences.{heard, initial, closed_by, with_groups, used_by, received};
-ghost use Rattle.track_picture.specs.StandsFor.{Life, StandsForLife, SameTrack, grown, grown_so_far, room_in, size_in};
+ghost use Rattle.track_picture.specs.StandsFor.{Life, StandsForLife, SameTrack, grown, grown_so_far, space_in, size_in};
 ghost use Rattle.events.specs.declared.input.Input.TheVariants as inputs;
 ghost use Rattle.track_picture.specs.Columns.{StandsForColumns, columns_of, moved, happened_by, left_by, known_moved, still_reading};
-ghost use Rattle.track_picture.specs.Steps.{packets_by, HasRoomFor};
+ghost use Rattle.track_picture.specs.Steps.{packets_by, HasSpaceFor};
 
 use crate::happened::Happened;
 use crate::parts::Parts;
@@ -49,8 +49,8 @@ impl Parts {
         self.begin();
         self.speed = reading.speed;
         let overrun = self.place.moved(reading.movement).is_err();
-        let asked = self.links.missed(self.place.min_front());
-        self.happened = Happened { overrun, asked };
+        let requested = self.links.missed(self.place.min_front());
+        self.happened = Happened { overrun, requested };
         self.groups.is_leaving(self.place.sums().path())
     }
 
@@ -106,9 +106,9 @@ impl Parts {
 }
 
 impl<T: ProfileStores> TracksideOver<T> {
-    // A movement while a group is being read, and the group that closes by it. There is room for its packets.
+    // A movement while a group is being read, and the group that closes by it. There is space for its packets.
     fn move_on(&mut self, mode: Mode, reading: &Reading)
-        requires { packets_in self.old.parts.groups.readings ≤ room_in T.stores self.old }
+        requires { packets_in self.old.parts.groups.readings ≤ space_in T.stores self.old }
         ensures idle { packets_in self.old.parts.groups.readings ≡ 0 → SameTrack self.old self.new }
         ensures stands { (life : Life) → StandsForColumns T.stores self.old life
             → StandsForColumns T.stores self.new (grown_so_far life (moved life.entries reading.now)
@@ -122,7 +122,7 @@ impl<T: ProfileStores> TracksideOver<T> {
 
     // A movement, and the group that closed by it. Where memory is refused, nothing changes.
     fn move_by(&mut self, mode: Mode, reading: &Reading) -> Result<(), NoMemory>
-        ensures quiet { HasRoomFor T.stores self.old (inputs.Odometer reading.now) → IsOk result }
+        ensures quiet { HasSpaceFor T.stores self.old (inputs.Odometer reading.now) → IsOk result }
         ensures idle { packets_by self.old.parts (inputs.Odometer reading.now) ≡ 0 → OnOk result (SameTrack self.old self.new) }
         ensures stands { OnOk result ((life : Life) → StandsForColumns T.stores self.old life
             → StandsForColumns T.stores self.new (grown_so_far life (moved life.entries reading.now)
@@ -134,15 +134,15 @@ impl<T: ProfileStores> TracksideOver<T> {
             return Ok(());
         }
         let packets = self.parts.groups.packets();
-        self.make_room(packets)?;
+        self.make_space(packets)?;
         self.move_on(mode, reading);
         Ok(())
     }
 
-    // A telegram: the group that it ends closes, and after that its own where that is whole now. There is room for the
+    // A telegram: the group that it ends closes, and after that its own where that is whole now. There is space for the
     // packets of both.
     fn take(&mut self, mode: Mode, telegram: Received)
-        requires { packets_in self.old.parts.groups.readings + length telegram.packets.items ≤ room_in T.stores self.old }
+        requires { packets_in self.old.parts.groups.readings + length telegram.packets.items ≤ space_in T.stores self.old }
         ensures idle { packets_in self.old.parts.groups.readings + length telegram.packets.items ≡ 0 → SameTrack self.old self.new }
         ensures stands { (life : Life) (bytes : List ℕ) → StandsForColumns T.stores self.old life → telegram_in bytes ≡ Some telegram
             → StandsForColumns T.stores self.new (grown_so_far life (heard life.entries bytes)
@@ -155,11 +155,11 @@ impl<T: ProfileStores> TracksideOver<T> {
         self.close(mode, &whole);
     }
 
-    // A telegram, once there is room for what it may close. It stands out of line, so that other inputs clear no room
-    // for groups. Where memory is refused, nothing changes.
+    // A telegram, once there is space for what it may close. It stands out of line, so that other inputs clear no
+    // memory for groups. Where memory is refused, nothing changes.
     #[inline(never)]
     fn read(&mut self, mode: Mode, telegram: Received) -> Result<(), NoMemory>
-        ensures quiet { packets_in self.old.parts.groups.readings + length telegram.packets.items ≤ room_in T.stores self.old → IsOk result }
+        ensures quiet { packets_in self.old.parts.groups.readings + length telegram.packets.items ≤ space_in T.stores self.old → IsOk result }
         ensures idle { packets_in self.old.parts.groups.readings + length telegram.packets.items ≡ 0 → OnOk result (SameTrack self.old self.new) }
         ensures stands { OnOk result ((life : Life) (bytes : List ℕ) → StandsForColumns T.stores self.old life → telegram_in bytes ≡ Some telegram
             → StandsForColumns T.stores self.new (grown_so_far life (heard life.entries bytes)
@@ -167,14 +167,14 @@ impl<T: ProfileStores> TracksideOver<T> {
         ensures err { OnErr result (self.new ≡ self.old) }
     {
         let packets = self.parts.groups.packets() + telegram.packets().len() as usize;
-        self.make_room(packets)?;
+        self.make_space(packets)?;
         self.take(mode, telegram);
         Ok(())
     }
 
     // The bytes of a balise. Those that carry no telegram do nothing.
     fn listen(&mut self, mode: Mode, bytes: &[u8]) -> Result<(), NoMemory>
-        ensures quiet { HasRoomFor T.stores self.old (inputs.Telegram bytes.now) → IsOk result }
+        ensures quiet { HasSpaceFor T.stores self.old (inputs.Telegram bytes.now) → IsOk result }
         ensures idle { packets_by self.old.parts (inputs.Telegram bytes.now) ≡ 0 → OnOk result (SameTrack self.old self.new) }
         ensures stands { OnOk result ((life : Life) → StandsForColumns T.stores self.old life
             → StandsForColumns T.stores self.new (grown_so_far life (heard life.entries bytes.now)
@@ -191,11 +191,11 @@ impl<T: ProfileStores> TracksideOver<T> {
     }
 
     /// What an input brings in a mode, and the groups that it closes: first its own effect, then each group is judged,
-    /// makes its fix, and the packets are used that the mode uses. Room is made first for all that they may add; where
-    /// memory is refused for it, nothing changes. Where there is room for them, none is refused. An input that uses no
+    /// makes its fix, and the packets are used that the mode uses. Space is made first for all that they may add; where
+    /// memory is refused for it, nothing changes. Where there is space for them, none is refused. An input that uses no
     /// packet keeps no more track.
     pub fn receive(&mut self, mode: Mode, input: &Input) -> Result<(), NoMemory>
-        ensures quiet { HasRoomFor T.stores self.old input.now → IsOk result }
+        ensures quiet { HasSpaceFor T.stores self.old input.now → IsOk result }
         ensures idle { packets_by self.old.parts input.now ≡ 0 → OnOk result (size_in T.stores self.new ≡ size_in T.stores self.old) }
         ensures stands { OnOk result ((life : Life) → StandsForLife T.stores self.old life
             → StandsForLife T.stores self.new (grown life (received mode life.entries input.now))) }

@@ -46,7 +46,7 @@ impl<T: ProfileStores> TracksideOver<T> {
     }
 
     /// An equal value; NoMemory where memory is refused. None is taken where no restriction and no profile is kept, nor
-    /// room for one.
+    /// space for one.
     pub fn copy(&self, alloc: Global) -> Result<Self, NoMemory>
         ensures value { IfOk result (λ copy. copy ≡ self.now) }
         ensures quiet { size_in T.stores self.now ≡ 0 → IsOk result }

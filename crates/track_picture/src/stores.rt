@@ -18,8 +18,8 @@ pub trait ProfileStores {
     ghost stores_are: { stores ≡ record {
       gradients = Self.Gradients.profile;
       speeds = Self.Speeds.profile;
-      gradients_room = Self.Gradients.room;
-      speeds_room = Self.Speeds.room;
+      gradients_space = Self.Gradients.space;
+      speeds_space = Self.Speeds.space;
       gradients_size = Self.Gradients.size;
       speeds_size = Self.Speeds.size;
     } };

@@ -6,7 +6,7 @@ ghost use Rattle.std.specs.List.{list_any};
 ghost use Rattle.track_picture.specs.Entry.{Fact};
 ghost use Rattle.track_picture.specs.Columns.{after_facts};
 ghost use Rattle.track_picture.specs.Sentences.{is_valid, valid_in, is_used};
-ghost use Rattle.track_picture.specs.StandsFor.{room_in};
+ghost use Rattle.track_picture.specs.StandsFor.{space_in};
 ghost use Rattle.track_picture.specs.Steps.{fact_of, facts};
 ghost use Rattle.track_picture.specs.Reported.{Walked, IsReported as IsAllReported, known_of, after_earlier, after_later};
 ghost use Rattle.track_picture.specs.Happenings.{comes_later};
@@ -46,8 +46,8 @@ pub struct Use {
     pub direction: Option<LinkOrientation>,
 }
 
-/// Whether a packet that is valid in this direction counts (Q_DIR), of a group that is passed in that one; None where that
-/// isn't known.
+/// Whether a packet that is valid in this direction counts (Q_DIR), of a group that is passed in that one; None where
+/// that isn't known.
 pub fn is_valid(valid: ValidityDirection, direction: Option<LinkOrientation>) -> bool
     ensures { result ≡ is_valid valid direction }
 {
@@ -105,43 +105,43 @@ fn met_later(before: bool, packet: &Packet<'_>) -> bool
 }
 
 /// A walk over the packets of a message, and what a state takes of them one after another. It takes no memory, in the
-/// room that was made for so many packets of the walk, and for more after them.
+/// space that was made for so many packets of the walk, and for more after them.
 pub trait Walk<T> {
     ghost Reported: { Type 0 };
 
     ghost IsReported: { T → Reported → Type 0 };
 
-    ghost HasRoom: { ℕ → ℕ → T → Type 0 };
+    ghost HasSpace: { ℕ → ℕ → T → Type 0 };
 
     ghost after: { Fact → Reported → Reported };
 
     /// Takes what concerns this walk of a packet that is used.
     fn take(state: &mut T, packet: &Packet<'_>, used: &Use)
-        requires { (left : ℕ) × HasRoom (left + 1) 0 state.old }
+        requires { (left : ℕ) × HasSpace (left + 1) 0 state.old }
         ensures reported { (reported : Reported) → IsReported state.old reported → IsReported state.new (after (fact_of used.now packet.now) reported) }
-        ensures room { (left following : ℕ) → HasRoom (left + 1) following state.old → HasRoom left following state.new };
+        ensures space { (left following : ℕ) → HasSpace (left + 1) following state.old → HasSpace left following state.new };
 
-    ghost less: { (left following : ℕ) (state : T) → HasRoom (left + 1) following state → HasRoom left following state };
+    ghost less: { (left following : ℕ) (state : T) → HasSpace (left + 1) following state → HasSpace left following state };
 }
 
 // One packet of a walk.
 fn take_one<T, W: Walk<T>>(state: &mut T, packet: &Packet<'_>, used: &Use)
-    requires { (left : ℕ) × W.HasRoom (left + 1) 0 state.old }
+    requires { (left : ℕ) × W.HasSpace (left + 1) 0 state.old }
     ensures reported { (reported : W.Reported) → W.IsReported state.old reported
         → W.IsReported state.new (if is_used used.now.mode used.now.direction packet.now then W.after (fact_of used.now packet.now) reported else reported) }
-    ensures room { (left following : ℕ) → W.HasRoom (left + 1) following state.old → W.HasRoom left following state.new }
+    ensures space { (left following : ℕ) → W.HasSpace (left + 1) following state.old → W.HasSpace left following state.new }
 {
     if is_used(packet, used) {
         W::take(state, packet, used);
     }
 }
 
-/// A whole walk. Answers whether it met a packet for the second one. The caller owes room for as many packets of the
+/// A whole walk. Answers whether it met a packet for the second one. The caller owes space for as many packets of the
 /// walk as the message has.
 pub fn take_all<T, W: Walk<T>>(state: &mut T, packets: &GroupPackets, used: &Use) -> bool
-    requires { W.HasRoom (length packets.now) 0 state.old }
+    requires { W.HasSpace (length packets.now) 0 state.old }
     ensures reported { (reported : W.Reported) → W.IsReported state.old reported → W.IsReported state.new (after_facts W.after (facts used.now packets.now) reported) }
-    ensures room { (following : ℕ) → W.HasRoom (length packets.now) following state.old → W.HasRoom 0 following state.new }
+    ensures space { (following : ℕ) → W.HasSpace (length packets.now) following state.old → W.HasSpace 0 following state.new }
     ensures later { result ≡ list_any comes_later packets.now }
     ensures none { length packets.now ≡ 0 → state.new ≡ state.old }
 {
@@ -186,11 +186,11 @@ impl<T: ProfileStores> Walk<TracksideOver<T>> for Earlier {
 
     ghost IsReported = { λ state reported. IsAllReported T.stores state reported };
 
-    ghost HasRoom = { λ left following state. left + following ≤ room_in T.stores state };
+    ghost HasSpace = { λ left following state. left + following ≤ space_in T.stores state };
 
     ghost after = { after_earlier };
 
-    ghost less = { λ left following state room. omega arith };
+    ghost less = { λ left following state space. omega arith };
 
     fn take(state: &mut TracksideOver<T>, packet: &Packet<'_>, used: &Use) {
         let mark = state.restrictions.mark();
@@ -202,7 +202,7 @@ impl<T: ProfileStores> Walk<TracksideOver<T>> for Earlier {
 }
 
 /// The walk over the revocations, after the restrictions, and over the mode areas, after the authorities. It needs no
-/// room.
+/// space.
 pub struct Later;
 
 impl<T: ProfileStores> Walk<TracksideOver<T>> for Later {
@@ -210,11 +210,11 @@ impl<T: ProfileStores> Walk<TracksideOver<T>> for Later {
 
     ghost IsReported = { λ state reported. IsAllReported T.stores state reported };
 
-    ghost HasRoom = { λ left following state. following ≤ room_in T.stores state };
+    ghost HasSpace = { λ left following state. following ≤ space_in T.stores state };
 
     ghost after = { after_later };
 
-    ghost less = { λ left following state room. room };
+    ghost less = { λ left following state space. space };
 
     fn take(state: &mut TracksideOver<T>, packet: &Packet<'_>, used: &Use) {
         state.parts.describe_later(packet, used);

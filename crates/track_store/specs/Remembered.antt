@@ -22,10 +22,10 @@ value_remembered [] place = None
 value_remembered (fact ∷ facts) place =
     if int_lt place fact.start then value_remembered facts place else from_mark fact.mark (given_by fact.steps) place
 
--- facts, and for how many more of them there is room
+-- facts, and for how many more of them there is space
 pub record Listed (A : Type 0) : Type 0 where
   pub facts : List (Remembered A)
-  pub room : ℕ
+  pub space : ℕ
 
 abbrev pub value_listed : {A : Type 0} → Listed A → ℤ → Option A
 value_listed listed = value_remembered listed.facts
@@ -33,9 +33,9 @@ value_listed listed = value_remembered listed.facts
 abbrev pub profile_listed : {A : Type 0} → Listed A → Profile A
 profile_listed listed = record { value = value_listed listed }
 
-abbrev pub with_room : {A : Type 0} → ℕ → Listed A → Listed A
-with_room room listed = record listed { room = room }
+abbrev pub with_space : {A : Type 0} → ℕ → Listed A → Listed A
+with_space space listed = record listed { space = space }
 
--- how many facts it keeps or has room for
+-- how many facts it keeps or has space for
 abbrev pub size_of : {A : Type 0} → Listed A → ℕ
-size_of listed = length listed.facts + listed.room
+size_of listed = length listed.facts + listed.space

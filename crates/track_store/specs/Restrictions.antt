@@ -46,14 +46,14 @@ pub record InForce : Type 0 where
   pub mark : ℤ
   pub restrictions : List Restriction
 
--- .. and for how many more restrictions there is room
+-- .. and for how many more restrictions there is space
 pub record Held : Type 0 where
   pub track : InForce
-  pub room : ℕ
+  pub space : ℕ
 
--- how many restrictions it keeps or has room for
+-- how many restrictions it keeps or has space for
 abbrev pub size_of : Held → ℕ
-size_of held = length held.track.restrictions + held.room
+size_of held = length held.track.restrictions + held.space
 
 abbrev pub in_force : List RestrictionEntry → InForce
 in_force entries = record { mark = mark_of entries; restrictions = filter (reaches_past (mark_of entries)) (standing entries) }

@@ -16,10 +16,10 @@ value_among otherwise (segment ∷ segments) place =
 abbrev pub value_of_segments : {A : Type 0} → List (Segment A) → ℤ → Option A
 value_of_segments segments = value_among None segments
 
--- segments, and for how many replacements there is room
+-- segments, and for how many replacements there is space
 pub record Segmented (A : Type 0) : Type 0 where
   pub segments : List (Segment A)
-  pub room : ℕ
+  pub space : ℕ
 
 abbrev pub value_kept : {A : Type 0} → Segmented A → ℤ → Option A
 value_kept kept = value_of_segments kept.segments
@@ -27,12 +27,12 @@ value_kept kept = value_of_segments kept.segments
 abbrev pub profile_kept : {A : Type 0} → Segmented A → Profile A
 profile_kept kept = record { value = value_kept kept }
 
-abbrev pub with_room : {A : Type 0} → ℕ → Segmented A → Segmented A
-with_room room kept = record kept { room = room }
+abbrev pub with_space : {A : Type 0} → ℕ → Segmented A → Segmented A
+with_space space kept = record kept { space = space }
 
--- how many segments it keeps and replacements it has room for
+-- how many segments it keeps and replacements it has space for
 abbrev pub size_of : {A : Type 0} → Segmented A → ℕ
-size_of kept = length kept.segments + kept.room
+size_of kept = length kept.segments + kept.space
 
 -- segments that start after a place, each after the one before it
 abbrev pub IsRisingFrom : {A : Type 0} → ℤ → List (Segment A) → Type 0

@@ -7,7 +7,7 @@ use std::alloc::Global;
 use std::marker::Model;
 use units::{Cm, NoMemory};
 
-/// Room for the steps of one fact (this project's profile).
+/// Space for the steps of one fact (this project's profile).
 #[derive(Drop)]
 pub struct Blank<T> {
     steps: Vec<Step<T>>,
@@ -24,7 +24,7 @@ impl<T> Model for Blank<T> {
 }
 
 impl<T: Copy> Blank<T> {
-    /// Room for the steps of one packet. NoMemory where memory is refused.
+    /// Space for the steps of one packet. NoMemory where memory is refused.
     pub fn new(alloc: Global) -> Result<Self, NoMemory> {
         Ok(Blank {
             steps: Vec::with_capacity(alloc, MOST_STEPS)?,

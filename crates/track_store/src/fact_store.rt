@@ -14,8 +14,8 @@ use units::{Cm, NoMemory};
 pub struct FactStore<T> {
     // The newest first.
     facts: Vec<Fact<T>>,
-    // For how many facts more there is room: the list has it, and for each a blank is there.
-    room: usize,
+    // For how many facts more there is space: the list has it, and for each a blank is there.
+    space: usize,
     blanks: Vec<Blank<T>>,
 }
 
@@ -25,9 +25,9 @@ impl<T> Model for FactStore<T> {
 
     ghost Value = { Listed T };
 
-    ghost view = { λ s. record { facts = s.facts.items; room = s.room } };
+    ghost view = { λ s. record { facts = s.facts.items; space = s.space } };
 
-    ghost invariant = { λ s. (vec_len s.facts + s.room ≤ vec_capacity s.facts) × (s.room ≤ vec_len s.blanks) };
+    ghost invariant = { λ s. (vec_len s.facts + s.space ≤ vec_capacity s.facts) × (s.space ≤ vec_len s.blanks) };
 }
 
 impl<T: Copy> Profile<T> for FactStore<T> {
@@ -67,13 +67,13 @@ impl<T: Copy> Profile<T> for FactStore<T> {
 
 impl<T: Copy> ProfileStore<T> for FactStore<T> {
     ghost use Rattle.std.specs.Prelude.{refl};
-    ghost use Rattle.track_store.specs.Remembered.{profile_listed, with_room, size_of};
+    ghost use Rattle.track_store.specs.Remembered.{profile_listed, with_space, size_of};
 
     ghost profile = { profile_listed };
 
-    ghost room = { λ listed. listed.room };
+    ghost space = { λ listed. listed.space };
 
-    ghost with_room = { with_room };
+    ghost with_space = { with_space };
 
     ghost size = { size_of };
 
@@ -81,22 +81,22 @@ impl<T: Copy> ProfileStore<T> for FactStore<T> {
 
     ghost same_profile = { λ _ _. refl };
 
-    ghost room_is = { λ _ _. refl };
+    ghost space_is = { λ _ _. refl };
 
-    ghost room_again = { λ _ _ _. refl };
+    ghost space_again = { λ _ _ _. refl };
 
-    ghost own_room = { λ _. refl };
+    ghost own_space = { λ _. refl };
 
     fn empty(alloc: Global) -> Self {
         FactStore {
             facts: Vec::new(alloc),
-            room: 0,
+            space: 0,
             blanks: Vec::new(alloc),
         }
     }
 
     fn replace_from(&mut self, start: Cm, steps: &[Step<T>]) -> Result<(), NoMemory> {
-        let Some(more) = self.room.checked_add(1) else {
+        let Some(more) = self.space.checked_add(1) else {
             return Err(NoMemory);
         };
         let fact = Fact::new(*self.facts.allocator(), start, steps)?;
@@ -105,24 +105,24 @@ impl<T: Copy> ProfileStore<T> for FactStore<T> {
         Ok(())
     }
 
-    fn room(&self) -> usize {
-        self.room
+    fn space(&self) -> usize {
+        self.space
     }
 
-    fn make_room(&mut self, replacements: usize) -> Result<(), NoMemory> {
-        let room = replacements.max(self.room);
-        self.facts.reserve(room)?;
-        add_blanks(&mut self.blanks, *self.facts.allocator(), room)?;
-        self.room = room;
+    fn make_space(&mut self, replacements: usize) -> Result<(), NoMemory> {
+        let space = replacements.max(self.space);
+        self.facts.reserve(space)?;
+        add_blanks(&mut self.blanks, *self.facts.allocator(), space)?;
+        self.space = space;
         Ok(())
     }
 
-    fn limit_room(&mut self, replacements: usize) {
-        self.room = replacements;
+    fn limit_space(&mut self, replacements: usize) {
+        self.space = replacements;
     }
 
     fn replace_reserved(&mut self, start: Cm, steps: &[Step<T>]) {
-        self.room -= 1;
+        self.space -= 1;
         if let Some(blank) = self.blanks.pop() {
             self.facts.insert(0, blank.fill(start, steps)).unwrap();
         }
@@ -143,15 +143,15 @@ impl<T: Copy> ProfileStore<T> for FactStore<T> {
     }
 
     fn copy(&self, alloc: Global) -> Result<Self, NoMemory> {
-        let mut facts = Vec::with_capacity(alloc, self.facts.len() + self.room)?;
+        let mut facts = Vec::with_capacity(alloc, self.facts.len() + self.space)?;
         for fact in &self.facts {
             facts.push(fact.copy(alloc)?)?;
         }
         let mut blanks = Vec::new(alloc);
-        add_blanks(&mut blanks, alloc, self.room)?;
+        add_blanks(&mut blanks, alloc, self.space)?;
         Ok(FactStore {
             facts,
-            room: self.room,
+            space: self.space,
             blanks,
         })
     }

@@ -1,4 +1,4 @@
-//! The traits of a profile: what is asked of it at a place, and how it is replaced, dropped and given room.
+//! The traits of a profile: what is asked of it at a place, and how it is replaced, dropped and given space.
 ghost use Rattle.std.specs.Prelude.{◌≡◌, ◌≤◌, ◌+◌, ◌↔◌, ℕ, ℤ, ◌≤ℤ◌, ◌<ℤ◌, max, length, Option, None, IsTrue, IsOk, OnOk, OnErr, IfOk};
 ghost use Rattle.track_store.specs.Profiles as profiles;
 ghost use Rattle.track_store.specs.Profiles.{Lasts, HoldsOver, IsKnownThroughout, profile_with};
@@ -19,7 +19,7 @@ pub struct Step<T> {
     pub value: Option<T>,
 }
 
-/// Fills room that isn't in use.
+/// Fills unused elements.
 impl<T> Default for Step<T> {
     fn default() -> Step<T> {
         Step {
@@ -78,9 +78,9 @@ pub trait Profile<T> {
         }
     }
 
-    /// The value of the centimetre before a place, and from where on it holds up to there; nothing is asked of what lies
-    /// before the least place. Who goes back from piece to piece hands in what the one after gave as near, and first 0;
-    /// that bears on nothing but the cost. The caller owes a least place before the other one.
+    /// The value of the centimetre before a place, and from where on it holds up to there; nothing is asked of what
+    /// lies before the least place. Who goes back from piece to piece hands in what the one after gave as near, and
+    /// first 0; that bears on nothing but the cost. The caller owes a least place before the other one.
     fn piece_before(&self, place: Cm, least: Cm, near: usize) -> PieceBefore<T>
         requires { least <ℤ place }
         ensures within { least ≤ℤ result.from }
@@ -100,9 +100,9 @@ pub trait Profile<T> {
 pub trait ProfileStore<T>: Profile<T> {
     ghost profile: { Self → profiles.Profile T };
 
-    ghost room: { Self → ℕ };
+    ghost space: { Self → ℕ };
 
-    ghost with_room: { ℕ → Self → Self };
+    ghost with_space: { ℕ → Self → Self };
 
     ghost size: { Self → ℕ };
 
@@ -112,35 +112,35 @@ pub trait ProfileStore<T>: Profile<T> {
         ensures size { size result ≡ 0 };
 
     /// Takes the values from a first place on, in centimetres, in place of all that were there before. The last of the
-    /// steps at or below a centimetre holds there, and nothing where an end mark or no step is at or below it. The room
-    /// that was made stays. NoMemory where memory is refused, and then nothing changes.
+    /// steps at or below a centimetre holds there, and nothing where an end mark or no step is at or below it. The
+    /// space that was made stays. NoMemory where memory is refused, and then nothing changes.
     fn replace_from(&mut self, start: Cm, steps: &[Step<T>]) -> Result<(), NoMemory>
         ensures ok { OnOk result ((place : ℤ) → Self.value self.new place ≡ replaced (Self.value self.old) start steps.now place) }
-        ensures room { OnOk result (room self.new ≡ room self.old) }
+        ensures space { OnOk result (space self.new ≡ space self.old) }
         ensures err { OnErr result (self.new ≡ self.old) };
 
-    /// For how many replacements, of at most `MOST_STEPS` steps each, there is room.
-    fn room(&self) -> usize
-        ensures { result ≡ room self.now };
+    /// For how many replacements, of at most `MOST_STEPS` steps each, there is space.
+    fn space(&self) -> usize
+        ensures { result ≡ space self.now };
 
-    /// Makes room for so many replacements, unless there is room for more. NoMemory where memory is refused, and then
+    /// Makes space for so many replacements, unless there is space for more. NoMemory where memory is refused, and then
     /// nothing changes.
-    fn make_room(&mut self, replacements: usize) -> Result<(), NoMemory>
-        ensures ok { OnOk result (self.new ≡ with_room (max replacements (room self.old)) self.old) }
+    fn make_space(&mut self, replacements: usize) -> Result<(), NoMemory>
+        ensures ok { OnOk result (self.new ≡ with_space (max replacements (space self.old)) self.old) }
         ensures err { OnErr result (self.new ≡ self.old) };
 
-    /// Gives back room: what is left is for so many replacements. The caller owes no more than there is room for.
-    fn limit_room(&mut self, replacements: usize)
-        requires { replacements ≤ room self.old }
-        ensures { self.new ≡ with_room replacements self.old };
+    /// Gives back space: what is left is for so many replacements. The caller owes no more than there is space for.
+    fn limit_space(&mut self, replacements: usize)
+        requires { replacements ≤ space self.old }
+        ensures { self.new ≡ with_space replacements self.old };
 
-    /// What `replace_from` does, in the room that was made: it takes no memory. The caller owes at most `MOST_STEPS`
-    /// steps, and room for one replacement.
+    /// What `replace_from` does, in the space that was made: it takes no memory. The caller owes at most `MOST_STEPS`
+    /// steps, and space for one replacement.
     fn replace_reserved(&mut self, start: Cm, steps: &[Step<T>])
         requires steps { length steps.now ≤ MOST_STEPS }
-        requires room { 1 ≤ room self.old }
+        requires space { 1 ≤ space self.old }
         ensures value { (place : ℤ) → Self.value self.new place ≡ replaced (Self.value self.old) start steps.now place }
-        ensures room { room self.old ≤ room self.new + 1 };
+        ensures space { space self.old ≤ space self.new + 1 };
 
     /// Whether each centimetre from one up to another, that one not included, has a value. It takes no memory.
     fn is_known_throughout(&self, from: Cm, end: Cm) -> bool
@@ -149,16 +149,16 @@ pub trait ProfileStore<T>: Profile<T> {
     /// Drops the values below a place, in centimetres, and no other ones. What comes there later counts.
     fn drop_before(&mut self, place: Cm)
         ensures value { (there : ℤ) → Self.value self.new there ≡ from_mark place (Self.value self.old) there }
-        ensures room { room self.new ≡ room self.old }
+        ensures space { space self.new ≡ space self.old }
         ensures size { size self.new ≤ size self.old };
 
     /// Drops all values.
     fn clear(&mut self)
         ensures value { (place : ℤ) → Self.value self.new place ≡ None }
-        ensures room { room self.new ≡ room self.old }
+        ensures space { space self.new ≡ space self.old }
         ensures size { size self.new ≤ size self.old };
 
-    /// An equal value: an equal profile, with room for as many replacements. NoMemory where memory is refused; one of
+    /// An equal value: an equal profile, with space for as many replacements. NoMemory where memory is refused; one of
     /// size 0 takes none.
     fn copy(&self, alloc: Global) -> Result<Self, NoMemory>
         ensures value { IfOk result (λ copy. copy ≡ self.now) }
@@ -166,11 +166,11 @@ pub trait ProfileStore<T>: Profile<T> {
 
     ghost profile_is: { (store : Self) → profile store ≡ profile_with Self.value store };
 
-    ghost same_profile: { (count : ℕ) (store : Self) → profile (with_room count store) ≡ profile store };
+    ghost same_profile: { (count : ℕ) (store : Self) → profile (with_space count store) ≡ profile store };
 
-    ghost room_is: { (count : ℕ) (store : Self) → room (with_room count store) ≡ count };
+    ghost space_is: { (count : ℕ) (store : Self) → space (with_space count store) ≡ count };
 
-    ghost room_again: { (one other : ℕ) (store : Self) → with_room one (with_room other store) ≡ with_room one store };
+    ghost space_again: { (one other : ℕ) (store : Self) → with_space one (with_space other store) ≡ with_space one store };
 
-    ghost own_room: { (store : Self) → with_room (room store) store ≡ store };
+    ghost own_space: { (store : Self) → with_space (space store) store ≡ store };
 }

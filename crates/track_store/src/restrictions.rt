@@ -20,8 +20,8 @@ pub struct Restrictions {
     mark: Cm,
     // The newest last. Each has track at or ahead of the mark.
     items: Vec<Restriction>,
-    // For how many restrictions more the list has room.
-    room: usize,
+    // For how many restrictions more the list has space.
+    space: usize,
 }
 
 impl Model for Restrictions {
@@ -30,71 +30,71 @@ impl Model for Restrictions {
 
     ghost Value = { Held };
 
-    ghost view = { λ r. record { track = record { mark = r.mark; restrictions = r.items.items }; room = r.room } };
+    ghost view = { λ r. record { track = record { mark = r.mark; restrictions = r.items.items }; space = r.space } };
 
-    ghost invariant = { λ r. vec_len r.items + r.room ≤ vec_capacity r.items };
+    ghost invariant = { λ r. vec_len r.items + r.space ≤ vec_capacity r.items };
 }
 
 impl Restrictions {
     /// No restriction, and nothing forgotten. Takes no memory.
     pub fn new(alloc: Global) -> Self
-        ensures { result ≡ record { track = in_force []; room = 0 } }
+        ensures { result ≡ record { track = in_force []; space = 0 } }
     {
         Restrictions {
             mark: Cm::MIN,
             items: Vec::new(alloc),
-            room: 0,
+            space: 0,
         }
     }
 
-    /// For how many restrictions more there is room.
-    pub fn room(&self) -> usize
-        ensures { result ≡ self.now.room }
+    /// For how many restrictions more there is space.
+    pub fn space(&self) -> usize
+        ensures { result ≡ self.now.space }
     {
-        self.room
+        self.space
     }
 
-    /// Makes room for so many restrictions more, unless there is room for more than those. NoMemory where memory is
+    /// Makes space for so many restrictions more, unless there is space for more than those. NoMemory where memory is
     /// refused, and then nothing changes.
-    pub fn make_room(&mut self, restrictions: usize) -> Result<(), NoMemory>
-        ensures ok { OnOk result (self.new ≡ record self.old { room = max restrictions self.old.room }) }
+    pub fn make_space(&mut self, restrictions: usize) -> Result<(), NoMemory>
+        ensures ok { OnOk result (self.new ≡ record self.old { space = max restrictions self.old.space }) }
         ensures err { OnErr result (self.new ≡ self.old) }
     {
-        let room = restrictions.max(self.room);
-        self.items.reserve(room)?;
-        self.room = room;
+        let space = restrictions.max(self.space);
+        self.items.reserve(space)?;
+        self.space = space;
         Ok(())
     }
 
-    /// Gives back room: what is left is for so many restrictions. The caller owes no more than there is room for.
-    pub fn limit_room(&mut self, restrictions: usize)
-        requires { restrictions ≤ self.old.room }
-        ensures { self.new ≡ record self.old { room = restrictions } }
+    /// Gives back space: what is left is for so many restrictions. The caller owes no more than there is space for.
+    pub fn limit_space(&mut self, restrictions: usize)
+        requires { restrictions ≤ self.old.space }
+        ensures { self.new ≡ record self.old { space = restrictions } }
     {
-        self.room = restrictions;
+        self.space = restrictions;
     }
 
     /// Takes a restriction, in place of the one of its number (but for 255). NoMemory where memory is refused, and then
-    /// nothing changes. The list holds the allocator that it takes memory of. This is for a caller who makes no room
+    /// nothing changes. The list holds the allocator that it takes memory of. This is for a caller who makes no space
     /// first.
     pub fn add(&mut self, _alloc: Global, restriction: Restriction) -> Result<(), NoMemory>
         ensures ok { OnOk result ((entries : List RestrictionEntry) → self.old.track ≡ in_force entries
             → self.new.track ≡ in_force (Restricted restriction ∷ entries)) }
         ensures err { OnErr result (self.new ≡ self.old) }
     {
-        self.make_room(1)?;
+        self.make_space(1)?;
         self.add_reserved(restriction);
         Ok(())
     }
 
-    /// What `add` does, in the room that was made: it takes no memory. The caller owes room for one.
+    /// What `add` does, in the space that was made: it takes no memory. The caller owes space for one.
     pub fn add_reserved(&mut self, restriction: Restriction)
-        requires { 1 ≤ self.old.room }
+        requires { 1 ≤ self.old.space }
         ensures track { (entries : List RestrictionEntry) → self.old.track ≡ in_force entries
             → self.new.track ≡ in_force (Restricted restriction ∷ entries) }
-        ensures room { self.new.room + 1 ≡ self.old.room }
+        ensures space { self.new.space + 1 ≡ self.old.space }
     {
-        self.room -= 1;
+        self.space -= 1;
         drop_number(&mut self.items, restriction.number);
         if restriction.reaches_past(self.mark) {
             self.items.push_reserved(restriction);
@@ -105,7 +105,7 @@ impl Restrictions {
     pub fn revoke(&mut self, number: RestrictionNumber)
         ensures track { (entries : List RestrictionEntry) → self.old.track ≡ in_force entries
             → self.new.track ≡ in_force (Revoked number ∷ entries) }
-        ensures room { self.new.room ≡ self.old.room }
+        ensures space { self.new.space ≡ self.old.space }
     {
         drop_number(&mut self.items, number);
     }
@@ -114,7 +114,7 @@ impl Restrictions {
     pub fn drop_before(&mut self, mark: Cm)
         ensures track { (entries : List RestrictionEntry) → self.old.track ≡ in_force entries
             → self.new.track ≡ in_force (Forgotten mark ∷ entries) }
-        ensures room { self.new.room ≡ self.old.room }
+        ensures space { self.new.space ≡ self.old.space }
         ensures size { size_of self.new ≤ size_of self.old }
     {
         if self.mark < mark {
@@ -135,17 +135,17 @@ impl Restrictions {
         limit
     }
 
-    /// An equal value, with as much room; NoMemory where memory is refused. One of size 0 takes none.
+    /// An equal value, with as much space; NoMemory where memory is refused. One of size 0 takes none.
     pub fn copy(&self, alloc: Global) -> Result<Self, NoMemory>
         ensures value { IfOk result (λ copy. copy ≡ self.now) }
         ensures quiet { size_of self.now ≡ 0 → IsOk result }
     {
-        let mut items = Vec::with_capacity(alloc, self.items.len() + self.room)?;
+        let mut items = Vec::with_capacity(alloc, self.items.len() + self.space)?;
         items.extend_from_slice(&self.items)?;
         Ok(Restrictions {
             mark: self.mark,
             items,
-            room: self.room,
+            space: self.space,
         })
     }
 }

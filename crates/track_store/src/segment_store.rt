@@ -19,8 +19,8 @@ const MOST_SEGMENTS: usize = MOST_STEPS + 2;
 pub struct SegmentStore<T> {
     // Each lasts up to the next one's start. Where nothing is known after a value, a segment without one follows.
     segments: Vec<Segment<T>>,
-    // For how many replacements the list has room.
-    room: usize,
+    // For how many replacements the list has space.
+    space: usize,
 }
 
 impl<T> Model for SegmentStore<T> {
@@ -29,9 +29,9 @@ impl<T> Model for SegmentStore<T> {
 
     ghost Value = { Segmented T };
 
-    ghost view = { λ s. record { segments = s.segments.items; room = s.room } };
+    ghost view = { λ s. record { segments = s.segments.items; space = s.space } };
 
-    ghost invariant = { λ s. IsKept s.segments.items × (vec_len s.segments + 34 * s.room ≤ vec_capacity s.segments) };
+    ghost invariant = { λ s. IsKept s.segments.items × (vec_len s.segments + 34 * s.space ≤ vec_capacity s.segments) };
 }
 
 impl<T> SegmentStore<T> {
@@ -72,13 +72,13 @@ impl<T: Copy> Profile<T> for SegmentStore<T> {
 
 impl<T: Copy + Same> ProfileStore<T> for SegmentStore<T> {
     ghost use Rattle.std.specs.Prelude.{refl};
-    ghost use Rattle.track_store.specs.Segments.{profile_kept, with_room, size_of};
+    ghost use Rattle.track_store.specs.Segments.{profile_kept, with_space, size_of};
 
     ghost profile = { profile_kept };
 
-    ghost room = { λ kept. kept.room };
+    ghost space = { λ kept. kept.space };
 
-    ghost with_room = { with_room };
+    ghost with_space = { with_space };
 
     ghost size = { size_of };
 
@@ -86,21 +86,21 @@ impl<T: Copy + Same> ProfileStore<T> for SegmentStore<T> {
 
     ghost same_profile = { λ _ _. refl };
 
-    ghost room_is = { λ _ _. refl };
+    ghost space_is = { λ _ _. refl };
 
-    ghost room_again = { λ _ _ _. refl };
+    ghost space_again = { λ _ _ _. refl };
 
-    ghost own_room = { λ _. refl };
+    ghost own_space = { λ _. refl };
 
     fn empty(alloc: Global) -> Self {
         SegmentStore {
             segments: Vec::new(alloc),
-            room: 0,
+            space: 0,
         }
     }
 
     fn replace_from(&mut self, start: Cm, steps: &[Step<T>]) -> Result<(), NoMemory> {
-        let kept = self.room * MOST_SEGMENTS;
+        let kept = self.space * MOST_SEGMENTS;
         let Some(segments) = kept.checked_add(steps.len().saturating_add(2)) else {
             return Err(NoMemory);
         };
@@ -109,26 +109,26 @@ impl<T: Copy + Same> ProfileStore<T> for SegmentStore<T> {
         Ok(())
     }
 
-    fn room(&self) -> usize {
-        self.room
+    fn space(&self) -> usize {
+        self.space
     }
 
-    fn make_room(&mut self, replacements: usize) -> Result<(), NoMemory> {
-        let room = replacements.max(self.room);
-        let Some(segments) = room.checked_mul(MOST_SEGMENTS) else {
+    fn make_space(&mut self, replacements: usize) -> Result<(), NoMemory> {
+        let space = replacements.max(self.space);
+        let Some(segments) = space.checked_mul(MOST_SEGMENTS) else {
             return Err(NoMemory);
         };
         self.segments.reserve(segments)?;
-        self.room = room;
+        self.space = space;
         Ok(())
     }
 
-    fn limit_room(&mut self, replacements: usize) {
-        self.room = replacements;
+    fn limit_space(&mut self, replacements: usize) {
+        self.space = replacements;
     }
 
     fn replace_reserved(&mut self, start: Cm, steps: &[Step<T>]) {
-        self.room -= 1;
+        self.space -= 1;
         hold_steps(&mut self.segments, start, steps);
     }
 
@@ -145,12 +145,12 @@ impl<T: Copy + Same> ProfileStore<T> for SegmentStore<T> {
     }
 
     fn copy(&self, alloc: Global) -> Result<Self, NoMemory> {
-        let count = self.segments.len() + self.room * MOST_SEGMENTS;
+        let count = self.segments.len() + self.space * MOST_SEGMENTS;
         let mut segments = Vec::with_capacity(alloc, count)?;
         segments.extend_from_slice(&self.segments)?;
         Ok(SegmentStore {
             segments,
-            room: self.room,
+            space: self.space,
         })
     }
 }

@@ -242,10 +242,10 @@ fn drop_from<T: Copy>(segments: &mut Vec<Segment<T>>, place: Cm)
     segments.truncate(count);
 }
 
-// Takes one value from a place on, in place of all segments there. The list has room for one more.
+// Takes one value from a place on, in place of all segments there. The list has space for one more.
 fn hold_from<T: Copy + Same>(segments: &mut Vec<Segment<T>>, place: Cm, value: Option<T>)
     requires kept { IsKept segments.old.items }
-    requires room { vec_len segments.old < vec_capacity segments.old }
+    requires space { vec_len segments.old < vec_capacity segments.old }
     ensures value { (there : ℤ) → value_of_segments segments.new.items there
         ≡ (if int_lt there place then value_of_segments segments.old.items there else value) }
     ensures kept { IsKept segments.new.items }
@@ -287,14 +287,14 @@ fn first_of(first: Option<Cm>, place: Cm) -> Cm
 }
 
 /// Takes what steps give from a first place on, in place of all segments there. Each step holds from its place on,
-/// whatever the order of their places, and the first place of end marks ends them all. The list has room for them all.
+/// whatever the order of their places, and the first place of end marks ends them all. The list has space for them all.
 pub(crate) fn hold_steps<T: Copy + Same>(
     segments: &mut Vec<Segment<T>>,
     start: Cm,
     steps: &[Step<T>],
 )
     requires kept { IsKept segments.old.items }
-    requires room { vec_len segments.old + length steps.now + 2 ≤ vec_capacity segments.old }
+    requires space { vec_len segments.old + length steps.now + 2 ≤ vec_capacity segments.old }
     ensures value { (place : ℤ) → value_of_segments segments.new.items place
         ≡ replaced (value_of_segments segments.old.items) start steps.now place }
     ensures kept { IsKept segments.new.items }
@@ -332,8 +332,8 @@ fn drop_front<T: Copy>(segments: &mut Vec<Segment<T>>, count: usize)
     segments.truncate(left);
 }
 
-// Drops the segments that lie wholly before a mark. Where the mark follows the train there are none or one mostly, so it
-// searches only where there is one.
+// Drops the segments that lie wholly before a mark. Where the mark follows the train there are none or one mostly, so
+// it searches only where there is one.
 fn drop_passed<T: Copy>(segments: &mut Vec<Segment<T>>, mark: Cm)
     requires { IsKeptAfterFirst segments.old.items }
     ensures value { (place : ℤ) → from_mark mark (value_of_segments segments.new.items) place

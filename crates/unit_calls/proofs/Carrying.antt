@@ -13,10 +13,10 @@ use Rattle.disk.specs.declared.record.Span.{Span}
 use Rattle.disk.specs.declared.record.Trace.{Trace}
 use Rattle.request_disk.proofs.Copied.{front_sector}
 use Rattle.unit_calls.specs.Mediums.{is_of, written_on, at_rest, carried_out}
-use Rattle.unit_calls.specs.Requests.{Where, Description, Refuses, Syncs, IsAt, IsReportedAs}
+use Rattle.unit_calls.specs.Requests.{IfElse, Description, Refuses, Syncs, IsAt, IsReportedAs}
 use Rattle.unit_calls.specs.declared.status.Status.{Status}
 use Rattle.unit_calls.specs.declared.status.Status.TheVariants as a_status
-use Rattle.unit_calls.specs.declared.words.EtcsRequest.{EtcsRequest}
+use Rattle.unit_calls.specs.declared.call_values.EtcsRequest.{EtcsRequest}
 
 -- The medium holds what the copy holds at a moment, and has no other sector open.
 pub record IsThere (medium copy : Platter) : Type 0 where
@@ -108,12 +108,12 @@ write_there reported bytes content first n medium copy is same there =
     let B : List ℕ → Type 0 = λ b. IsThere (carried_out (record { sector = first; sectors = n; kind = 1 }) b medium) copy in
     subst F (sym is) (subst B (sym same) there)
 
-otherwise : (b : Bool) (So Else : Type 0) → (So → ⊥) → Where b So Else → Else
+otherwise : (b : Bool) (So Else : Type 0) → (So → ⊥) → IfElse b So Else → Else
 otherwise true So Else not_so is = absurd (not_so is)
 otherwise false So Else not_so is = is
 
-no_room : (status : Status) → status ≡ a_status.Done → status ≡ a_status.NoRoom → ⊥
-no_room status done is = absurd cc
+no_space : (status : Status) → status ≡ a_status.Done → status ≡ a_status.NoRoom → ⊥
+no_space status done is = absurd cc
 
 -- what is left to show of a request that was reported
 abbrev Carried : List ℕ → List ℕ → List Call → ℕ → Description → Platter → Type 0
@@ -138,10 +138,10 @@ module _ (sectors : ℕ) (start written : List ℕ) (requests : List Call) (inde
   carried_there (Some (Torn span)) at within reported = by_sync (Torn span) at (λ s. torn_last (trace_of s (take index requests)) (place_in span s)) reported
   carried_there (Some (Written span)) at within reported =
       let content : List ℕ = take (512 * span.sectors) (drop span.from written) in
-      let rest : List ℕ = drop (length content) t.room in
+      let rest : List ℕ = drop (length content) t.caller_buffer in
       let its = within (Written span) refl in
       let Whole : Type 0 = (t.status ≡ a_status.Done) × (t.reported ≡ record { sector = span.first; sectors = span.sectors; kind = 1 }) × (t.bytes ≡ content ++ rest) in
-      let so = otherwise (nat_lt (length t.room) (length content)) (Refuses a_status.NoRoom t) Whole (λ refused. no_room t.status done refused.0) reported in (
+      let so = otherwise (nat_lt (length t.caller_buffer) (length content)) (Refuses a_status.NoRoom t) Whole (λ refused. no_space t.status done refused.0) reported in (
         at.0,
         write_there t.reported t.bytes (content ++ rest) span.first span.sectors medium (platter_of start written (take (index + 1) requests)) so.1 so.2
             (written_there start written rest (take index requests) (take (index + 1) requests) span at.1 its.bytes medium there),

@@ -5,20 +5,20 @@ use Rattle.std.proofs.lemmas.Bool.{cases_lt}
 use Rattle.std.proofs.lemmas.Bool.Decides.{nat_tests}
 use Rattle.blocks.specs.FirstSector.{sectors_of, first_sector}
 use Rattle.blocks.specs.Layout.{written}
-use Rattle.unit_calls.specs.Formatting.{FormatRequest, Writing, asked_at, asked_last, carried, after_first, FormatEmpties}
+use Rattle.unit_calls.specs.Formatting.{FormatRequest, Writing, requested_at, requested_last, carried, after_first, FormatEmpties}
 
 -- a request by its place
-gate_asked : (slots index : ℕ) → index < slots → asked_at slots index ≡ Writing (sectors_of index) (replicate 512 0)
-gate_asked slots index below =
+gate_requested : (slots index : ℕ) → index < slots → requested_at slots index ≡ Writing (sectors_of index) (replicate 512 0)
+gate_requested slots index below =
     let less : nat_lt index slots ≡ true = grind (arith, nat_tests) in
-    ap (λ (b : Bool). if b then Writing (sectors_of index) (replicate 512 0) else asked_last slots (index - slots)) less
+    ap (λ (b : Bool). if b then Writing (sectors_of index) (replicate 512 0) else requested_last slots (index - slots)) less
 
-after_gates : (slots k : ℕ) → asked_at slots (slots + k) ≡ asked_last slots k
+after_gates : (slots k : ℕ) → requested_at slots (slots + k) ≡ requested_last slots k
 after_gates slots k =
     let past : nat_lt (slots + k) slots ≡ false = grind (arith, nat_tests) in
     let place : slots + k - slots ≡ k = omega arith in
-    ap (λ (b : Bool). if b then Writing (sectors_of (slots + k)) (replicate 512 0) else asked_last slots (slots + k - slots)) past
-    ∙ ap (λ (n : ℕ). asked_last slots n) place
+    ap (λ (b : Bool). if b then Writing (sectors_of (slots + k)) (replicate 512 0) else requested_last slots (slots + k - slots)) past
+    ∙ ap (λ (n : ℕ). requested_last slots n) place
 
 put_same : (at : ℕ) (bytes : List ℕ) (image : ℕ → List ℕ) → carried (Writing at bytes) image at ≡ bytes
 put_same at bytes image =
@@ -32,9 +32,9 @@ put_other at s bytes image other = ap (λ (b : Bool). if b then bytes else image
 zeros_after : (slots below slot : ℕ) (image : ℕ → List ℕ) → below ≤ slots → slot < below → after_first slots image below (sectors_of slot) ≡ replicate 512 0
 zeros_after slots zero slot image most less = absurd (omega (arith, less))
 zeros_after slots (suc below) slot image most less =
-    let asked : asked_at slots below ≡ Writing (sectors_of below) (replicate 512 0) = gate_asked slots below (omega (arith, most)) in
+    let requested : requested_at slots below ≡ Writing (sectors_of below) (replicate 512 0) = gate_requested slots below (omega (arith, most)) in
     let before : ℕ → List ℕ = after_first slots image below in
-    ap (λ (a : FormatRequest). carried a before (sectors_of slot)) asked
+    ap (λ (a : FormatRequest). carried a before (sectors_of slot)) requested
     ∙ ⊎_elim
     (λ (lt : slot < below). put_other (sectors_of below) (sectors_of slot) (replicate 512 0) before (grind (arith, nat_tests)) ∙ zeros_after slots below slot image (omega (arith, most)) lt)
     (λ (ge : below ≤ slot).
@@ -44,7 +44,7 @@ zeros_after slots (suc below) slot image most less =
     (cases_lt slot below)
 
 -- a request after the gates
-last_following : (slots k s : ℕ) (image : ℕ → List ℕ) → after_first slots image (suc (slots + k)) s ≡ carried (asked_last slots k) (after_first slots image (slots + k)) s
+last_following : (slots k s : ℕ) (image : ℕ → List ℕ) → after_first slots image (suc (slots + k)) s ≡ carried (requested_last slots k) (after_first slots image (slots + k)) s
 last_following slots k s image = ap (λ (a : FormatRequest). carried a (after_first slots image (slots + k)) s) (after_gates slots k)
 
 all_after : (slots s : ℕ) (image : ℕ → List ℕ) → after_first slots image (slots + 3) s

@@ -21,16 +21,16 @@ use Rattle.unit_calls.specs.Goings.{IsGoneOn, IsLeftOn, GoesOn}
 pub ups : (before : Opening) (reported : Result Going OpenError)
     → IfOk reported (λ g. OnOpen g (λ u. (u.outputs ≡ []) × (u.done ≡ 0) × (u.failed ≡ false)))
     → IfOk reported (λ g. OnOpen g (λ u. IsSome u.moored))
-    → IfOk reported (λ g. OnOpen g (λ u. IfSome u.moored (λ it. it.reading.disk.sectors ≡ before.disk.sectors)))
+    → IfOk reported (λ g. OnOpen g (λ u. IfSome u.moored (λ current. current.reading.disk.sectors ≡ before.disk.sectors)))
     → ((medium : List ℕ) (whole_from : ℕ) (durable accepted : List Event) → IsGoing medium before →
     IsReady whole_from durable accepted (medium_state medium before.disk.sectors) →
-    IfOk reported (λ g. OnOpen g (λ u. IfSome u.moored (λ it. (found : List Event) × (power_up_word : Cold)
-    × Opens whole_from durable accepted found before.cold power_up_word (medium_state medium before.disk.sectors) (request_state it.reading.disk)
-    × IsOpen it.unit.journal (account_of whole_from (PowerUp power_up_word ∷ found)) (request_state it.reading.disk)
-    × IsAhead (PowerUp power_up_word ∷ found) (PowerUp power_up_word ∷ found) it.unit.life))))
+    IfOk reported (λ g. OnOpen g (λ u. IfSome u.moored (λ current. (found : List Event) × (power_up_cold : Cold)
+    × Opens whole_from durable accepted found before.cold power_up_cold (medium_state medium before.disk.sectors) (request_state current.reading.disk)
+    × IsOpen current.unit.journal (account_of whole_from (PowerUp power_up_cold ∷ found)) (request_state current.reading.disk)
+    × IsAhead (PowerUp power_up_cold ∷ found) (PowerUp power_up_cold ∷ found) current.unit.life))))
     → (medium : List ℕ) → IsGoing medium before → IfOk reported (λ g. OnOpen g (IsUp (before_any medium before.disk.sectors) before.cold))
 ups before (Err e) fresh there sectors up medium going = tt
-ups before (Ok (a_going.Wants it)) fresh there sectors up medium going = tt
+ups before (Ok (a_going.Wants current)) fresh there sectors up medium going = tt
 ups before (Ok (a_going.Open u)) fresh there sectors up medium going = record {
   fresh = fresh;
   there = there;
@@ -39,12 +39,12 @@ ups before (Ok (a_going.Open u)) fresh there sectors up medium going = record {
 }
 
 -- where no unit was open, and this power-up was under way
-module _ (it : Opening) (reported : Result Going OpenError) (after : Option Opening) (unit : Option Opened) (status : Status) where
-  closed_went : (old : Option Opened) → is_some old ≡ false → IsGoneOn it reported → IsLeftOn reported after unit status → GoesOn (Some it) old after unit status
+module _ (current : Opening) (reported : Result Going OpenError) (after : Option Opening) (unit : Option Opened) (status : Status) where
+  closed_went : (old : Option Opened) → is_some old ≡ false → IsGoneOn current reported → IsLeftOn reported after unit status → GoesOn (Some current) old after unit status
   closed_went (Some opened) shut gone left = absurd cc
   closed_went None shut gone left = (reported, gone, left)
 
-  pub went : (before : Option Opening) (old : Option Opened) → before ≡ Some it → is_some old ≡ false → IsGoneOn it reported → IsLeftOn reported after unit status
+  pub went : (before : Option Opening) (old : Option Opened) → before ≡ Some current → is_some old ≡ false → IsGoneOn current reported → IsLeftOn reported after unit status
       → GoesOn before old after unit status
   went before old is shut gone left =
       let G : Option Opening → Type 0 = λ o. GoesOn o old after unit status in

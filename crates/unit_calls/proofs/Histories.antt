@@ -25,10 +25,10 @@ use Rattle.unit_calls.specs.Histories.{Scene, Happening, Opening, Finishing, Tak
 use Rattle.unit_calls.specs.Mediums.{at_rest, carried_out, IsReadFrom}
 use Rattle.unit_calls.specs.Outputs.{description_of}
 use Rattle.unit_calls.specs.PowerUps.{before_any, IsUp}
-use Rattle.unit_calls.specs.Requests.{Where, Description, IsAt, IsReportedAs, DescribesRequest}
+use Rattle.unit_calls.specs.Requests.{IfElse, Description, IsAt, IsReportedAs, DescribesRequest}
 use Rattle.unit_calls.specs.Sectors.{Provides}
 use Rattle.unit_calls.specs.Statuses.{is_done}
-use Rattle.unit_calls.specs.Words.{word_by}
+use Rattle.unit_calls.specs.ColdNumbers.{cold_by}
 use Rattle.unit_calls.specs.declared.handle.Opened.{Opened}
 use Rattle.unit_calls.specs.declared.outputs.EtcsOutput.{EtcsOutput}
 use Rattle.unit_calls.specs.declared.status.Status.{Status}
@@ -58,45 +58,45 @@ module _ (whole_from sectors : ℕ) (handed : List EtcsOutput) (medium : Platter
       ready_after whole_from sectors held_list.0 begin size (λ s. refl) (subst C same held_list.3)
 
   abbrev Stands : Moored → Type 0
-  Stands it = (found : List Event) × (power_up_word : Cold) × Opens whole_from held_list.0 held_list.0 found cold power_up_word begin (request_state it.reading.disk)
-      × IsOpen it.unit.journal (account_of whole_from (PowerUp power_up_word ∷ found)) (request_state it.reading.disk)
-      × IsAhead (PowerUp power_up_word ∷ found) (PowerUp power_up_word ∷ found) it.unit.life
+  Stands current = (found : List Event) × (power_up_cold : Cold) × Opens whole_from held_list.0 held_list.0 found cold power_up_cold begin (request_state current.reading.disk)
+      × IsOpen current.unit.journal (account_of whole_from (PowerUp power_up_cold ∷ found)) (request_state current.reading.disk)
+      × IsAhead (PowerUp power_up_cold ∷ found) (PowerUp power_up_cold ∷ found) current.unit.life
 
   found_all : (found : List Event) → (found ≡ held_list.0) ⊎ (found ≡ held_list.0) → found ≡ held_list.0
   found_all found (inl is) = is
   found_all found (inr is) = is
 
-  of_opening : (found : List Event) (word : Cold) (c : ℕ → List ℕ) → found ≡ held_list.0 → IsOfOpening whole_from sectors held_list.0 held_list.0 found word c
-      → DescribesEither whole_from sectors found (PowerUp word ∷ found) c
-  of_opening found word c is (inl (inl describes)) = let T : List Event → Type 0 = λ l. Describes whole_from sectors l c in inl (subst T (sym is) describes)
-  of_opening found word c is (inl (inr describes)) = let T : List Event → Type 0 = λ l. Describes whole_from sectors l c in inl (subst T (sym is) describes)
-  of_opening found word c is (inr describes) = inr describes
+  of_opening : (found : List Event) (recorded_cold : Cold) (c : ℕ → List ℕ) → found ≡ held_list.0 → IsOfOpening whole_from sectors held_list.0 held_list.0 found recorded_cold c
+      → DescribesEither whole_from sectors found (PowerUp recorded_cold ∷ found) c
+  of_opening found recorded_cold c is (inl (inl describes)) = let T : List Event → Type 0 = λ l. Describes whole_from sectors l c in inl (subst T (sym is) describes)
+  of_opening found recorded_cold c is (inl (inr describes)) = let T : List Event → Type 0 = λ l. Describes whole_from sectors l c in inl (subst T (sym is) describes)
+  of_opening found recorded_cold c is (inr describes) = inr describes
 
-  floats_up : (it : Moored) (outputs : List Release) (done carried : ℕ) → it.reading.disk.sectors ≡ n → outputs ≡ [] → done ≡ 0 → carried ≡ 0 → Stands it
-      → Floats whole_from sectors handed medium carried it.reading.disk it.unit.journal it.unit.life outputs done
-  floats_up it outputs done carried its_size none undone begins (found, word, opens, standing, ahead) =
+  floats_up : (current : Moored) (outputs : List Release) (done carried : ℕ) → current.reading.disk.sectors ≡ n → outputs ≡ [] → done ≡ 0 → carried ≡ 0 → Stands current
+      → Floats whole_from sectors handed medium carried current.reading.disk current.unit.journal current.unit.life outputs done
+  floats_up current outputs done carried its_size none undone begins (found, recorded_cold, opens, standing, ahead) =
       let is : found ≡ held_list.0 = found_all found opens.found_is in
       let each = opens.at_each_moment in
-      let P : ℕ → (ℕ → List ℕ) → Type 0 = λ n c. IsOfOpening whole_from n held_list.0 held_list.0 found word c in
+      let P : ℕ → (ℕ → List ℕ) → Type 0 = λ n c. IsOfOpening whole_from n held_list.0 held_list.0 found recorded_cold c in
       let back : held_list.0 ≡ found = sym is in
       let G : List Event → Type 0 = λ l. IsPartOf handed (outputs_of l) in
       let given : IsPartOf handed (outputs_of found) = subst G back (part_longer handed on.durable held_list.0 held_list.1 held_list.2 on.outputs) in
-      let H : List Release → Type 0 = λ o. IsPartOf (handed ++ map description_of o) (outputs_of (PowerUp word ∷ found)) in
-      let N : List EtcsOutput → Type 0 = λ l. IsPartOf l (outputs_of (PowerUp word ∷ found)) in
+      let H : List Release → Type 0 = λ o. IsPartOf (handed ++ map description_of o) (outputs_of (PowerUp recorded_cold ∷ found)) in
+      let N : List EtcsOutput → Type 0 = λ l. IsPartOf l (outputs_of (PowerUp recorded_cold ∷ found)) in
       let T : Platter → Type 0 = λ p. IsThere medium p in
-      let C : ℕ → Type 0 = λ k. IsThere medium (moment_of it.reading.disk k) in
+      let C : ℕ → Type 0 = λ k. IsThere medium (moment_of current.reading.disk k) in
       let first : IsThere medium (begin.at 0) = record { contents = contents; closed = λ s shut. synced s } in record {
         size = its_size ∙ size;
         settled = found;
-        durable = PowerUp word ∷ found;
-        accepted = PowerUp word ∷ found;
-        more = PowerUp word ∷ [];
+        durable = PowerUp recorded_cold ∷ found;
+        accepted = PowerUp recorded_cold ∷ found;
+        more = PowerUp recorded_cold ∷ [];
         begins = refl;
         opened = standing;
         ahead = ahead;
         given = given;
-        held = subst H (sym none) (subst N (sym (append-nil handed)) (part_longer handed found (PowerUp word ∷ found) (PowerUp word ∷ []) refl given));
-        moments = λ k most c image_is. of_opening found word c is (subst (λ (m : ℕ). P m c) size (each.each k (omega arith) most c image_is));
+        held = subst H (sym none) (subst N (sym (append-nil handed)) (part_longer handed found (PowerUp recorded_cold ∷ found) (PowerUp recorded_cold ∷ []) refl given));
+        moments = λ k most c image_is. of_opening found recorded_cold c is (subst (λ (m : ℕ). P m c) size (each.each k (omega arith) most c image_is));
         there = subst C (sym begins) (subst T (sym (each.kept 0 (omega arith))) first);
         within = omega (arith, begins);
         said = omega (arith, undone);
@@ -104,11 +104,11 @@ module _ (whole_from sectors : ℕ) (handed : List EtcsOutput) (medium : Platter
 
   under_up : (u : Relayed) (carried : ℕ) → carried ≡ 0 → IsUp begin cold u → (m : Option Moored) → u.moored ≡ m → IsUnder whole_from sectors handed medium carried u
   under_up u carried begins its None is = absurd (false≢true (let B : Option Moored → Type 0 = λ o. IsSome o in subst B is its.there))
-  under_up u carried begins its (Some it) is = (
-    it,
+  under_up u carried begins its (Some current) is = (
+    current,
     is,
-    floats_up it u.outputs u.done carried (at_some (λ m. m.reading.disk.sectors ≡ n) it u.moored is its.sectors) its.fresh.0 its.fresh.1 begins
-        (at_some Stands it u.moored is (its.up whole_from held_list.0 held_list.0 ready)),
+    floats_up current u.outputs u.done carried (at_some (λ m. m.reading.disk.sectors ≡ n) current u.moored is its.sectors) its.fresh.0 its.fresh.1 begins
+        (at_some Stands current u.moored is (its.up whole_from held_list.0 held_list.0 ready)),
   )
 
   stands_on : (u : Relayed) (after : Option Opened) (carried : ℕ) (status : Status) → carried ≡ 0 → IsUp begin cold u → IsLeft (Ok u) after status
@@ -155,7 +155,7 @@ module _ (whole_from sectors : ℕ) (handed : List EtcsOutput) (medium : Platter
 
   medium_of : (handle : Option Opened) → KeptBy handle → AreOnMedium whole_from sectors handed medium
   medium_of None kept = kept
-  medium_of (Some opened) (it, there, floats) = on_medium whole_from sectors handed medium carried it.reading.disk it.unit.journal it.unit.life opened.unit.outputs opened.unit.done floats
+  medium_of (Some opened) (current, there, floats) = on_medium whole_from sectors handed medium carried current.reading.disk current.unit.journal current.unit.life opened.unit.outputs opened.unit.done floats
 
 -- what is left where power is lost
 left_over : (whole_from sectors : ℕ) (handed : List EtcsOutput) (medium : Platter) (image : ℕ → List ℕ) → IsImage medium image → AreOnMedium whole_from sectors handed medium → AreOnMedium whole_from sectors handed (at_rest image)
@@ -182,7 +182,7 @@ as_it_was whole_from sectors handle handed handed' medium medium' carried carrie
 
 released_in : (whole_from sectors : ℕ) (handed handed' : List EtcsOutput) (medium : Platter) (carried carried' : ℕ) (h : Handing) (old new : Option Opened)
     → OnHandleInto (Unit {0}) old new h.status (λ was is reported. Releases was is h)
-    → Where (is_done h.status) ((handed' ≡ handed ++ take h.count h.handed) × (carried' ≡ 0)) ((handed' ≡ handed) × (carried' ≡ carried))
+    → IfElse (is_done h.status) ((handed' ≡ handed ++ take h.count h.handed) × (carried' ≡ 0)) ((handed' ≡ handed) × (carried' ≡ carried))
     → Kept whole_from sectors old handed medium carried → Kept whole_from sectors new handed' medium carried'
 released_in whole_from sectors handed handed' medium carried carried' h None None its out kept =
     let so = where_false (is_done h.status) ((handed' ≡ handed ++ take h.count h.handed) × (carried' ≡ 0)) ((handed' ≡ handed) × (carried' ≡ carried)) (ap is_done its.0) out in
@@ -195,8 +195,8 @@ released_in whole_from sectors handed handed' medium carried carried' h (Some be
 opened_in : (whole_from sectors : ℕ) (handed : List EtcsOutput) (medium : Platter) (carried carried' : ℕ) (image : List ℕ) (cold abi : ℕ) (old new : Option Opened) (status : Status)
     → OpensFrom image cold abi old new status → (old ≡ None → IsReadFrom sectors image medium) → MatchOption old (carried' ≡ 0) (λ opened. carried' ≡ carried)
     → Kept whole_from sectors old handed medium carried → Kept whole_from sectors new handed medium carried'
-opened_in whole_from sectors handed medium carried carried' image cold abi None new status its read begins kept = either_way (abi == this_abi) (PowersUp image (word_by cold) new status) ((status ≡ a_status.OtherAbi) × (new ≡ None)) (Kept whole_from sectors new handed medium carried')
-    (λ up. powers_on whole_from sectors handed medium image (read refl) kept (word_by cold) new carried' status begins up)
+opened_in whole_from sectors handed medium carried carried' image cold abi None new status its read begins kept = either_way (abi == this_abi) (PowersUp image (cold_by cold) new status) ((status ≡ a_status.OtherAbi) × (new ≡ None)) (Kept whole_from sectors new handed medium carried')
+    (λ up. powers_on whole_from sectors handed medium image (read refl) kept (cold_by cold) new carried' status begins up)
     (λ other. closed_on whole_from sectors handed medium image (read refl) kept new carried' other.1)
     its
 opened_in whole_from sectors handed medium carried carried' image cold abi (Some before) new status its read begins kept =
@@ -206,16 +206,16 @@ opened_in whole_from sectors handed medium carried carried' image cold abi (Some
 
 carried_in : (whole_from sectors : ℕ) (handed : List EtcsOutput) (medium : Platter) (carried : ℕ) (opened : Opened) (t : Description) → DescribesRequest carried opened t → t.status ≡ a_status.Done
     → IsUnder whole_from sectors handed medium carried opened.unit → IsUnder whole_from sectors handed (carried_out t.reported t.bytes medium) (carried + 1) opened.unit
-carried_in whole_from sectors handed medium carried opened t (found, at, whole, reported) done (it, there, floats) =
+carried_in whole_from sectors handed medium carried opened t (found, at, whole, reported) done (current, there, floats) =
     let A : List Call → Type 0 = λ l. IsAt carried l found in
     let W : List ℕ → Type 0 = λ w. IsReportedAs w found t in
-    let so = carried_there it.reading.disk.sectors it.reading.disk.medium it.reading.disk.written it.reading.disk.requests carried t done medium floats.there found
+    let so = carried_there current.reading.disk.sectors current.reading.disk.medium current.reading.disk.written current.reading.disk.requests carried t done medium floats.there found
     (subst A (ap list_of there) at)
     (λ request is. subst (λ (m : Option Moored). IsWithin (sectors_in m) (length (written_of m)) request) there (whole request is))
     (subst W (ap written_of there) reported) in (
-      it,
+      current,
       there,
-      carries whole_from sectors handed medium carried it.reading.disk it.unit.journal it.unit.life opened.unit.outputs opened.unit.done floats (carried_out t.reported t.bytes medium) so.0 so.1,
+      carries whole_from sectors handed medium carried current.reading.disk current.unit.journal current.unit.life opened.unit.outputs opened.unit.done floats (carried_out t.reported t.bytes medium) so.0 so.1,
     )
 
 said_in : (whole_from sectors : ℕ) (handed : List EtcsOutput) (medium : Platter) (carried count : ℕ) (old new : Option Opened) (status : Status)

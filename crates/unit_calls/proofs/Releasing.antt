@@ -7,7 +7,7 @@ use Rattle.events.specs.Limits.{most_pending}
 use Rattle.relayed_unit.specs.Relayed.{release_refusal}
 use Rattle.relayed_unit.specs.declared.errors.ReleaseError.{ReleaseError}
 use Rattle.unit_calls.specs.Handles.{Handing, HandsNothing, HandsAll, Releases}
-use Rattle.unit_calls.specs.Requests.{Where}
+use Rattle.unit_calls.specs.Requests.{IfElse}
 use Rattle.unit_calls.specs.Statuses.{of_release}
 use Rattle.unit_calls.specs.declared.handle.Opened.{Opened}
 use Rattle.unit_calls.specs.declared.status.Status.TheVariants as a_status
@@ -26,13 +26,13 @@ module _ (before after : Opened) (h : Handing) where
   pub small : length h.places < most_pending → HandsNothing a_status.NoRoom before after h → Releases before after h
   small less its =
       let test : nat_lt (length h.places) most_pending ≡ true = grind (arith, nat_tests) in
-      subst (λ (b : Bool). Where b (HandsNothing a_status.NoRoom before after h) (MatchOption (release_refusal before.unit) (HandsAll before after h) (λ e. HandsNothing (of_release e) before after h)))
+      subst (λ (b : Bool). IfElse b (HandsNothing a_status.NoRoom before after h) (MatchOption (release_refusal before.unit) (HandsAll before after h) (λ e. HandsNothing (of_release e) before after h)))
       (sym test) its
 
   enough : most_pending ≤ length h.places → MatchOption (release_refusal before.unit) (HandsAll before after h) (λ e. HandsNothing (of_release e) before after h) → Releases before after h
   enough most its =
       let test : nat_lt (length h.places) most_pending ≡ false = grind (arith, nat_tests) in
-      subst (λ (b : Bool). Where b (HandsNothing a_status.NoRoom before after h) (MatchOption (release_refusal before.unit) (HandsAll before after h) (λ e. HandsNothing (of_release e) before after h)))
+      subst (λ (b : Bool). IfElse b (HandsNothing a_status.NoRoom before after h) (MatchOption (release_refusal before.unit) (HandsAll before after h) (λ e. HandsNothing (of_release e) before after h)))
       (sym test) its
 
   pub refused : most_pending ≤ length h.places → (e : ReleaseError) → release_refusal before.unit ≡ Some e → HandsNothing (of_release e) before after h → Releases before after h

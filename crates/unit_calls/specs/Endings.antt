@@ -14,8 +14,8 @@ use Rattle.unit_calls.specs.Openings.{IsProvided}
 -- them; and so on.
 abbrev pub AreWanted : List ℕ → Opening → Opening → Type 0
 AreWanted [] first last = last ≡ first
-AreWanted (sector ∷ more) first last = (it : Opening) × (bytes : List ℕ) × (next : Opening)
-    × IsGoneOn first (Ok (a_going.Wants it)) × (it.disk.wanted ≡ Some sector) × IsProvided sector bytes it next
+AreWanted (sector ∷ more) first last = (opening : Opening) × (bytes : List ℕ) × (next : Opening)
+    × IsGoneOn first (Ok (a_going.Wants opening)) × (opening.disk.wanted ≡ Some sector) × IsProvided sector bytes opening next
     × AreWanted more next last
 
 -- It wants a sector at most so often, whatever the medium holds: the first one, two for each slot, and seven more. So it

@@ -20,17 +20,17 @@ use Rattle.unit_calls.specs.declared.status.Status.TheVariants as a_status
 -- what `UnitOpening::go_on` promises of an answer
 pub record IsGoneOn (before : Opening) (reported : Result Going OpenError) : Type 0 where
   -- a sector of the next step is wanted, that the medium has, and that isn't known
-  pub wanted : IfOk reported (λ g. OnWants g (λ it. (s : ℕ) × IsWanted it s))
+  pub wanted : IfOk reported (λ g. OnWants g (λ current. (s : ℕ) × IsWanted current s))
   -- it goes on over the same medium
   pub going : (medium : List ℕ) → IsGoing medium before → IfOk reported (λ g. OnWants g (IsGoing medium))
-  pub same : IfOk reported (λ g. OnWants g (λ it. (it.disk.sectors ≡ before.disk.sectors) × (it.cold ≡ before.cold)))
+  pub same : IfOk reported (λ g. OnWants g (λ current. (current.disk.sectors ≡ before.disk.sectors) × (current.cold ≡ before.cold)))
   -- while a sector is wanted some are needed, and no more of them than before
-  pub nearer : IfOk reported (λ g. OnWants g (λ it. (0 < still_needed it) × (still_needed it ≤ still_needed before)))
+  pub nearer : IfOk reported (λ g. OnWants g (λ current. (0 < still_needed current) × (still_needed current ≤ still_needed before)))
   -- what was found of the slots is never given up
-  pub further : IfOk reported (λ g. OnWants g (λ it. IsFurther before.scan it.scan))
+  pub further : IfOk reported (λ g. OnWants g (λ current. IsFurther before.scan current.scan))
   -- nothing is pending, there is no moment yet, and no flush failed
-  pub fresh_unit : IfOk reported (λ g. OnOpen g (λ u. IfSome u.moored (λ it. (it.unit.life.records ≡ [])
-      × (it.unit.life.pairs ≡ []) × (it.unit.life.moment ≡ 0) × (it.unit.journal.failed ≡ false))))
+  pub fresh_unit : IfOk reported (λ g. OnOpen g (λ u. IfSome u.moored (λ current. (current.unit.life.records ≡ [])
+      × (current.unit.life.pairs ≡ []) × (current.unit.life.moment ≡ 0) × (current.unit.journal.failed ≡ false))))
   -- a unit that came of it wants no sector
   pub wants_nothing : IfOk reported (λ g. OnOpen g (λ u. IfSome u.moored WantsNothing))
   -- the unit was powered up over a disk that holds what the medium held
@@ -61,13 +61,13 @@ pub record IsGoneOn (before : Opening) (reported : Result Going OpenError) : Typ
 -- it goes on in its handle and says so; else that has none, and the unit is in its own, or there was no memory for it
 -- there, or it was refused
 abbrev pub IsLeftOn : Result Going OpenError → Option Opening → Option Opened → Status → Type 0
-IsLeftOn (Ok (a_going.Wants it)) after unit status = (status ≡ a_status.SectorWanted) × (after ≡ Some it) × (unit ≡ None)
+IsLeftOn (Ok (a_going.Wants current)) after unit status = (status ≡ a_status.SectorWanted) × (after ≡ Some current) × (unit ≡ None)
 IsLeftOn (Ok (a_going.Open up)) after unit status = (after ≡ None) × IsLeft (Ok up) unit status
 IsLeftOn (Err e) after unit status = (after ≡ None) × IsLeft (Err e) unit status
 
 -- a power-up goes on: IsOpen where a unit is open there, and NotOpen where no power-up is under way; then nothing changes
 abbrev pub GoesOn : Option Opening → Option Opened → Option Opening → Option Opened → Status → Type 0
-GoesOn before (Some it) after unit status = (status ≡ a_status.IsOpen) × (after ≡ before) × (unit ≡ Some it)
+GoesOn before (Some current) after unit status = (status ≡ a_status.IsOpen) × (after ≡ before) × (unit ≡ Some current)
 GoesOn None None after unit status = (status ≡ a_status.NotOpen) × (after ≡ None) × (unit ≡ None)
 GoesOn (Some before) None after unit status =
     (reported : Result Going OpenError) × IsGoneOn before reported × IsLeftOn reported after unit status

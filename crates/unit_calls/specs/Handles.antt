@@ -1,37 +1,35 @@
 -- What the calls do to what a handle holds (this project's profile): None where no unit is open. `reported` is what the
 -- call of `RelayedUnit` answered, the status its number.
 use Rattle.std.specs.Prelude.{◌≡◌, ◌↔◌, ◌⊎◌, ℕ, ◌/◌, ◌<◌, ◌≤◌, ◌==◌, ◌∷◌, ◌||◌, nat_lt, Bool, true, false, if◌then◌else◌, List, [], length, Option, Some, None, IsSome, IfSome, Result, Ok, Err, IsOk, IfOk, IfErr, OnOk, OnErr, MatchOption, MatchResult, ⊤}
-use Rattle.disk.specs.State.{contents_of, IsSynced, AtEachMoment}
+use Rattle.disk.specs.State.{contents_of, IsSynced}
 use Rattle.events.specs.Limits.{most_pending}
 use Rattle.events.specs.declared.input.Event.{Event}
 use Rattle.events.specs.declared.input.Event.TheVariants.{PowerUp, Input as an_input}
 use Rattle.events.specs.declared.input.Input.{Input}
-use Rattle.events.specs.declared.step.Step.TheVariants.{Accept, Flush}
+use Rattle.events.specs.declared.step.Step.TheVariants.{Accept}
 use Rattle.c_numbers.specs.Numbers.{this_abi}
-use Rattle.journal.specs.Journals.{IsOpen, IsWritten}
-use Rattle.kernel.specs.Lives.{kept_by}
+use Rattle.journal.specs.Journals.{IsOpen}
 use Rattle.request_disk.specs.Requesting.{copy_of, request_state}
 use Rattle.mode_table.specs.declared.statuses.Cold.{Cold}
 use Rattle.unit_start.specs.Answers.{is_device}
-use Rattle.onboard.specs.Answers.{refusal_of, HasRoom}
+use Rattle.onboard.specs.Answers.{refusal_of, HasSpace}
 use Rattle.unit_start.specs.Events.{account_of, IsAhead}
-use Rattle.unit_start.specs.Lives.{IsReady, Opens, IsOpenRefusal, HasNoCause, DescribesEither}
+use Rattle.unit_start.specs.Lives.{IsReady, Opens, IsOpenRefusal, HasNoCause}
 use Rattle.unit_start.specs.Releases.{nothing_released}
 use Rattle.onboard.specs.Progress.{progress_of, go_on}
-use Rattle.unit_start.specs.Written.{HasNewest}
 use Rattle.onboard.specs.declared.errors.AcceptError.{AcceptError}
 use Rattle.onboard.specs.declared.errors.AcceptError.TheVariants as an_accept
 use Rattle.unit_start.specs.declared.errors.OpenError.{OpenError}
 use Rattle.unit_start.specs.declared.errors.OpenError.TheVariants as an_open
 use Rattle.relayed_unit.specs.LifeNow.{DescribesLife}
-use Rattle.relayed_unit.specs.Relayed.{Relayed, Turns, list_of, requests_of, release_refusal, prepare_refusal, prepare_failed, wants_gate, IsLeftBy, HasPowerUp, WantsNothing}
+use Rattle.relayed_unit.specs.Relayed.{Relayed, Turns, list_of, requests_of, release_refusal, prepare_refusal, prepare_failed, wants_gate, IsFlushed, IsLeftBy, HasPowerUp, WantsNothing}
 use Rattle.relayed_unit.specs.declared.errors.PrepareError.{PrepareError}
 use Rattle.relayed_unit.specs.declared.life_now.LifeNow.{LifeNow}
 use Rattle.ring.specs.Account.{Account}
 use Rattle.unit_calls.specs.Outputs.{description_of, last_of, AreHanded}
-use Rattle.unit_calls.specs.Requests.{Where}
+use Rattle.unit_calls.specs.Requests.{IfElse}
 use Rattle.unit_calls.specs.Statuses.{of_open, of_accept, of_prepare, of_release}
-use Rattle.unit_calls.specs.Words.{word_by}
+use Rattle.unit_calls.specs.ColdNumbers.{cold_by}
 use Rattle.unit_calls.specs.declared.outputs.EtcsOutput.{EtcsOutput}
 use Rattle.unit_calls.specs.declared.outputs.EtcsState.{EtcsState}
 use Rattle.unit_calls.specs.declared.handle.Opened.{Opened}
@@ -56,23 +54,23 @@ OnHandleInto AsTheyWere (Some before) (Some after) status So = So before after s
 -- what `RelayedUnit::accept` promises of an answer
 pub record Accepts (input : Input) (before after : Relayed) (reported : Result ⊤ AcceptError) : Type 0 where
   -- each refusal comes exactly for its cause
-  pub exact : IfSome before.moored (λ it. MatchOption
-      (refusal_of (before.failed || it.unit.journal.failed) (length it.unit.life.records) it.unit.life.moment input)
+  pub exact : IfSome before.moored (λ current. MatchOption
+      (refusal_of (before.failed || current.unit.journal.failed) (length current.unit.life.records) current.unit.life.moment input)
       (IfErr reported (λ e. e ≡ an_accept.NoMemory)) (λ e. reported ≡ Err e))
-  -- memory is never refused where there is room for what the input adds
-  pub quiet : IfSome before.moored (λ it.
-      refusal_of (before.failed || it.unit.journal.failed) (length it.unit.life.records) it.unit.life.moment input ≡ None →
-      HasRoom it.unit.life.state input → IsOk reported)
+  -- memory is never refused where there is space for what the input adds
+  pub quiet : IfSome before.moored (λ current.
+      refusal_of (before.failed || current.unit.journal.failed) (length current.unit.life.records) current.unit.life.moment input ≡ None →
+      HasSpace current.unit.life.state input → IsOk reported)
   -- a refusal changes nothing
   pub refused : OnErr reported (after ≡ before)
   -- the disk is as it was
-  pub copy : Turns before.moored after.moored (λ it next. (next.reading ≡ it.reading) × (next.unit.journal ≡ it.unit.journal))
+  pub copy : Turns before.moored after.moored (λ current next. (next.reading ≡ current.reading) × (next.unit.journal ≡ current.unit.journal))
   -- what the next refusal goes by has gone on by this input
-  pub gone_on : OnOk reported (Turns before.moored after.moored (λ it next.
-      progress_of next.unit.journal next.unit.life ≡ go_on (progress_of it.unit.journal it.unit.life) (Accept input)))
+  pub gone_on : OnOk reported (Turns before.moored after.moored (λ current next.
+      progress_of next.unit.journal next.unit.life ≡ go_on (progress_of current.unit.journal current.unit.life) (Accept input)))
   -- the event is then pending, after all that were accepted
-  pub accepted : OnOk reported (Turns before.moored after.moored (λ it next. (durable accepted : List Event) →
-      IsAhead durable accepted it.unit.life → IsAhead durable (an_input input ∷ accepted) next.unit.life))
+  pub accepted : OnOk reported (Turns before.moored after.moored (λ current next. (durable accepted : List Event) →
+      IsAhead durable accepted current.unit.life → IsAhead durable (an_input input ∷ accepted) next.unit.life))
   -- what is held back stays, and so does what was said of the requests
   pub held : (after.outputs ≡ before.outputs) × (after.done ≡ before.done) × (after.failed ≡ before.failed)
 
@@ -85,11 +83,11 @@ Takes (Some input) before after status = (reported : Result ⊤ AcceptError) × 
 -- what `RelayedUnit::prepare` promises of an answer
 pub record IsPrepared (before after : Relayed) (reported : Result ⊤ PrepareError) : Type 0 where
   -- each refusal comes exactly for its cause
-  pub exact : IfSome before.moored (λ it. MatchOption (prepare_refusal before.failed it) (IsOk reported) (λ e. reported ≡ Err e))
+  pub exact : IfSome before.moored (λ current. MatchOption (prepare_refusal before.failed current) (IsOk reported) (λ e. reported ≡ Err e))
   -- whether the unit can't go on
   pub failed : after.failed ≡ (before.failed || prepare_failed reported)
-  -- what is held back is what was pending, all of it
-  pub pending : OnOk reported (IfSome before.moored (λ it. after.outputs ≡ it.unit.life.pairs))
+  -- what was pending is flushed onto the disk, and held back
+  pub flushes : OnOk reported (Turns before.moored after.moored (IsFlushed after.outputs))
   -- none of the requests is done yet
   pub initial : OnOk reported (after.done ≡ 0)
   -- a refusal holds nothing more back, and what was said of the requests stays
@@ -97,38 +95,15 @@ pub record IsPrepared (before after : Relayed) (reported : Result ⊤ PrepareErr
   -- and it leaves the unit and the disk as they were, but that a sector may be wanted
   pub undone : IfErr reported (λ e. IsLeftBy e before.moored after.moored)
   -- over a copy of the medium none is
-  pub whole : IfSome before.moored (λ it. it.reading.disk.known ≡ None → wants_gate it ≡ false)
+  pub whole : IfSome before.moored (λ current. current.reading.disk.known ≡ None → wants_gate current ≡ false)
   -- and it stays one
-  pub known : Turns before.moored after.moored (λ it next. it.reading.disk.known ≡ None → next.reading.disk.known ≡ None)
+  pub known : Turns before.moored after.moored (λ current next. current.reading.disk.known ≡ None → next.reading.disk.known ≡ None)
   -- where nothing was pending there is no request
-  pub nothing : OnOk reported (Turns before.moored after.moored (λ it next.
-      length it.unit.life.records ≡ 0 → next.reading ≡ it.reading))
+  pub nothing : OnOk reported (Turns before.moored after.moored (λ current next.
+      length current.unit.life.records ≡ 0 → next.reading ≡ current.reading))
   -- where something was pending no sector is wanted then
-  pub wants_nothing : OnOk reported (Turns before.moored after.moored (λ it next.
-      0 < length it.unit.life.records → WantsNothing next))
-  -- the medium has as many sectors as before
-  pub sectors : OnOk reported (Turns before.moored after.moored (λ it next. next.reading.disk.sectors ≡ it.reading.disk.sectors))
-  -- what the next refusal goes by has gone on by this flush
-  pub gone_on : OnOk reported (Turns before.moored after.moored (λ it next.
-      progress_of next.unit.journal next.unit.life ≡ go_on (progress_of it.unit.journal it.unit.life) Flush))
-  -- after each number of requests each image represents the durable events, or all accepted ones
-  pub any_moment : OnOk reported (Turns before.moored after.moored (λ it next. (whole_from : ℕ) (durable accepted : List Event) →
-      IsOpen it.unit.journal (account_of whole_from durable) (request_state it.reading.disk) → IsAhead durable accepted it.unit.life →
-      AtEachMoment (request_state it.reading.disk) (request_state next.reading.disk) (DescribesEither whole_from it.reading.disk.sectors durable accepted)))
-  -- after all of them the newest slot has its gate, and after it the block of exactly what was pending
-  pub written : OnOk reported (Turns before.moored after.moored (λ it next. (durable accepted : List Event) →
-      IsAhead durable accepted it.unit.life → 0 < length it.unit.life.records →
-      IsWritten next.unit.journal.slots next.unit.journal.newest it.unit.life.records (kept_by accepted)
-      (contents_of (request_state next.reading.disk))))
-  -- which is the block of the greatest number
-  pub last : OnOk reported (Turns before.moored after.moored (λ it next. (whole_from : ℕ) (durable accepted : List Event) →
-      IsOpen it.unit.journal (account_of whole_from durable) (request_state it.reading.disk) → IsAhead durable accepted it.unit.life →
-      0 < length it.unit.life.records → HasNewest next.reading.disk.sectors it.unit.life.records accepted
-      (contents_of (request_state next.reading.disk))))
-  -- and each image represents all accepted ones
-  pub flushed : OnOk reported (Turns before.moored after.moored (λ it next. (whole_from : ℕ) (durable accepted : List Event) →
-      IsOpen it.unit.journal (account_of whole_from durable) (request_state it.reading.disk) → IsAhead durable accepted it.unit.life →
-      IsOpen next.unit.journal (account_of whole_from accepted) (request_state next.reading.disk) × IsAhead accepted accepted next.unit.life))
+  pub wants_nothing : OnOk reported (Turns before.moored after.moored (λ current next.
+      0 < length current.unit.life.records → WantsNothing next))
 
 abbrev pub Prepares : Opened → Opened → Status → Type 0
 Prepares before after status = (reported : Result ⊤ PrepareError) × (status ≡ of_prepare reported)
@@ -155,21 +130,21 @@ pub record IsReleased (before after : Relayed) : Type 0 where
   -- nothing is held back any more, no request is left, and so none is done
   pub emptied : (after.outputs ≡ []) × (after.done ≡ 0) × (list_of after.moored ≡ [])
   -- no sector is wanted, where there were requests; else the unit and its disk are as they were
-  pub wants_nothing : Turns before.moored after.moored (λ it next. 0 < length it.reading.disk.requests → WantsNothing next)
-  pub idle : Turns before.moored after.moored (λ it next. length it.reading.disk.requests ≡ 0 → next ≡ it)
+  pub wants_nothing : Turns before.moored after.moored (λ current next. 0 < length current.reading.disk.requests → WantsNothing next)
+  pub idle : Turns before.moored after.moored (λ current next. length current.reading.disk.requests ≡ 0 → next ≡ current)
   -- the medium failed no more than before
   pub failed : after.failed ≡ before.failed
   -- the unit is as it was: nothing was taken, and nothing was put on the disk
-  pub unit : Turns before.moored after.moored (λ it next. next.unit ≡ it.unit)
+  pub unit : Turns before.moored after.moored (λ current next. next.unit ≡ current.unit)
   -- the medium has as many sectors as before
-  pub sectors : Turns before.moored after.moored (λ it next. next.reading.disk.sectors ≡ it.reading.disk.sectors)
+  pub sectors : Turns before.moored after.moored (λ current next. next.reading.disk.sectors ≡ current.reading.disk.sectors)
   -- and as many of them are known
-  pub known : Turns before.moored after.moored (λ it next. next.reading.disk.known ≡ it.reading.disk.known)
+  pub known : Turns before.moored after.moored (λ current next. next.reading.disk.known ≡ current.reading.disk.known)
   -- no sector of the medium is open; the disk holds what it held, and the journal stands over it as before
-  pub stands : Turns before.moored after.moored (λ it next. IsSynced (request_state it.reading.disk)
+  pub stands : Turns before.moored after.moored (λ current next. IsSynced (request_state current.reading.disk)
       × IsSynced (request_state next.reading.disk)
-      × ((s : ℕ) → contents_of (request_state next.reading.disk) s ≡ contents_of (request_state it.reading.disk) s)
-      × ((reported : Account) → IsOpen it.unit.journal reported (request_state it.reading.disk) →
+      × ((s : ℕ) → contents_of (request_state next.reading.disk) s ≡ contents_of (request_state current.reading.disk) s)
+      × ((reported : Account) → IsOpen current.unit.journal reported (request_state current.reading.disk) →
       IsOpen next.unit.journal reported (request_state next.reading.disk)))
 
 -- The caller's places for outputs and for their count, before a release and after it, and its status.
@@ -196,7 +171,7 @@ pub record HandsAll (before after : Opened) (h : Handing) : Type 0 where
 
 -- a release: NoRoom with fewer than eight places; else each refusal comes exactly for its cause
 abbrev pub Releases : Opened → Opened → Handing → Type 0
-Releases before after h = Where (nat_lt (length h.places) most_pending) (HandsNothing a_status.NoRoom before after h)
+Releases before after h = IfElse (nat_lt (length h.places) most_pending) (HandsNothing a_status.NoRoom before after h)
     (MatchOption (release_refusal before.unit) (HandsAll before after h) (λ e. HandsNothing (of_release e) before after h))
 
 -- how far a unit is, as C sees it, where this is known of its life
@@ -215,7 +190,7 @@ state_of opened life = record {
 
 -- how far a unit is, and what is known of its life
 abbrev pub DescribesState : Opened → EtcsState → Type 0
-DescribesState opened state = (life : LifeNow) × IfSome opened.unit.moored (λ it. DescribesLife it.unit.life life) × (state ≡ state_of opened life)
+DescribesState opened state = (life : LifeNow) × IfSome opened.unit.moored (λ current. DescribesLife current.unit.life life) × (state ≡ state_of opened life)
 
 -- ---- opening and closing
 
@@ -226,31 +201,31 @@ pub record IsPoweredUp (image : List ℕ) (cold : Cold) (reported : Result Relay
   -- there is a unit
   pub there : IfOk reported (λ u. IsSome u.moored)
   -- nothing is pending, there is no moment yet, and no flush failed
-  pub fresh_unit : IfOk reported (λ u. IfSome u.moored (λ it. (it.unit.life.records ≡ []) × (it.unit.life.pairs ≡ [])
-      × (it.unit.life.moment ≡ 0) × (it.unit.journal.failed ≡ false)))
+  pub fresh_unit : IfOk reported (λ u. IfSome u.moored (λ current. (current.unit.life.records ≡ []) × (current.unit.life.pairs ≡ [])
+      × (current.unit.life.moment ≡ 0) × (current.unit.journal.failed ≡ false)))
   -- the copy has the whole sectors of the bytes
-  pub sectors : IfOk reported (λ u. IfSome u.moored (λ it. it.reading.disk.sectors ≡ length image / 512))
+  pub sectors : IfOk reported (λ u. IfSome u.moored (λ current. current.reading.disk.sectors ≡ length image / 512))
   -- and holds all of them
-  pub whole : IfOk reported (λ u. IfSome u.moored (λ it. it.reading.disk.known ≡ None))
+  pub whole : IfOk reported (λ u. IfSome u.moored (λ current. current.reading.disk.known ≡ None))
   -- no sector is wanted
   pub wants_nothing : IfOk reported (λ u. IfSome u.moored WantsNothing)
   -- each refusal but NoMemory has its cause
   pub refused : IfErr reported (λ e. (e ≡ an_open.NoMemory)
       ⊎ IsOpenRefusal (length image / 512) (contents_of (request_state (copy_of image))) e)
-  -- the copy's room is never wanting
-  pub room : IfErr reported (λ e. is_device e ≡ false)
+  -- the copy never runs out of memory
+  pub space : IfErr reported (λ e. is_device e ≡ false)
   -- where it is opened no refusal had one
   pub no_cause : OnOk reported (HasNoCause (length image / 512) (contents_of (request_state (copy_of image))))
   -- where a refusal has one, and there is a sector, it comes, unless memory was refused
   pub exact : 0 < length image / 512 → (e : OpenError) →
       IsOpenRefusal (length image / 512) (contents_of (request_state (copy_of image))) e →
-      (e ≡ an_open.DeviceFault) ⊎ MatchResult reported (λ it. ⊥) (λ back. (back ≡ e) ⊎ (back ≡ an_open.NoMemory))
+      (e ≡ an_open.DeviceFault) ⊎ MatchResult reported (λ current. ⊥) (λ back. (back ≡ e) ⊎ (back ≡ an_open.NoMemory))
   -- after each number of requests each image is one that a power-up may leave of these bytes
   pub up : (whole_from : ℕ) (durable accepted : List Event) → IsReady whole_from durable accepted (request_state (copy_of image)) →
-      IfOk reported (λ u. IfSome u.moored (λ it. (found : List Event) × (power_up_word : Cold)
-      × Opens whole_from durable accepted found cold power_up_word (request_state (copy_of image)) (request_state it.reading.disk)
-      × IsOpen it.unit.journal (account_of whole_from (PowerUp power_up_word ∷ found)) (request_state it.reading.disk)
-      × IsAhead (PowerUp power_up_word ∷ found) (PowerUp power_up_word ∷ found) it.unit.life))
+      IfOk reported (λ u. IfSome u.moored (λ current. (found : List Event) × (power_up_cold : Cold)
+      × Opens whole_from durable accepted found cold power_up_cold (request_state (copy_of image)) (request_state current.reading.disk)
+      × IsOpen current.unit.journal (account_of whole_from (PowerUp power_up_cold ∷ found)) (request_state current.reading.disk)
+      × IsAhead (PowerUp power_up_cold ∷ found) (PowerUp power_up_cold ∷ found) current.unit.life))
   -- the newest block is then that of the power-up's record and of what is kept after it
   pub last : (whole_from : ℕ) (durable accepted : List Event) → IsReady whole_from durable accepted (request_state (copy_of image)) →
       IfOk reported (λ u. IfSome u.moored (HasPowerUp (length image / 512) (contents_of (request_state (copy_of image))) cold))
@@ -262,7 +237,7 @@ IsLeft (Ok u) (Some opened) status = (status ≡ a_status.Done) × (opened.unit 
 IsLeft (Err e) None status = status ≡ of_open e
 IsLeft (Err e) (Some opened) status = ⊥
 
--- a power-up with this word, where there is one, into a handle that has no unit
+-- a power-up with this cold movement value, where there is one, into a handle that has no unit
 abbrev pub PowersUp : List ℕ → Option Cold → Option Opened → Status → Type 0
 PowersUp image None after status = (status ≡ a_status.OutOfRange) × (after ≡ None)
 PowersUp image (Some cold) after status = (reported : Result Relayed OpenError) × IsPoweredUp image cold reported × IsLeft reported after status
@@ -271,7 +246,7 @@ PowersUp image (Some cold) after status = (reported : Result Relayed OpenError) 
 abbrev pub OpensFrom : List ℕ → ℕ → ℕ → Option Opened → Option Opened → Status → Type 0
 OpensFrom image cold abi (Some before) after status = (status ≡ a_status.IsOpen) × (after ≡ Some before)
 OpensFrom image cold abi None after status =
-    Where (abi == this_abi) (PowersUp image (word_by cold) after status) ((status ≡ a_status.OtherAbi) × (after ≡ None))
+    IfElse (abi == this_abi) (PowersUp image (cold_by cold) after status) ((status ≡ a_status.OtherAbi) × (after ≡ None))
 
 -- what closing answers
 abbrev pub closing : Option Opened → Status

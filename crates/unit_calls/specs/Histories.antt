@@ -4,8 +4,8 @@
 
 -- Taken for granted: each call meets its contract (`OnHandle`, `Takes`, `Prepares`, ..), which is proved; and what the
 -- head of `include/etcs_unit.h` says that the caller owes. He hands in what he read from his medium, a sector as it is
--- there when he hands it in, carries out the requests in their order, as they are reported, says of none that it is done
--- before it is, and nothing else writes there.
+-- there when he hands it in, carries out the requests in their order, as they are reported, says of none that it is
+-- done before it is, and nothing else writes there.
 use Rattle.std.specs.Prelude.{◌≡◌, ◌⊎◌, ℕ, ◌+◌, ◌≤◌, List, [], ◌∷◌, ◌++◌, length, map, take, Option, Some, None, MatchOption, Ok}
 use Rattle.disk.specs.State.{Platter, IsImage}
 use Rattle.events.specs.declared.input.Event.{Event}
@@ -18,7 +18,7 @@ use Rattle.unit_calls.specs.Handles.{OnHandle, OnHandleInto, Takes, Prepares, Sa
 use Rattle.unit_calls.specs.Mediums.{at_rest, carried_out, IsAtRest, IsReadFrom}
 use Rattle.unit_calls.specs.Outputs.{description_of}
 use Rattle.unit_calls.specs.PowerUps.{before_any, IsUp}
-use Rattle.unit_calls.specs.Requests.{Where, Description, DescribesRequest}
+use Rattle.unit_calls.specs.Requests.{IfElse, Description, DescribesRequest}
 use Rattle.unit_calls.specs.Sectors.{Provides}
 use Rattle.unit_calls.specs.Statuses.{is_done}
 use Rattle.unit_calls.specs.declared.handle.Opened.{Opened}
@@ -57,8 +57,8 @@ pub data Happening : Type 0 where
   Failing : Happening
   -- `etcs_unit_release` into these places
   Releasing : Handing → Happening
-  -- `etcs_unit_request`, `etcs_unit_wanted`, `etcs_unit_state`, and the calls that need no unit, also those on a power-up
-  -- in steps but its last
+  -- `etcs_unit_request`, `etcs_unit_wanted`, `etcs_unit_state`, and the calls that need no unit, also those on a
+  -- power-up in steps but its last
   Asking : Happening
   -- `etcs_unit_close`
   Closing : Happening
@@ -75,7 +75,7 @@ BeginsAnew before after = MatchOption before.handle (after.carried ≡ 0) (λ op
 
 -- what a release hands out is after what was handed out before, and nothing of the next list is carried out
 abbrev pub IsHandedOut : Handing → Scene → Scene → Type 0
-IsHandedOut h before after = Where (is_done h.status)
+IsHandedOut h before after = IfElse (is_done h.status)
     ((after.handed ≡ before.handed ++ take h.count h.handed) × (after.carried ≡ 0))
     ((after.handed ≡ before.handed) × (after.carried ≡ before.carried))
 

@@ -14,11 +14,11 @@ use Rattle.unit_calls.specs.declared.inputs.EtcsTrainData.{EtcsTrainData}
 
 -- an input is reported exactly where this holds, and then it is this one
 abbrev pub Describes : Type 0 → Input → Option Input → Type 0
-Describes Within input reported = (IsSome reported ↔ Within) × IfSome reported (λ it. it ≡ input)
+Describes Within input reported = (IsSome reported ↔ Within) × IfSome reported (λ converted. converted ≡ input)
 
 -- an action is reported exactly where there is one, and then it is this one
 abbrev pub ActsAs : Option Action → Option Input → Type 0
-ActsAs action reported = (IsSome reported ↔ IsSome action) × IfSome reported (λ it. IfSome action (λ does. it ≡ Driver does))
+ActsAs action reported = (IsSome reported ↔ IsSome action) × IfSome reported (λ converted. IfSome action (λ does. converted ≡ Driver does))
 
 -- within the limits of train data
 abbrev pub AreTrainData : EtcsTrainData → Type 0

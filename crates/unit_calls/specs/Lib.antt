@@ -18,4 +18,4 @@ pub mod Sectors
 pub mod Statuses
 pub mod Versions
 pub mod Whys
-pub mod Words
+pub mod ColdNumbers

@@ -2,7 +2,7 @@
 use Rattle.std.specs.Prelude.{◌≡◌, ℕ, ◌-◌, ◌*◌, ◌/◌, ◌==◌, ◌&&◌, nat_le, nat_lt, Bool, true, false, if◌then◌else◌, List, length}
 use Rattle.disk.specs.State.{Platter, contents_of, sector_of}
 use Rattle.request_disk.specs.Requesting.{copy_of, request_state}
-use Rattle.unit_calls.specs.declared.words.EtcsRequest.{EtcsRequest}
+use Rattle.unit_calls.specs.declared.call_values.EtcsRequest.{EtcsRequest}
 
 -- whether a write, as it is reported, is of sector s
 abbrev pub is_of : EtcsRequest → ℕ → Bool

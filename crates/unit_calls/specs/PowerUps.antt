@@ -15,17 +15,17 @@ use Rattle.request_disk.specs.Requesting.{request_state}
 abbrev pub before_any : List ℕ → ℕ → State
 before_any bytes sectors = state_of sectors 0 bytes [] []
 
--- It was powered up with this word over a disk that was so.
+-- It was powered up with this cold movement value over a disk that was so.
 pub record IsUp (begin : State) (cold : Cold) (u : Relayed) : Type 0 where
   -- nothing is held back, and nothing is done
   pub fresh : (u.outputs ≡ []) × (u.done ≡ 0) × (u.failed ≡ false)
   -- there is a unit
   pub there : IsSome u.moored
   -- its disk has as many sectors
-  pub sectors : IfSome u.moored (λ it. it.reading.disk.sectors ≡ begin.sectors)
+  pub sectors : IfSome u.moored (λ current. current.reading.disk.sectors ≡ begin.sectors)
   -- after each number of requests each image is one that a power-up may leave of what the disk held
-  pub up : (whole_from : ℕ) (durable accepted : List Event) → IsReady whole_from durable accepted begin → IfSome u.moored (λ it.
-      (found : List Event) × (power_up_word : Cold)
-      × Opens whole_from durable accepted found cold power_up_word begin (request_state it.reading.disk)
-      × IsOpen it.unit.journal (account_of whole_from (PowerUp power_up_word ∷ found)) (request_state it.reading.disk)
-      × IsAhead (PowerUp power_up_word ∷ found) (PowerUp power_up_word ∷ found) it.unit.life)
+  pub up : (whole_from : ℕ) (durable accepted : List Event) → IsReady whole_from durable accepted begin → IfSome u.moored (λ current.
+      (found : List Event) × (power_up_cold : Cold)
+      × Opens whole_from durable accepted found cold power_up_cold begin (request_state current.reading.disk)
+      × IsOpen current.unit.journal (account_of whole_from (PowerUp power_up_cold ∷ found)) (request_state current.reading.disk)
+      × IsAhead (PowerUp power_up_cold ∷ found) (PowerUp power_up_cold ∷ found) current.unit.life)

@@ -7,35 +7,35 @@ use Rattle.relayed_unit.specs.Relayed.{list_of, written_of, sectors_in}
 use Rattle.unit_calls.specs.declared.handle.Opened.{Opened}
 use Rattle.unit_calls.specs.declared.status.Status.{Status}
 use Rattle.unit_calls.specs.declared.status.Status.TheVariants as a_status
-use Rattle.unit_calls.specs.declared.words.EtcsRequest.{EtcsRequest}
+use Rattle.unit_calls.specs.declared.call_values.EtcsRequest.{EtcsRequest}
 
 -- the first where this is so, else the second
-abbrev pub Where : Bool → Type 0 → Type 0 → Type 0
-Where true So Else = So
-Where false So Else = Else
+abbrev pub IfElse : Bool → Type 0 → Type 0 → Type 0
+IfElse true So Else = So
+IfElse false So Else = Else
 
--- The request and the bytes that the caller has room for, before a call and after it, and its status.
+-- The request and the bytes that the caller has space for, before a call and after it, and its status.
 pub record Description : Type 0 where
   pub request : EtcsRequest
   pub reported : EtcsRequest
-  pub room : List ℕ
+  pub caller_buffer : List ℕ
   pub bytes : List ℕ
   pub status : Status
 
 -- the call is refused so, and writes nothing
 abbrev pub Refuses : Status → Description → Type 0
-Refuses status t = (t.status ≡ status) × (t.reported ≡ t.request) × (t.bytes ≡ t.room)
+Refuses status t = (t.status ≡ status) × (t.reported ≡ t.request) × (t.bytes ≡ t.caller_buffer)
 
--- so many sectors from this one on are to be written with these bytes, for which the caller has room
+-- so many sectors from this one on are to be written with these bytes, for which the caller has space
 abbrev pub Writes : ℕ → ℕ → List ℕ → Description → Type 0
 Writes sector sectors content t =
-    Where (nat_lt (length t.room) (length content)) (Refuses a_status.NoRoom t)
+    IfElse (nat_lt (length t.caller_buffer) (length content)) (Refuses a_status.NoRoom t)
     ((t.status ≡ a_status.Done) × (t.reported ≡ record { sector = sector; sectors = sectors; kind = 1 })
-    × (t.bytes ≡ content ++ drop (length content) t.room))
+    × (t.bytes ≡ content ++ drop (length content) t.caller_buffer))
 
 -- a sync is to be done
 abbrev pub Syncs : Description → Type 0
-Syncs t = (t.status ≡ a_status.Done) × (t.reported ≡ record { sector = 0; sectors = 0; kind = 2 }) × (t.bytes ≡ t.room)
+Syncs t = (t.status ≡ a_status.Done) × (t.reported ≡ record { sector = 0; sectors = 0; kind = 2 }) × (t.bytes ≡ t.caller_buffer)
 
 -- the request at this place of a list; None after the last one
 abbrev pub IsAt : ℕ → List Call → Option Call → Type 0

@@ -4,14 +4,14 @@ use Rattle.std.specs.Prelude.{◌≡◌, ℕ, ◌==◌, ◌&&◌, nat_lt, Bool, 
 use Rattle.disk.specs.State.{contents_of}
 use Rattle.request_disk.specs.Requesting.{request_state, knows, with_sector}
 use Rattle.relayed_unit.specs.Relayed.{Turns, sectors_in}
-use Rattle.unit_calls.specs.Requests.{Where}
+use Rattle.unit_calls.specs.Requests.{IfElse}
 use Rattle.unit_calls.specs.declared.handle.Opened.{Opened}
 use Rattle.unit_calls.specs.declared.status.Status.{Status}
 use Rattle.unit_calls.specs.declared.status.Status.TheVariants as a_status
 
 -- the sector that a unit wants is reported; NoneWanted where it wants none, and then nothing is written
 abbrev pub DescribesWanted : Opened → ℕ → ℕ → Status → Type 0
-DescribesWanted opened old new status = (wanted : Option ℕ) × IfSome opened.unit.moored (λ it. wanted ≡ it.reading.disk.wanted)
+DescribesWanted opened old new status = (wanted : Option ℕ) × IfSome opened.unit.moored (λ current. wanted ≡ current.reading.disk.wanted)
     × MatchOption wanted ((status ≡ a_status.NoneWanted) × (new ≡ old)) (λ sector. (status ≡ a_status.Done) × (new ≡ sector))
 
 -- whether these are the bytes of a sector that the medium has
@@ -21,19 +21,19 @@ is_sector_of opened sector bytes = (length bytes == 512) && nat_lt sector (secto
 -- what `RelayedUnit::provide` promises where it takes a sector
 pub record IsProvided (sector : ℕ) (bytes : List ℕ) (before after : Opened) : Type 0 where
   -- the disk has the sector, and the unit is as it was
-  pub exact : Turns before.unit.moored after.unit.moored (λ it next. (next.unit ≡ it.unit)
-      × (next.reading.disk ≡ with_sector sector bytes it.reading.disk))
+  pub exact : Turns before.unit.moored after.unit.moored (λ current next. (next.unit ≡ current.unit)
+      × (next.reading.disk ≡ with_sector sector bytes current.reading.disk))
   -- the sector is known then
-  pub known : IfSome after.unit.moored (λ it. knows sector it.reading.disk ≡ true)
+  pub known : IfSome after.unit.moored (λ current. knows sector current.reading.disk ≡ true)
   -- where its bytes are what the medium holds, the journal stands as before
-  pub same : Turns before.unit.moored after.unit.moored (λ it next. bytes ≡ contents_of (request_state it.reading.disk) sector
-      → request_state next.reading.disk ≡ request_state it.reading.disk)
+  pub same : Turns before.unit.moored after.unit.moored (λ current next. bytes ≡ contents_of (request_state current.reading.disk) sector
+      → request_state next.reading.disk ≡ request_state current.reading.disk)
   -- what is held back stays, and so does what was said of the requests
   pub held : (after.unit.outputs ≡ before.unit.outputs) × (after.unit.done ≡ before.unit.done)
       × (after.unit.failed ≡ before.unit.failed) × (after.last ≡ before.last)
 
 -- a sector is handed in; OutOfRange where these are the bytes of none that the medium has, and then nothing changes
 abbrev pub Provides : ℕ → List ℕ → Opened → Opened → Status → Type 0
-Provides sector bytes before after status = Where (is_sector_of before sector bytes)
+Provides sector bytes before after status = IfElse (is_sector_of before sector bytes)
     ((status ≡ a_status.Done) × IsProvided sector bytes before after)
     ((status ≡ a_status.OutOfRange) × (after ≡ before))

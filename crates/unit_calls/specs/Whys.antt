@@ -12,7 +12,7 @@ use Rattle.kernel.specs.Brake.{causes_of}
 use Rattle.kernel.specs.Causes.{all_causes, is_among}
 use Rattle.kernel.specs.Lives.{life_of}
 use Rattle.kernel.specs.Output.{output_of}
-use Rattle.kernel.specs.Showing.{motion_of, shown_of}
+use Rattle.kernel.specs.Showing.{motion_of, display_of}
 use Rattle.kernel.specs.declared.causes.BrakeCause.{BrakeCause}
 use Rattle.kernel.specs.declared.showing.Waiting.{Waiting}
 use Rattle.kernel.specs.declared.showing.Waiting.TheVariants as waits
@@ -23,12 +23,12 @@ use Rattle.speed_supervision.specs.declared.cause.SpeedCause.{SpeedCause}
 use Rattle.speed_supervision.specs.declared.cause.SpeedCause.TheVariants as a_speed
 use Rattle.mode_control.specs.Life.{Life}
 use Rattle.unit_start.specs.Events.{IsAhead}
-use Rattle.reasons.specs.LimitWords.{limit_reported}
+use Rattle.reasons.specs.LimitTexts.{limit_reported}
 use Rattle.relayed_unit.specs.Relayed.{is_unreleased}
 use Rattle.relayed_unit.specs.declared.moored.Moored.{Moored}
 use Rattle.speed_supervision.specs.Limit.{limit}
 use Rattle.unit_calls.specs.Outputs.{description_of}
-use Rattle.unit_calls.specs.Requests.{Where}
+use Rattle.unit_calls.specs.Requests.{IfElse}
 use Rattle.unit_calls.specs.declared.handle.Opened.{Opened}
 use Rattle.unit_calls.specs.declared.status.Status.{Status}
 use Rattle.unit_calls.specs.declared.status.Status.TheVariants as a_status
@@ -111,14 +111,14 @@ why_with t = record {
   allowed = t.motion.allowed;
   place = place_or_zero t.limit.place;
   restriction = or_zero t.limit.number;
-  target_distance = target_distance t.shown.max_front t.target;
-  on_sight_left = time_left t.shown.waiting.on_sight;
-  shunting_left = time_left t.shown.waiting.shunting;
-  level_0_left = time_left t.shown.waiting.level_0;
-  override_time = override_time t.shown.overriding;
-  override_distance = override_distance t.shown.overriding;
-  service_speed = t.shown.service_speed;
-  emergency_speed = t.shown.emergency_speed;
+  target_distance = target_distance t.display_values.max_front t.target;
+  on_sight_left = time_left t.display_values.waiting.on_sight;
+  shunting_left = time_left t.display_values.waiting.shunting;
+  level_0_left = time_left t.display_values.waiting.level_0;
+  override_time = override_time t.display_values.overriding;
+  override_distance = override_distance t.display_values.overriding;
+  service_speed = t.display_values.service_speed;
+  emergency_speed = t.display_values.emergency_speed;
   speed = t.motion.speed;
   limit_speed = t.limit.speed;
   target_speed = target_speed t.target;
@@ -129,11 +129,11 @@ why_with t = record {
   has_restriction = flag_of (is_some t.limit.number);
   has_target = flag_of (is_some t.target);
   has_release = flag_of t.releases;
-  on_sight = waiting_number t.shown.waiting.on_sight;
-  shunting = waiting_number t.shown.waiting.shunting;
-  level_0 = waiting_number t.shown.waiting.level_0;
-  has_override = flag_of (is_some t.shown.overriding);
-  override_ends = flag_of (override_ends t.shown.overriding);
+  on_sight = waiting_number t.display_values.waiting.on_sight;
+  shunting = waiting_number t.display_values.waiting.shunting;
+  level_0 = waiting_number t.display_values.waiting.level_0;
+  has_override = flag_of (is_some t.display_values.overriding);
+  override_ends = flag_of (override_ends t.display_values.overriding);
   reserved = 0 ∷ 0 ∷ 0 ∷ 0 ∷ [];
 }
 
@@ -145,7 +145,7 @@ reported_in event life decides = record {
   limit = limit_reported (limit life) decides;
   target = target_of decides;
   releases = releases decides;
-  shown = shown_of life;
+  display_values = display_of life;
   holds = holds_in (causes_of life);
 }
 
@@ -156,10 +156,10 @@ DescribesLifeWhy event life reported = (decides : LimitCause) × IsLimitCause li
 
 -- what is reported is of the newest event, and it is released: all accepted events are durable
 abbrev pub IsOfReleased : Moored → EtcsUnitWhy → Type 0
-IsOfReleased it reported = (durable accepted : List Event) → IsAhead durable accepted it.unit.life
+IsOfReleased current reported = (durable accepted : List Event) → IsAhead durable accepted current.unit.life
     → (durable ≡ accepted) × DescribesLifeWhy (length accepted - 1) (life_of accepted) reported
 
 -- the newest event is reported of; NotReleased exactly where it isn't released yet, and then nothing is written
 abbrev pub AsksUnitWhy : Opened → EtcsUnitWhy → EtcsUnitWhy → Status → Type 0
-AsksUnitWhy opened old new status = IfSome opened.unit.moored (λ it. Where (is_unreleased it)
-    ((status ≡ a_status.NotReleased) × (new ≡ old)) ((status ≡ a_status.Done) × IsOfReleased it new))
+AsksUnitWhy opened old new status = IfSome opened.unit.moored (λ current. IfElse (is_unreleased current)
+    ((status ≡ a_status.NotReleased) × (new ≡ old)) ((status ≡ a_status.Done) × IsOfReleased current new))

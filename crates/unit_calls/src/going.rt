@@ -42,9 +42,9 @@ pub fn go_on_call(alloc: Global, opening: &mut EtcsOpening, unit: &mut EtcsUnit)
     if unit.has_unit() {
         return Status::IsOpen;
     }
-    let Some((it, place)) = taken(alloc, opening) else {
+    let Some((unfinished, place)) = taken(alloc, opening) else {
         return Status::NotOpen;
     };
-    let reported = it.go_on(alloc);
+    let reported = unfinished.go_on(alloc);
     leave(alloc, opening, place, unit, reported)
 }

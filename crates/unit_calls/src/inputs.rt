@@ -34,7 +34,7 @@ pub struct EtcsTrainData {
 /// The bytes of a balise.
 pub fn telegram(bytes: &[u8]) -> Option<Input>
     ensures found { IsSome result ↔ AreOfATelegram bytes.now }
-    ensures value { IfSome result (λ it. it ≡ Telegram bytes.now) }
+    ensures value { IfSome result (λ converted. converted ≡ Telegram bytes.now) }
 {
     Some(Input::Telegram(TelegramBytes::new(bytes)?))
 }
@@ -42,7 +42,7 @@ pub fn telegram(bytes: &[u8]) -> Option<Input>
 /// A reading of the odometer, in centimetres and metres per hour.
 pub fn odometer(movement: i64, speed: u32) -> Option<Input>
     ensures found { IsSome result ↔ (IsMovement movement × IsMph speed) }
-    ensures value { IfSome result (λ it. it ≡ Odometer (record { movement = movement; speed = speed })) }
+    ensures value { IfSome result (λ converted. converted ≡ Odometer (record { movement = movement; speed = speed })) }
 {
     Some(Input::Odometer(Reading {
         movement: Movement::new(movement)?,
@@ -53,7 +53,7 @@ pub fn odometer(movement: i64, speed: u32) -> Option<Input>
 /// A moment in milliseconds.
 pub fn clock(moment: u64) -> Option<Input>
     ensures found { IsSome result ↔ IsMs moment }
-    ensures value { IfSome result (λ it. it ≡ Clock moment) }
+    ensures value { IfSome result (λ converted. converted ≡ Clock moment) }
 {
     Some(Input::Clock(Ms::new(moment)?))
 }
@@ -61,7 +61,7 @@ pub fn clock(moment: u64) -> Option<Input>
 /// An identity.
 pub fn identity(bytes: &[u8]) -> Option<Input>
     ensures found { IsSome result ↔ IsIdentity bytes.now }
-    ensures value { IfSome result (λ it. it ≡ Driver (EnterIdentity bytes.now)) }
+    ensures value { IfSome result (λ converted. converted ≡ Driver (EnterIdentity bytes.now)) }
 {
     let identity = DriverIdentity::new(bytes)?;
     Some(Input::Driver(Action::EnterIdentity(identity)))
@@ -70,7 +70,7 @@ pub fn identity(bytes: &[u8]) -> Option<Input>
 /// A running number.
 pub fn running_number(number: u32) -> Option<Input>
     ensures found { IsSome result ↔ IsRunningNumber number }
-    ensures value { IfSome result (λ it. it ≡ Driver (EnterRunningNumber number)) }
+    ensures value { IfSome result (λ converted. converted ≡ Driver (EnterRunningNumber number)) }
 {
     let number = RunningNumber::new(number)?;
     Some(Input::Driver(Action::EnterRunningNumber(number)))
@@ -79,7 +79,7 @@ pub fn running_number(number: u32) -> Option<Input>
 // How a train brakes.
 fn brakes_of(train: &EtcsTrainData) -> Option<Brakes>
     ensures found { IsSome result ↔ (IsDeceleration train.now.deceleration × IsReaction train.now.reaction) }
-    ensures value { IfSome result (λ it. it ≡ record { deceleration = train.now.deceleration; reaction = train.now.reaction }) }
+    ensures value { IfSome result (λ converted. converted ≡ record { deceleration = train.now.deceleration; reaction = train.now.reaction }) }
 {
     let deceleration = u16::try_from(train.deceleration).ok()?;
     let reaction = u16::try_from(train.reaction).ok()?;
@@ -92,7 +92,7 @@ fn brakes_of(train: &EtcsTrainData) -> Option<Brakes>
 // A category by its number.
 fn category_of(number: u32) -> Option<TrainCategory>
     ensures found { IsSome result ↔ (number < 16) }
-    ensures value { IfSome result (λ it. it ≡ number) }
+    ensures value { IfSome result (λ converted. converted ≡ number) }
 {
     if number >= 16 {
         return None;
@@ -103,7 +103,7 @@ fn category_of(number: u32) -> Option<TrainCategory>
 /// Train data.
 pub fn train_data(train: &EtcsTrainData) -> Option<Input>
     ensures found { IsSome result ↔ AreTrainData train.now }
-    ensures value { IfSome result (λ it. it ≡ Driver (EnterTrainData (train_of train.now))) }
+    ensures value { IfSome result (λ converted. converted ≡ Driver (EnterTrainData (train_of train.now))) }
 {
     let data = TrainData::new(
         Length::new(u64::from(train.length))?,
@@ -141,7 +141,7 @@ fn action_of(number: u32) -> Option<Action>
 /// An action of the driver by its number, 1 to 15.
 pub fn action(number: u32) -> Option<Input>
     ensures found { IsSome result ↔ IsSome (action_by number) }
-    ensures value { IfSome result (λ it. IfSome (action_by number) (λ action. it ≡ Driver action)) }
+    ensures value { IfSome result (λ converted. IfSome (action_by number) (λ action. converted ≡ Driver action)) }
 {
     Some(Input::Driver(action_of(number)?))
 }

@@ -2,6 +2,7 @@
 //! contracts.
 #![tactic(auto)]
 
+mod call_values;
 mod events_in;
 mod explaining;
 mod formatting;
@@ -22,8 +23,8 @@ mod starting;
 mod status;
 mod version;
 mod why;
-mod words;
 
+pub use call_values::{EtcsRequest, cold_of_number};
 pub use events_in::{
     action_call, clock_call, identity_call, odometer_call, running_number_call, telegram_call,
     train_data_call,
@@ -44,4 +45,3 @@ pub use starting::{begin_call, opening_close_call};
 pub use status::Status;
 pub use version::version_call;
 pub use why::EtcsUnitWhy;
-pub use words::{EtcsRequest, word_of};

@@ -2,9 +2,9 @@
 ghost use Rattle.std.specs.Prelude.{◌≡◌, None};
 ghost use Rattle.unit_calls.specs.Handles.{IsLeft, OpensFrom, PowersUp, closing};
 
+use crate::call_values::cold_of_number;
 use crate::handle::{EtcsUnit, Opened, handle_of, taken};
 use crate::status::{Status, of_open};
-use crate::words::word_of;
 use c_numbers::ABI;
 use mode_table::Cold;
 use onboard::{OpenError, Released};
@@ -57,7 +57,7 @@ pub fn open_call(alloc: Global, unit: &mut EtcsUnit, image: &[u8], cold: u32, ab
     if abi != ABI {
         return Status::OtherAbi;
     }
-    power_up(alloc, unit, image, word_of(cold))
+    power_up(alloc, unit, image, cold_of_number(cold))
 }
 
 /// Closes it.

@@ -58,7 +58,7 @@ pub fn handle_of(opening: UnitOpening, place: Box<Place>) -> EtcsOpening
 /// Takes the power-up out, with its place.
 pub fn taken(alloc: Global, handle: &mut EtcsOpening) -> Option<(UnitOpening, Box<Place>)>
     ensures closed { handle.new.raw.value ≡ None }
-    ensures some { IfSome result (λ it. under_way handle.old.raw.value ≡ Some it.0) }
+    ensures some { IfSome result (λ found. under_way handle.old.raw.value ≡ Some found.0) }
     ensures none { result ≡ None → under_way handle.old.raw.value ≡ None }
 {
     let EtcsOpening { raw, is_open } = mem::replace(handle, nothing(alloc));

@@ -27,11 +27,11 @@ pub fn opening_wanted_call(alloc: Global, opening: &mut EtcsOpening, sector: &mu
     ensures { OnPlaceInto (sector.new ≡ sector.old) (under_way opening.old.raw.value) (under_way opening.new.raw.value) result
         (λ before after reported. (after ≡ before) × DescribesWanted before sector.old sector.new reported) }
 {
-    let Some((it, place)) = taken(alloc, opening) else {
+    let Some((unfinished, place)) = taken(alloc, opening) else {
         return Status::NotOpen;
     };
-    let status = describe_wanted(&it, sector);
-    *opening = handle_of(it, place);
+    let status = describe_wanted(&unfinished, sector);
+    *opening = handle_of(unfinished, place);
     status
 }
 
@@ -60,11 +60,11 @@ pub fn opening_provide_call(
     ensures { OnPlace (under_way opening.old.raw.value) (under_way opening.new.raw.value) result
         (Provides sector bytes.now) }
 {
-    let Some((it, place)) = taken(alloc, opening) else {
+    let Some((unfinished, place)) = taken(alloc, opening) else {
         return Status::NotOpen;
     };
-    let mut it = it;
-    let status = provide(&mut it, sector, bytes);
-    *opening = handle_of(it, place);
+    let mut unfinished = unfinished;
+    let status = provide(&mut unfinished, sector, bytes);
+    *opening = handle_of(unfinished, place);
     status
 }

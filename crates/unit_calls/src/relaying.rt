@@ -5,10 +5,10 @@ ghost use Rattle.unit_calls.specs.Outputs.{last_of};
 ghost use Rattle.unit_calls.specs.declared.status.Status.TheVariants.{Done};
 ghost use Rattle.unit_calls.specs.Requests.{DescribesRequest};
 
+use crate::call_values::{EtcsRequest, describe_write, sync};
 use crate::handle::{EtcsUnit, Opened};
 use crate::outputs::{EtcsOutput, EtcsState, description_of, hand_out};
 use crate::status::{Status, of_prepare, of_release};
-use crate::words::{EtcsRequest, describe_write, sync};
 use disk::Call;
 use events::MOST_PENDING;
 use onboard::Released;
@@ -33,7 +33,7 @@ pub fn prepare_call(unit: &mut EtcsUnit) -> Status
 // Reports a request of a unit.
 fn describe(opened: &Opened, index: u32, request: &mut EtcsRequest, bytes: &mut [u8]) -> Status
     ensures { DescribesRequest index opened.now
-        (record { request = request.old; reported = request.new; room = bytes.old; bytes = bytes.new; status = result }) }
+        (record { request = request.old; reported = request.new; caller_buffer = bytes.old; bytes = bytes.new; status = result }) }
 {
     match opened.unit.request(index as usize) {
         Some(Call::Written(span)) => {
@@ -62,7 +62,7 @@ pub fn request_call(
 ) -> Status
     ensures { OnHandleInto ((request.new ≡ request.old) × (bytes.new ≡ bytes.old))
         unit.old.raw.value unit.new.raw.value result (λ before after reported. (after ≡ before) × DescribesRequest index before
-        (record { request = request.old; reported = request.new; room = bytes.old; bytes = bytes.new; status = reported })) }
+        (record { request = request.old; reported = request.new; caller_buffer = bytes.old; bytes = bytes.new; status = reported })) }
 {
     if !unit.has_unit() {
         return Status::NotOpen;
@@ -119,7 +119,7 @@ fn last_of(released: &[Released], before: Released) -> Released
     }
 }
 
-// Releases what was held back into room for eight.
+// Releases what was held back into a buffer for eight.
 fn release(opened: &mut Opened, outputs: &mut [EtcsOutput], count: &mut u32) -> Status
     ensures { Releases opened.old opened.new
         (record { places = outputs.old; handed = outputs.new; counted = count.old; count = count.new; status = result }) }
@@ -138,7 +138,7 @@ fn release(opened: &mut Opened, outputs: &mut [EtcsOutput], count: &mut u32) -> 
     }
 }
 
-/// Releases what was held back, all of it, into room for eight; a refusal writes nothing.
+/// Releases what was held back, all of it, into a buffer for eight; a refusal writes nothing.
 pub fn release_call(unit: &mut EtcsUnit, outputs: &mut [EtcsOutput], count: &mut u32) -> Status
     ensures { OnHandleInto ((outputs.new ≡ outputs.old) × (count.new ≡ count.old))
         unit.old.raw.value unit.new.raw.value result (λ before after reported. Releases before after

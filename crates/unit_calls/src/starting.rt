@@ -3,9 +3,9 @@ ghost use Rattle.std.specs.Prelude.{◌≡◌, ◌*◌, ℕ, List, None, length}
 ghost use Rattle.unit_calls.specs.Openings.{BeginsFrom, Begins, closing};
 ghost use Rattle.unit_calls.specs.Places.{under_way};
 
+use crate::call_values::cold_of_number;
 use crate::place::{EtcsOpening, Place, handle_of, taken};
 use crate::status::Status;
-use crate::words::word_of;
 use c_numbers::ABI;
 use mode_table::Cold;
 use relayed_unit::UnitOpening;
@@ -51,7 +51,7 @@ pub fn begin_call(
     if abi != ABI {
         return Status::OtherAbi;
     }
-    begin(alloc, opening, sectors, word_of(cold))
+    begin(alloc, opening, sectors, cold_of_number(cold))
 }
 
 /// Closes it.

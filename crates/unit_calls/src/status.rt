@@ -5,12 +5,13 @@ ghost use Rattle.unit_calls.specs.Statuses.{status_number, of_open, of_accept, o
 use onboard::{AcceptError, OpenError};
 use relayed_unit::{PrepareError, ReleaseError};
 
-/// What a call answers (this project's profile). All but `Done`, `SectorWanted` and `NoneWanted` mean the emergency brake.
+/// What a call answers (this project's profile). All but `Done`, `SectorWanted` and `NoneWanted` mean the emergency
+/// brake.
 #[derive(Clone, Copy)]
 pub enum Status {
     /// It is done.
     Done = 0,
-    /// No unit was opened: the room of the disk that hands out its requests was used up. It never is.
+    /// No unit was opened: the space of the disk that hands out its requests was used up. It never is.
     OpenDeviceFault = 1,
     /// No unit was opened: the first sector isn't that of a journal, or there is none.
     NotFormatted = 2,

@@ -7,7 +7,7 @@ use crate::status::Status;
 /// How many bytes the version has.
 const VERSION_BYTES: usize = 5;
 
-/// Writes the version of the product into room for it, and how many bytes it has.
+/// Writes the version of the product into a buffer, and how many bytes it has.
 pub fn version_call(out: &mut [u8], len: &mut u32) -> Status
     ensures { DescribesVersion out.old out.new len.old len.new result }
 {

@@ -95,7 +95,7 @@ pub struct Reported {
     /// Whether a release speed does.
     pub releases: bool,
     /// What a display shows.
-    pub shown: DisplayValues,
+    pub display_values: DisplayValues,
     /// Which causes of a brake hold.
     pub holds: [u8; 10],
 }
@@ -243,14 +243,14 @@ fn why_with(reported: &Reported) -> EtcsUnitWhy
         allowed: reported.motion.allowed,
         place: place_or_zero(reported.limit.place),
         restriction: or_zero(reported.limit.number),
-        target_distance: target_distance(reported.shown.max_front, reported.target),
-        on_sight_left: time_left(reported.shown.waiting.on_sight),
-        shunting_left: time_left(reported.shown.waiting.shunting),
-        level_0_left: time_left(reported.shown.waiting.level_0),
-        override_time: override_time(reported.shown.overriding),
-        override_distance: override_distance(reported.shown.overriding),
-        service_speed: reported.shown.service_speed,
-        emergency_speed: reported.shown.emergency_speed,
+        target_distance: target_distance(reported.display_values.max_front, reported.target),
+        on_sight_left: time_left(reported.display_values.waiting.on_sight),
+        shunting_left: time_left(reported.display_values.waiting.shunting),
+        level_0_left: time_left(reported.display_values.waiting.level_0),
+        override_time: override_time(reported.display_values.overriding),
+        override_distance: override_distance(reported.display_values.overriding),
+        service_speed: reported.display_values.service_speed,
+        emergency_speed: reported.display_values.emergency_speed,
         speed: reported.motion.speed.get(),
         limit_speed: reported.limit.speed.get(),
         target_speed: target_speed(reported.target),
@@ -265,11 +265,11 @@ fn why_with(reported: &Reported) -> EtcsUnitWhy
         has_restriction: flag(reported.limit.number),
         has_target: flag(reported.target),
         has_release: u8::from(reported.releases),
-        on_sight: waiting_number(reported.shown.waiting.on_sight),
-        shunting: waiting_number(reported.shown.waiting.shunting),
-        level_0: waiting_number(reported.shown.waiting.level_0),
-        has_override: flag(reported.shown.overriding),
-        override_ends: u8::from(override_ends(reported.shown.overriding)),
+        on_sight: waiting_number(reported.display_values.waiting.on_sight),
+        shunting: waiting_number(reported.display_values.waiting.shunting),
+        level_0: waiting_number(reported.display_values.waiting.level_0),
+        has_override: flag(reported.display_values.overriding),
+        override_ends: u8::from(override_ends(reported.display_values.overriding)),
         reserved: [0; 4],
     }
 }
@@ -289,7 +289,7 @@ pub fn why_reported(event: u64, state: &State) -> EtcsUnitWhy
         limit,
         target: target_of(&decides),
         releases: releases(&decides),
-        shown: state.shown(),
+        display_values: state.display_values(),
         holds: holds_in(&causes),
     };
     why_with(&reported)

@@ -55,23 +55,23 @@ durable_on : (s : List Event) (steps : List Step) (events : List Event) → IsDu
 durable_on s steps events (inl is) = ([], is)
 durable_on s steps events (inr (before, after, split, is)) = (accepted_by [] before, is ∙ accepted_on s before)
 
-on_from : (d p events m n : List Event) (word : Cold) → p ≡ m ++ d → events ≡ n ++ an_event.PowerUp word ∷ p → (more : List Event) × (events ≡ more ++ d)
-on_from d p events m n word first second = (
-  n ++ an_event.PowerUp word ∷ m,
-  second ∙ ap (λ (l : List Event). n ++ an_event.PowerUp word ∷ l) first ∙ sym (append_assoc n (an_event.PowerUp word ∷ m) d),
+on_from : (d p events m n : List Event) (recorded_cold : Cold) → p ≡ m ++ d → events ≡ n ++ an_event.PowerUp recorded_cold ∷ p → (more : List Event) × (events ≡ more ++ d)
+on_from d p events m n recorded_cold first second = (
+  n ++ an_event.PowerUp recorded_cold ∷ m,
+  second ∙ ap (λ (l : List Event). n ++ an_event.PowerUp recorded_cold ∷ l) first ∙ sym (append_assoc n (an_event.PowerUp recorded_cold ∷ m) d),
 )
 
 settled_on : (whole_from : ℕ) (d a p : List Event) (old : State) → IsReady whole_from d a old → (p ≡ d) ⊎ (p ≡ a) → (more : List Event) × (p ≡ more ++ d)
 settled_on whole_from d a p old ready (inl is) = ([], is)
 settled_on whole_from d a p old ready (inr is) = (ready.more, is ∙ ready.begins)
 
-heir_on : (whole_from : ℕ) (d a p q : List Event) (word : Cold) (steps : List Step) (old : State) → IsReady whole_from d a old → (p ≡ d) ⊎ (p ≡ a) → IsHeir d a p word steps q → (more : List Event) × (q ≡ more ++ d)
-heir_on whole_from d a p q word steps old ready settled (inl is) = ([], is)
-heir_on whole_from d a p q word steps old ready settled (inr (inl is)) = (ready.more, is ∙ ready.begins)
-heir_on whole_from d a p q word steps old ready settled (inr (inr is)) =
+heir_on : (whole_from : ℕ) (d a p q : List Event) (recorded_cold : Cold) (steps : List Step) (old : State) → IsReady whole_from d a old → (p ≡ d) ⊎ (p ≡ a) → IsHeir d a p recorded_cold steps q → (more : List Event) × (q ≡ more ++ d)
+heir_on whole_from d a p q recorded_cold steps old ready settled (inl is) = ([], is)
+heir_on whole_from d a p q recorded_cold steps old ready settled (inr (inl is)) = (ready.more, is ∙ ready.begins)
+heir_on whole_from d a p q recorded_cold steps old ready settled (inr (inr is)) =
     let base = settled_on whole_from d a p old ready settled in
-    let more = durable_on (an_event.PowerUp word ∷ p) steps q is in
-    on_from d p q base.0 more.0 word base.1 more.1
+    let more = durable_on (an_event.PowerUp recorded_cold ∷ p) steps q is in
+    on_from d p q base.0 more.0 recorded_cold base.1 more.1
 
 -- ---- one life more
 
@@ -85,15 +85,15 @@ pub record Goes (whole_from : ℕ) (d : List Event) (its : List Released) (found
   pub goes_on : list ≡ more ++ d
   pub held : (pair : Released) → StandsIn pair its → StandsIn pair (pairs_of list)
 
-module _ (whole_from : ℕ) (d a p : List Event) (cold word : Cold) (steps : List Step) (old new found : State) (out out' : List Released) (ready : IsReady whole_from d a old) (it : Lives whole_from d a p cold word steps old new out out') where
+module _ (whole_from : ℕ) (d a p : List Event) (cold recorded_cold : Cold) (steps : List Step) (old new found : State) (out out' : List Released) (ready : IsReady whole_from d a old) (whole_life : Lives whole_from d a p cold recorded_cold steps old new out out') where
   abbrev power_up : List Event
-  power_up = an_event.PowerUp word ∷ p
+  power_up = an_event.PowerUp recorded_cold ∷ p
 
   -- power was lost
-  goes_cut : (cut : IsCut old new found) (its : List Released) → IsReleasedBy whole_from d a p word steps old new it.released cut.moment its → Goes whole_from d its found
+  goes_cut : (cut : IsCut old new found) (its : List Released) → IsReleasedBy whole_from d a p recorded_cold steps old new whole_life.released cut.moment its → Goes whole_from d its found
   goes_cut cut its (inl none) =
-      let next = after_cut whole_from old new found d a p cold word steps out out' it cut in
-      let on = heir_on whole_from d a p next.0 word steps old ready it.found_is next.2 in
+      let next = after_cut whole_from old new found d a p cold recorded_cold steps out out' whole_life cut in
+      let on = heir_on whole_from d a p next.0 recorded_cold steps old ready whole_life.found_is next.2 in
       record {
         list = next.0;
         longer = next.0;
@@ -104,9 +104,9 @@ module _ (whole_from : ℕ) (d a p : List Event) (cold word : Cold) (steps : Lis
       }
   goes_cut cut its (inr (first, reached, before, its_are)) =
       let held = reached.since cut.moment before cut.to (contents_of found) cut.image in
-      let base = settled_on whole_from d a p old ready it.found_is in
+      let base = settled_on whole_from d a p old ready whole_life.found_is in
       let more = durable_on power_up steps held.0 held.1 in
-      let on = on_from d p held.0 base.0 more.0 word base.1 more.1 in
+      let on = on_from d p held.0 base.0 more.0 recorded_cold base.1 more.1 in
       record {
         list = held.0;
         longer = held.0;
@@ -120,27 +120,27 @@ module _ (whole_from : ℕ) (d a p : List Event) (cold word : Cold) (steps : Lis
       }
 
   -- all that was released is in what is durable at the end
-  all_held : (pair : Released) → StandsIn pair it.released → StandsIn pair (pairs_of it.durable_at_end)
+  all_held : (pair : Released) → StandsIn pair whole_life.released → StandsIn pair (pairs_of whole_life.durable_at_end)
   all_held pair stands = ⊎_elim
-      (λ (left : LeftUnopened d a p word it.durable_at_end it.accepted_at_end it.released). absurd (in_none pair stands.0 stands.1 (sym left.0 ∙ stands.2)))
-      (λ (ran : WasOpened whole_from d a p word steps it.steps_taken old new it.durable_at_end it.accepted_at_end it.released).
-      let S : List Released → Type 0 = λ l. StandsIn pair l in subst S (sym ran.released_is) (following pair (pairs_of power_up) it.released stands))
-      it.unopened_or_opened
+      (λ (left : LeftUnopened d a p recorded_cold whole_life.durable_at_end whole_life.accepted_at_end whole_life.released). absurd (in_none pair stands.0 stands.1 (sym left.0 ∙ stands.2)))
+      (λ (ran : WasOpened whole_from d a p recorded_cold steps whole_life.steps_taken old new whole_life.durable_at_end whole_life.accepted_at_end whole_life.released).
+      let S : List Released → Type 0 = λ l. StandsIn pair l in subst S (sym ran.released_is) (following pair (pairs_of power_up) whole_life.released stands))
+      whole_life.unopened_or_opened
 
   -- the disk was handed back
-  goes_back : found ≡ new → (its : List Released) → its ≡ it.released → Goes whole_from d its found
+  goes_back : found ≡ new → (its : List Released) → its ≡ whole_life.released → Goes whole_from d its found
   goes_back back its its_are =
-      let on = heir_on whole_from d a p it.durable_at_end word steps old ready it.found_is (heir_back whole_from old new found d a p cold word steps out out' it) in
+      let on = heir_on whole_from d a p whole_life.durable_at_end recorded_cold steps old ready whole_life.found_is (heir_back whole_from old new found d a p cold recorded_cold steps out out' whole_life) in
       record {
-        list = it.durable_at_end;
-        longer = it.accepted_at_end;
-        ready = handed_back whole_from old new found d a p cold word steps out out' it back;
+        list = whole_life.durable_at_end;
+        longer = whole_life.accepted_at_end;
+        ready = handed_back whole_from old new found d a p cold recorded_cold steps out out' whole_life back;
         more = on.0;
         goes_on = on.1;
         held = λ pair stands. (let S : List Released → Type 0 = λ l. StandsIn pair l in all_held pair (subst S its_are stands));
       }
 
-  goes_left : (its : List Released) → IsLeftWith whole_from d a p word steps old new found it.released its → Goes whole_from d its found
+  goes_left : (its : List Released) → IsLeftWith whole_from d a p recorded_cold steps old new found whole_life.released its → Goes whole_from d its found
   goes_left its (inl (cut, released)) = goes_cut cut its released
   goes_left its (inr (back, all)) = goes_back back its all
 

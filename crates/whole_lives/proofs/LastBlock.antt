@@ -53,5 +53,5 @@ last_on earlier s steps i x d sectors image below at last =
     let first = take i steps in
     let L : List Event → List Event → Type 0 = λ a b. IsLastWritten sectors a b image in
     let one : L (earlier_by earlier s s (first ++ x ∷ [])) (flush_one (durable_by s first) (accepted_by s first) x) = subst (λ (a : List Event). L a (flush_one (durable_by s first) (accepted_by s first) x)) (sym (earlier_push earlier s s first x)) last in
-    let both : L (earlier_by earlier s s (first ++ x ∷ [])) (durable_by s (first ++ x ∷ [])) = subst (λ (b : List Event). L (earlier_by earlier s s (first ++ x ∷ [])) b) (sym (flushed_push s s first x)) one in
-    subst (λ (l : List Step). L (earlier_by earlier s s l) (durable_by s l)) (sym (one_taken steps i x d below at)) both
+    let carried_on : L (earlier_by earlier s s (first ++ x ∷ [])) (durable_by s (first ++ x ∷ [])) = subst (λ (b : List Event). L (earlier_by earlier s s (first ++ x ∷ [])) b) (sym (flushed_push s s first x)) one in
+    subst (λ (l : List Step). L (earlier_by earlier s s l) (durable_by s l)) (sym (one_taken steps i x d below at)) carried_on

@@ -130,7 +130,7 @@ module _ (whole_from : ℕ) (s : List Event) (steps : List Step) (i : ℕ) (belo
       }
 
   -- a step failed
-  pub stopped : (new : State) → IsStepped whole_from x going.durable here mid new → (it : Ran whole_from s steps old new [] given) × (it.steps_taken ≡ i) × AreAfter s first it.durable_at_end it.accepted_at_end it.released
+  pub stopped : (new : State) → IsStepped whole_from x going.durable here mid new → (ran : Ran whole_from s steps old new [] given) × (ran.steps_taken ≡ i) × AreAfter s first ran.durable_at_end ran.accepted_at_end ran.released
   stopped new step = (
     record {
       at_each_moment = weaken old new (IsOfRun whole_from old.sectors s next) (IsOfRun whole_from old.sectors s steps) (all_run whole_from old.sectors s steps (i + 1)) (further new step);

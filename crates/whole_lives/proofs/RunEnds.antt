@@ -22,7 +22,7 @@ use Rattle.whole_lives.proofs.Stepping.{quiet_step}
 
 -- all steps were taken
 pub finished : (whole_from : ℕ) (s : List Event) (steps : List Step) (i : ℕ) (old mid : State) (journal : Journal) (life : LifeState) (given : List Released)
-    → (going : Going whole_from s steps i old mid journal life given) → (it : Ran whole_from s steps old mid [] given) × (it.steps_taken ≡ i) × AreAfter s (take i steps) it.durable_at_end it.accepted_at_end it.released
+    → (going : Going whole_from s steps i old mid journal life given) → (ran : Ran whole_from s steps old mid [] given) × (ran.steps_taken ≡ i) × AreAfter s (take i steps) ran.durable_at_end ran.accepted_at_end ran.released
 finished whole_from s steps i old mid journal life given going = (
   record {
     at_each_moment = weaken old mid (IsOfRun whole_from old.sectors s (take i steps)) (IsOfRun whole_from old.sectors s steps) (all_run whole_from old.sectors s steps i) going.at_each_moment;
@@ -75,20 +75,20 @@ going_first whole_from s steps disk journal life opened ahead =
 
 -- what was released comes after what was there
 pub ran_onto : (whole_from : ℕ) (s : List Event) (steps : List Step) (old new : State) (out out' given : List Released) → out' ≡ out ++ given
-    → (it : Ran whole_from s steps old new [] given) → (x : Ran whole_from s steps old new out out') × (x.steps_taken ≡ it.steps_taken) × (x.durable_at_end ≡ it.durable_at_end) × (x.accepted_at_end ≡ it.accepted_at_end) × (x.released ≡ it.released)
-ran_onto whole_from s steps old new out out' given is it = (
+    → (ran : Ran whole_from s steps old new [] given) → (x : Ran whole_from s steps old new out out') × (x.steps_taken ≡ ran.steps_taken) × (x.durable_at_end ≡ ran.durable_at_end) × (x.accepted_at_end ≡ ran.accepted_at_end) × (x.released ≡ ran.released)
+ran_onto whole_from s steps old new out out' given is ran = (
   record {
-    at_each_moment = it.at_each_moment;
-    steps_taken = it.steps_taken;
-    durable_at_end = it.durable_at_end;
-    accepted_at_end = it.accepted_at_end;
-    durable_at_end_is = it.durable_at_end_is;
-    accepted_at_end_is = it.accepted_at_end_is;
-    ready_at_end = it.ready_at_end;
-    released = it.released;
-    out_is = is ∙ ap (λ (l : List Released). out ++ l) it.out_is;
-    released_is = it.released_is;
-    reached = it.reached;
+    at_each_moment = ran.at_each_moment;
+    steps_taken = ran.steps_taken;
+    durable_at_end = ran.durable_at_end;
+    accepted_at_end = ran.accepted_at_end;
+    durable_at_end_is = ran.durable_at_end_is;
+    accepted_at_end_is = ran.accepted_at_end_is;
+    ready_at_end = ran.ready_at_end;
+    released = ran.released;
+    out_is = is ∙ ap (λ (l : List Released). out ++ l) ran.out_is;
+    released_is = ran.released_is;
+    reached = ran.reached;
   },
   refl,
   refl,
@@ -96,14 +96,14 @@ ran_onto whole_from s steps old new out out' given is it = (
   refl,
 )
 
--- a flush had no room: no device was called
+-- a flush had no space: no device was called
 pub unflushed : (whole_from : ℕ) (s : List Event) (steps : List Step) (i : ℕ) (old mid new : State) (journal : Journal) (life : LifeState) (given : List Released) (error : LiveError)
-    → mid.sectors ≡ old.sectors → (going : Going whole_from s steps i old mid journal life given) → step_of error ≡ Some i → (IsTrue (is_full error) → new ≡ mid) → (it : Ran whole_from s steps old new [] given) → it.durable_at_end ≡ going.durable
-    → IsUnflushed {T = Unit {0}} whole_from (IsOfRun whole_from old.sectors s) steps (Err error) it.durable_at_end old new
-unflushed whole_from s steps i old mid new journal life given error sectors going named same it before_is = λ full k also.
+    → mid.sectors ≡ old.sectors → (going : Going whole_from s steps i old mid journal life given) → step_of error ≡ Some i → (IsTrue (is_full error) → new ≡ mid) → (ran : Ran whole_from s steps old new [] given) → ran.durable_at_end ≡ going.durable
+    → IsUnflushed {T = Unit {0}} whole_from (IsOfRun whole_from old.sectors s) steps (Err error) ran.durable_at_end old new
+unflushed whole_from s steps i old mid new journal life given error sectors going named same ran before_is = λ full k also.
     let number : i ≡ k = (let e : Some i ≡ Some k = sym named ∙ also in cc) in
     let there = rest_describes whole_from journal going.durable mid going.opened in
-    let R : State → Type 0 = λ d. AtEachMoment old d (IsOfRun whole_from old.sectors s (take k steps)) × EachImage d (Describes whole_from old.sectors it.durable_at_end) in
+    let R : State → Type 0 = λ d. AtEachMoment old d (IsOfRun whole_from old.sectors s (take k steps)) × EachImage d (Describes whole_from old.sectors ran.durable_at_end) in
     let M : ℕ → Type 0 = λ n. AtEachMoment old mid (IsOfRun whole_from old.sectors s (take n steps)) in
     let D : ℕ → List Event → Type 0 = λ n l. EachImage mid (Describes whole_from n l) in
     subst R (sym (same full)) (subst M number going.at_each_moment, subst (λ (l : List Event). D old.sectors l) (sym before_is) (subst (λ (n : ℕ). D n going.durable) sectors there))

@@ -22,19 +22,19 @@ use Rattle.events.specs.declared.input.Event.{Event}
 use Rattle.unit_start.specs.declared.errors.OpenError.{OpenError}
 use Rattle.unit_start.specs.UnitState.{LifeState}
 use Rattle.journal.specs.JournalState.{JournalState}
-use Rattle.onboard.specs.Answers.{refusal_of, may_add, HasRoom, RoomForOthers, flush_refusal, flush_failed}
+use Rattle.onboard.specs.Answers.{refusal_of, may_add, HasSpace, SpaceForOthers, flush_refusal, flush_failed}
 use Rattle.onboard.specs.declared.released.Released.{Released}
 use Rattle.whole_lives.specs.Runs.{NothingReleased}
 use Rattle.onboard.specs.Progress.{Progress, progress_of, starting_with, go_on}
 use Rattle.whole_lives.specs.Stops.{Stands, AllStand, StopsAt, Stopped, step_of, AreAfter, IsDone}
 
--- ---- room in memory
+-- ---- space in memory
 
-pub room_for_others : RoomForOthers
-room_for_others known (Telegram bytes) none = absurd cc
-room_for_others known (Odometer reading) none = absurd cc
-room_for_others known (Clock moment) none = omega arith
-room_for_others known (Driver action) none = omega arith
+pub space_for_others : SpaceForOthers
+space_for_others known (Telegram bytes) none = absurd cc
+space_for_others known (Odometer reading) none = absurd cc
+space_for_others known (Clock moment) none = omega arith
+space_for_others known (Driver action) none = omega arith
 
 -- ---- what a call answers, where its refusals come exactly for their causes
 
@@ -49,7 +49,7 @@ pub its_cause : {X E T : Type 0} (o : Option E) (r : Result X E) (error : E) (P 
 its_cause {X} {E} {T} None r error P named is exact = (let I : Result X E → Type 0 = λ x. IfErr x P in subst I is exact)
 its_cause {X} {E} {T} (Some e) r error P named is exact =
     let R : Result X E → Type 0 = λ x. x ≡ Err e in
-    let same : error ≡ e = (let both = subst R is exact in cc) in
+    let same : error ≡ e = (let error_there = subst R is exact in cc) in
     ap named same
 
 for_other : {T : Type 0} (o : Option T) (P Q : Type 0) (R : T → Type 0) → (P → Q) → MatchOption o P R → MatchOption o Q R
@@ -57,23 +57,23 @@ for_other None P Q R so is = so is
 for_other (Some x) P Q R so is = is
 
 -- an input that wanted memory may add to what is stored
-wanted : (known : Knowledge (Segmented ℤ) (Segmented CategorySpeeds)) (input : Input) (r : Result (Unit {0}) AcceptError) (error : AcceptError) → r ≡ Err error → (HasRoom known input → IsOk r) → IsTrue (may_add input)
+wanted : (known : Knowledge (Segmented ℤ) (Segmented CategorySpeeds)) (input : Input) (r : Result (Unit {0}) AcceptError) (error : AcceptError) → r ≡ Err error → (HasSpace known input → IsOk r) → IsTrue (may_add input)
 wanted known (Telegram bytes) r error is quiet = refl
 wanted known (Odometer reading) r error is quiet = refl
-wanted known (Clock moment) r error is quiet = (let R : Result (Unit {0}) AcceptError → Type 0 = λ x. IsOk x in subst R is (quiet (room_for_others known (Clock moment) refl)))
-wanted known (Driver action) r error is quiet = (let R : Result (Unit {0}) AcceptError → Type 0 = λ x. IsOk x in subst R is (quiet (room_for_others known (Driver action) refl)))
+wanted known (Clock moment) r error is quiet = (let R : Result (Unit {0}) AcceptError → Type 0 = λ x. IsOk x in subst R is (quiet (space_for_others known (Clock moment) refl)))
+wanted known (Driver action) r error is quiet = (let R : Result (Unit {0}) AcceptError → Type 0 = λ x. IsOk x in subst R is (quiet (space_for_others known (Driver action) refl)))
 
-with_room : (o : Option AcceptError) (P Q : Type 0) (R : AcceptError → Type 0) → (o ≡ None → P) → MatchOption o Q R → MatchOption o (P × Q) R
-with_room None P Q R so is = (so refl, is)
-with_room (Some e) P Q R so is = is
+with_space : (o : Option AcceptError) (P Q : Type 0) (R : AcceptError → Type 0) → (o ≡ None → P) → MatchOption o Q R → MatchOption o (P × Q) R
+with_space None P Q R so is = (so refl, is)
+with_space (Some e) P Q R so is = is
 
 pub accept_stops : (so : Progress) (known : Knowledge (Segmented ℤ) (Segmented CategorySpeeds)) (k : ℕ) (input copy : Input) (r : Result (Unit {0}) AcceptError) (error : AcceptError) → r ≡ Err error → copy ≡ input
     → MatchOption (refusal_of so.failed so.pending so.moment copy) (IfErr r (λ e. e ≡ NoMemory)) (λ e. r ≡ Err e)
-    → (refusal_of so.failed so.pending so.moment copy ≡ None → HasRoom known copy → IsOk r) → StopsAt so k (Accept input) (a_live.Accept k error)
+    → (refusal_of so.failed so.pending so.moment copy ≡ None → HasSpace known copy → IsOk r) → StopsAt so k (Accept input) (a_live.Accept k error)
 accept_stops so known k input copy r error is same exact quiet =
     let S : Input → Type 0 = λ x. StopsAt so k (Accept x) (a_live.Accept k error) in
     let o = refusal_of so.failed so.pending so.moment copy in
-    subst S same (with_room o (IsTrue (may_add copy)) (a_live.Accept k error ≡ a_live.Accept k NoMemory) (λ e. a_live.Accept k error ≡ a_live.Accept k e)
+    subst S same (with_space o (IsTrue (may_add copy)) (a_live.Accept k error ≡ a_live.Accept k NoMemory) (λ e. a_live.Accept k error ≡ a_live.Accept k e)
     (λ none. wanted known copy r error is (quiet none))
     (for_other o (error ≡ NoMemory) (a_live.Accept k error ≡ a_live.Accept k NoMemory) (λ e. a_live.Accept k error ≡ a_live.Accept k e)
     (ap (λ (e : AcceptError). a_live.Accept k e)) (its_cause o r error (λ e. e ≡ NoMemory) (λ (e : AcceptError). a_live.Accept k e) is exact)))
@@ -102,8 +102,8 @@ flush_stops {X} {D} so k r error state old new is exact counted nothing =
 -- ---- a run of steps
 
 stand_push : (so : Progress) (steps : List Step) (x : Step) → AllStand so steps → Stands (fold go_on so steps) x → AllStand so (steps ++ x ∷ [])
-stand_push so [] x all it = (it, tt)
-stand_push so (step ∷ steps) x all it = (all.0, stand_push (go_on so step) steps x all.1 it)
+stand_push so [] x all last_stands = (last_stands, tt)
+stand_push so (step ∷ steps) x all last_stands = (all.0, stand_push (go_on so step) steps x all.1 last_stands)
 
 module _ (from so : Progress) (steps : List Step) (k : ℕ) (below : k < length steps) (x d : Step) (at : x ≡ get_or steps k d) (stood : AllStand from (take k steps)) (so_is : so ≡ fold go_on from (take k steps)) where
   one_taken : take (k + 1) steps ≡ take k steps ++ x ∷ []

@@ -15,7 +15,7 @@ live_failed (Err (a_live.Flush k a_flush.WornOut)) = false
 live_failed (Err (a_live.Flush k a_flush.DeviceFault)) = true
 live_failed (Err (a_live.NoMemory k)) = false
 
--- whether there was no room for what a flush releases
+-- whether there was no space for what a flush releases
 abbrev pub is_full : LiveError → Bool
 is_full (a_live.Open e) = false
 is_full (a_live.Accept k e) = false

@@ -17,20 +17,20 @@ use Rattle.whole_lives.specs.Runs.{NothingReleased, IsOfLife, Reached, Lives, Is
 
 -- A life released these by a moment: none yet, or what some first of its steps released that were done by then.
 abbrev pub IsReleasedBy : ℕ → List Event → List Event → List Event → Cold → List Step → State → State → List Released → ℕ → List Released → Type 0
-IsReleasedBy whole_from durable accepted found power_up_word steps old new released moment released_by_then = NothingReleased released_by_then ⊎ ((first_steps : List Step)
-    × (so : Reached whole_from (IsOfLife whole_from old.sectors durable accepted found power_up_word first_steps) (PowerUp power_up_word ∷ found) steps first_steps old new released)
+IsReleasedBy whole_from durable accepted found power_up_cold steps old new released moment released_by_then = NothingReleased released_by_then ⊎ ((first_steps : List Step)
+    × (so : Reached whole_from (IsOfLife whole_from old.sectors durable accepted found power_up_cold first_steps) (PowerUp power_up_cold ∷ found) steps first_steps old new released)
     × (so.moment ≤ moment) × (released_by_then ≡ so.released_by_then))
 
 -- Power was lost at some moment of a life, and these were released by then; or the life handed its disk back, and these
 -- are all that it released.
 abbrev pub IsLeftWith : ℕ → List Event → List Event → List Event → Cold → List Step → (old new next : State) → List Released → List Released → Type 0
-IsLeftWith whole_from durable accepted found power_up_word steps old new next released released_by_then =
-    ((cut : IsCut old new next) × IsReleasedBy whole_from durable accepted found power_up_word steps old new released cut.moment released_by_then)
+IsLeftWith whole_from durable accepted found power_up_cold steps old new next released released_by_then =
+    ((cut : IsCut old new next) × IsReleasedBy whole_from durable accepted found power_up_cold steps old new released cut.moment released_by_then)
     ⊎ ((next ≡ new) × (released_by_then ≡ released))
 
 -- One life of several.
 pub record OneLife : Type 0 where
-  -- the word on movements without power that was handed in
+  -- the cold movement value that was handed in
   pub cold : Cold
   -- its steps, the first one first
   pub steps : List Step
@@ -47,9 +47,9 @@ pub record OneLife : Type 0 where
   -- what this life released until then, the oldest first
   pub released_by_then : List Released
   -- its contract: for all events, the newest first, that its disk was ready for, it is a life, and left that disk
-  pub lived : (whole_from : ℕ) (durable accepted : List Event) → IsReady whole_from durable accepted old → (found : List Event) × (power_up_word : Cold)
-      × (it : Lives whole_from durable accepted found cold power_up_word steps old new out_before out_after)
-      × IsLeftWith whole_from durable accepted found power_up_word steps old new next it.released released_by_then
+  pub lived : (whole_from : ℕ) (durable accepted : List Event) → IsReady whole_from durable accepted old → (found : List Event) × (power_up_cold : Cold)
+      × (whole_life : Lives whole_from durable accepted found cold power_up_cold steps old new out_before out_after)
+      × IsLeftWith whole_from durable accepted found power_up_cold steps old new next whole_life.released released_by_then
 
 -- each life begins on the disk that is found after the one before it
 abbrev pub Follow : State → List OneLife → State → Type 0

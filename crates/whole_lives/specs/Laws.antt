@@ -21,11 +21,11 @@ use Rattle.ring.specs.Slots.{valid_at, IsFormatted, IsAtRest}
 use Rattle.mode_control.specs.History.{deeds}
 use Rattle.mode_control.specs.Life.{left_at_power_up}
 
--- Nothing but what is kept crosses a power-up: after two lists of which the same is kept, and the same word, the same
--- steps are answered by the same output.
+-- Nothing but what is kept crosses a power-up: after two lists of which the same is kept, and the same cold movement
+-- value, the same steps are answered by the same output.
 abbrev pub ForgetsAcross : Type 0
-ForgetsAcross = (one other : List Event) (power_up_word : Cold) (steps : List Step) → kept_by one ≡ kept_by other →
-    output_after (accepted_by (PowerUp power_up_word ∷ one) steps) ≡ output_after (accepted_by (PowerUp power_up_word ∷ other) steps)
+ForgetsAcross = (one other : List Event) (power_up_cold : Cold) (steps : List Step) → kept_by one ≡ kept_by other →
+    output_after (accepted_by (PowerUp power_up_cold ∷ one) steps) ≡ output_after (accepted_by (PowerUp power_up_cold ∷ other) steps)
 
 -- What is released of an event while the driver hasn't revalidated since the power-up commands the emergency brake.
 abbrev pub ReleasesBrake : Type 0

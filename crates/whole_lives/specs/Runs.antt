@@ -45,7 +45,7 @@ use Rattle.onboard.specs.declared.released.Released.{Released}
 use Rattle.events.specs.declared.step.Step.{Step}
 use Rattle.events.specs.declared.step.Step.TheVariants.{Accept, Flush}
 use Rattle.unit_start.specs.Events.{pairs_of, account_of, IsAhead}
-use Rattle.unit_start.specs.Lives.{IsWord, Describes, DescribesEither, IsReady}
+use Rattle.unit_start.specs.Lives.{IsRecordedCold, Describes, DescribesEither, IsReady}
 
 -- ---- what is accepted
 
@@ -193,40 +193,40 @@ pub record Going (whole_from : ℕ) (initial : List Event) (steps : List Step) (
 -- At each moment of a life the image represents `durable` or `accepted`, or `found` with the power-up, alone or with
 -- what was accepted before one of the flushes.
 abbrev pub IsOfLife : ℕ → ℕ → List Event → List Event → List Event → Cold → List Step → (ℕ → List ℕ) → Type 0
-IsOfLife whole_from sectors durable accepted found power_up_word steps image =
-    DescribesEither whole_from sectors durable accepted image ⊎ IsOfRun whole_from sectors (an_event.PowerUp power_up_word ∷ found) steps image
+IsOfLife whole_from sectors durable accepted found power_up_cold steps image =
+    DescribesEither whole_from sectors durable accepted image ⊎ IsOfRun whole_from sectors (an_event.PowerUp power_up_cold ∷ found) steps image
 
 -- It wasn't opened, and nothing was released: at the end there are still `durable` and `accepted`, or `found`, alone
 -- and with the power-up.
 abbrev pub LeftUnopened : List Event → List Event → List Event → Cold → List Event → List Event → List Released → Type 0
-LeftUnopened durable accepted found power_up_word durable_at_end accepted_at_end released =
+LeftUnopened durable accepted found power_up_cold durable_at_end accepted_at_end released =
     NothingReleased released
     × (((durable_at_end ≡ durable) × (accepted_at_end ≡ accepted))
-    ⊎ ((durable_at_end ≡ found) × (accepted_at_end ≡ an_event.PowerUp power_up_word ∷ found)))
+    ⊎ ((durable_at_end ≡ found) × (accepted_at_end ≡ an_event.PowerUp power_up_cold ∷ found)))
 
 -- It was opened, and so many of the steps were taken. Lists of events have the newest first; `steps` and `released`
 -- have the oldest first. Each later image has what an earlier flush released.
-pub record WasOpened (whole_from : ℕ) (durable accepted found : List Event) (power_up_word : Cold) (steps : List Step) (steps_taken : ℕ) (old new : State) (durable_at_end accepted_at_end : List Event) (released : List Released) : Type 0 where
+pub record WasOpened (whole_from : ℕ) (durable accepted found : List Event) (power_up_cold : Cold) (steps : List Step) (steps_taken : ℕ) (old new : State) (durable_at_end accepted_at_end : List Event) (released : List Released) : Type 0 where
   -- the steps that were taken made this durable, after the power-up
-  pub durable_at_end_is : durable_at_end ≡ durable_by (an_event.PowerUp power_up_word ∷ found) (take steps_taken steps)
+  pub durable_at_end_is : durable_at_end ≡ durable_by (an_event.PowerUp power_up_cold ∷ found) (take steps_taken steps)
   -- and accepted that
-  pub accepted_at_end_is : accepted_at_end ≡ accepted_by (an_event.PowerUp power_up_word ∷ found) (take steps_taken steps)
+  pub accepted_at_end_is : accepted_at_end ≡ accepted_by (an_event.PowerUp power_up_cold ∷ found) (take steps_taken steps)
   -- what was released is, in order, each output of what is durable at the end after the power-up
-  pub released_is : pairs_of durable_at_end ≡ pairs_of (an_event.PowerUp power_up_word ∷ found) ++ released
+  pub released_is : pairs_of durable_at_end ≡ pairs_of (an_event.PowerUp power_up_cold ∷ found) ++ released
   -- for each number of steps: when they were done, what was released by then, and that it stays
   pub reached : (count : ℕ) → count ≤ steps_taken →
-      Reached whole_from (IsOfLife whole_from old.sectors durable accepted found power_up_word (take count steps)) (an_event.PowerUp power_up_word ∷ found) steps (take count steps) old new released
+      Reached whole_from (IsOfLife whole_from old.sectors durable accepted found power_up_cold (take count steps)) (an_event.PowerUp power_up_cold ∷ found) steps (take count steps) old new released
 
--- A life, on a disk that was ready for `durable` and `accepted`. `cold` is the word on movements without power that was
--- handed in, `power_up_word` the one that the power-up recorded. The disks `old` and `new` are those of the start and
+-- A life, on a disk that was ready for `durable` and `accepted`. `cold` is the cold movement value that was
+-- handed in, `power_up_cold` the one that the power-up recorded. The disks `old` and `new` are those of the start and
 -- of the end. All that was released is in both lists of the end.
-pub record Lives (whole_from : ℕ) (durable accepted found : List Event) (cold power_up_word : Cold) (steps : List Step) (old new : State) (out_before out_after : List Released) : Type 0 where
+pub record Lives (whole_from : ℕ) (durable accepted found : List Event) (cold power_up_cold : Cold) (steps : List Step) (old new : State) (out_before out_after : List Released) : Type 0 where
   -- the events on which this life goes on, the newest first: of `durable` and `accepted` the one that was found
   pub found_is : (found ≡ durable) ⊎ (found ≡ accepted)
   -- what the disk held at the start represents them
   pub found_on_disk : Describes whole_from old.sectors found (contents_of old)
   -- wherever power is lost in the life, the image that is left is of it
-  pub at_each_moment : AtEachMoment old new (IsOfLife whole_from old.sectors durable accepted found power_up_word steps)
+  pub at_each_moment : AtEachMoment old new (IsOfLife whole_from old.sectors durable accepted found power_up_cold steps)
   -- how many of the steps were taken, from the first one on
   pub steps_taken : ℕ
   -- the events that each image has at the end, the newest first
@@ -239,11 +239,11 @@ pub record Lives (whole_from : ℕ) (durable accepted found : List Event) (cold 
   pub released : List Released
   -- the caller's list, the oldest first, has them after what it had before
   pub out_is : out_after ≡ out_before ++ released
-  -- the power-up's word is that of the image; or no power-up was written, and nothing was released
-  pub word_is : IsWord old.sectors (contents_of old) cold power_up_word ⊎ (AtEachMoment old new (IsImage (now old)) × NothingReleased released)
+  -- the power-up's cold movement value is that of the image; or no power-up was written, and nothing was released
+  pub cold_is : IsRecordedCold old.sectors (contents_of old) cold power_up_cold ⊎ (AtEachMoment old new (IsImage (now old)) × NothingReleased released)
   -- its opening was refused, or it was opened and took steps
-  pub unopened_or_opened : LeftUnopened durable accepted found power_up_word durable_at_end accepted_at_end released
-      ⊎ WasOpened whole_from durable accepted found power_up_word steps steps_taken old new durable_at_end accepted_at_end released
+  pub unopened_or_opened : LeftUnopened durable accepted found power_up_cold durable_at_end accepted_at_end released
+      ⊎ WasOpened whole_from durable accepted found power_up_cold steps steps_taken old new durable_at_end accepted_at_end released
 
 -- ---- any number of lives
 
@@ -271,12 +271,12 @@ IsLeft old new next = IsCut old new next ⊎ (next ≡ new)
 -- what a life may leave: `durable`, `accepted`, or `found` with the power-up, alone or with what was accepted before
 -- one of the flushes
 abbrev pub IsHeir : List Event → List Event → List Event → Cold → List Step → List Event → Type 0
-IsHeir durable accepted found power_up_word steps left =
-    (left ≡ durable) ⊎ ((left ≡ accepted) ⊎ IsDurable (an_event.PowerUp power_up_word ∷ found) steps left)
+IsHeir durable accepted found power_up_cold steps left =
+    (left ≡ durable) ⊎ ((left ≡ accepted) ⊎ IsDurable (an_event.PowerUp power_up_cold ∷ found) steps left)
 
 -- Wherever a life is cut, and where it hands its disk back, what it leaves is ready for the next one: it represents
 -- what the life made durable, or that with what it accepted after it.
 abbrev pub LivesCompose : Type 0
-LivesCompose = (whole_from : ℕ) (old new next : State) (durable accepted found : List Event) (cold power_up_word : Cold) (steps : List Step) (out_before out_after : List Released)
-    → Lives whole_from durable accepted found cold power_up_word steps old new out_before out_after → IsLeft old new next
-    → (next_durable next_accepted : List Event) × IsReady whole_from next_durable next_accepted next × IsHeir durable accepted found power_up_word steps next_durable
+LivesCompose = (whole_from : ℕ) (old new next : State) (durable accepted found : List Event) (cold power_up_cold : Cold) (steps : List Step) (out_before out_after : List Released)
+    → Lives whole_from durable accepted found cold power_up_cold steps old new out_before out_after → IsLeft old new next
+    → (next_durable next_accepted : List Event) × IsReady whole_from next_durable next_accepted next × IsHeir durable accepted found power_up_cold steps next_durable

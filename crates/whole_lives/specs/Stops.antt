@@ -4,7 +4,7 @@
 
 -- Taken for granted: nothing of the disk, but in the last part ("what was carried out"), which the clauses say of an
 -- honest one.
-use Rattle.std.specs.Prelude.{◌≡◌, ◌⊎◌, ℕ, ◌+◌, ◌<◌, IsTrue, List, [], ◌∷◌, ◌++◌, length, take, fold, Option, Some, None, Result, Ok, Err, IfErr, MatchOption}
+use Rattle.std.specs.Prelude.{◌≡◌, ◌⊎◌, ℕ, ◌<◌, IsTrue, List, [], ◌∷◌, ◌++◌, length, take, fold, Option, Some, None, Result, Ok, Err, IfErr, MatchOption}
 use Rattle.disk.specs.State.{State, contents_of, EachImage, AtEachMoment}
 use Rattle.events.specs.declared.input.Event.{Event}
 use Rattle.events.specs.declared.step.Step.{Step}
@@ -37,7 +37,7 @@ AllStand so (step ∷ steps) = Stands so step × AllStand (go_on so step) steps
 
 -- A life stops at this step, the one of this number, with this error: just that of the first cause which the step has.
 -- Where it has none, an input that may add to what is stored wants memory, and a flush of what is pending met a fault
--- of the device. A flush may also want room for what it releases.
+-- of the device. A flush may also want space for what it releases.
 abbrev pub StopsAt : Progress → ℕ → Step → LiveError → Type 0
 StopsAt so number (Accept input) error = MatchOption (refusal_of so.failed so.pending so.moment input)
     (IsTrue (may_add input) × (error ≡ a_live.Accept number an_accept.NoMemory)) (λ cause. error ≡ a_live.Accept number cause)
@@ -92,7 +92,7 @@ AreAfter initial steps durable_at_end accepted_at_end released =
 
 -- no more than an opening: at each moment the image represents `durable`, `accepted`, or `found` with the power-up
 abbrev pub OnlyOpens : ℕ → List Event → List Event → List Event → Cold → State → State → Type 0
-OnlyOpens whole_from durable accepted found power_up_word old new = AtEachMoment old new (IsOfOpening whole_from old.sectors durable accepted found power_up_word)
+OnlyOpens whole_from durable accepted found power_up_cold old new = AtEachMoment old new (IsOfOpening whole_from old.sectors durable accepted found power_up_cold)
 
 -- All steps were carried out, or those before the one that the error names, and so many were taken. Where it names
 -- none, nothing was released, and this is so of what was never opened.
@@ -103,7 +103,7 @@ IsDone initial steps unopened (Err error) steps_taken durable_at_end accepted_at
     MatchOption (step_of error) (NothingReleased released × unopened)
     (λ number. (steps_taken ≡ number) × AreAfter initial (take number steps) durable_at_end accepted_at_end released)
 
--- A flush that found no room for its releases did nothing: at each moment the image is one that the steps before it
+-- A flush that found no space for its releases did nothing: at each moment the image is one that the steps before it
 -- leave, and at the end it represents just what these made durable.
 abbrev pub IsUnflushed : {T : Type 0} → ℕ → (List Step → (ℕ → List ℕ) → Type 0) → List Step → Result T LiveError → List Event → State → State → Type 0
 IsUnflushed whole_from Leave steps ended durable_at_end old new = IfErr ended (λ error. IsTrue (is_full error) → (number : ℕ) → step_of error ≡ Some number

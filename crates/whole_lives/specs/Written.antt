@@ -33,5 +33,5 @@ earlier_by earlier durable accepted (step ∷ steps) =
 
 -- At Ok the newest block of the disk is that of the last flush that wrote one, or of the power-up, where none did.
 abbrev pub LeavesLast : {T E : Type 0} → List Event → Cold → List Step → Result T E → State → Type 0
-LeavesLast found power_up_word steps ended new = (let initial = an_event.PowerUp power_up_word ∷ found in
+LeavesLast found power_up_cold steps ended new = (let initial = an_event.PowerUp power_up_cold ∷ found in
     OnOk ended (IsLastWritten new.sectors (earlier_by found initial initial steps) (durable_by initial steps) (contents_of new)))

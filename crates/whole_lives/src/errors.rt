@@ -15,7 +15,7 @@ pub enum LiveError {
     /// The flush of this step released nothing.
     #[error("step {0} {1}")]
     Flush(usize, FlushError),
-    /// There was no room for the eight outputs that the flush of this step may release, so that it didn't begin.
+    /// There was no space for the eight outputs that the flush of this step may release, so that it didn't begin.
     #[error("step {0} NoMemory")]
     NoMemory(usize),
 }

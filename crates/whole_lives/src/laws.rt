@@ -1,5 +1,5 @@
 //! What follows from the contracts alone (this project's profile).
-ghost use Rattle.onboard.specs.Answers.{RoomForOthers};
+ghost use Rattle.onboard.specs.Answers.{SpaceForOthers};
 ghost use Rattle.whole_lives.specs.Chains.{AnyNumberOfLives};
 ghost use Rattle.whole_lives.specs.Laws.{ForgetsAcross, ReleasesBrake, ImagesAreEndless, OutlivesDamage, FormattedIsReady};
 ghost use Rattle.unit_start.specs.Lives.{OneCause, StandsBy};
@@ -18,7 +18,7 @@ pub fn releases_stay()
     ensures { AnyNumberOfLives }
 {}
 
-/// A law: after each power-up the mode is Stand By, whatever the word says of movements.
+/// A law: after each power-up the mode is Stand By, whatever the cold movement value.
 pub fn stands_by()
     ensures { StandsBy }
 {}
@@ -60,6 +60,6 @@ pub fn one_cause()
 {}
 
 /// A law: a moment of the clock and an action of the driver take no memory.
-pub fn others_have_room()
-    ensures { RoomForOthers }
+pub fn others_have_space()
+    ensures { SpaceForOthers }
 {}

@@ -11,7 +11,7 @@ pub use errors::LiveError;
 pub use events::Step;
 pub use laws::{
     commands_emergency_until_revalidated, forgets_across, formatted_is_ready, images_are_endless,
-    lives_compose, one_cause, others_have_room, outlives_damage, releases_stay, stands_by,
+    lives_compose, one_cause, others_have_space, outlives_damage, releases_stay, stands_by,
 };
 pub use living::{live, live_into};
 pub use sink::ReleaseSink;

@@ -34,8 +34,8 @@ pub fn live_into<D: Disk, S: ReleaseSink>(
 ) -> (D, Result<(), LiveError>)
     ensures counted { Counted (live_failed result.1) (D.state disk) (D.state result.0) }
 
-    // NoMemory comes only where the sink has no room for what a flush may release.
-    ensures full { IfErr result.1 (λ e. IsTrue (is_full e) → S.room sink.new < most_pending) }
+    // NoMemory comes only where the sink has no space for what a flush may release.
+    ensures full { IfErr result.1 (λ e. IsTrue (is_full e) → S.space sink.new < most_pending) }
 
     // Whatever the disk does, an opening that is refused releases nothing, and takes no memory.
     ensures unopened { (e : OpenError) → result.1 ≡ Err (LiveError.Open e) →
@@ -56,16 +56,16 @@ pub fn live_into<D: Disk, S: ReleaseSink>(
     // Where power is lost and what is released, for every list of events that the disk represents.
     ensures life { (whole_from : ℕ) (durable accepted : List Event) → IsTrue (D.state disk).honest →
         IsReady whole_from durable accepted (D.state disk) →
-        (found : List Event) × (power_up_word : Cold) × (released : List Released) × S.Gave sink.old released sink.new
-        × (it : Lives whole_from durable accepted found cold power_up_word steps.now (D.state disk)
+        (found : List Event) × (power_up_cold : Cold) × (released : List Released) × S.Gave sink.old released sink.new
+        × (lived : Lives whole_from durable accepted found cold power_up_cold steps.now (D.state disk)
         (D.state result.0) [] released)
-        × IsDone (PowerUp power_up_word ∷ found) steps.now
-        (OnlyOpens whole_from durable accepted found power_up_word (D.state disk) (D.state result.0))
-        result.1 it.steps_taken it.durable_at_end it.accepted_at_end it.released
+        × IsDone (PowerUp power_up_cold ∷ found) steps.now
+        (OnlyOpens whole_from durable accepted found power_up_cold (D.state disk) (D.state result.0))
+        result.1 lived.steps_taken lived.durable_at_end lived.accepted_at_end lived.released
         × IsUnflushed whole_from
-        (IsOfLife whole_from (D.state disk).sectors durable accepted found power_up_word) steps.now result.1
-        it.durable_at_end (D.state disk) (D.state result.0)
-        × LeavesLast found power_up_word steps.now result.1 (D.state result.0) }
+        (IsOfLife whole_from (D.state disk).sectors durable accepted found power_up_cold) steps.now result.1
+        lived.durable_at_end (D.state disk) (D.state result.0)
+        × LeavesLast found power_up_cold steps.now result.1 (D.state result.0) }
 {
     match Onboard::open(alloc, disk, cold) {
         Ok(unit) => {
@@ -87,7 +87,7 @@ pub fn live<D: Disk>(
 ) -> (D, Result<(), LiveError>)
     ensures counted { Counted (live_failed result.1) (D.state disk) (D.state result.0) }
 
-    // NoMemory comes only where the list has no room for what a flush may release.
+    // NoMemory comes only where the list has no space for what a flush may release.
     ensures full { IfErr result.1 (λ e. IsTrue (is_full e) → vec_capacity out.new - vec_len out.new < most_pending) }
 
     // Whatever the disk does, an opening that is refused releases nothing, and takes no memory.
@@ -109,16 +109,16 @@ pub fn live<D: Disk>(
     // Where power is lost and what is released, for every list of events that the disk represents.
     ensures life { (whole_from : ℕ) (durable accepted : List Event) → IsTrue (D.state disk).honest →
         IsReady whole_from durable accepted (D.state disk) →
-        (found : List Event) × (power_up_word : Cold)
-        × (it : Lives whole_from durable accepted found cold power_up_word steps.now (D.state disk) (D.state result.0)
+        (found : List Event) × (power_up_cold : Cold)
+        × (lived : Lives whole_from durable accepted found cold power_up_cold steps.now (D.state disk) (D.state result.0)
         out.old.items out.new.items)
-        × IsDone (PowerUp power_up_word ∷ found) steps.now
-        (OnlyOpens whole_from durable accepted found power_up_word (D.state disk) (D.state result.0))
-        result.1 it.steps_taken it.durable_at_end it.accepted_at_end it.released
+        × IsDone (PowerUp power_up_cold ∷ found) steps.now
+        (OnlyOpens whole_from durable accepted found power_up_cold (D.state disk) (D.state result.0))
+        result.1 lived.steps_taken lived.durable_at_end lived.accepted_at_end lived.released
         × IsUnflushed whole_from
-        (IsOfLife whole_from (D.state disk).sectors durable accepted found power_up_word) steps.now result.1
-        it.durable_at_end (D.state disk) (D.state result.0)
-        × LeavesLast found power_up_word steps.now result.1 (D.state result.0) }
+        (IsOfLife whole_from (D.state disk).sectors durable accepted found power_up_cold) steps.now result.1
+        lived.durable_at_end (D.state disk) (D.state result.0)
+        × LeavesLast found power_up_cold steps.now result.1 (D.state result.0) }
 {
     live_into(alloc, disk, cold, steps, out)
 }

@@ -12,18 +12,19 @@ pub trait ReleaseSink {
     /// From the first value to the second it was given these releases, in their order.
     ghost Gave: { Self → List Released → Self → Type 0 };
 
-    /// For how many releases it has room.
-    ghost room: { Self → ℕ };
+    /// For how many releases it has space.
+    ghost space: { Self → ℕ };
 
-    /// Makes room for the eight releases of a flush, before it begins. NoMemory exactly where there is less room then.
-    fn make_room(&mut self) -> Result<(), NoMemory>
+    /// Makes space for the eight releases of a flush, before it begins. NoMemory exactly where there is less space
+    /// then.
+    fn make_space(&mut self) -> Result<(), NoMemory>
         ensures given { Gave self.old [] self.new }
-        ensures room { OnOk result (most_pending ≤ room self.new) }
-        ensures full { OnErr result (room self.new < most_pending) };
+        ensures space { OnOk result (most_pending ≤ space self.new) }
+        ensures full { OnErr result (space self.new < most_pending) };
 
-    /// Takes these, in their order. The caller owes that there is room for them.
+    /// Takes these, in their order. The caller owes that there is space for them.
     fn give(&mut self, pairs: &[Released])
-        requires room { length pairs.now ≤ room self.old }
+        requires space { length pairs.now ≤ space self.old }
         ensures given { Gave self.old pairs.now self.new };
 
     ghost none: { (sink : Self) → Gave sink [] sink };
@@ -38,13 +39,13 @@ impl ReleaseSink for Vec<Released> {
 
     ghost Gave = { λ old pairs new. new.items ≡ old.items ++ pairs };
 
-    ghost room = { λ list. vec_capacity list - vec_len list };
+    ghost space = { λ list. vec_capacity list - vec_len list };
 
     ghost none = { λ sink. sym (append-nil sink.items) };
 
     ghost more = { λ before between after first rest one two. two ∙ ap (λ l. l ++ rest) one ∙ append_assoc before.items first rest };
 
-    fn make_room(&mut self) -> Result<(), NoMemory> {
+    fn make_space(&mut self) -> Result<(), NoMemory> {
         if self.reserve(MOST_PENDING).is_err() {
             return Err(NoMemory);
         }
@@ -52,6 +53,6 @@ impl ReleaseSink for Vec<Released> {
     }
 
     fn give(&mut self, pairs: &[Released]) {
-        let _room = self.extend_from_slice(pairs);
+        let _space = self.extend_from_slice(pairs);
     }
 }

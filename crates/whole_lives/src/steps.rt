@@ -21,7 +21,7 @@ use events::{Input, Step};
 use onboard::{Onboard, Released};
 use std::alloc::Global;
 
-// Flushes, once there is room for what may be released.
+// Flushes, once there is space for what may be released.
 fn flush_into<D: Disk, S: ReleaseSink>(
     unit: &mut Onboard<D>,
     k: usize,
@@ -42,14 +42,14 @@ fn flush_into<D: Disk, S: ReleaseSink>(
         accepted (contents_of (D.state unit.new.disk))) }
     ensures released { OnOk result (S.Gave sink.old unit.old.life.pairs sink.new) }
     ensures nothing { OnErr result (S.Gave sink.old [] sink.new) }
-    ensures full { IfErr result (λ e. IsTrue (is_full e) → (S.room sink.new < most_pending) × (unit.new ≡ unit.old)) }
+    ensures full { IfErr result (λ e. IsTrue (is_full e) → (S.space sink.new < most_pending) × (unit.new ≡ unit.old)) }
     ensures named { IfErr result (λ e. step_of e ≡ Some k) }
     ensures stood { OnOk result (Stands (progress_of unit.old.journal unit.old.life) a_step.Flush
         × (progress_of unit.new.journal unit.new.life
         ≡ go_on (progress_of unit.old.journal unit.old.life) a_step.Flush)) }
     ensures stopped { IfErr result (StopsAt (progress_of unit.old.journal unit.old.life) k a_step.Flush) }
 {
-    if sink.make_room().is_err() {
+    if sink.make_space().is_err() {
         return Err(LiveError::NoMemory(k));
     }
     match unit.flush() {
@@ -82,7 +82,7 @@ fn accept_one<D: Disk>(
         OnOk result (IsLastWritten (D.state unit.new.disk).sectors
         (earlier_one earlier durable accepted (a_step.Accept input.now)) durable
         (contents_of (D.state unit.new.disk))) }
-    ensures roomy { IfErr result (λ e. is_full e ≡ false) }
+    ensures has_space_left { IfErr result (λ e. is_full e ≡ false) }
     ensures named { IfErr result (λ e. step_of e ≡ Some k) }
     ensures stood { OnOk result (Stands (progress_of unit.old.journal unit.old.life) (a_step.Accept input.now)
         × (progress_of unit.new.journal unit.new.life
@@ -116,7 +116,7 @@ fn take<D: Disk, S: ReleaseSink>(
         OnOk result (IsLastWritten (D.state unit.new.disk).sectors (earlier_one earlier durable accepted step.now)
         (flush_one durable accepted step.now) (contents_of (D.state unit.new.disk))) }
     ensures nothing { OnErr result (S.Gave sink.old [] sink.new) }
-    ensures full { IfErr result (λ e. IsTrue (is_full e) → (S.room sink.new < most_pending) × (unit.new ≡ unit.old)) }
+    ensures full { IfErr result (λ e. IsTrue (is_full e) → (S.space sink.new < most_pending) × (unit.new ≡ unit.old)) }
     ensures named { IfErr result (λ e. step_of e ≡ Some k) }
     ensures stood { OnOk result (Stands (progress_of unit.old.journal unit.old.life) step.now
         × (progress_of unit.new.journal unit.new.life ≡ go_on (progress_of unit.old.journal unit.old.life) step.now)) }
@@ -143,17 +143,17 @@ pub fn run_into<D: Disk, S: ReleaseSink>(
     sink: &mut S,
 ) -> Result<(), LiveError>
     ensures counted { Counted (live_failed result) (D.state unit.old.disk) (D.state unit.new.disk) }
-    ensures full { IfErr result (λ e. IsTrue (is_full e) → S.room sink.new < most_pending) }
+    ensures full { IfErr result (λ e. IsTrue (is_full e) → S.space sink.new < most_pending) }
     ensures stopped { StepsEnd (progress_of unit.old.journal unit.old.life) steps.now result }
     ensures named { IfErr result (λ e. step_of e ≢ None) }
     ensures ran { (whole_from : ℕ) (initial : List Event) → IsTrue (D.state unit.old.disk).honest →
         IsOpen unit.old.journal (account_of whole_from initial) (D.state unit.old.disk) →
         IsAhead initial initial unit.old.life →
         (released : List Released) × S.Gave sink.old released sink.new
-        × (it : Ran whole_from initial steps.now (D.state unit.old.disk) (D.state unit.new.disk) [] released)
-        × IsDone initial steps.now ⊥ result it.steps_taken it.durable_at_end it.accepted_at_end it.released
+        × (ended_run : Ran whole_from initial steps.now (D.state unit.old.disk) (D.state unit.new.disk) [] released)
+        × IsDone initial steps.now ⊥ result ended_run.steps_taken ended_run.durable_at_end ended_run.accepted_at_end ended_run.released
         × IsUnflushed whole_from (IsOfRun whole_from (D.state unit.old.disk).sectors initial) steps.now result
-        it.durable_at_end
+        ended_run.durable_at_end
         (D.state unit.old.disk) (D.state unit.new.disk) }
     ensures last { (whole_from : ℕ) (earlier initial : List Event) → IsTrue (D.state unit.old.disk).honest →
         IsOpen unit.old.journal (account_of whole_from initial) (D.state unit.old.disk) →
@@ -184,11 +184,11 @@ pub fn run<D: Disk>(
     ensures ran { (whole_from : ℕ) (initial : List Event) → IsTrue (D.state unit.old.disk).honest →
         IsOpen unit.old.journal (account_of whole_from initial) (D.state unit.old.disk) →
         IsAhead initial initial unit.old.life →
-        (it : Ran whole_from initial steps.now (D.state unit.old.disk) (D.state unit.new.disk) out.old.items
+        (ended_run : Ran whole_from initial steps.now (D.state unit.old.disk) (D.state unit.new.disk) out.old.items
         out.new.items)
-        × IsDone initial steps.now ⊥ result it.steps_taken it.durable_at_end it.accepted_at_end it.released
+        × IsDone initial steps.now ⊥ result ended_run.steps_taken ended_run.durable_at_end ended_run.accepted_at_end ended_run.released
         × IsUnflushed whole_from (IsOfRun whole_from (D.state unit.old.disk).sectors initial) steps.now result
-        it.durable_at_end
+        ended_run.durable_at_end
         (D.state unit.old.disk) (D.state unit.new.disk) }
     ensures last { (whole_from : ℕ) (earlier initial : List Event) → IsTrue (D.state unit.old.disk).honest →
         IsOpen unit.old.journal (account_of whole_from initial) (D.state unit.old.disk) →

@@ -1,5 +1,7 @@
 """The commands `campaign` and `compare`."""
 import itertools
+import time
+from collections.abc import Iterable, Iterator
 from types import SimpleNamespace
 from typing import TYPE_CHECKING
 
@@ -16,44 +18,61 @@ SHOWN = 10
 """The number of unsound rows that are printed."""
 
 
+class Taking:
+    """Takes rows into the table, and shows the progress: how many were run, how many a second, and the time that is left."""
+
+    def __init__(self, table: campaign_table.Table, count: int, progress: "Progress") -> None:
+        self.table, self.count, self.progress = table, count, progress
+        self.is_new, self.kept, self.played, self.start = not table.has_rows(), 0, 0, time.monotonic()
+
+    def left(self, jobs: Iterable[campaign.Job]) -> Iterator[campaign.Job]:
+        """The jobs that aren't in the table."""
+        for job in jobs:
+            if self.is_new or not self.table.is_there(job):
+                yield job
+            else:
+                self.kept += 1
+
+    def take(self, rows: list[campaign.Row]) -> None:
+        """Takes rows."""
+        self.table.take(rows)
+        self.played += len(rows)
+        rate = self.played / max(time.monotonic() - self.start, 0.001)
+        self.progress(f"campaign, {rate:,.0f} a second", self.played + self.kept, self.count)
+
+
+def run_jobs(given: SimpleNamespace, jobs: Iterator[campaign.Job], count: int, taking: Taking) -> int:
+    """Runs jobs here or by a scheduler, and closes the table; returns how many batches were lost with their process."""
+    try:
+        if given.scheduler:
+            from ..simulation import dask_scheduler
+            return dask_scheduler.by_scheduler(jobs, count, given.scheduler, taking.take)
+        return campaign.here(jobs, count, max(1, given.workers), taking.take)
+    except KeyboardInterrupt:
+        raise Failed(f"interrupted; {taking.played} were run and are kept. The same command continues", INTERRUPTED) from None
+    finally:
+        taking.table.close()
+
+
 def play_campaign(given: SimpleNamespace, progress: "Progress") -> int:
     """Runs `lab campaign`."""
     if given.folder is None and not given.random:
         raise Failed("campaign: a FOLDER or --random N is required", WRONG_WORDS)
     out = files.Out(given.csv, files.CAMPAIGN_TABLE, given.force) if given.csv else None
     files.check_all([out] if out else [], [given.out], [given.out])
-    jobs: campaign.Folder | list[campaign.Job] = campaign.Folder(given.folder, given.slots) if given.folder else []
+    jobs: campaign.Folder | list[campaign.Job] = campaign.Folder(given.folder, given.slots, given.replay) if given.folder else []
     if given.folder and not len(jobs):
         raise Failed(f"{given.folder}: contains no test case and no scenario; nothing was run", REFUSED)
-    table = campaign_table.Table(given.out, campaign_table.settings_of())
-    played = 0
-
-    def take(rows: list[campaign.Row]) -> None:
-        nonlocal played
-        table.take(rows)
-        played += len(rows)
-        progress("campaign", played, count)
-
-    left = [job for job in jobs if not table.is_there(job)] if table.has_rows() else jobs
-    count = len(left) + given.random
-    lives = (job for job in campaign.at_random(given.random, given.seed, given.slots) if not table.is_there(job))
-    try:
-        if given.scheduler:
-            from ..simulation import dask_scheduler
-            dask_scheduler.by_scheduler(itertools.chain(left, lives), count, given.scheduler, take)
-        else:
-            campaign.here(itertools.chain(left, lives), count, max(1, given.workers), take)
-    except KeyboardInterrupt:
-        table.close()
-        raise Failed(f"interrupted; {played} were run and are kept. The same command continues", INTERRUPTED) from None
-    except OSError:  # a file that can't be read any more
-        table.close()
-        raise
-    table.close()
+    count = len(jobs) + given.random
+    taking = Taking(campaign_table.Table(given.out, campaign_table.settings_of()), count, progress)
+    lives = campaign.at_random(given.random, given.seed, given.slots, given.replay)
+    lost = run_jobs(given, taking.left(itertools.chain(jobs, lives)), count, taking)
     rows, bad, first = campaign_table.unsound(given.out, SHOWN)
     if out:
         campaign_table.write_csv(given.out, out)
-    print(f"{rows} rows, {played} of them played now; {bad} not sound")
+    print(f"{rows} rows, {taking.played} of them played now; {bad} not sound")
+    if lost:
+        print(f"{lost} batches were lost with their process, and played again")
     for row in first:
         print(shown(f"  {row['name']}: {row['ended']}{'; ' + row['first_missed'].splitlines()[0] if row['first_missed'] else ''}"))
     return FOUND if bad else 0

@@ -290,6 +290,7 @@ SIMULATION = [
             option("--random", "also run this many random lives", "N", NATURAL, default=0),
             option("--seed", "seed of the random lives", "N", NATURAL, default=1, show_default=True),
             option("--slots", "slots of each new image", "N", NATURAL, default=64, show_default=True),
+            option("--replay", "run each scenario with `etcs run` on a file, and examine and replay its image"),
             option("--workers", "processes on this machine (default: the number of processors)", "N", NATURAL, default=os.cpu_count() or 1),
             option("--scheduler", "use this Dask scheduler instead of local processes", "tcp://HOST:PORT"),
             option("--csv", "write the whole table at the end", "OUT.csv", PATH),

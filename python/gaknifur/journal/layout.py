@@ -5,8 +5,6 @@ MARK, GATE_MARK, ARCHIVE_MARK = b"ETCSJRU1", b"ETCSGATE", b"ETCSKEPT"
 HEAD_MARKS = b"ETCSHEAD", b"ETCSHED2", b"ETCSHED3"
 """The marks of heads in formats 1 to 3."""
 VERSION, ARCHIVE_VERSION, LEAST_SLOTS, MOST_SLOTS, MOST_NUMBER = 2, 1, 2, 1_048_576, 2**40
-CLOSED = bytes(SECTOR)
-"""A closed gate."""
 
 
 def first_sector(slots: int) -> bytes:

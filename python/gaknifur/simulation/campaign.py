@@ -1,9 +1,10 @@
 """Run campaigns: many scenarios, case files or random lives on many processors, with one table of results.
 
-A job is only data: the bytes of its files. A worker needs this package and the two programs, and no common folder. A job whose
-worker is lost runs again, and a job that is in the table already doesn't, so an interrupted campaign continues. A row is the same
-on every worker, except for `seconds` and `worker`.
+A job is only data: the bytes of its files, or the seed of a random life. A worker needs this package and the two programs, and no
+common folder. A job whose worker is lost runs again, and a job that is in the table already doesn't, so an interrupted campaign
+continues. A row is the same on every worker, except for `seconds` and `worker`.
 """
+import functools
 import gc
 import hashlib
 import os
@@ -17,6 +18,7 @@ from pathlib import Path
 from typing import Any
 
 from ..escaping import shown
+from ..play import Died
 from ..testing import case_files
 
 Row = dict[str, Any]
@@ -27,9 +29,10 @@ COLUMNS = ("name", "job_sha256", "kind", "ended", "image_sha256", "events", "liv
            "place_cm", "emergencies", "trips", "tests", "missed", "first_missed", "sound", "seconds", "worker")
 NOT_COMPARED = ("seconds", "worker")
 MOST_LOSSES = 3
-MOST_SECONDS, LEAST_SECONDS, MOST_AT_ONCE, SHARES, AHEAD = 0.5, 0.03, 128, 2, 2
+MOST_SECONDS, LEAST_SECONDS, MOST_AT_ONCE, SHARES, AHEAD, FIRST_AT_ONCE = 1.0, 0.1, 1000, 2, 2, 8
 """The greatest and the least duration of the scenarios in a batch, and their greatest number; the least number of batches for each
-player into which the remaining jobs are split; and the number of batches that each player has, with the one that it runs."""
+player into which the remaining jobs are split; the number of batches that each player has, with the one that it runs; and the number of
+scenarios of a batch as long as no duration is known."""
 
 
 @dataclass(frozen=True)
@@ -40,13 +43,27 @@ class Job:
     kind: str
     """`scenario` or `case`."""
     files: tuple[tuple[str, bytes], ...]
-    """Paths within the job, and their bytes; the first one is run."""
+    """Paths within the job, and their bytes; the first one is run. A random life has none."""
     slots: int
+    seed: str = ""
+    """The seed of a random life."""
+    is_replayed: bool = False
+    """Whether the scenario is run by `etcs run`, and its image examined and replayed."""
+    unread: str = ""
+    """Why its files can't be read, which its row reports."""
 
-    @property
+    @functools.cached_property
+    def content(self) -> tuple[tuple[str, bytes], ...]:
+        """The files, of a random life too. It is made only where it is needed, which is in the process that runs it."""
+        if not self.seed:
+            return self.files
+        from . import random_lives
+        return (("scenario.json", random_lives.scenario(random.Random(self.seed))),)
+
+    @functools.cached_property
     def sha256(self) -> str:
         """The SHA-256 of everything that is run."""
-        parts = [self.kind, str(self.slots), *(part for name, data in self.files for part in (name, hashlib.sha256(data).hexdigest()))]
+        parts = [self.kind, str(self.slots), *(part for name, data in self.content for part in (name, hashlib.sha256(data).hexdigest()))]
         return hashlib.sha256("\n".join(parts).encode()).hexdigest()
 
 
@@ -56,8 +73,8 @@ class Folder:
     """A job for each case file and each scenario below a folder, except those that a case names. Their number is known at once; a
     file is read when its job is needed."""
 
-    def __init__(self, folder: Path, slots: int) -> None:
-        self.folder, self.slots = folder, slots
+    def __init__(self, folder: Path, slots: int, is_replayed: bool = False) -> None:
+        self.folder, self.slots, self.is_replayed = folder, slots, is_replayed
         self.case_files, self.scenarios = case_files.below(folder)
         if self.case_files:
             from ..testing import case_runner  # noqa: F401 (loaded once, before processes are forked)
@@ -67,44 +84,54 @@ class Folder:
 
     def __iter__(self) -> Iterator[Job]:
         for name in self.case_files:
-            found = case_files.files_of(self.folder / name)
-            root = Path(os.path.commonpath([one.parent for one in found]))
-            yield Job(shown(name), "case", tuple((one.relative_to(root).as_posix(), one.read_bytes()) for one in found), self.slots)
+            yield self.job(name, "case")
         for name in self.scenarios:
-            yield Job(shown(name), "scenario", (("scenario.json", (self.folder / name).read_bytes()),), self.slots)
+            yield self.job(name, "scenario")
+
+    def job(self, name: str, kind: str) -> Job:
+        """The job of a file. One that can't be read has a job too, so that it doesn't stop the others."""
+        try:
+            found = case_files.files_of(self.folder / name) if kind == "case" else [self.folder / name]
+            root = Path(os.path.commonpath([one.parent for one in found]))
+            names = [one.relative_to(root).as_posix() for one in found] if kind == "case" else ["scenario.json"]
+            given = tuple((inner, one.read_bytes()) for inner, one in zip(names, found))
+        except OSError as error:
+            return Job(shown(name), kind, (), self.slots, unread=f"can't be read: {error.strerror}")
+        return Job(shown(name), kind, given, self.slots, is_replayed=self.is_replayed)
 
 
-def at_random(count: int, seed: int, slots: int) -> Iterator[Job]:
+def at_random(count: int, seed: int, slots: int, is_replayed: bool = False) -> Iterator[Job]:
     """Random lives. The same seed gives the same lives."""
-    from . import random_lives
     for number in range(count):
-        yield Job(f"random/{seed}/{number:07}", "scenario",
-                  (("scenario.json", random_lives.scenario(random.Random(f"{seed}/{number}"))),), slots)
+        yield Job(f"random/{seed}/{number:07}", "scenario", (), slots, f"{seed}/{number}", is_replayed)
 
 
 # ---- handing out jobs
 
 class Batches:
-    """Makes batches of jobs, since to hand out a job costs as much as to run it. The first jobs are single, so that each player has one
+    """Makes batches of jobs, since to hand out a job costs more than to run it. The first jobs are single, so that each player has one
     soon; then a batch has as many scenarios as take `MOST_SECONDS`; towards the end fewer and fewer, down to those that take
-    `LEAST_SECONDS`, so that all players end at about the same time. A case file is a batch of its own, and so is each job of a lost
-    player."""
+    `LEAST_SECONDS`, so that all players end at about the same time. A case file is a batch of its own."""
 
     def __init__(self, jobs: Iterable[Job], count: int, players: int) -> None:
         self.jobs, self.count, self.players = iter(jobs), count, players
-        self.again: list[Job] = []
+        self.alone: list[list[Job]] = []
+        """Batches that run again, one at a time."""
+        self.again: list[list[Job]] = []
+        """Batches that run again."""
+        self.losses, self.lost_batches = Counter[str](), 0
         self.given, self.known, self.seconds = 0, 0, 0.0
         self.kept: Job | None = None
 
     def learn(self, rows: list[Row]) -> None:
-        """Takes the duration of jobs into account."""
-        self.known += len(rows)
-        self.seconds += sum(row["seconds"] or 0.0 for row in rows)
+        """Takes the duration of jobs into account, without the first of a batch: the start of the program is in it."""
+        self.known += len(rows) - 1
+        self.seconds += sum(row["seconds"] or 0.0 for row in rows[1:])
 
     def size(self) -> int:
         """The number of scenarios of the next batch."""
         if not self.seconds:
-            return 1
+            return 1 if self.given < self.players else FIRST_AT_ONCE
         least, most = (int(seconds * self.known / self.seconds) for seconds in (LEAST_SECONDS, MOST_SECONDS))
         share = (self.count - self.given) // (SHARES * self.players)
         return max(1, min(MOST_AT_ONCE, most, max(least, share)))
@@ -116,8 +143,8 @@ class Batches:
 
     def next(self) -> list[Job]:
         """The next batch; empty if there are no more jobs."""
-        if self.again:
-            return [self.again.pop()]
+        if self.alone or self.again:
+            return (self.alone or self.again).pop()
         batch: list[Job] = []
         size = self.size()
         while len(batch) < size and (job := self.next_job()):
@@ -129,6 +156,21 @@ class Batches:
                 break
         self.given += len(batch)
         return batch
+
+    def lose(self, batch: list[Job], to: list[list[Job]]) -> list[Row]:
+        """Runs a batch whose process was lost again, in halves, to find the job that ends it; returns the row of a job that was lost
+        alone `MOST_LOSSES` times, and is given up."""
+        self.lost_batches += 1
+        middle = len(batch) // 2
+        if middle:
+            to += [batch[middle:], batch[:middle]]
+            return []
+        job, = batch
+        self.losses[job.name] += 1
+        if self.losses[job.name] >= MOST_LOSSES:
+            return [lost(job)]
+        to.append(batch)
+        return []
 
 
 # ---- running jobs
@@ -143,31 +185,34 @@ def lost(job: Job) -> Row:
     return row_without(job, f"failed: its worker was lost {MOST_LOSSES} times")
 
 
-def here(jobs: Iterable[Job], count: int, workers: int, take: Take) -> None:
-    """Runs `count` jobs in processes of this machine."""
-    from . import campaign_jobs  # noqa: F401 (loaded once, before processes are forked)
-    left, losses, running = Batches(jobs, count, workers), Counter[str](), dict[Future[list[Row]], list[Job]]()
+def here(jobs: Iterable[Job], count: int, workers: int, take: Take) -> int:
+    """Runs `count` jobs in processes of this machine; returns how many batches were lost with their process."""
+    from . import campaign_jobs, random_lives  # noqa: F401 (loaded once, before processes are forked)
+    left, running = Batches(jobs, count, workers), dict[Future[list[Row]], list[Job]]()
     pool = ProcessPoolExecutor(workers, initializer=gc.freeze)
     try:
         while True:
             is_broken = not hand_out(left, running, pool, workers)
             if not running and not is_broken:
-                return
-            broken: list[Job] = []
+                return left.lost_batches
+            broken: list[list[Job]] = []
             for done in wait(running, return_when=FIRST_COMPLETED).done:
                 batch = running.pop(done)
                 try:
                     left.learn(rows := done.result())
                 except BrokenProcessPool:
-                    broken, is_broken = broken + batch, True
+                    broken.append(batch)
                     continue
+                except Died:  # only the program that ran this batch
+                    rows = left.lose(batch, left.again)
                 take(rows)
-            if is_broken:
-                broken += [job for batch in running.values() for job in batch]
+            if is_broken or broken:
+                broken += running.values()
                 running.clear()
                 pool.shutdown(wait=False)
                 pool = ProcessPoolExecutor(workers, initializer=gc.freeze)
-                again(broken, left, losses, take)
+                for batch in broken:
+                    take(left.lose(batch, left.alone))
     finally:
         pool.shutdown(wait=False, cancel_futures=True)
 
@@ -175,21 +220,10 @@ def here(jobs: Iterable[Job], count: int, workers: int, take: Take) -> None:
 def hand_out(left: Batches, running: dict[Future[list[Row]], list[Job]], pool: ProcessPoolExecutor, workers: int) -> bool:
     """Hands jobs to the processes; returns False if one of them was lost meanwhile."""
     from .campaign_jobs import play_all
-    while len(running) < (1 if left.again else AHEAD * workers) and (batch := left.next()):
+    while len(running) < (1 if left.alone else AHEAD * workers) and (batch := left.next()):
         try:
             running[pool.submit(play_all, batch)] = batch
         except BrokenProcessPool:
-            left.again += batch
+            left.again.append(batch)
             return False
     return True
-
-
-def again(jobs: list[Job], left: Batches, losses: Counter[str], take: Take) -> None:
-    """Runs the jobs of a lost process again, one at a time, to find the one that ends its process. That one is given up after
-    MOST_LOSSES losses."""
-    for job in jobs:
-        losses[job.name] += 1
-        if losses[job.name] >= MOST_LOSSES:
-            take([lost(job)])
-        else:
-            left.again.append(job)

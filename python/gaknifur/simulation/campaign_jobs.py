@@ -1,14 +1,24 @@
-"""Run the jobs of a campaign, and make their rows. Only the processes that run jobs load this module."""
+"""Run the jobs of a campaign, and make their rows. Only the processes that run jobs load this module.
+
+The scenarios of a batch run together in one process of `etcs_lab play`. Their values come from its results and from the images that
+it writes, which are read in this process and deleted. `etcs run` and `etcs_lab` run and read a scenario by themselves where an
+examination and a replay of the image are wanted, or where the scenario is no JSON object.
+"""
+import contextlib
 import os
 import socket
 import tempfile
 import time
-from collections.abc import Iterable
+from collections.abc import Iterable, Iterator, Sequence
 from pathlib import Path
 
-from .. import program
+from .. import etcs_run, program
+from ..etcs_run import CARRIED_OUT, Released
+from ..journal import played_image
+from ..journal.played_image import Answer
 from ..journal.reading import Json, read
-from ..program import Failed
+from ..play import AHEAD, Died, Result, ended, on_a_line, play_images
+from ..program import DEVICE, Failed
 from ..testing import soundness
 from .campaign import Job, Row, row_without
 
@@ -16,8 +26,10 @@ from .campaign import Job, Row, row_without
 def play(job: Job, folder: Path) -> Row:
     """Runs a job in a folder, in which another job may have run before, and returns its row. The row reports any failure."""
     start = time.perf_counter()
-    row = row_without(job, "carried out")
+    row = row_without(job, CARRIED_OUT)
     try:
+        if job.unread:
+            raise Failed(job.unread, DEVICE)
         row |= play_case(job, folder) if job.kind == "case" else play_scenario(job, folder)
     except Failed as failed:
         row |= {"ended": f"failed: {failed}", "sound": 0}
@@ -34,33 +46,39 @@ def player() -> str:
 def play_scenario(job: Job, folder: Path) -> Row:
     """Runs one life on a new image."""
     scenario, image = folder / "scenario.json", folder / "image"
-    scenario.write_bytes(job.files[0][1])
+    scenario.write_bytes(job.content[0][1])
     program.format_image(image, job.slots)
-    status, printed = program.etcs("run", "--", str(scenario), str(image))
-    ended = "carried out" if status == 0 else printed[-1] if printed else f"status {status}"
-    return {"ended": ended, "sound": 1} | of_records(image, printed)
+    run = etcs_run.run_life(scenario, image)
+    return {"ended": run.ended, "sound": 1} | of_records(image, run.released)
 
 
-def of_records(image: Path, printed: list[str]) -> Row:
+def of_records(image: Path, released: list[Released]) -> Row:
     """The values of a row that come from an image, with the fault if it isn't sound."""
     journal = read(image, replay=True, is_own=True)
     row: Row = {"image_sha256": journal.sha256}
     try:
         soundness.check_image(journal)
-        soundness.check_released(printed, journal.records)
+        soundness.check_released(released, journal.records)
     except soundness.Missed as missed:
         row |= {"first_missed": str(missed), "sound": 0}
     return row | values_of(journal.records)
 
 
-def values_of(all_records: Iterable[Json]) -> Row:
+ANSWER = Answer._fields
+
+
+def values_of(records: Iterable[Json]) -> Row:
     """The values of a row that come from records."""
-    records = list(all_records)
-    if not records:
+    return values([Answer(*(record[name] for name in ANSWER)) for record in records])
+
+
+def values(answers: Sequence[Answer]) -> Row:
+    """The values of a row that come from the answers to all events."""
+    if not answers:
         return {"events": 0, "lives": 0}
-    last, brakes, modes = records[-1], [record["brake"] for record in records], [record["mode"] for record in records]
-    return {"events": len(records), "lives": len({record["life"] for record in records}), "mode": last["mode"], "brake": last["brake"],
-            "limit_m_per_h": last["limit_m_per_h"], "place_cm": last["place_cm"], "emergencies": count_starts(brakes, "emergency"),
+    last, brakes, modes = answers[-1], [one.brake for one in answers], [one.mode for one in answers]
+    return {"events": len(answers), "lives": len({one.life for one in answers}), "mode": last.mode, "brake": last.brake,
+            "limit_m_per_h": last.limit_m_per_h, "place_cm": last.place_cm, "emergencies": count_starts(brakes, "emergency"),
             "trips": count_starts(modes, "TR")}
 
 
@@ -72,11 +90,11 @@ def count_starts(values: list[str], value: str) -> int:
 def play_case(job: Job, folder: Path) -> Row:
     """Runs the cases of a file, and judges their expected results."""
     with tempfile.TemporaryDirectory(dir=folder) as own:
-        for name, data in job.files:
+        for name, data in job.content:
             path = Path(own, name)
             path.parent.mkdir(parents=True, exist_ok=True)
             path.write_bytes(data)
-        return judged(Path(own, job.files[0][0]))
+        return judged(Path(own, job.content[0][0]))
 
 
 def judged(path: Path) -> Row:
@@ -102,10 +120,65 @@ def judged(path: Path) -> Row:
     return {"image_sha256": None, "tests": tests, "missed": missed, "first_missed": first, "sound": int(not missed)} | values_of(records)
 
 
-def play_all(jobs: list[Job]) -> list[Row]:
-    """Runs jobs in turn, in one folder."""
+# ---- scenarios that run together
+
+def row_of(job: Job, result: Result, image: bytes, folder: Path) -> Row:
+    """The row of a scenario that ran with others."""
+    how = ended(result)
+    if how is None:
+        return play(job, folder)
+    row = row_without(job, how) | {"sound": 1, "image_sha256": played_image.sha256(image, job.slots)}
     try:
-        with program.temporary_folder(max(job.slots for job in jobs)) as folder, program.same_environment():
-            return [play(job, Path(folder)) for job in jobs]
+        answers = played_image.answers(image) if image else []
+        row |= values(answers)
+        check_outputs(result["outputs"] if image else [], answers, image)
+    except soundness.Missed as missed:
+        row |= {"first_missed": str(missed), "sound": 0}
+    except Failed as failed:
+        row |= {"ended": f"failed: {failed}", "sound": 0}
+    return row
+
+
+def check_outputs(outputs: list[Json], answers: list[Answer], image: bytes) -> None:
+    """Fails unless each released output is that of its record. Only a difference is judged by all of the records."""
+    by_event = {one.event: one[:6] for one in answers}
+    if any(by_event.get(output["event"], tuple(output.values())) != tuple(output.values()) for output in outputs):
+        soundness.check_released(map(etcs_run.output_of, outputs), played_image.records(image))
+
+
+def play_together(jobs: Sequence[tuple[Job, bytes]], folder: Path) -> Iterator[Row]:
+    """Runs scenarios, each with its line, in one process, and yields their rows; fails with `Died` if the process dies."""
+    left, start = iter(jobs), time.perf_counter()
+    try:
+        with contextlib.closing(play_images(((line, job.slots) for job, line in jobs), folder)) as results:
+            for (result, image), (job, _) in zip(results, left):
+                row, before, start = row_of(job, result, image, folder), start, time.perf_counter()
+                yield row | {"seconds": round(start - before, 6), "worker": player()}
+    except Died:
+        raise
+    except Failed as failed:  # an image can't be written, for example
+        for job, _ in left:
+            yield row_without(job, f"failed: {failed}") | {"seconds": 0.0, "worker": player()}
+
+
+def play_all(jobs: list[Job]) -> list[Row]:
+    """Runs jobs: scenarios together, and each other job by itself, in one folder."""
+    try:
+        with program.temporary_folder(AHEAD * max(job.slots for job in jobs)) as name, program.same_environment():
+            lines = [(job, line_of(job)) for job in jobs]
+            together = [(job, line) for job, line in lines if line]
+            rows = list(play_together(together, Path(name))) if together else []
+            return rows + [play(job, Path(name)) for job, line in lines if not line]
     except OSError as error:
         return [row_without(job, f"failed: {type(error).__name__}: {error}") | {"seconds": 0.0, "worker": player()} for job in jobs]
+
+
+MOST_TOGETHER = 4096
+"""The greatest number of slots of an image that is kept in memory."""
+
+
+def line_of(job: Job) -> bytes | None:
+    """The scenario of a job on one line; None if the job can't run together with others."""
+    if job.kind != "scenario" or job.unread or job.is_replayed or job.slots > MOST_TOGETHER:
+        return None
+    return on_a_line(job.content[0][1])

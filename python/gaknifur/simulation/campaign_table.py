@@ -81,9 +81,13 @@ class Table:
 
     def close(self) -> None:
         """Commits all rows, also if `take` was interrupted."""
-        if self.connection.in_transaction:
-            self.connection.execute("COMMIT")
-        self.connection.close()
+        try:
+            if self.connection.in_transaction:
+                self.connection.execute("COMMIT")
+        except sqlite3.Error as error:
+            raise Failed(f"{self.path}: {error}", DEVICE) from error
+        finally:
+            self.connection.close()
 
 
 def settings_of() -> dict[str, str]:

@@ -14,7 +14,6 @@ from types import ModuleType
 from typing import Any
 
 from ..program import DEVICE, Failed
-from . import campaign
 from .campaign import AHEAD, Batches, Job, Row, Take
 
 LEAST_PLAYERS, PATIENCE = 4, "30s"
@@ -118,8 +117,8 @@ def connected(scheduler: str) -> tuple[Any, Any]:
     return client, as_completed(loop=client.loop)
 
 
-def by_scheduler(jobs: Iterable[Job], count: int, scheduler: str, take: Take) -> None:
-    """Runs `count` jobs on the workers of a Dask scheduler. The jobs of a lost worker go to the others."""
+def by_scheduler(jobs: Iterable[Job], count: int, scheduler: str, take: Take) -> int:
+    """Runs `count` jobs on the workers of a Dask scheduler; returns how many batches it gave up. The jobs of a lost worker go to the others."""
     client, running = connected(scheduler)
     with client:
         known = dict[str, list[Job]]()
@@ -141,9 +140,9 @@ def by_scheduler(jobs: Iterable[Job], count: int, scheduler: str, take: Take) ->
             batch = known.pop(future.key)
             try:
                 left.learn(rows := pickle.loads(future.result()))
-            except Exception:  # the scheduler gave the jobs up, since one of them may end its workers
-                rows = [campaign.lost(job) for job in batch] if len(batch) == 1 else []
-                left.again += batch if len(batch) > 1 else []
+            except Exception:  # the scheduler gave the jobs up, since one of them may end its workers, or their program died
+                rows = left.lose(batch, left.again)
             future.release()
             hand_out()
             take(rows)
+    return left.lost_batches

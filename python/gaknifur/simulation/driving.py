@@ -8,6 +8,7 @@ from collections.abc import Iterable
 from dataclasses import dataclass, field
 from typing import Any, Protocol
 
+from ..etcs_run import Released
 from ..testing.scenarios import ACKNOWLEDGED, LONGEST_CM, Scenario
 from ..unit import OUTPUTS, Action, Brake, Indication, Level, Mode, Output, TrainData
 from .drives import Act, Drive, Driver, Train, When
@@ -206,10 +207,10 @@ class Driven:
     heard: list[tuple[float, str]] = field(default_factory=list)
     """Each telegram, and the place from which its distances count."""
 
-    def lines(self) -> list[str]:
-        """The outputs as `etcs run` prints them."""
-        return [f"event {one.event} mode {MODES[one.mode]} level {'-' if one.level == Level.INVALID else int(one.level)} "
-                f"brake {BRAKES[one.brake]} limit {one.limit_m_per_h} ind {int(one.indications)}" for one in self.outputs]
+    def released(self) -> list[Released]:
+        """The outputs with the names of records."""
+        return [Released(one.event, MODES[one.mode], None if one.level == Level.INVALID else int(one.level), BRAKES[one.brake],
+                         one.limit_m_per_h, int(one.indications)) for one in self.outputs]
 
 
 class Loop:

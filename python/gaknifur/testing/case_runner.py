@@ -7,15 +7,13 @@ from collections.abc import Callable, Sequence
 from dataclasses import dataclass
 from pathlib import Path
 
-from .. import program
+from .. import etcs_run, program
+from ..etcs_run import CARRIED_OUT, Released
 from ..journal.reading import Journal, Json, read
-from ..program import REFUSED, Failed
 from ..simulation import closed_loop
 from ..simulation.driving import Driven
 from .cases import DRIVEN, WITHIN, Case, Condition, Expected, Life, Row, derived, with_train
 from .mode_table import Table
-from .soundness import BITS as BITS
-from .soundness import RELEASED as RELEASED
 from .soundness import Missed as Missed
 from .soundness import check_image as check_image
 from .soundness import check_released as check_released
@@ -37,21 +35,16 @@ class Played:
 
 # ---- playing
 
-def run_life(case: Case, life: Life, image: Path, folder: Path) -> list[str]:
-    """Runs a life, and returns the outputs that it printed. It has to end as expected."""
-    scenario = life.path
+def run_life(life: Life, image: Path, folder: Path) -> list[Released]:
+    """Runs a life, and returns the outputs that it released. It has to end as expected."""
+    scenario = life.path or folder / "scenario.json"
     if life.scenario:
-        scenario = folder / "scenario.json"
         scenario.write_text(life.scenario.text(), encoding="utf-8")
-    status, printed = program.etcs("run", "--", str(scenario), str(image))
-    last = printed[-1] if printed else ""
-    ended = last if status and not last.startswith(RELEASED) else "carried out"
-    if status and ended == "carried out":
-        ended = f"status {status}"
-    wanted = life.ends or "carried out"
-    if ended != wanted:
-        raise Missed(f"the life of line {life.at.line} ends: {wanted}", f"{ended}{place_of(life, ended)}")
-    return [line for line in printed if line.startswith(RELEASED)]
+    run = etcs_run.run_life(scenario, image)
+    wanted = life.ends or CARRIED_OUT
+    if run.ended != wanted:
+        raise Missed(f"the life of line {life.at.line} ends: {wanted}", f"{run.ended}{place_of(life, run.ended)}")
+    return run.released
 
 
 def place_of(life: Life, ended: str) -> str:
@@ -68,13 +61,13 @@ def play(case: Case, keep: Keep | None = None, why: bool = False) -> Played:
     with program.temporary_folder(case.slots) as name:
         folder, image = Path(name), Path(name) / "image"
         program.format_image(image, case.slots)
-        released: list[str] = []
+        released: list[Released] = []
         driven: list[Driven | None] = []
         try:
             for life in case.lives:
                 driven.append(drive(life, image))
                 one = driven[-1]
-                released += one.lines() if one else run_life(case, life, image, folder)
+                released += one.released() if one else run_life(life, image, folder)
         finally:
             if keep:
                 keep(image.read_bytes())

@@ -10,9 +10,8 @@ from collections.abc import Iterator, Sequence
 from dataclasses import dataclass
 from pathlib import Path
 
-from .. import program
+from .. import etcs_run, program
 from ..journal.reading import Json, read
-from ..program import REFUSED, Failed
 from ..simulation import closed_loop, drives
 from ..simulation.drives import Drive
 from ..yaml_files import Value
@@ -134,8 +133,7 @@ def is_refused(life: Life, image: Path, folder: Path) -> bool:
     path = life.path or folder / "scenario.json"
     if life.scenario:
         path.write_text(scenario.text(), encoding="utf-8")
-    status, printed = program.etcs("run", "--", str(path), str(image))
-    return status == REFUSED and bool(printed) and printed[-1].startswith("refused")
+    return etcs_run.run_life(path, image).is_refused
 
 
 def played(lives: Sequence[Life]) -> list[list[Event]]:

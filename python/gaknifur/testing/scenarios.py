@@ -22,7 +22,6 @@ WITHOUT_VALUE = {"start": 6, "choose_shunting": 7, "leave_shunting": 8, "overrid
 TRAIN = {"length": 409_500, "maximum": 600_000, "deceleration": 300, "reaction": 10_000, "category": 15}
 WITH_VALUE = ("telegram", "drive", "clock", "enter_identity", "enter_running_number", "enter_train_data", "choose_level",
               "confirm", "acknowledge", "use", "mark")
-STEPS = (*WITH_VALUE, *WITHOUT_VALUE, "flush")
 SHARED = ("telegrams", "parts", "include")
 LIFE = ("cold", "groups", "steps")
 LONGEST_CM, MOST_DRIVE_CM, MOST_PLACE_CM, MOST_SPACING_CM = 10_000, 1_000_000, 100_000_000, 1_200

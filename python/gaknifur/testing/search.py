@@ -14,7 +14,8 @@ from typing import Any
 import hypothesis
 from hypothesis import HealthCheck, Phase, settings
 
-from .. import program
+from .. import etcs_run, program
+from ..etcs_run import CARRIED_OUT
 from ..journal.reading import Json, objects
 from ..program import REFUSED, Failed
 from ..units import oracle
@@ -64,9 +65,9 @@ def image_of(scenarios: Lives, image: Path) -> None:
     for text in scenarios:
         scenario = image.with_name("scenario.json")
         scenario.write_text(text, encoding="utf-8")
-        status, printed = program.etcs("run", "--", str(scenario), str(image))
-        if status:
-            raise Failed(f"etcs run ended with {printed[-1] if printed else f'status {status}'}: {text}", REFUSED)
+        run = etcs_run.run_life(scenario, image)
+        if run.ended != CARRIED_OUT:
+            raise Failed(f"etcs run ended with {run.ended}: {text}", REFUSED)
 
 
 def recorded(scenarios: Lives) -> list[Json]:

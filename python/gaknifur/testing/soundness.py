@@ -1,12 +1,8 @@
 """Check that a journal is sound: the image is whole, a replay agrees, and the released outputs are those of the records."""
 from collections.abc import Iterable, Sequence
 
+from ..etcs_run import Released, output_of
 from ..journal.reading import Journal, Json
-from ..units._header import Indication
-
-RELEASED = "event "
-"""With this begins a line of `etcs run` that has a released output."""
-BITS = {name.lower(): int(sign) for name, sign in Indication.__members__.items()}
 
 
 class Missed(Exception):
@@ -59,17 +55,10 @@ def check_replay(lines: Sequence[Json]) -> None:
         raise Missed("a replay in which nothing differs", str(lines[-1]))
 
 
-def output_text(record: Json) -> str:
-    """The line of a record's output, as `etcs run` prints it."""
-    level = "-" if record["level"] is None else record["level"]
-    return (f"event {record['event']} mode {record['mode']} level {level} brake {record['brake']} limit {record['limit_m_per_h']} "
-            f"ind {sum(map(BITS.__getitem__, record['indications']))}")
-
-
-def check_released(printed: Iterable[str], records: Iterable[Json]) -> None:
-    """Fails unless each released output is that of its record. Ignores other lines, and outputs of blocks that were overwritten."""
-    by_head = {f"event {record['event']}": record for record in records}
-    outputs = set(map(output_text, by_head.values()))
-    for line in printed:
-        if line not in outputs and (record := by_head.get(line[:line.find(" ", 6)])) is not None:
-            raise Missed(f"the output of its record: {output_text(record)}", f"this output was released: {line}", record)
+def check_released(released: Iterable[Released], records: Iterable[Json]) -> None:
+    """Fails unless each released output is that of its record. Ignores outputs of blocks that were overwritten."""
+    by_event = {record["event"]: record for record in records}
+    for output in released:
+        record = by_event.get(output.event)
+        if record is not None and output != (wanted := output_of(record)):
+            raise Missed(f"the output of its record: {wanted.text}", f"this output was released: {output.text}", record)

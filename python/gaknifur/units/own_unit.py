@@ -5,7 +5,7 @@ its record.
 """
 import os
 import sys
-from typing import BinaryIO, Protocol
+from typing import BinaryIO
 
 from .. import unit
 from ..journal.reading import Json
@@ -16,14 +16,6 @@ from ..unit import Action, Brake, Cold, Indication, Level, MemoryMedium, TrainDa
 from . import protocol
 
 SLOTS = 64
-DIRECT = ("start", "choose_shunting", "leave_shunting", "override", "close_desk")
-
-
-class Answering(Protocol):
-    """A unit that answers events: the proved one, or another."""
-
-    def answer(self, event: Json) -> Json:
-        """The answer to an event."""
 
 
 def action_of(event: Json) -> Action:

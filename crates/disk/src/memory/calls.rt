@@ -8,7 +8,7 @@ use crate::record::{Call, Span};
 use crate::{Disk, DiskFault, SECTOR_BYTES, WriteDisk};
 
 impl WriteDisk for Memory {
-    ghost use Rattle.disk.specs.Memory.{memory_state, handed_of, has_room_for, fate_now, HasRun, SameHanded, SameContents};
+    ghost use Rattle.disk.specs.Memory.{memory_state, handed_of, has_space_for, fate_now, HasRun, SameHanded, SameContents};
 
     ghost state = { memory_state };
 
@@ -30,16 +30,16 @@ impl WriteDisk for Memory {
 
         // One that fails by the plan leaves the old bytes and opens its sectors, and without power nothing changes.
         ensures old_bytes { OnErr result (SameContents self.old self.new) }
-        ensures torn { IsTrue (has_room_for (length bytes.now) self.old) → fate_now self.old ≡ Fate.Fails →
+        ensures torn { IsTrue (has_space_for (length bytes.now) self.old) → fate_now self.old ≡ Fate.Fails →
             AreOpen (memory_state self.new) first (length bytes.now) }
         ensures dead { fate_now self.old ≡ Fate.Dead → SameOpen (memory_state self.old) (memory_state self.new) × SameHanded self.old self.new }
 
         // What was handed in is known of one that failed by the plan, too.
-        ensures handed { IsTrue (has_room_for (length bytes.now) self.old) → fate_now self.old ≢ Fate.Dead →
+        ensures handed { IsTrue (has_space_for (length bytes.now) self.old) → fate_now self.old ≢ Fate.Dead →
             Holds (handed_of self.new) first bytes.now }
         ensures others_handed { SameBut first (length bytes.now) (handed_of self.old) (handed_of self.new) }
     {
-        if !self.has_room(bytes.len()) {
+        if !self.has_space(bytes.len()) {
             return Err(self.fault());
         }
         let span = Span {
@@ -71,7 +71,7 @@ impl WriteDisk for Memory {
         ensures run { HasRun 0 result self.old self.new }
         ensures handed { SameHanded self.old self.new }
     {
-        if !self.has_room(0) {
+        if !self.has_space(0) {
             return Err(self.fault());
         }
         match self.fate() {
@@ -99,7 +99,7 @@ impl Disk for Memory {
         ensures run { HasRun 0 result self.old self.new }
         ensures handed { SameHanded self.old self.new }
     {
-        if !self.has_room(0) {
+        if !self.has_space(0) {
             return Err(self.fault());
         }
         let fate = self.fate();

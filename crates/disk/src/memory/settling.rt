@@ -11,9 +11,9 @@ use std::alloc::{AllocError, Global};
 use units::NoMemory;
 
 impl Memory {
-    ghost use Rattle.disk.specs.Memory.{memory_state, handed_of, room_of, IsFresh};
+    ghost use Rattle.disk.specs.Memory.{memory_state, handed_of, space_of, IsFresh};
 
-    /// The disk after a cut, with the same room: the i-th open sector, in rising order, holds what the i-th choice
+    /// The disk after a cut, with the same space: the i-th open sector, in rising order, holds what the i-th choice
     /// says, and all others hold what they held. An open sector beyond the list is Old. NoMemory where there is none
     /// for it.
     pub fn settle(&self, alloc: Global, choices: &[Choice]) -> Result<Memory, NoMemory>
@@ -22,15 +22,15 @@ impl Memory {
             contents_of (memory_state m) s ≡ settled_sector (memory_state self.now) (handed_of self.now) choices.now s) }
         ensures image { IfOk result (λ m. IsImage (now (memory_state self.now)) (contents_of (memory_state m))) }
         ensures fresh { IfOk result IsFresh }
-        ensures room { IfOk result (λ m. room_of m ≡ room_of self.now) }
+        ensures space { IfOk result (λ m. space_of m ≡ space_of self.now) }
     {
         Ok(Memory {
             sectors: self.sectors,
             start: self.settled(alloc, choices)?,
-            calls: Vec::with_capacity(alloc, self.room.calls)?,
-            written: Vec::with_capacity(alloc, self.room.bytes)?,
+            calls: Vec::with_capacity(alloc, self.space.calls)?,
+            written: Vec::with_capacity(alloc, self.space.bytes)?,
             places: unwritten(alloc, self.places.len())?,
-            room: self.room,
+            space: self.space,
             plan: Plan::Nothing,
             planned_at: 0,
             faults: 0,

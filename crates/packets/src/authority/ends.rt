@@ -169,7 +169,7 @@ impl MovementAuthority {
     /// Hands the end to a sink.
     #[tactic(auto, unfolding(crate::specs::Layouts::authority_end))]
     pub(crate) fn end_fields<S: FieldSink>(&self, sink: &mut S) -> Result<(), S::Error>
-        requires room { S.held sink.old + size authority_end self.now ≤ S.most }
+        requires space { S.held sink.old + size authority_end self.now ≤ S.most }
         ensures { OnOk result (S.seen sink.new ≡ taken S.took authority_end self.now (S.seen sink.old)) }
     {
         ok!(section_fields(&self.end_section, VariableName::LEndsection, sink));

@@ -98,7 +98,7 @@ pub(crate) fn section_fields<S: FieldSink>(
     name: VariableName,
     sink: &mut S,
 ) -> Result<(), S::Error>
-    requires room { S.held sink.old + size (section_layout name) section.now ≤ S.most }
+    requires space { S.held sink.old + size (section_layout name) section.now ≤ S.most }
     ensures value { OnOk result (S.seen sink.new ≡ taken S.took (section_layout name) section.now (S.seen sink.old)) }
     ensures held { OnOk result (S.held sink.new ≤ S.held sink.old + size (section_layout name) section.now) }
 {

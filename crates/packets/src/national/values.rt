@@ -96,7 +96,7 @@ impl NationalValues {
     /// Hands the speeds to a sink.
     #[tactic(auto, unfolding(crate::specs::Layouts::mode_speeds))]
     pub(crate) fn mode_speed_fields<S: FieldSink>(&self, sink: &mut S) -> Result<(), S::Error>
-        requires room { S.held sink.old + 35 ≤ S.most }
+        requires space { S.held sink.old + 35 ≤ S.most }
         ensures value { OnOk result (S.seen sink.new ≡ taken S.took mode_speeds self.now (S.seen sink.old)) }
         ensures held { OnOk result (S.held sink.new ≤ S.held sink.old + 35) }
     {
@@ -110,7 +110,7 @@ impl NationalValues {
     /// Hands the values for an override to a sink.
     #[tactic(auto, unfolding(crate::specs::Layouts::override_values))]
     pub(crate) fn override_fields<S: FieldSink>(&self, sink: &mut S) -> Result<(), S::Error>
-        requires room { S.held sink.old + 37 ≤ S.most }
+        requires space { S.held sink.old + 37 ≤ S.most }
         ensures value { OnOk result (S.seen sink.new ≡ taken S.took override_values self.now (S.seen sink.old)) }
         ensures held { OnOk result (S.held sink.new ≤ S.held sink.old + 37) }
     {

@@ -38,7 +38,7 @@ fn step_fields<S: FieldSink>(
     own: &[Difference],
     sink: &mut S,
 ) -> Result<(), S::Error>
-    requires room { S.held sink.old + step_size own.now ≤ S.most }
+    requires space { S.held sink.old + step_size own.now ≤ S.most }
     ensures value { OnOk result (S.seen sink.new ≡ step_taken S.took step.now own.now (S.seen sink.old)) }
     ensures held { OnOk result (S.held sink.new ≤ S.held sink.old + step_size own.now) }
 {
@@ -55,7 +55,7 @@ fn steps_fields<S: FieldSink>(
     differences: &[Difference],
     sink: &mut S,
 ) -> Result<(), S::Error>
-    requires room { S.held sink.old + steps_size steps.now differences.now ≤ S.most }
+    requires space { S.held sink.old + steps_size steps.now differences.now ≤ S.most }
     ensures { OnOk result (S.seen sink.new ≡ steps_taken S.took steps.now differences.now (S.seen sink.old)) }
 {
     let mut left = differences;
@@ -74,7 +74,7 @@ pub(crate) fn profile_fields<S: FieldSink>(
     sink: &mut S,
 ) -> Result<(), S::Error>
     requires few { length steps.now ≤ 32 }
-    requires room { S.held sink.old + profile_size steps.now differences.now ≤ S.most }
+    requires space { S.held sink.old + profile_size steps.now differences.now ≤ S.most }
     ensures { OnOk result (S.seen sink.new ≡ profile_taken S.took steps.now differences.now (S.seen sink.old)) }
 {
     let none = StaticStep::default();

@@ -18,10 +18,10 @@ use vars::{Iterations, PacketLength};
 #[tactic(auto, unfolding(crate::specs::Layouts::static_step))]
 fn read_step(reader: &mut BitReader<'_>, speeds: &mut StaticSpeeds) -> Result<(), PacketFault>
     requires few { length speeds.old.steps.items < 32 }
-    requires room { length speeds.old.differences.items ≤ 70 }
+    requires space { length speeds.old.differences.items ≤ 70 }
     ensures value { Gives (λ _. speeds.new) result reader.new (read (static_step speeds.old) reader.old) }
     ensures len { OnOk result (length speeds.new.steps.items ≡ length speeds.old.steps.items + 1) }
-    ensures room { OnOk result (length speeds.new.differences.items ≤ 70) }
+    ensures space { OnOk result (length speeds.new.differences.items ≤ 70) }
 {
     let distance = ok!(field(reader));
     let speed = ok!(field(reader));
@@ -46,7 +46,7 @@ fn read_steps(
     count: u8,
 ) -> Result<(), PacketFault>
     requires few { length speeds.old.steps.items + count ≤ 32 }
-    requires room { length speeds.old.differences.items ≤ 70 }
+    requires space { length speeds.old.differences.items ≤ 70 }
     ensures { Gives (λ _. speeds.new) result reader.new (read (folded static_step count speeds.old) reader.old) }
 {
     for i in 0..count {

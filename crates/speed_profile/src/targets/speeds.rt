@@ -56,7 +56,7 @@ impl<'a, S: Profile<CategorySpeeds>> SpeedTargets<'a, S> {
 
     /// What the nearest piece asks for, if it asks for anything; then it is left no longer.
     pub fn next_piece(&mut self) -> Option<Target>
-        ensures asked { AskTheSame self.old.targets (listed result ++ self.new.targets) }
+        ensures requested { AskTheSame self.old.targets (listed result ++ self.new.targets) }
         ensures fewer { IfSome self.old.speeds_from (λ place. self.new.most < self.old.most) }
         ensures none { self.old.speeds_from ≡ None → result ≡ None }
     {

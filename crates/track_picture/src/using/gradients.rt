@@ -11,13 +11,13 @@ use speed_profile::gradients;
 use track_store::ProfileStore;
 use units::{Cm, Permille};
 
-/// Takes a packet, where it has gradients; no track before the forgetting mark counts. There is room for one
+/// Takes a packet, where it has gradients; no track before the forgetting mark counts. There is space for one
 /// replacement.
 pub fn take<G: ProfileStore<Permille>>(store: &mut G, mark: Cm, packet: &Packet<'_>, used: &Use)
-    requires { 1 ≤ G.room store.old }
+    requires { 1 ≤ G.space store.old }
     ensures profile { (reported : MarkedFacts ℤ) → reported.mark ≡ mark → profile_with G.value store.old ≡ profile_of reported
         → profile_with G.value store.new ≡ profile_of (record reported { facts = after_gradients (fact_of used.now packet.now) reported.facts }) }
-    ensures room { G.room store.old ≤ G.room store.new + 1 }
+    ensures space { G.space store.old ≤ G.space store.new + 1 }
 {
     let Packet::Gradients(packet) = packet else {
         return;

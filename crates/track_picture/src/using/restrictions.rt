@@ -23,12 +23,12 @@ fn restriction_of(packet: &SpeedRestriction, at: GroupPlace) -> Restriction
     }
 }
 
-/// Takes a packet, where it is a restriction, in the room for one.
+/// Takes a packet, where it is a restriction, in the space for one.
 pub fn take(restrictions: &mut Restrictions, packet: &Packet<'_>, used: &Use)
-    requires { 1 ≤ restrictions.old.room }
+    requires { 1 ≤ restrictions.old.space }
     ensures track { (entries : List RestrictionEntry) → restrictions.old.track ≡ in_force entries
         → restrictions.new.track ≡ in_force (after_restriction (fact_of used.now packet.now) entries) }
-    ensures room { restrictions.old.room ≤ restrictions.new.room + 1 }
+    ensures space { restrictions.old.space ≤ restrictions.new.space + 1 }
 {
     let Packet::SpeedRestriction(packet) = packet else {
         return;

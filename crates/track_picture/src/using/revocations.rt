@@ -12,7 +12,7 @@ use track_store::Restrictions;
 pub fn take(restrictions: &mut Restrictions, packet: &Packet<'_>, used: &Use)
     ensures track { (entries : List RestrictionEntry) → restrictions.old.track ≡ in_force entries
         → restrictions.new.track ≡ in_force (after_revocation (fact_of used.now packet.now) entries) }
-    ensures room { restrictions.new.room ≡ restrictions.old.room }
+    ensures space { restrictions.new.space ≡ restrictions.old.space }
 {
     if let Packet::RestrictionRevocation(packet) = packet {
         restrictions.revoke(packet.number);

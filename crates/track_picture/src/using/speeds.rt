@@ -12,7 +12,7 @@ use speed_profile::{CategorySpeeds, static_speeds};
 use track_store::ProfileStore;
 use units::Cm;
 
-/// Takes a packet, where it has static speeds; no track before the forgetting mark counts. There is room for one
+/// Takes a packet, where it has static speeds; no track before the forgetting mark counts. There is space for one
 /// replacement.
 pub fn take<S: ProfileStore<CategorySpeeds>>(
     store: &mut S,
@@ -20,10 +20,10 @@ pub fn take<S: ProfileStore<CategorySpeeds>>(
     packet: &Packet<'_>,
     used: &Use,
 )
-    requires { 1 ≤ S.room store.old }
+    requires { 1 ≤ S.space store.old }
     ensures profile { (reported : MarkedFacts CategorySpeeds) → reported.mark ≡ mark → profile_with S.value store.old ≡ profile_of reported
         → profile_with S.value store.new ≡ profile_of (record reported { facts = after_speeds (fact_of used.now packet.now) reported.facts }) }
-    ensures room { S.room store.old ≤ S.room store.new + 1 }
+    ensures space { S.space store.old ≤ S.space store.new + 1 }
 {
     let Packet::StaticSpeeds(packet) = packet else {
         return;

@@ -2,7 +2,7 @@ use Rattle.std.proofs.Common.{◌∙◌, ap, sym, subst}
 use Rattle.events.specs.declared.output.Output.{Output}
 use Rattle.kernel.specs.Lives.{past_at}
 use Rattle.kernel.specs.StandsFor.{StandsAt}
-use Rattle.reasons.specs.LimitWords.{limit_reported}
+use Rattle.reasons.specs.LimitTexts.{limit_reported}
 use Rattle.track_picture.specs.Stores.{segment_stores}
 use Rattle.image_calls.specs.Whys.{why_with}
 use Rattle.image_calls.proofs.description.why_reported.Goals as goal

@@ -12,5 +12,5 @@ returns-in_default-known c =
 pub returns : goal.returns
 returns c =
     let life : Option Lived = life_up_to c.args.image.now c.args.ring c.args.number c.args.event in
-    let it = known_stands life c.in-Some.known (subst (λ (known : Option Known). Stands life known) c.in-Some.is c.in-Ok.ensures) in
-    inl (refl, record { life = it.0; life_is = it.1; so = λ story left. c.why_reported.ensures _ (it.2 story left).0 (it.2 story left).1 })
+    let known_so = known_stands life c.in-Some.known (subst (λ (known : Option Known). Stands life known) c.in-Some.is c.in-Ok.ensures) in
+    inl (refl, record { life = known_so.0; life_is = known_so.1; so = λ story left. c.why_reported.ensures _ (known_so.2 story left).0 (known_so.2 story left).1 })

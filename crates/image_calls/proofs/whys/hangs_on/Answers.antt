@@ -1,6 +1,6 @@
 use Rattle.std.proofs.Common.{rules, ◌≡◌, ◌∙◌, List, Some, sym, subst, inl, inr}
 use Rattle.blocks.specs.declared.records.BlockRecord.{BlockRecord}
-use Rattle.image_calls.specs.Links.{first_word}
+use Rattle.image_calls.specs.Links.{first_cold}
 use Rattle.image_calls.proofs.whys.hangs_on.Goals as goal
 
 pub returns-then-not-held_in : goal.returns-then-not-held_in
@@ -13,5 +13,5 @@ returns-in-Some c = λ _.
       c.held_in.new.block,
       c.in-Some.field-0,
       c.held_in.ensures.held c.if-not-held_in.false,
-      subst (λ (items : List BlockRecord). first_word items ≡ Some c.in-Some.field-0) all (sym c.first_word.ensures ∙ c.in-Some.is),
+      subst (λ (items : List BlockRecord). first_cold items ≡ Some c.in-Some.field-0) all (sym c.first_cold.ensures ∙ c.in-Some.is),
     )

@@ -4,8 +4,8 @@ use Rattle.bits.proofs.Bytes.{length-bits_of}
 use Rattle.installed_values.specs.Adapting.{Rewrites, adapted_bits}
 use Rattle.installed_values.proofs.adapting.rewrite.Goals as goal
 
-pub write-requires-clause-room : goal.write-requires-clause-room
-write-requires-clause-room c =
+pub write-requires-clause-space : goal.write-requires-clause-space
+write-requires-clause-space c =
     let long : length c.reader_of-bits.result ≡ 8 * length c.args.bytes.now =
     ap length c.reader_of-bits.ensures ∙ c.in-One.ensures.whole ∙ length-bits_of c.args.bytes.now in
     omega (arith, long, c.requires)

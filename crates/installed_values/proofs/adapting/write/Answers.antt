@@ -28,4 +28,4 @@ pub returns-clause-fits : goal.returns-clause-fits
 returns-clause-fits c =
     let whole : length c.write_rest.new.writer ≡ length c.keep_all.new.writer + length c.keep_all.new.reader =
     ap length c.write_rest.ensures ∙ length-append c.keep_all.new.writer c.keep_all.new.reader in
-    omega (arith, whole, c.keep_all.ensures.room, c.copy_to.ensures.len)
+    omega (arith, whole, c.keep_all.ensures.space, c.copy_to.ensures.len)

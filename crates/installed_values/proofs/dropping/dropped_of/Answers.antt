@@ -9,10 +9,10 @@ use Rattle.installed_values.specs.declared.ordering.Ordered.{Ordered}
 use Rattle.installed_values.specs.declared.ordering.Ordered.TheVariants as ordered
 use Rattle.installed_values.proofs.dropping.dropped_of.Goals as goal
 
-not_one : (place : PacketPlace) (bits sent : List Bool) (o : Ordered) → Answers place bits sent o → (o ≡ ordered.Neither) ⊎ (o ≡ ordered.Both)
+not_one : (place : PacketPlace) (bits sent : List Bool) (o : Ordered) → Answers place bits sent o → (o ≡ ordered.Neither) ⊎ (o ≡ ordered.EitherOrder)
     → FitsBoth place bits ⊎ FitsNeither place bits
 not_one place bits sent o answers (inl neither) = inr (subst (λ (r : Ordered). Answers place bits sent r) neither answers)
-not_one place bits sent o answers (inr both) = inl (subst (λ (r : Ordered). Answers place bits sent r) both answers)
+not_one place bits sent o answers (inr readings) = inl (subst (λ (r : Ordered). Answers place bits sent r) readings answers)
 
 pub returns-in-One-order-clause-reported : goal.returns-in-One-order-clause-reported
 returns-in-One-order-clause-reported c =

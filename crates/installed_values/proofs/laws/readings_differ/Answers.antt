@@ -2,4 +2,4 @@ use Rattle.installed_values.proofs.Differing.{differ}
 use Rattle.installed_values.proofs.laws.readings_differ.Goals as goal
 
 pub returns : goal.returns
-returns c = λ place bits both same. differ place bits both same
+returns c = λ place bits readings same. differ place bits readings same

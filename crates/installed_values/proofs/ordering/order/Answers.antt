@@ -11,13 +11,13 @@ write_in_order-requires c =
     let within = r.0.0.0 in
     let len = r.0.0.1 in
     let whole : length c.new-bits.result ≡ 8 * length c.args.bytes.now = ap length c.new-bits.ensures ∙ length-bits_of c.args.bytes.now in
-    record { few = r.3; there = omega (arith, within, len); room = omega (arith, whole, c.requires) }
+    record { few = r.3; there = omega (arith, within, len); space = omega (arith, whole, c.requires) }
 
 pub returns-in-Neither : goal.returns-in-Neither
 returns-in-Neither c = subst (λ (b : List Bool). FitsNeither c.args.place b) c.new-bits.ensures c.in-Neither.ensures
 
-pub returns-in-Both : goal.returns-in-Both
-returns-in-Both c = subst (λ (b : List Bool). FitsBoth c.args.place b) c.new-bits.ensures c.in-Both.ensures
+pub returns-in-EitherOrder : goal.returns-in-EitherOrder
+returns-in-EitherOrder c = subst (λ (b : List Bool). FitsBoth c.args.place b) c.new-bits.ensures c.in-EitherOrder.ensures
 
 pub returns-in-CounterFirst : goal.returns-in-CounterFirst
 returns-in-CounterFirst c =

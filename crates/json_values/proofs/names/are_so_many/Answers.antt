@@ -13,8 +13,8 @@ returns-then-len-count c ms inside final made =
     let now = c.loop-name.invariant.so_far ms inside final made in
     let f = c.in-Some.ensures.value now.0 now.2 in
     let one = one_in name f.0 f.1 now.1 final (ap (λ m. of_members m now.1) (sym f.2) ∙ now.3) in
-    let asked : c.is_among.result ≡ false = grind arith in
-    let unseen : is_seen name c.loop-name.names.items ≡ false = ap (is_seen name) (sym c.as_slice.ensures.value) ∙ sym c.is_among.ensures ∙ asked in
+    let answer : c.is_among.result ≡ false = grind arith in
+    let unseen : is_seen name c.loop-name.names.items ≡ false = ap (is_seen name) (sym c.as_slice.ensures.value) ∙ sym c.is_among.ensures ∙ answer in
     let more = new_name name one.0 now.1 (sym (now.6 name) ∙ unseen) in
     let full : length c.loop-name.names.items ≡ c.args.count = grind arith in
     sym (ne_eqb (members_len final) c.args.count (λ e. omega (arith, e, full, more, now.5, only_grows f.1 (put name one.0 now.1) final one.1)))
@@ -27,8 +27,8 @@ loop-name-preserved-then-not-is_among c = record {
       let now = c.loop-name.invariant.so_far ms inside final made in
       let f = c.in-Some.ensures.value now.0 now.2 in
       let one = one_in name f.0 f.1 now.1 final (ap (λ m. of_members m now.1) (sym f.2) ∙ now.3) in
-      let asked : c.is_among.result ≡ false = grind arith in
-      let unseen : is_seen name c.loop-name.names.items ≡ false = ap (is_seen name) (sym c.as_slice.ensures.value) ∙ sym c.is_among.ensures ∙ asked in
+      let answer : c.is_among.result ≡ false = grind arith in
+      let unseen : is_seen name c.loop-name.names.items ≡ false = ap (is_seen name) (sym c.as_slice.ensures.value) ∙ sym c.is_among.ensures ∙ answer in
       let more = new_name name one.0 now.1 (sym (now.6 name) ∙ unseen) in (
         f.1,
         put name one.0 now.1,
@@ -48,8 +48,8 @@ loop-name-preserved c = record {
       let now = c.loop-name.invariant.so_far ms inside final made in
       let f = c.in-Some.ensures.value now.0 now.2 in
       let one = one_in name f.0 f.1 now.1 final (ap (λ m. of_members m now.1) (sym f.2) ∙ now.3) in
-      let asked : c.is_among.result ≡ true = grind arith in
-      let seen : is_seen name c.loop-name.names.items ≡ true = ap (is_seen name) (sym c.as_slice.ensures.value) ∙ sym c.is_among.ensures ∙ asked in (
+      let answer : c.is_among.result ≡ true = grind arith in
+      let seen : is_seen name c.loop-name.names.items ≡ true = ap (is_seen name) (sym c.as_slice.ensures.value) ∙ sym c.is_among.ensures ∙ answer in (
         f.1,
         put name one.0 now.1,
         f.4,

@@ -7,7 +7,7 @@ use Rattle.serde_json.specs.Data.{no_members, member, put}
 use Rattle.serde_json.specs.Events.{members_len}
 use Rattle.serde_json.specs.Read.{of_members}
 use Rattle.json_values.specs.Places.{data_at}
-use Rattle.json_values.proofs.Alone.{one_again, two_names}
+use Rattle.json_values.proofs.Single.{one_again, two_names}
 use Rattle.json_values.proofs.Counted.{one_in}
 use Rattle.json_values.proofs.Looked.{held}
 use Rattle.json_values.proofs.only.only_of.Goals as goal
@@ -55,7 +55,7 @@ loop-other-preserved c ms inside final made =
 
 pub returns : goal.returns
 returns c ms inside final made =
-    let alone = member c.in-Some.name.now (data_at c.loop-other.last) no_members in
+    let single = member c.in-Some.name.now (data_at c.loop-other.last) no_members in
     let now = c.loop-other.invariant ms inside final made in
     let done : now.0 ≡ json.no_members = c.in_default-next.ensures.value now.0 now.1 in
-    (now.2, sym (Some_inj alone final (ap (λ m. of_members m alone) (sym done) ∙ now.3)))
+    (now.2, sym (Some_inj single final (ap (λ m. of_members m single) (sym done) ∙ now.3)))

@@ -22,4 +22,4 @@ returns g c life s =
     let limit = c.limit.ensures (grown life (entry_of life input)) s in
     let stood = c.stands.ensures ∙ ap stands reading in
     let rolled = c.backward_by.ensures ∙ (λ i. backward_by (happened i).overrun (reading i)) in
-    λ i. record { stands = stood i; backward = rolled i; service_brake_requested = (happened i).asked.service; speed = speed i; limit = limit i }
+    λ i. record { stands = stood i; backward = rolled i; service_brake_requested = (happened i).requested.service; speed = speed i; limit = limit i }

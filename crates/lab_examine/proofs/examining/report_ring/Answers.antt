@@ -25,7 +25,7 @@ returns-clause-clean g c = λ honest.
     let same : contents_of mid ≡ image = (λ i s. quiet_contents old mid (c.report_slots.ensures.quiet honest) s i) in
     let held = subst (λ (im : ℕ → List ℕ). IsTrue c.in_ok-between.between.all_held ↔ NoneLost slots (whole_valid_at slots whole im) (oldest_of slots newest) (newest + 1 - oldest_of slots newest)) same (c.in_ok-between.ensures.held still) in
     let agrees = subst (λ (im : ℕ → List ℕ). IsTrue c.in_ok-between.between.agrees ↔ NoneContradicts slots (whole_valid_at slots whole im) (oldest_of slots newest) (newest + 1 - oldest_of slots newest)) same (c.in_ok-between.ensures.agrees still) in
-    clean_ring slots whole newest image _ _ _ _ _ (c.in_ok-sound.ensures.sound honest) held agrees c.are_both.ensures c.are_both-2.ensures
+    clean_ring slots whole newest image _ _ _ _ _ (c.in_ok-sound.ensures.sound honest) held agrees c.conjunction.ensures c.conjunction-2.ensures
 
 pub returns-clause-taken : goal.returns-clause-taken
 returns-clause-taken g c = λ honest.

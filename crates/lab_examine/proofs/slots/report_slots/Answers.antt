@@ -39,8 +39,8 @@ loop-slot-preserved g c =
       faults = search rules;
       quiet = search rules;
       so_far = λ honest.
-          sound_more ring.slots ring.newest slot image c.loop-slot.sound report.is_sound c.are_both-sound.result (so_far.so_far honest)
-          (subst (λ (im : ℕ → List ℕ). IsTrue report.is_sound ↔ IsSoundAt ring.slots ring.newest im slot) (same honest) (c.in_ok-report.ensures.sound (still honest))) c.are_both-sound.ensures;
+          sound_more ring.slots ring.newest slot image c.loop-slot.sound report.is_sound c.conjunction-sound.result (so_far.so_far honest)
+          (subst (λ (im : ℕ → List ℕ). IsTrue report.is_sound ↔ IsSoundAt ring.slots ring.newest im slot) (same honest) (c.in_ok-report.ensures.sound (still honest))) c.conjunction-sound.ensures;
       taken = λ honest.
           let before = so_far.taken honest in
           let line = subst (λ (im : ℕ → List ℕ). IsSlotLine ring im slot report.line) (same honest) (c.in_ok-report.ensures.line (still honest)) in (

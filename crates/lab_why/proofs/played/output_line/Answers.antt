@@ -1,6 +1,6 @@
 use Rattle.std.proofs.Common.{ap, ◌∙◌}
 use Rattle.events.specs.declared.output.Output.{Output}
-use Rattle.reasons.specs.LimitWords.{limit_reported}
+use Rattle.reasons.specs.LimitTexts.{limit_reported}
 use Rattle.lab_why.specs.Groups.{group_lines}
 use Rattle.lab_why.specs.Lines.{answer_in, causes_of}
 use Rattle.lab_why.specs.declared.played.PlayLine.TheVariants as a_line

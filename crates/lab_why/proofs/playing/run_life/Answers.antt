@@ -8,7 +8,7 @@ use Rattle.whole_lives.specs.Runs.{durable_by}
 use Rattle.whole_lives.specs.Stops.{OnlyOpens}
 use Rattle.whole_lives.specs.declared.errors.LiveError.{LiveError}
 use Rattle.lab_why.specs.Playing.{carried_out, PlayEnds}
-use Rattle.lab_why.proofs.Living.{ready, ends, word_or_nothing, releases}
+use Rattle.lab_why.proofs.Living.{ready, ends, cold_or_nothing, releases}
 use Rattle.lab_why.proofs.Releasing.{initial}
 use Rattle.lab_why.proofs.playing.run_life.Goals as goal
 
@@ -20,7 +20,7 @@ returns-clause-released c =
     let it = c.live-disk.ensures.life 0 [] [] refl (ready disk empty) in
     let none : it.0 ≡ [] = ⊎_elim (λ (e : it.0 ≡ []). e) (λ (e : it.0 ≡ []). e) it.2.found_is in
     let out : c.live-disk.new.out.items ≡ it.2.released = it.2.out_is ∙ ap (λ (l : List Release). l ++ it.2.released) c.new-released.ensures.items in
-    let word = word_or_nothing disk empty life.cold it.1 it.2.released _ it.2.word_is in
+    let word = cold_or_nothing disk empty life.cold it.1 it.2.released _ it.2.cold_is in
     let all = releases life.cold it.1 it.0 c.as_slice-steps.result.now c.live-disk.result.1
     (OnlyOpens 0 [] [] it.0 it.1 (memory_state disk) (memory_state c.live-disk.result.0))
     it.2.steps_taken it.2.durable_at_end it.2.accepted_at_end it.2.released c.live-disk.new.out.items none out word it.3 in

@@ -9,7 +9,7 @@ returns-in-Err-clause-value g c = more_ends (read g.T.Element.layout) _ _ _ _ _ 
 pub loop-i-preserved : goal.loop-i-preserved
 loop-i-preserved g c = record {
   so_far = rw c.push.ensures.items (more_step (read g.T.Element.layout) _ _ _ _ _ _ _ c.loop-i-test.true c.in-Ok.ensures c.loop-i.invariant.so_far);
-  room = omega (arith, c.push.ensures.len, c.loop-i.invariant.room);
+  space = omega (arith, c.push.ensures.len, c.loop-i.invariant.space);
 }
 
 pub returns-clause-value : goal.returns-clause-value

@@ -7,7 +7,7 @@ use Rattle.packets.proofs.walk.list.Goals as goal
 pub loop-element-preserved : goal.loop-element-preserved
 loop-element-preserved g c = record {
   so_far = step _ c.args.elements.now c.loop-element.element-index c.element-item.result _ _ _ _ c.loop-element-test.true c.element-item.is c.in-Ok.ensures.value c.loop-element.invariant.so_far;
-  room = omega (arith, total_step (λ x. size g.T.Element.layout x) c.args.elements.now c.loop-element.element-index c.element-item.result _ c.loop-element-test.true c.element-item.is, c.in-Ok.ensures.held, c.loop-element.invariant.room);
+  space = omega (arith, total_step (λ x. size g.T.Element.layout x) c.args.elements.now c.loop-element.element-index c.element-item.result _ c.loop-element-test.true c.element-item.is, c.in-Ok.ensures.held, c.loop-element.invariant.space);
 }
 
 pub returns-clause-value : goal.returns-clause-value

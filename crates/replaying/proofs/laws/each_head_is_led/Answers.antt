@@ -2,4 +2,4 @@ use Rattle.std.proofs.Common.{refl}
 use Rattle.replaying.proofs.laws.each_head_is_led.Goals as goal
 
 pub returns : goal.returns
-returns c kept word = record { left = refl; counted = refl }
+returns c kept cold = record { left = refl; counted = refl }

@@ -9,4 +9,4 @@ pub returns-clause-by_kind : goal.returns-clause-by_kind
 returns-clause-by_kind c front bound last bounds track gradient brakes = kind_by_kind front bounds track bound last gradient brakes
 
 pub returns-clause-limit : goal.returns-clause-limit
-returns-clause-limit c life train end it = by_starts life train end it
+returns-clause-limit c life train end supervised = by_starts life train end supervised

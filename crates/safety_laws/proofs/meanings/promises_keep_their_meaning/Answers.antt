@@ -23,34 +23,34 @@ pub returns-clause-moments : goal.returns-clause-moments
 returns-clause-moments c old new passes so moment from to image left = so.each moment from to image (image_of (new.at moment) image left)
 
 -- of two pairs of lists for which a disk may be ready
-one_of : (whole_from : ℕ) (disk : State) (durable accepted found with_word next_durable next_accepted : List Event) →
+one_of : (whole_from : ℕ) (disk : State) (durable accepted found with_cold next_durable next_accepted : List Event) →
     IsReady whole_from next_durable next_accepted disk →
-    ((next_durable ≡ durable) × (next_accepted ≡ accepted)) ⊎ ((next_durable ≡ found) × (next_accepted ≡ with_word)) →
-    IsReady whole_from durable accepted disk ⊎ IsReady whole_from found with_word disk
-one_of whole_from disk durable accepted found with_word next_durable next_accepted ready which =
+    ((next_durable ≡ durable) × (next_accepted ≡ accepted)) ⊎ ((next_durable ≡ found) × (next_accepted ≡ with_cold)) →
+    IsReady whole_from durable accepted disk ⊎ IsReady whole_from found with_cold disk
+one_of whole_from disk durable accepted found with_cold next_durable next_accepted ready which =
     let R : List Event → List Event → Type 0 = λ d a. IsReady whole_from d a disk in
     elim which [
-      | inl both ↦ inl (subst (λ (d : List Event). R d accepted) both.0 (subst (λ (a : List Event). R next_durable a) both.1 ready))
-      | inr both ↦ inr (subst (λ (d : List Event). R d with_word) both.0 (subst (λ (a : List Event). R next_durable a) both.1 ready))
+      | inl halves ↦ inl (subst (λ (d : List Event). R d accepted) halves.0 (subst (λ (a : List Event). R next_durable a) halves.1 ready))
+      | inr halves ↦ inr (subst (λ (d : List Event). R d with_cold) halves.0 (subst (λ (a : List Event). R next_durable a) halves.1 ready))
     ]
 
 pub returns-clause-opening : goal.returns-clause-opening
-returns-clause-opening c whole_from durable accepted found cold word old new opens = (
+returns-clause-opening c whole_from durable accepted found cold recorded_cold old new opens = (
   opens.found_is,
   opens.found_on_disk,
   λ moment from to image left. opens.at_each_moment.each moment from to image (image_of (new.at moment) image left),
-  one_of whole_from new durable accepted found (PowerUp word ∷ found) opens.durable_at_end opens.accepted_at_end opens.ready_at_end opens.which,
+  one_of whole_from new durable accepted found (PowerUp recorded_cold ∷ found) opens.durable_at_end opens.accepted_at_end opens.ready_at_end opens.which,
 )
 
-pub returns-clause-word : goal.returns-clause-word
-returns-clause-word c slots image cold word is = (
+pub returns-clause-recorded_cold : goal.returns-clause-recorded_cold
+returns-clause-recorded_cold c slots image cold recorded_cold is = (
   λ none. is.blank (slots, refl, none),
   λ newest block some greatest there. is.last block
       (record { slots = slots; newest = newest; size = refl; some = some; greatest = greatest; there = there }),
 )
 
 pub returns-clause-life : goal.returns-clause-life
-returns-clause-life c whole_from durable accepted found cold word steps old new out_before out_after life = (
+returns-clause-life c whole_from durable accepted found cold recorded_cold steps old new out_before out_after life = (
   life.found_is,
   life.out_is,
   λ moment from to image left. elim (life.at_each_moment.each moment from to image (image_of (new.at moment) image left)) [
@@ -80,7 +80,7 @@ pub returns-clause-outputs : goal.returns-clause-outputs
 returns-clause-outputs c events event = refl
 
 pub returns-clause-kept : goal.returns-clause-kept
-returns-clause-kept c whole_from durable accepted found word steps taken count old new durable_at_end accepted_at_end released opened most =
+returns-clause-kept c whole_from durable accepted found recorded_cold steps taken count old new durable_at_end accepted_at_end released opened most =
     let so = opened.reached count most in (
       so.moment,
       so.released_by_then,
@@ -104,5 +104,5 @@ pub returns-clause-follow : goal.returns-clause-follow
 returns-clause-follow c life lives last = (refl, λ others. (refl, others))
 
 pub returns-clause-left_with : goal.returns-clause-left_with
-returns-clause-left_with c whole_from durable accepted found word steps first_steps old new next released =
+returns-clause-left_with c whole_from durable accepted found recorded_cold steps first_steps old new next released =
     (inr (refl, refl), λ cut so before. inl (cut, inr (first_steps, so, before, refl)))

@@ -7,7 +7,7 @@ use Rattle.safety_laws.proofs.outputs.released_brakes_for_trips.Goals as goal
 pub returns : goal.returns
 returns c events pair there =
     let found = found_in events pair there in (
-      found.it,
+      found.position,
       λ tripped.
-          subst (λ (p : Released). p.output.brake ≡ brake.Emergency) (sym found.same) (c.outstanding_trip_brakes.ensures (found.it.event ∷ found.it.earlier) tripped),
+          subst (λ (p : Released). p.output.brake ≡ brake.Emergency) (sym found.same) (c.outstanding_trip_brakes.ensures (found.position.event ∷ found.position.earlier) tripped),
     )

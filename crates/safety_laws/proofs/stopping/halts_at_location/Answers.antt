@@ -3,6 +3,6 @@ use Rattle.safety_laws.proofs.Meeting.{stops, meets}
 use Rattle.safety_laws.proofs.stopping.halts_at_location.Goals as goal
 
 pub returns : goal.returns
-returns c life train end square it none braking =
-    let still = meets life train end it square braking (record { place = end.location; speed = 0 }) (stops life train end it none) in
+returns c life train end square supervised none braking =
+    let still = meets life train end supervised square braking (record { place = end.location; speed = 0 }) (stops life train end supervised none) in
     omega (arith, still)

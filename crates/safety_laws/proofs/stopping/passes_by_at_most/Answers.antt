@@ -5,5 +5,5 @@ use Rattle.safety_laws.proofs.Passing.{passes_by}
 use Rattle.safety_laws.proofs.stopping.passes_by_at_most.Goals as goal
 
 pub returns : goal.returns
-returns c life train end margin speed least most beyond square it none within run between enough =
-    passes_by (front_of life) (gradient_along life) train.brakes end.location (limit life) margin speed least most beyond square (stops life train end it none) within run between enough
+returns c life train end margin speed least most beyond square supervised none within run between enough =
+    passes_by (front_of life) (gradient_along life) train.brakes end.location (limit life) margin speed least most beyond square (stops life train end supervised none) within run between enough

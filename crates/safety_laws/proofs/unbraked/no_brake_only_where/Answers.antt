@@ -87,5 +87,5 @@ returns c events none =
         | kinds.Shunting ↦ λ from is. owed_not_long now from (shunting_of life.entries) t.1 is
         | kinds.Level0 ↦ λ from is. owed_not_long now from (level_0_of life.entries) s.1 is
       ];
-      asked_nothing = λ snapshot there. none_of service_brake_requested (since_standstill life) r7.0 snapshot there;
+      requested_nothing = λ snapshot there. none_of service_brake_requested (since_standstill life) r7.0 snapshot there;
     }

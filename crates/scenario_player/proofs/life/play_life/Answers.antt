@@ -11,11 +11,11 @@ returns c =
     let old = memory_state c.in_ok-disk.disk in
     let new = memory_state c.live-disk.result.0 in
     let empty = c.in_ok-disk.ensures.empty in
-    let it = c.live-disk.ensures.life 0 [] [] refl (ready slots c.requires.slots.0 old empty) in
-    let none : it.0 ≡ [] = ⊎_elim (λ (e : it.0 ≡ []). e) (λ (e : it.0 ≡ []). e) it.2.found_is in
+    let played_life = c.live-disk.ensures.life 0 [] [] refl (ready slots c.requires.slots.0 old empty) in
+    let none : played_life.0 ≡ [] = ⊎_elim (λ (e : played_life.0 ≡ []). e) (λ (e : played_life.0 ≡ []). e) played_life.2.found_is in
     let I : List Release → List Event → Type 0 = IsLived c.args.cold c.args.steps.now old new c.live-disk.result.1 c.live-disk.new.out.items in
-    let lived : I c.new-released.result.items it.0 = (it.1, it.2, it.3, it.5) in
-    let first : I [] it.0 = subst (λ (before : List Release). I before it.0) c.new-released.ensures.items lived in
+    let lived : I c.new-released.result.items played_life.0 = (played_life.1, played_life.2, played_life.3, played_life.5) in
+    let first : I [] played_life.0 = subst (λ (before : List Release). I before played_life.0) c.new-released.ensures.items lived in
     played slots c.requires.slots.0 c.args.cold c.args.steps.now old new c.live-disk.result.1 c.live-disk.new.out.items c.in_ok-image.image.items
     refl empty (search rules) c.live-disk.ensures.stopped (c.live-disk.ensures.counted.sectors ∙ c.in_ok-disk.ensures.sectors) c.in_ok-image.ensures
     (subst (λ (found : List Event). I [] found) none first)

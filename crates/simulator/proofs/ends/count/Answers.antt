@@ -4,7 +4,7 @@ use Rattle.json_values.specs.Looking.{reported, reported_items}
 use Rattle.simulator.specs.Values.{◌>>=◌}
 use Rattle.simulator.specs.Passing.{passed}
 use Rattle.simulator.specs.Course.{run_of, taken}
-use Rattle.simulator.specs.Steps.{asked}
+use Rattle.simulator.specs.Steps.{step_of}
 use Rattle.simulator.specs.Lives.{ends_by}
 use Rattle.simulator.proofs.ends.count.Goals as goal
 
@@ -20,9 +20,9 @@ loop-item-preserved c =
     let run = run_of c.loop-item.course in
     let so_far = c.loop-item.ends.items in
     let more : ends_by ahead (reported_items c.loop-item.left) run so_far
-    ≡ (asked (reported c.in-Some.item) >>= λ step. ends_by ahead (reported_items c.in-Some.rest) (taken ahead step run) (so_far ++ length (taken ahead step run).steps ∷ [])) =
+    ≡ (step_of (reported c.in-Some.item) >>= λ step. ends_by ahead (reported_items c.in-Some.rest) (taken ahead step run) (so_far ++ length (taken ahead step run).steps ∷ [])) =
     ap (λ ds. ends_by ahead ds run so_far) c.in-Some.ensures in
-    let one = c.in_ok-asked.ensures.ok in
+    let one = c.in_ok-step.ensures.ok in
     let next = c.in_ok-take.ensures.ok in
     record {
       fits = grind arith;

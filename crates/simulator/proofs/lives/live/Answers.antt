@@ -4,7 +4,7 @@ use Rattle.json_values.specs.Looking.{reported, reported_items}
 use Rattle.simulator.specs.Values.{◌>>=◌}
 use Rattle.simulator.specs.Passing.{passed}
 use Rattle.simulator.specs.Course.{run_of, taken}
-use Rattle.simulator.specs.Steps.{asked}
+use Rattle.simulator.specs.Steps.{step_of}
 use Rattle.simulator.specs.Lives.{lived}
 use Rattle.simulator.proofs.lives.live.Goals as goal
 
@@ -18,9 +18,9 @@ pub loop-item-preserved : goal.loop-item-preserved
 loop-item-preserved c =
     let ahead = passed c.args.track.now.balises.items in
     let run = run_of c.loop-item.course in
-    let more : lived ahead (reported_items c.loop-item.left) run ≡ (asked (reported c.in-Some.item) >>= λ step. lived ahead (reported_items c.in-Some.rest) (taken ahead step run)) =
+    let more : lived ahead (reported_items c.loop-item.left) run ≡ (step_of (reported c.in-Some.item) >>= λ step. lived ahead (reported_items c.in-Some.rest) (taken ahead step run)) =
     ap (λ ds. lived ahead ds run) c.in-Some.ensures in
-    let one = c.in_ok-asked.ensures.ok in
+    let one = c.in_ok-step.ensures.ok in
     let next = c.in_ok-take.ensures.ok in
     record {
       fits = grind arith;

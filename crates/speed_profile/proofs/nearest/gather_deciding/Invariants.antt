@@ -5,7 +5,7 @@ use Rattle.speed_profile.proofs.nearest.gather_deciding.Given as goal
 -- what isn't gone through yet, and what decides, ask what all that was held did
 abbrev pub invariant-loop-step : goal.invariant-loop-step
 invariant-loop-step l = record {
-  room : l.step ≤ l.first;
+  space : l.step ≤ l.first;
   within : l.first ≤ length l.nearest;
-  asked : AskTheSame (held (take l.step l.nearest) ++ held (drop l.first l.nearest)) (held l.fn.nearest);
+  requested : AskTheSame (held (take l.step l.nearest) ++ held (drop l.first l.nearest)) (held l.fn.nearest);
 }

@@ -7,6 +7,6 @@ use Rattle.speed_profile.proofs.nearest.hold_left.Given as goal
 abbrev pub invariant-loop-target : goal.invariant-loop-target
 invariant-loop-target g l = record {
   length : 1 ≤ length l.nearest;
-  asked : lowered_by (g.G.Profile.value l.approach.gradient) (held l.nearest ++ l.others.targets) l.approach
+  requested : lowered_by (g.G.Profile.value l.approach.gradient) (held l.nearest ++ l.others.targets) l.approach
       ≡ lowered_by (g.G.Profile.value l.fn.approach.gradient) (held l.fn.nearest ++ l.fn.others.targets) l.fn.approach;
 }

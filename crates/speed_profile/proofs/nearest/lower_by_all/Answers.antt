@@ -7,4 +7,4 @@ returns g c =
     c.lower_by_speeds.ensures
     ∙ c.lower_by_others.ensures
     ∙ lowered_before g.G.Profile.value c.lower_by_piece.new.speeds.targets c.args.speeds.now.targets c.args.others.now.targets
-    c.args.approach.now c.lower_by_piece.new.approach c.lower_by_piece.ensures.asked
+    c.args.approach.now c.lower_by_piece.new.approach c.lower_by_piece.ensures.requested

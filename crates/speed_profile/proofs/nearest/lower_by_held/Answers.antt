@@ -17,15 +17,15 @@ returns g c =
     let all = c.args.first.now ∷ three in
     let some = held c.hold_left.new.nearest in
     let deciding = held (drop c.gather_deciding-first.result c.gather_deciding-first.new.nearest) in
-    let taken = c.take-3.ensures.asked left
+    let taken = c.take-3.ensures.requested left
     ∙ lowered_among value (held c.take-2.new.nearest) two left c.args.third.now c.take-2.new.approach (same two)
-    ∙ c.take-2.ensures.asked two
+    ∙ c.take-2.ensures.requested two
     ∙ lowered_among value (held c.take.new.nearest) three two c.args.second.now c.take.new.approach (same three)
-    ∙ c.take.ensures.asked three
+    ∙ c.take.ensures.requested three
     ∙ ap (λ (places : List Target). lowered_by (value old.gradient) (c.args.first.now ∷ (places ++ three)) old) c.requires.none in
     c.lower_each.ensures
     ∙ lowered_same value (speeds ++ deciding) (some ++ speeds) c.hold_left.new.approach
     (through (speeds ++ deciding) (deciding ++ speeds) (some ++ speeds) (turned speeds deciding)
-    (joined deciding speeds some speeds c.gather_deciding-first.ensures.asked (same speeds)))
+    (joined deciding speeds some speeds c.gather_deciding-first.ensures.requested (same speeds)))
     ∙ lowered_before value some all speeds old c.hold_left.new.approach (c.hold_left.ensures ∙ taken)
     ∙ lowered_same value (all ++ speeds) (speeds ++ all) old (turned all speeds)

@@ -13,7 +13,7 @@ returns-in-None g c =
     c.lower_by_two.ensures
     ∙ lowered_ahead value c.args.speeds.now.targets (first ∷ second ∷ all) (first ∷ second ∷ []) now
     (of_more value first (second ∷ all) (second ∷ []) now (of_more value second all [] now
-    (of_through value all left [] now c.in-None.ensures.asked (of_all value left [] now (c.next_to_brake_for.ensures.none c.in-None.is)))))
+    (of_through value all left [] now c.in-None.ensures.requested (of_all value left [] now (c.next_to_brake_for.ensures.none c.in-None.is)))))
 
 pub returns-in-Some : goal.returns-in-Some
 returns-in-Some g c =
@@ -25,4 +25,4 @@ returns-in-Some g c =
     let left = c.in-Some.third ∷ c.next_to_brake_for.new.others.targets in
     c.lower_by_nearest.ensures
     ∙ lowered_ahead value c.args.speeds.now.targets (first ∷ second ∷ all) (first ∷ second ∷ left) now
-    (of_more value first (second ∷ all) (second ∷ left) now (of_more value second all left now c.in-Some.ensures.asked))
+    (of_more value first (second ∷ all) (second ∷ left) now (of_more value second all left now c.in-Some.ensures.requested))

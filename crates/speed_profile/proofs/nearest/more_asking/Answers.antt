@@ -1,8 +1,8 @@
-use Rattle.speed_profile.proofs.Held.{alone_asks, known_asks, reported_asks}
+use Rattle.speed_profile.proofs.Held.{single_asks, known_asks, reported_asks}
 use Rattle.speed_profile.proofs.nearest.more_asking.Goals as goal
 
 pub returns-in_default : goal.returns-in_default
-returns-in_default c = alone_asks c.args.known.now c.args.target.now c.in_default.is
+returns-in_default c = single_asks c.args.known.now c.args.target.now c.in_default.is
 
 pub returns-then-is_no_nearer : goal.returns-then-is_no_nearer
 returns-then-is_no_nearer c =

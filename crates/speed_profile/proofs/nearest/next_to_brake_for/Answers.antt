@@ -3,8 +3,8 @@ use Rattle.speed_profile.proofs.Asking.{back, through}
 use Rattle.speed_profile.proofs.Held.{of_all, of_through, of_passed}
 use Rattle.speed_profile.proofs.nearest.next_to_brake_for.Goals as goal
 
-pub returns-then-not-surely_fits-clause-asked : goal.returns-then-not-surely_fits-clause-asked
-returns-then-not-surely_fits-clause-asked g c =
+pub returns-then-not-surely_fits-clause-requested : goal.returns-then-not-surely_fits-clause-requested
+returns-then-not-surely_fits-clause-requested g c =
     let value = g.G.Profile.value in
     let course = c.args.approach.now in
     let before = c.loop-target.others.targets in
@@ -20,8 +20,8 @@ loop-target-preserved g c =
     of_through value c.args.others.now.targets before after course c.loop-target.invariant
     (of_passed value c.in-Some.target before after course c.in-Some.ensures.steps (c.surely_fits.ensures.fits c.if-not-surely_fits.false))
 
-pub returns-clause-asked : goal.returns-clause-asked
-returns-clause-asked g c =
+pub returns-clause-requested : goal.returns-clause-requested
+returns-clause-requested g c =
     let value = g.G.Profile.value in
     let course = c.args.approach.now in
     let before = c.loop-target.others.targets in

@@ -7,8 +7,8 @@ use Rattle.speed_profile.specs.Targets.{Left}
 use Rattle.speed_profile.proofs.Asking.{lowered_beyond}
 use Rattle.speed_profile.proofs.speeds_ahead.lower_by_next.Goals as goal
 
-pub returns-then-fits-clause-asked : goal.returns-then-fits-clause-asked
-returns-then-fits-clause-asked g c =
+pub returns-then-fits-clause-requested : goal.returns-then-fits-clause-requested
+returns-then-fits-clause-requested g c =
     let gradient = g.G.Profile.value in
     let now = c.args.approach.now in
     let stop : Target = record { place = c.args.place; speed = 0 } in
@@ -20,6 +20,6 @@ returns-then-fits-clause-asked g c =
     ∙ sym (lowered_beyond gradient c.args.speeds.now.speeds_from c.args.place c.args.speeds.now.targets [] now
     c.skip_all.ensures.asks c.requires stops)
 
-pub returns-else-fits-clause-asked : goal.returns-else-fits-clause-asked
-returns-else-fits-clause-asked g c =
-    c.lower_by_piece.ensures.asked ∙ lowered_from g.G.Profile.value c.args.speeds.now.targets c.fits.new.self c.args.approach.now c.fits.ensures.same
+pub returns-else-fits-clause-requested : goal.returns-else-fits-clause-requested
+returns-else-fits-clause-requested g c =
+    c.lower_by_piece.ensures.requested ∙ lowered_from g.G.Profile.value c.args.speeds.now.targets c.fits.new.self c.args.approach.now c.fits.ensures.same

@@ -16,7 +16,7 @@ returns-in-Some-clause-found g c =
     let journey = journey_by g.S.Profile.value g.G.Profile.value c.args.ahead.now in
     let a : Area = c.area-item.result in
     let unfit = rw (c.loop-area.invariant.1 ∙ c.requires) at c.in-Some.ensures.found in
-    let w = area_covers journey c.args.approach.now.speed a c.in-Some.target (sym c.first_in_area-asked.ensures ∙ unfit.0) in
+    let w = area_covers journey c.args.approach.now.speed a c.in-Some.target (sym c.first_in_area-requested.ensures ∙ unfit.0) in
     let there : Contains journey.track.areas a =
     subst (λ (items : List Area). Contains items a) c.as_slice-areas.ensures
     (c.loop-area.area-index, c.loop-area-test.true, sym c.area-item.is) in
@@ -31,7 +31,7 @@ loop-area-preserved g c =
     let areas = c.as_slice-areas.result.now in
     let i = c.loop-area.area-index in
     let here : fits_all_on journey (listed (first_in_area journey.front journey.track.national a)) c.args.approach.now.speed ≡ true =
-    ap (λ (t : Option Target). fits_all_on journey (listed t) c.args.approach.now.speed) (sym c.first_in_area-asked.ensures) ∙ (rw (c.loop-area.invariant.1 ∙ c.requires) at c.in_default.ensures.found) in (
+    ap (λ (t : Option Target). fits_all_on journey (listed t) c.args.approach.now.speed) (sym c.first_in_area-requested.ensures) ∙ (rw (c.loop-area.invariant.1 ∙ c.requires) at c.in_default.ensures.found) in (
       λ others. c.loop-area.invariant.0 (fit_areas journey c.args.approach.now.speed a (drop (i + 1) areas) (drop i areas)
           (one_dropped areas i a c.loop-area-test.true c.area-item.is) here others),
       c.unfit.ensures.same ∙ c.loop-area.invariant.1,

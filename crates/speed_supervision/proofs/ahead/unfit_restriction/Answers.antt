@@ -14,10 +14,10 @@ pub returns-in-Some-clause-found : goal.returns-in-Some-clause-found
 returns-in-Some-clause-found g c =
     let journey = journey_by g.S.Profile.value g.G.Profile.value c.args.ahead.now in
     let r : Restriction = c.restriction-item.result in
-    let asked : c.first_target-asked.result ≡ first_target journey.front journey.track.restrictions.mark r =
-    c.first_target-asked.ensures ∙ ap (λ (m : ℤ). first_target journey.front m r) c.mark-mark.ensures in
+    let requested : c.first_target-requested.result ≡ first_target journey.front journey.track.restrictions.mark r =
+    c.first_target-requested.ensures ∙ ap (λ (m : ℤ). first_target journey.front m r) c.mark-mark.ensures in
     let unfit = rw (c.loop-restriction.invariant.1 ∙ c.requires) at c.in-Some.ensures.found in
-    let w = restriction_covers journey c.args.approach.now.speed r c.in-Some.target (sym asked ∙ unfit.0) in
+    let w = restriction_covers journey c.args.approach.now.speed r c.in-Some.target (sym requested ∙ unfit.0) in
     let there : Contains journey.track.restrictions.restrictions r =
     subst (λ (rs : List Restriction). Contains rs r) c.as_slice-restrictions.ensures
     (c.loop-restriction.restriction-index, c.loop-restriction-test.true, sym c.restriction-item.is) in
@@ -30,10 +30,10 @@ loop-restriction-preserved g c =
     let r : Restriction = c.restriction-item.result in
     let rs = c.as_slice-restrictions.result.now in
     let i = c.loop-restriction.restriction-index in
-    let asked : c.first_target-asked.result ≡ first_target journey.front journey.track.restrictions.mark r =
-    c.first_target-asked.ensures ∙ ap (λ (m : ℤ). first_target journey.front m r) c.mark-mark.ensures in
+    let requested : c.first_target-requested.result ≡ first_target journey.front journey.track.restrictions.mark r =
+    c.first_target-requested.ensures ∙ ap (λ (m : ℤ). first_target journey.front m r) c.mark-mark.ensures in
     let here : fits_all_on journey (listed (first_target journey.front journey.track.restrictions.mark r)) c.args.approach.now.speed ≡ true =
-    ap (λ (t : Option Target). fits_all_on journey (listed t) c.args.approach.now.speed) (sym asked) ∙ (rw (c.loop-restriction.invariant.1 ∙ c.requires) at c.in_default.ensures.found) in (
+    ap (λ (t : Option Target). fits_all_on journey (listed t) c.args.approach.now.speed) (sym requested) ∙ (rw (c.loop-restriction.invariant.1 ∙ c.requires) at c.in_default.ensures.found) in (
       λ others. c.loop-restriction.invariant.0 (fit_restrictions journey c.args.approach.now.speed r (drop (i + 1) rs) (drop i rs)
           (one_dropped rs i r c.loop-restriction-test.true c.restriction-item.is) here others),
       c.unfit.ensures.same ∙ c.loop-restriction.invariant.1,

@@ -24,17 +24,17 @@ returns-in-Some-unfit-clause-found g c =
     let journey = journey_by g.S.Profile.value g.G.Profile.value c.args.ahead.now in
     let unfit = rw (c.loop-start.invariant.2 ∙ c.requires) at c.in-Some-unfit.ensures.found in
     let before : journey.front <ℤ c.in-Some.place = rw c.in-Some.is at c.loop-start.invariant.1 in
-    let asked : static_target journey.bounds c.in-Some.place (journey.track.static c.in-Some.place) ≡ Some c.in-Some-unfit.target =
-    ap (static_target journey.bounds c.in-Some.place) (sym c.piece-here.ensures.value) ∙ sym c.static_target-asked.ensures.value ∙ unfit.0 in
-    let here = static_ahead journey c.in-Some-unfit.target c.in-Some.place (before, c.static_target-asked.ensures.within) asked in
+    let requested : static_target journey.bounds c.in-Some.place (journey.track.static c.in-Some.place) ≡ Some c.in-Some-unfit.target =
+    ap (static_target journey.bounds c.in-Some.place) (sym c.piece-here.ensures.value) ∙ sym c.static_target-requested.ensures.value ∙ unfit.0 in
+    let here = static_ahead journey c.in-Some-unfit.target c.in-Some.place (before, c.static_target-requested.ensures.within) requested in
     let kind_is = static_is journey c.args.approach.now.speed c.in-Some.place c.piece-here.result.value c.in-Some-unfit.target
-    (sym c.static_target-asked.ensures.value ∙ unfit.0) c.piece-here.ensures.value (before, c.static_target-asked.ensures.within) in
+    (sym c.static_target-requested.ensures.value ∙ unfit.0) c.piece-here.ensures.value (before, c.static_target-requested.ensures.within) in
     (subst (λ (k : TargetKind). IsOfKind journey c.in-Some-unfit.target k) (sym c.static_kind-kind.ensures) kind_is, here, unfit.1)
 
 pub loop-start-smaller : goal.loop-start-smaller
 loop-start-smaller g c =
     let place : ℤ = c.in-Some.place in
-    let within = c.static_target-asked.ensures.within in
+    let within = c.static_target-requested.ensures.within in
     let profile = g.S.Profile.value c.args.ahead.now.track.now.speeds.now in
     let next = c.piece-here.result.next in
     let fewer = less_left place next within (lasts_ahead profile place next c.piece-here.ensures.next) in
@@ -47,12 +47,12 @@ loop-start-preserved g c =
     let next = c.piece-here.result.next in
     let lasts = c.piece-here.ensures.next in
     let before : journey.front <ℤ place = rw c.in-Some.is at c.loop-start.invariant.1 in
-    let asked : c.static_target-asked.result ≡ static_target journey.bounds place (journey.track.static place) =
-    c.static_target-asked.ensures.value ∙ ap (static_target journey.bounds place) c.piece-here.ensures.value in
+    let requested : c.static_target-requested.result ≡ static_target journey.bounds place (journey.track.static place) =
+    c.static_target-requested.ensures.value ∙ ap (static_target journey.bounds place) c.piece-here.ensures.value in
     let here : fits_all_on journey (listed (static_target journey.bounds place (journey.track.static place))) c.args.approach.now.speed ≡ true =
-    ap (λ (t : Option Target). fits_all_on journey (listed t) c.args.approach.now.speed) (sym asked) ∙ (rw (c.loop-start.invariant.2 ∙ c.requires) at c.in_default-unfit.ensures.found) in (
+    ap (λ (t : Option Target). fits_all_on journey (listed t) c.args.approach.now.speed) (sym requested) ∙ (rw (c.loop-start.invariant.2 ∙ c.requires) at c.in_default-unfit.ensures.found) in (
       λ others. c.loop-start.invariant.0 (rw c.in-Some.is
-          (fit_piece journey c.args.approach.now.speed place c.static_target-asked.ensures.within next lasts here others)),
+          (fit_piece journey c.args.approach.now.speed place c.static_target-requested.ensures.within next lasts here others)),
       next_ahead journey.front place journey.track.static next lasts before,
       c.unfit.ensures.same ∙ c.loop-start.invariant.2,
     )

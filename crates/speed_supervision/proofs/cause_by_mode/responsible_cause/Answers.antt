@@ -18,9 +18,9 @@ returns-in-Some g c life s = rw c.in-Some.is at (c.restriction_in.ensures.over l
 
 pub returns-then-is_override : goal.returns-then-is_override
 returns-then-is_override g c life s =
-    let both = and_parts (is_overridden life) ((values_of life).override_speed == c.args.limit) (sym (c.is_override.ensures life s) ∙ c.if-is_override.true) in
+    let halves = and_parts (is_overridden life) ((values_of life).override_speed == c.args.limit) (sym (c.is_override.ensures life s) ∙ c.if-is_override.true) in
     let unrestricted : IsUnrestricted life c.args.limit = rw c.in_default.is at (c.restriction_in.ensures.none life s) in
-    ((both.0, eqb-true (values_of life).override_speed c.args.limit both.1), unrestricted)
+    ((halves.0, eqb-true (values_of life).override_speed c.args.limit halves.1), unrestricted)
 
 pub returns-then-is_maximum : goal.returns-then-is_maximum
 returns-then-is_maximum g c life s =

@@ -25,7 +25,7 @@ returns-then-len-eq33-clause-err c =
     let here : read next_packet c.packets.reader ≡ Ok (Some c.read_next.new.out, c.read_next.new.reader) = rw c.if-not-more.false at c.in_ok-more.ensures in
     let b = found next_packet _ _ _ here in
     let taken = packet_takes _ _ _ b in
-    let few : length c.read_next.new.reader < 8 = omega (arith, taken, c.packets.invariant.room, c.len.ensures.value, c.if-len-eq33.true) in
+    let few : length c.read_next.new.reader < 8 = omega (arith, taken, c.packets.invariant.space, c.len.ensures.value, c.if-len-eq33.true) in
     (_, one_more_refused _ _ _ _ _ b c.packets.invariant.refused NoEnd [] (no_end _ few))
 
 pub packets-smaller : goal.packets-smaller
@@ -42,5 +42,5 @@ packets-preserved c =
     record {
       begins = rw c.push.ensures.items (one_more_begins _ _ _ _ _ b c.packets.invariant.begins);
       refused = rw c.push.ensures.items (one_more_refused _ _ _ _ _ b c.packets.invariant.refused);
-      room = omega (arith, taken, c.push.ensures.len, c.packets.invariant.room);
+      space = omega (arith, taken, c.push.ensures.len, c.packets.invariant.space);
     }

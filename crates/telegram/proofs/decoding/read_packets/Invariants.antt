@@ -10,7 +10,7 @@ abbrev pub invariant-packets : goal.invariant-packets
 invariant-packets l = record {
   begins : (ps : List Packet) (rest : List Bool) → BeginsPackets ps l.reader rest → BeginsPackets (l.packets.items ++ ps) l.fn.reader rest;
   refused : (e : TelegramFault) (ps : List Packet) → RefusesPackets e ps l.reader → RefusesPackets e (l.packets.items ++ ps) l.fn.reader;
-  room : 23 * length l.packets.items + length l.reader ≤ 782;
+  space : 23 * length l.packets.items + length l.reader ≤ 782;
 }
 
 abbrev pub decreases-packets : goal.decreases-packets

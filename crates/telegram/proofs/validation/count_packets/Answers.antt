@@ -40,5 +40,5 @@ packets-preserved c =
       counted = omega (arith, one, c.packets.invariant.counted);
       begins = one_more_begins _ _ _ _ _ b c.packets.invariant.begins;
       refused = one_more_refused _ _ _ _ _ b c.packets.invariant.refused;
-      room = omega (arith, taken, c.packets.invariant.room);
+      space = omega (arith, taken, c.packets.invariant.space);
     }

@@ -12,7 +12,7 @@ invariant-packets l = record {
   counted : length front ≡ l.count;
   begins : (ps : List Packet) (rest : List Bool) → BeginsPackets ps l.reader rest → BeginsPackets (front ++ ps) l.fn.reader rest;
   refused : (e : TelegramFault) (ps : List Packet) → RefusesPackets e ps l.reader → RefusesPackets e (front ++ ps) l.fn.reader;
-  room : 23 * l.count + length l.reader ≤ 782;
+  space : 23 * l.count + length l.reader ≤ 782;
 }
 
 abbrev pub decreases-packets : goal.decreases-packets

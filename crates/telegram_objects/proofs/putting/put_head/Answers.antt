@@ -4,13 +4,13 @@ use Rattle.bits.proofs.Numbers.{length-number_bits}
 use Rattle.telegram_objects.proofs.putting.put_head.Goals as goal
 
 pub returns-then-put_pair : goal.returns-then-put_pair
-returns-then-put_pair c = λ f g first second first_width second_width room.
+returns-then-put_pair c = λ f g first second first_width second_width space.
     let one = c.put_pair.ensures f first first_width (omega arith) in
     let long : length c.put_pair.new.writer ≡ length c.args.writer.now + f.width = omega (arith, ap length one.1, length-append c.args.writer.now (number_bits f.width f.number), length-number_bits f.width f.number) in
     let two = c.put_second.ensures g second second_width (omega arith) in
     (two.0, two.1 ∙ ap (λ (t : List Bool). (t ++ number_bits g.width g.number) ++ number_bits 13 c.args.reported) one.1)
 
 pub returns-else-put_pair : goal.returns-else-put_pair
-returns-else-put_pair c = λ f g first second first_width second_width room.
+returns-else-put_pair c = λ f g first second first_width second_width space.
     let one = c.put_pair.ensures f first first_width (omega arith) in
     absurd (true≢false (sym one.0 ∙ c.if-put_pair.false))

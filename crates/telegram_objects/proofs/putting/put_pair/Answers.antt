@@ -11,17 +11,17 @@ small : (rows : List (VariableName × ℕ)) (text : List ℕ) (n : ℕ) → list
     → width_in rows text ≡ Some n → n < 64
 small [] text n all = λ e. absurd cc
 small (row ∷ rows) text n all =
-    let both = and_parts _ _ all in
-    let below = ltb-true row.1 64 both.0 in
+    let halves = and_parts _ _ all in
+    let below = ltb-true row.1 64 halves.0 in
     let here : Some row.1 ≡ Some n → n < 64 = λ e. subst (λ (k : ℕ). k < 64) (same_Some _ _ e) below in
-    cond_both _ _ _ (λ (o : Option ℕ). o ≡ Some n → n < 64) (λ _. here) (λ _. small rows text n both.1)
+    cond_both _ _ _ (λ (o : Option ℕ). o ≡ Some n → n < 64) (λ _. here) (λ _. small rows text n halves.1)
 
 pub returns-in-Some-width_of : goal.returns-in-Some-width_of
-returns-in-Some-width_of c = λ f reported has room.
+returns-in-Some-width_of c = λ f reported has space.
     let p = c.in-Some.ensures f reported in
     let is : width_in widths c.in-Some.name.now ≡ Some c.in-Some-width_of.width =
     sym c.width_of.ensures ∙ c.in-Some-width_of.is in
     let w = same_Some _ _ (sym is ∙ ap (λ (text : List ℕ). width_in widths text) p.0 ∙ has) in
-    let fits = subst (λ (n : ℕ). length c.args.writer.now + n ≤ 832) (sym w) room in
+    let fits = subst (λ (n : ℕ). length c.args.writer.now + n ≤ 832) (sym w) space in
     let put = c.put_low.ensures (small widths c.in-Some.name.now c.in-Some-width_of.width refl is) fits in
     (put.0, put.1 ∙ ap (λ (bits : List Bool). c.args.writer.now ++ bits) (same_bits _ _ _ _ w p.1))

@@ -6,7 +6,7 @@ use Rattle.telegram_objects.proofs.Chains.{lays_length, head_length, all_put}
 use Rattle.telegram_objects.proofs.putting.put_parts.Goals as goal
 
 pub returns-then-put_head : goal.returns-then-put_head
-returns-then-put_head c = λ bits lays first second others room.
+returns-then-put_head c = λ bits lays first second others space.
     let d = view c.args.value.now in
     let long : length bits ≡ 23 + fields_size lays.others + length lays.body = lays_length d bits lays in
     let ten : lays.first.width + lays.second.width ≡ 10 = lays.head in
@@ -21,7 +21,7 @@ returns-then-put_head c = λ bits lays first second others room.
     (two.0, all_put d bits c.args.writer.now c.put_head.new.writer (c.put_head.new.writer ++ fields_bits lays.others) c.put_others.new.writer lays c.length_of_packet-reported.result same one.1 refl two.1)
 
 pub returns-else-put_head : goal.returns-else-put_head
-returns-else-put_head c = λ bits lays first second others room.
+returns-else-put_head c = λ bits lays first second others space.
     let d = view c.args.value.now in
     let long : length bits ≡ 23 + fields_size lays.others + length lays.body = lays_length d bits lays in
     let ten : lays.first.width + lays.second.width ≡ 10 = lays.head in

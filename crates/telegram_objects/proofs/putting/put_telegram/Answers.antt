@@ -13,8 +13,8 @@ returns-then-put_header c = λ t bits s reported none short.
     let packets_are : map view c.in-Some-list_at.packets.now ≡ reported.items = c.in-Some-list_at.ensures.each reported.items reported.has_packets in
     let one = c.put_header.ensures t.header (subst (λ (d : Data). HasMembers d (header_fields t.header)) (sym head_is) reported.header.1) none in
     let first : c.put_header.new.writer ≡ s.0 = one.1 ∙ sym (header_spelled t.header s.0 s.3) in
-    let room : length c.put_header.new.writer + length s.1 ≤ 832 = omega (arith, ap length first, ap length s.2, length-append s.0 s.1) in
-    let two = c.put_packets.ensures t.packets.items s.1 s.4 (subst (λ (ds : List Data). DescribePackets ds t.packets.items) (sym packets_are) reported.packets) room in
+    let space : length c.put_header.new.writer + length s.1 ≤ 832 = omega (arith, ap length first, ap length s.2, length-append s.0 s.1) in
+    let two = c.put_packets.ensures t.packets.items s.1 s.4 (subst (λ (ds : List Data). DescribePackets ds t.packets.items) (sym packets_are) reported.packets) space in
     (two.0, two.1 ∙ ap (λ (l : List Bool). l ++ s.1) first ∙ sym s.2)
 
 pub returns-else-put_header : goal.returns-else-put_header

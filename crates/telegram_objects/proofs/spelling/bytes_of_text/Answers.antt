@@ -17,9 +17,9 @@ later (Ok x) A P Q so given = tt
 later (Err e) A P Q so given = so e given
 
 pub returns-in-Ok-clause-each : goal.returns-in-Ok-clause-each
-returns-in-Ok-clause-each c = λ t bytes it reported.
+returns-in-Ok-clause-each c = λ t bytes carries reported.
     let same : reported.2.0 ≡ view c.in-Ok.object = same_Some _ _ (sym reported.2.1 ∙ c.in-Ok.ensures.ok.1) in
-    c.bytes_of_unique.ensures.each reported.0 reported.1 t bytes it (subst (λ (d : Data). DescribesTelegram d t) same reported.2.2)
+    c.bytes_of_unique.ensures.each reported.0 reported.1 t bytes carries (subst (λ (d : Data). DescribesTelegram d t) same reported.2.2)
 
 pub returns-in-Ok-clause-refused : goal.returns-in-Ok-clause-refused
 returns-in-Ok-clause-refused c =
@@ -28,10 +28,10 @@ returns-in-Ok-clause-refused c =
     let P : ObjectFault → Type 0 = λ fault. fault.reason ≢ a_reason.NoMemory → (t : Telegram) (bytes : List ℕ) → Carries bytes t → DescribesTelegram object t → ⊥ in
     let Q : ObjectFault → Type 0 = λ fault. fault.reason ≢ a_reason.NoMemory → (t : Telegram) (bytes : List ℕ) → Carries bytes t → DescribesText text t → ⊥ in
     later c.bytes_of_unique.result (IsUtf8 text × HasUniqueNames text) P Q
-    (λ fault given memory t bytes it reported.
+    (λ fault given memory t bytes carries reported.
     let same : reported.2.0 ≡ object = same_Some _ _ (sym reported.2.1 ∙ c.in-Ok.ensures.ok.1) in
-    given (reported.0, reported.1) memory t bytes it (subst (λ (d : Data). DescribesTelegram d t) same reported.2.2))
+    given (reported.0, reported.1) memory t bytes carries (subst (λ (d : Data). DescribesTelegram d t) same reported.2.2))
     (λ u. c.bytes_of_unique.ensures.refused u.0 u.1)
 
 pub returns-in-Err-clause-refused : goal.returns-in-Err-clause-refused
-returns-in-Err-clause-refused c = λ memory t bytes it reported. absurd (memory c.no_memory.ensures)
+returns-in-Err-clause-refused c = λ memory t bytes carries reported. absurd (memory c.no_memory.ensures)

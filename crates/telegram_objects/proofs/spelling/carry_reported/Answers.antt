@@ -11,7 +11,7 @@ returns-in-Ok c =
     let carried = (c.in-Ok.ensures.found c.in-Ok.telegram).0 refl in (
       λ h. (c.in-Ok.telegram, carried, OnTrue_at h c.describes.ensures.reported),
       λ x.
-          let both = (c.in-Ok.ensures.found x.0).1 x.1 in
+          let halves = (c.in-Ok.ensures.found x.0).1 x.1 in
           let same : c.in-Ok.telegram ≡ x.0 = cc in
           c.describes.ensures.each (packets_short c.in-Ok.telegram c.args.bytes.now carried) (subst (λ (t : Telegram). DescribesTelegram (view c.args.object.now) t) (sym same) x.2),
     )
@@ -20,6 +20,6 @@ pub returns-in-Err : goal.returns-in-Err
 returns-in-Err c = (
   λ h. absurd cc,
   λ x.
-      let both = (c.in-Err.ensures.found x.0).1 x.1 in
+      let halves = (c.in-Err.ensures.found x.0).1 x.1 in
       absurd cc,
 )

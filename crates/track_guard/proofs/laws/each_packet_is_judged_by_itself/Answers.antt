@@ -9,12 +9,12 @@ kept : (first others : List PacketPlace) → Each (λ p. (p.number == 136) ≡ f
 kept [] others e = refl
 kept (p ∷ ps) others (e, es) = rw e (ap (λ (xs : List PacketPlace). p ∷ xs) (kept ps others es))
 
-alone : (first : List PacketPlace) → Each (λ p. (p.number == 136) ≡ false) first → before_infill first ≡ first
-alone [] e = refl
-alone (p ∷ ps) (e, es) = rw e (ap (λ (xs : List PacketPlace). p ∷ xs) (alone ps es))
+single : (first : List PacketPlace) → Each (λ p. (p.number == 136) ≡ false) first → before_infill first ≡ first
+single [] e = refl
+single (p ∷ ps) (e, es) = rw e (ap (λ (xs : List PacketPlace). p ∷ xs) (single ps es))
 
 pub returns : goal.returns
 returns c = λ s bytes first others e.
     ap (λ (ps : List PacketPlace). filter_map (demand_of_packet s bytes) ps) (kept first others e)
     ∙ filter_map-append (demand_of_packet s bytes) first (before_infill others)
-    ∙ sym (ap (λ (ps : List PacketPlace). filter_map (demand_of_packet s bytes) ps ++ filter_map (demand_of_packet s bytes) (before_infill others)) (alone first e))
+    ∙ sym (ap (λ (ps : List PacketPlace). filter_map (demand_of_packet s bytes) ps ++ filter_map (demand_of_packet s bytes) (before_infill others)) (single first e))

@@ -4,7 +4,7 @@ use Rattle.bits.specs.Writing.{named}
 use Rattle.bits.specs.declared.name.VariableName.TheVariants as names
 use Rattle.packets.specs.Packets.{packet, length_of, number_of, packet_taken}
 use Rattle.packets.proofs.AnyPacket.{spelled-packet}
-use Rattle.track_packets.specs.Kernel.{Shows, with_shown}
+use Rattle.track_packets.specs.Kernel.{Shows, with_listed}
 use Rattle.track_packets.specs.declared.reading.Field.{Field}
 use Rattle.track_packets.proofs.kernel.kernel_fields_of.Goals as goal
 
@@ -18,6 +18,6 @@ returns-in-Ok-hand_packet c =
       subst (λ bits. Begins packet p bits c.read_packet.new.reader) c.fork-bits.ensures c.in-Ok.ensures.found,
       ap (λ (s : Shows). (s.fields, 0))
           (c.in-Ok-hand_packet.ensures small
-          ∙ ap (λ (n : ℕ). packet_taken with_shown n p (with_shown (record { fields = c.new-fields.result.items; at = 0 }) (named names.NidPacket 8 (number_of p)))) c.length-length.ensures.value
-          ∙ ap (λ (items : List Field). packet_taken with_shown (length_of p) p (with_shown (record { fields = items; at = 0 }) (named names.NidPacket 8 (number_of p)))) c.new-fields.ensures.items),
+          ∙ ap (λ (n : ℕ). packet_taken with_listed n p (with_listed (record { fields = c.new-fields.result.items; at = 0 }) (named names.NidPacket 8 (number_of p)))) c.length-length.ensures.value
+          ∙ ap (λ (items : List Field). packet_taken with_listed (length_of p) p (with_listed (record { fields = items; at = 0 }) (named names.NidPacket 8 (number_of p)))) c.new-fields.ensures.items),
     )

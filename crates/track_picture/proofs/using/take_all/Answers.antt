@@ -17,7 +17,7 @@ pub take_one-requires : goal.take_one-requires
 take_one-requires g c =
     let next : c.packets.walk ≡ c.next_into.new.item.packet ∷ c.next_into.new.self = rw c.packets-test.true at c.next_into.ensures.some in
     let one : length c.packets.walk ≡ length c.next_into.new.self + 1 = rw add-one (ap length next) in
-    (length c.next_into.new.self, subst (λ (n : ℕ). g.W.Walk.HasRoom n 0 c.packets.state) one (c.packets.invariant.1 0 c.requires))
+    (length c.next_into.new.self, subst (λ (n : ℕ). g.W.Walk.HasSpace n 0 c.packets.state) one (c.packets.invariant.1 0 c.requires))
 
 pub packets-smaller : goal.packets-smaller
 packets-smaller g c =
@@ -40,8 +40,8 @@ packets-preserved g c =
                 ∙ sym (ap (λ (ps : List Packet). after_facts g.W.Walk.after (facts used ps) before.0) next)
                 ∙ before.2,
           )),
-      λ following room. c.take_one.ensures.room (length c.next_into.new.self) following
-          (subst (λ (n : ℕ). g.W.Walk.HasRoom n following c.packets.state) one (c.packets.invariant.1 following room)),
+      λ following space. c.take_one.ensures.space (length c.next_into.new.self) following
+          (subst (λ (n : ℕ). g.W.Walk.HasSpace n following c.packets.state) one (c.packets.invariant.1 following space)),
       (let rest = c.next_into.new.self in
           let packet = c.packet-in-packets.result.now in
           c.packets.invariant.2

@@ -8,7 +8,7 @@ no_longer [] ys part = omega arith
 no_longer (x ∷ xs) [] part = absurd part
 no_longer (x ∷ xs) (y ∷ ys) part =
     elim part [
-      | inl both ↦ omega (arith, no_longer xs ys both.1)
+      | inl halves ↦ omega (arith, no_longer xs ys halves.1)
       | inr rest ↦ omega (arith, no_longer (x ∷ xs) ys rest)
     ]
 
@@ -24,13 +24,13 @@ has_place : {X : Type 0} (before after : List X) (x : X) (ys : List X) → IsPar
 has_place [] after x [] part = absurd part
 has_place [] after x (y ∷ ys) part =
     elim part [
-      | inl both ↦ ([], ys, ap (λ (z : _). z ∷ ys) (sym both.0), omega arith, no_longer after ys both.1)
+      | inl halves ↦ ([], ys, ap (λ (z : _). z ∷ ys) (sym halves.0), omega arith, no_longer after ys halves.1)
       | inr rest ↦ one_farther [] after ys x y (has_place [] after x ys rest)
     ]
 has_place (b ∷ before) after x [] part = absurd part
 has_place (b ∷ before) after x (y ∷ ys) part =
     elim part [
-      | inl both ↦ (let at = has_place before after x ys both.1 in
+      | inl halves ↦ (let at = has_place before after x ys halves.1 in
           (y ∷ at.0, at.1, ap (λ (l : List _). y ∷ l) at.2, omega (arith, at.3), at.4))
       | inr rest ↦ one_farther (b ∷ before) after ys x y (has_place (b ∷ before) after x ys rest)
     ]

@@ -1,7 +1,7 @@
 use Rattle.std.proofs.Common.{List, ◌∙◌, ap}
 use Rattle.events.specs.declared.output.Output.{Output}
 use Rattle.kernel.specs.declared.causes.BrakeCause.{BrakeCause}
-use Rattle.reasons.specs.LimitWords.{limit_reported}
+use Rattle.reasons.specs.LimitTexts.{limit_reported}
 use Rattle.unit_calls.specs.Outputs.{description_of}
 use Rattle.unit_calls.specs.Whys.{holds_in, why_with}
 use Rattle.unit_calls.proofs.why.why_reported.Goals as goal
@@ -15,7 +15,7 @@ returns c = λ life stands.
     let limit = c.limit_reported-limit.ensures ∙ ap (λ (o : Output). limit_reported o.limit decides) output in
     let target = c.target_of.ensures in
     let releases = c.releases.ensures in
-    let shown = c.shown.ensures.shown life stands in
+    let display_values = c.display_values.ensures.display_values life stands in
     let holds = c.holds_in.ensures ∙ ap (λ (l : List BrakeCause). holds_in l) (c.brake_causes-causes.ensures life stands) in (
       decides,
       c.limit_cause-decides.ensures life stands,
@@ -25,7 +25,7 @@ returns c = λ life stands.
         limit = limit i;
         target = target i;
         releases = releases i;
-        shown = shown i;
+        display_values = display_values i;
         holds = holds i;
       })),
     )

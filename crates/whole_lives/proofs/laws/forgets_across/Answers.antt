@@ -6,5 +6,5 @@ use Rattle.whole_lives.proofs.Chains.{accepted_on}
 use Rattle.whole_lives.proofs.laws.forgets_across.Goals as goal
 
 pub returns : goal.returns
-returns c = λ p q word steps same.
-    ap output_after (accepted_on (PowerUp word ∷ p) steps) ∙ c.power_up_forgets.ensures word p q (accepted_by [] steps) same ∙ sym (ap output_after (accepted_on (PowerUp word ∷ q) steps))
+returns c = λ p q recorded_cold steps same.
+    ap output_after (accepted_on (PowerUp recorded_cold ∷ p) steps) ∙ c.power_up_forgets.ensures recorded_cold p q (accepted_by [] steps) same ∙ sym (ap output_after (accepted_on (PowerUp recorded_cold ∷ q) steps))

@@ -20,7 +20,7 @@ returns-in-Ok-clause-life g c = λ whole_from d a honest ready.
     let up = c.in-Ok.ensures.up whole_from d a honest ready in
     let still : IsTrue (g.D.WriteDisk.state c.in-Ok.unit.disk).honest = subst IsTrue (sym c.in-Ok.ensures.counted.honest) honest in
     let ran = c.run_into-result.ensures.ran whole_from (PowerUp up.1 ∷ up.0) still up.3 up.4 in
-    let it = lives_ran whole_from d a up.0 c.args.cold up.1 c.args.steps.now (g.D.WriteDisk.state c.args.disk) (g.D.WriteDisk.state c.in-Ok.unit.disk) up.2 (g.D.WriteDisk.state c.run_into-result.new.unit.disk) [] ran.0 up.5 c.in-Ok.ensures.counted.sectors ran.2 in
+    let lived = lives_ran whole_from d a up.0 c.args.cold up.1 c.args.steps.now (g.D.WriteDisk.state c.args.disk) (g.D.WriteDisk.state c.in-Ok.unit.disk) up.2 (g.D.WriteDisk.state c.run_into-result.new.unit.disk) [] ran.0 up.5 c.in-Ok.ensures.counted.sectors ran.2 in
     let U : Type 0 = OnlyOpens whole_from d a up.0 up.1 (g.D.WriteDisk.state c.args.disk) (g.D.WriteDisk.state c.run_into-result.new.unit.disk) in
     let T : State → Type 0 = λ s. (x : List Event) × (w : Cold) × (given : List Released) × g.S.ReleaseSink.Gave c.args.sink.now given c.run_into-result.new.sink
     × (x' : Lives whole_from d a x c.args.cold w c.args.steps.now (g.D.WriteDisk.state c.args.disk) s [] given) × IsDone (PowerUp w ∷ x) c.args.steps.now (OnlyOpens whole_from d a x w (g.D.WriteDisk.state c.args.disk) s) c.run_into-result.result x'.steps_taken x'.durable_at_end x'.accepted_at_end x'.released
@@ -32,9 +32,9 @@ returns-in-Ok-clause-life g c = λ whole_from d a honest ready.
       up.1,
       ran.0,
       ran.1,
-      it.0,
-      same_done (PowerUp up.1 ∷ up.0) c.args.steps.now U c.run_into-result.result _ _ _ _ _ _ _ _ it.1 it.2 it.3 it.4 (done_opened (PowerUp up.1 ∷ up.0) c.args.steps.now U c.run_into-result.result _ _ _ _ ran.3),
-      same_unflushed whole_from I c.args.steps.now c.run_into-result.result ran.2.durable_at_end it.0.durable_at_end (g.D.WriteDisk.state c.args.disk) (g.D.WriteDisk.state c.run_into-result.new.unit.disk) it.2
+      lived.0,
+      same_done (PowerUp up.1 ∷ up.0) c.args.steps.now U c.run_into-result.result _ _ _ _ _ _ _ _ lived.1 lived.2 lived.3 lived.4 (done_opened (PowerUp up.1 ∷ up.0) c.args.steps.now U c.run_into-result.result _ _ _ _ ran.3),
+      same_unflushed whole_from I c.args.steps.now c.run_into-result.result ran.2.durable_at_end lived.0.durable_at_end (g.D.WriteDisk.state c.args.disk) (g.D.WriteDisk.state c.run_into-result.new.unit.disk) lived.2
           (unflushed_on whole_from d a up.0 c.args.cold up.1 c.args.steps.now (g.D.WriteDisk.state c.args.disk) (g.D.WriteDisk.state c.in-Ok.unit.disk) up.2 (g.D.WriteDisk.state c.run_into-result.new.unit.disk) c.run_into-result.result ran.2.durable_at_end c.in-Ok.ensures.counted.sectors ran.4),
       c.run_into-result.ensures.last whole_from up.0 (PowerUp up.1 ∷ up.0) still up.3 up.4 (record_of up.0 (PowerUp up.1) ∷ [], refl, up.6),
     )
@@ -42,8 +42,8 @@ returns-in-Ok-clause-life g c = λ whole_from d a honest ready.
 pub returns-in-Err-clause-life : goal.returns-in-Err-clause-life
 returns-in-Err-clause-life g c = λ whole_from d a honest ready.
     let back = c.in-Err.ensures.handed_back whole_from d a honest ready in
-    let it = lives_refused whole_from d a back.0 c.args.cold back.1 c.args.steps.now (g.D.WriteDisk.state c.args.disk) (g.D.WriteDisk.state c.in-Err.disk) back.2 [] in
-    (back.0, back.1, [], g.met.S.ReleaseSink.none c.args.sink.now, it.0, (it.1, back.2.at_each_moment), (λ full. absurd cc), tt)
+    let lived = lives_refused whole_from d a back.0 c.args.cold back.1 c.args.steps.now (g.D.WriteDisk.state c.args.disk) (g.D.WriteDisk.state c.in-Err.disk) back.2 [] in
+    (back.0, back.1, [], g.met.S.ReleaseSink.none c.args.sink.now, lived.0, (lived.1, back.2.at_each_moment), (λ full. absurd cc), tt)
 
 pub returns-in-Ok-clause-stopped : goal.returns-in-Ok-clause-stopped
 returns-in-Ok-clause-stopped g c =

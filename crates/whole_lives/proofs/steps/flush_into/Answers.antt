@@ -19,21 +19,21 @@ returns-then-is_err-clause-stepped g c = λ whole_from durable accepted honest o
 
 pub returns-in-Ok-clause-stepped : goal.returns-in-Ok-clause-stepped
 returns-in-Ok-clause-stepped g c = λ whole_from durable accepted honest opened ahead. (
-  flush_step whole_from durable accepted ahead.more (g.D.WriteDisk.state c.args.unit.now.disk) (g.D.WriteDisk.state c.flush.new.self.disk) c.flush.ensures.counted.sectors ahead.accepted_is (c.flush.ensures.any_moment whole_from durable accepted honest opened ahead),
-  c.in-Ok.ensures.flushed whole_from durable accepted honest opened ahead,
+  flush_step whole_from durable accepted ahead.more (g.D.WriteDisk.state c.args.unit.now.disk) (g.D.WriteDisk.state c.flush.new.self.disk) c.flush.ensures.flushes.counted.sectors ahead.accepted_is (c.flush.ensures.flushes.any_moment whole_from durable accepted honest opened ahead),
+  c.in-Ok.ensures.flushes.flushed whole_from durable accepted honest opened ahead,
 )
 
 pub returns-in-Err-clause-stepped : goal.returns-in-Err-clause-stepped
 returns-in-Err-clause-stepped g c = λ whole_from durable accepted honest opened ahead. (
-  flush_step whole_from durable accepted ahead.more (g.D.WriteDisk.state c.args.unit.now.disk) (g.D.WriteDisk.state c.flush.new.self.disk) c.flush.ensures.counted.sectors ahead.accepted_is (c.flush.ensures.any_moment whole_from durable accepted honest opened ahead),
+  flush_step whole_from durable accepted ahead.more (g.D.WriteDisk.state c.args.unit.now.disk) (g.D.WriteDisk.state c.flush.new.self.disk) c.flush.ensures.flushes.counted.sectors ahead.accepted_is (c.flush.ensures.flushes.any_moment whole_from durable accepted honest opened ahead),
   tt,
 )
 
 pub returns-in-Ok-clause-released : goal.returns-in-Ok-clause-released
 returns-in-Ok-clause-released g c =
-    let G : List Released → Type 0 = λ l. g.S.ReleaseSink.Gave c.make_room.new.self l c.give.new.self in
-    let gave = subst G (c.as_slice.ensures.value ∙ c.in-Ok.ensures.released) c.give.ensures.given in
-    g.met.S.ReleaseSink.more c.args.sink.now c.make_room.new.self c.give.new.self [] c.args.unit.now.life.pairs c.make_room.ensures.given gave
+    let G : List Released → Type 0 = λ l. g.S.ReleaseSink.Gave c.make_space.new.self l c.give.new.self in
+    let gave = subst G (c.as_slice.ensures.value ∙ c.in-Ok.ensures.flushes.released) c.give.ensures.given in
+    g.met.S.ReleaseSink.more c.args.sink.now c.make_space.new.self c.give.new.self [] c.args.unit.now.life.pairs c.make_space.ensures.given gave
 
 pub returns-then-is_err-clause-stopped : goal.returns-then-is_err-clause-stopped
 returns-then-is_err-clause-stopped g c = inl refl
@@ -41,11 +41,11 @@ returns-then-is_err-clause-stopped g c = inl refl
 pub returns-in-Ok-clause-stood : goal.returns-in-Ok-clause-stood
 returns-in-Ok-clause-stood g c =
     let so : Progress = progress_of c.args.unit.now.journal c.args.unit.now.life in
-    (no_cause (flush_refusal so.failed so.pending so.newest) c.flush.result _ (λ e. e ≡ DeviceFault) c.in-Ok.is c.flush.ensures.exact, c.in-Ok.ensures.gone_on)
+    (no_cause (flush_refusal so.failed so.pending so.newest) c.flush.result _ (λ e. e ≡ DeviceFault) c.in-Ok.is c.flush.ensures.flushes.exact, c.in-Ok.ensures.flushes.gone_on)
 
 pub returns-in-Err-clause-stopped : goal.returns-in-Err-clause-stopped
 returns-in-Err-clause-stopped g c =
-    flush_stops (progress_of c.args.unit.now.journal c.args.unit.now.life) c.args.k c.flush.result c.in-Err.error g.D.WriteDisk.state c.args.unit.now.disk c.flush.new.self.disk c.in-Err.is c.flush.ensures.exact c.flush.ensures.counted
+    flush_stops (progress_of c.args.unit.now.journal c.args.unit.now.life) c.args.k c.flush.result c.in-Err.error g.D.WriteDisk.state c.args.unit.now.disk c.flush.new.self.disk c.in-Err.is c.flush.ensures.flushes.exact c.flush.ensures.flushes.counted
     (λ none. ap (λ (u : UnitState _). u.disk) (c.flush.ensures.nothing none))
 
 pub returns-in-Ok-clause-last : goal.returns-in-Ok-clause-last
@@ -55,7 +55,7 @@ returns-in-Ok-clause-last g c = λ whole_from earlier durable accepted honest op
     let life = c.args.unit.now.life in
     let L : State → Type 0 = λ s. IsLastWritten s.sectors (earlier_one earlier durable accepted Flush) accepted (contents_of s) in
     ⊎_elim
-    (λ (some : 0 < length life.records). next_last earlier durable accepted life ahead new.sectors (contents_of new) some (c.in-Ok.ensures.last whole_from durable accepted honest opened ahead some))
+    (λ (some : 0 < length life.records). next_last earlier durable accepted life ahead new.sectors (contents_of new) some (c.in-Ok.ensures.flushes.last whole_from durable accepted honest opened ahead some))
     (λ (ge : length life.records ≤ 0).
     let none : length life.records ≡ 0 = omega (arith, ge) in
     subst L (sym (ap (λ (u : UnitState _). g.D.WriteDisk.state u.disk) (c.flush.ensures.nothing none))) (still_last earlier durable accepted life ahead old.sectors (contents_of old) none last))

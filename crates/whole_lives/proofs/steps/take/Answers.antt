@@ -9,34 +9,34 @@ use Rattle.whole_lives.proofs.steps.take.Goals as goal
 
 pub returns-in-Ok-clause-stepped : goal.returns-in-Ok-clause-stepped
 returns-in-Ok-clause-stepped g c = λ whole_from durable accepted honest opened ahead.
-    let both = c.in-Ok.ensures.stepped whole_from durable accepted honest opened ahead in
+    let halves = c.in-Ok.ensures.stepped whole_from durable accepted honest opened ahead in
     let u = c.accept_one.new.unit in
     let T : Step → Type 0 = λ x. IsStepped whole_from x durable accepted (g.D.WriteDisk.state c.args.unit.now.disk) (g.D.WriteDisk.state u.disk)
     × ((its : List Released) × g.S.ReleaseSink.Gave c.args.sink.now its c.args.sink.now × Took whole_from durable accepted x u.journal u.life (g.D.WriteDisk.state u.disk) its) in
-    subst T (sym c.in-Accept.is) (both.0, ([], g.met.S.ReleaseSink.none c.args.sink.now, took_input whole_from durable accepted c.in-Accept.input u.journal u.life (g.D.WriteDisk.state u.disk) both.1.0 both.1.1))
+    subst T (sym c.in-Accept.is) (halves.0, ([], g.met.S.ReleaseSink.none c.args.sink.now, took_input whole_from durable accepted c.in-Accept.input u.journal u.life (g.D.WriteDisk.state u.disk) halves.1.0 halves.1.1))
 
 pub returns-in-Err-clause-stepped : goal.returns-in-Err-clause-stepped
 returns-in-Err-clause-stepped g c = λ whole_from durable accepted honest opened ahead.
-    let both = c.in-Err.ensures.stepped whole_from durable accepted honest opened ahead in
+    let halves = c.in-Err.ensures.stepped whole_from durable accepted honest opened ahead in
     let T : Step → Type 0 = λ x. IsStepped whole_from x durable accepted (g.D.WriteDisk.state c.args.unit.now.disk) (g.D.WriteDisk.state c.accept_one.new.unit.disk) in
-    (subst T (sym c.in-Accept.is) both.0, tt)
+    (subst T (sym c.in-Accept.is) halves.0, tt)
 
 pub returns-in-Err-clause-nothing : goal.returns-in-Err-clause-nothing
 returns-in-Err-clause-nothing g c = g.met.S.ReleaseSink.none c.args.sink.now
 
 pub returns-in-Ok-flush_into-clause-stepped : goal.returns-in-Ok-flush_into-clause-stepped
 returns-in-Ok-flush_into-clause-stepped g c = λ whole_from durable accepted honest opened ahead.
-    let both = c.in-Ok-flush_into.ensures.stepped whole_from durable accepted honest opened ahead in
+    let halves = c.in-Ok-flush_into.ensures.stepped whole_from durable accepted honest opened ahead in
     let u = c.flush_into.new.unit in
     let T : Step → Type 0 = λ x. IsStepped whole_from x durable accepted (g.D.WriteDisk.state c.args.unit.now.disk) (g.D.WriteDisk.state u.disk)
     × ((its : List Released) × g.S.ReleaseSink.Gave c.args.sink.now its c.flush_into.new.sink × Took whole_from durable accepted x u.journal u.life (g.D.WriteDisk.state u.disk) its) in
-    subst T (sym c.in-Flush.is) (both.0, (c.args.unit.now.life.pairs, c.in-Ok-flush_into.ensures.released, took_flush whole_from durable accepted u.journal u.life c.args.unit.now.life.pairs (g.D.WriteDisk.state u.disk) both.1.0 both.1.1 ahead.pairs_are))
+    subst T (sym c.in-Flush.is) (halves.0, (c.args.unit.now.life.pairs, c.in-Ok-flush_into.ensures.released, took_flush whole_from durable accepted u.journal u.life c.args.unit.now.life.pairs (g.D.WriteDisk.state u.disk) halves.1.0 halves.1.1 ahead.pairs_are))
 
 pub returns-in-Err-flush_into-clause-stepped : goal.returns-in-Err-flush_into-clause-stepped
 returns-in-Err-flush_into-clause-stepped g c = λ whole_from durable accepted honest opened ahead.
-    let both = c.in-Err-flush_into.ensures.stepped whole_from durable accepted honest opened ahead in
+    let halves = c.in-Err-flush_into.ensures.stepped whole_from durable accepted honest opened ahead in
     let T : Step → Type 0 = λ x. IsStepped whole_from x durable accepted (g.D.WriteDisk.state c.args.unit.now.disk) (g.D.WriteDisk.state c.flush_into.new.unit.disk) in
-    (subst T (sym c.in-Flush.is) both.0, tt)
+    (subst T (sym c.in-Flush.is) halves.0, tt)
 
 pub returns-in-Ok-clause-last : goal.returns-in-Ok-clause-last
 returns-in-Ok-clause-last g c = λ whole_from earlier durable accepted honest opened ahead last.

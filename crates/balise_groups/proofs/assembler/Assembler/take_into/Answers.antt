@@ -1,7 +1,7 @@
 use Rattle.std.proofs.Common.{◌≡◌, true, false, sym, ap, ◌∙◌, arith}
 use Rattle.balise_groups.specs.Groups.{KnownGroups, groups_of, newest, goes_on, ended}
-use Rattle.balise_groups.specs.Rooms.{packets_in, packets_of_closed}
-use Rattle.balise_groups.proofs.Rooms.{closing_room, joined_room}
+use Rattle.balise_groups.specs.PacketCounts.{packets_in, packets_of_closed}
+use Rattle.balise_groups.proofs.PacketCounts.{closing_space, joined_space}
 use Rattle.balise_groups.proofs.Standing.{not_ignored}
 use Rattle.balise_groups.proofs.assembler.Assembler.take_into.Goals as goal
 use Rattle.balise_groups.proofs.assembler.Assembler.take_into.Goals.{then-goes_on-2, else-goes_on-2}
@@ -25,10 +25,10 @@ returns-clause-stands c entries is =
 
 pub returns-clause-few : goal.returns-clause-few
 returns-clause-few c =
-    let whole = joined_room _ c.if-goes_on-2.self.readings c.args.reading c.join.ensures.answer in
+    let whole = joined_space _ c.if-goes_on-2.self.readings c.args.reading c.join.ensures.answer in
     elim c.if-goes_on-2.branch [
       | then-goes_on-2 w ↦ omega (arith, whole, ap packets_of_closed w.ended-is, ap (λ (k : KnownGroups). packets_in k.readings) w.self-is)
       | else-goes_on-2 w ↦
-          let ended = closing_room _ _ w.end.ensures.answer in
+          let ended = closing_space _ _ w.end.ensures.answer in
           omega (arith, whole, ended, ap packets_of_closed w.ended-is, ap (λ (k : KnownGroups). packets_in k.readings) w.self-is, ap packets_in w.end.ensures.none)
     ]

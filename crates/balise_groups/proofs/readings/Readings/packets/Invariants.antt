@@ -1,5 +1,5 @@
 use Rattle.std.proofs.Common.{◌≡◌, ◌+◌, ◌*◌, ◌≤◌, drop}
-use Rattle.balise_groups.specs.Rooms.{packets_in}
+use Rattle.balise_groups.specs.PacketCounts.{packets_in}
 use Rattle.balise_groups.proofs.readings.Readings.packets.Given as goal
 
 abbrev pub invariant-loop-reading : goal.invariant-loop-reading

@@ -1,5 +1,5 @@
-use Rattle.file_disk.proofs.SystemLemmas.{never_shown}
+use Rattle.file_disk.proofs.SystemLemmas.{never_in_model}
 use Rattle.file_disk.proofs.system.FileRawFile.length.Goals as goal
 
 pub returns-in-Ok : goal.returns-in-Ok
-returns-in-Ok c = λ honest. absurd (never_shown c.args.self.now honest)
+returns-in-Ok c = λ honest. absurd (never_in_model c.args.self.now honest)

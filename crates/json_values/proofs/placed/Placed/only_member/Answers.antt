@@ -1,7 +1,7 @@
 use Rattle.std.proofs.Common.{◌∙◌, sym, ap}
 use Rattle.serde_json.specs.Data.{object}
 use Rattle.json_values.specs.Shapes.{has_count}
-use Rattle.json_values.proofs.Alone.{as_object_of}
+use Rattle.json_values.proofs.Single.{as_object_of}
 use Rattle.json_values.proofs.Looked.{object_there, no_object}
 use Rattle.json_values.proofs.placed.Placed.only_member.Goals as goal
 

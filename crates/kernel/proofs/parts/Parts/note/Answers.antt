@@ -4,8 +4,8 @@ use Rattle.kernel.specs.StandsFor.{KnownAlongside}
 use Rattle.kernel.proofs.parts.Parts.note.Goals as goal
 
 pub returns : goal.returns
-returns c life entry s shown =
+returns c life entry s display_values =
     let parts = c.self.view_is ∙ s in
-    let window = c.after-self-inside.ensures life entry (ap (λ (k : KnownAlongside). k.window) parts) shown in
-    let limit = ap (λ (x : Sight). x.limit) shown in
+    let window = c.after-self-inside.ensures life entry (ap (λ (k : KnownAlongside). k.window) parts) display_values in
+    let limit = ap (λ (x : Sight). x.limit) display_values in
     λ i. record (parts i) { window = window i; limit = limit i }

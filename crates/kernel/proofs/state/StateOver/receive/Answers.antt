@@ -10,8 +10,8 @@ pub returns-clause-life : goal.returns-clause-life
 returns-clause-life g c life s =
     let before = seen c.self.view_is s in
     let supervised = c.in_ok-receive.ensures.stands life before.supervision_is in
-    let shown = c.sight_of-sight.ensures life supervised in
-    record { parts_are = c.note.ensures life (entry_of life c.args.input.now) before.parts_are shown; supervision_is = supervised }
+    let display_values = c.sight_of-sight.ensures life supervised in
+    record { parts_are = c.note.ensures life (entry_of life c.args.input.now) before.parts_are display_values; supervision_is = supervised }
 
 pub returns-clause-counts : goal.returns-clause-counts
 returns-clause-counts g c =

@@ -10,7 +10,7 @@ pub loop-i-preserved : goal.loop-i-preserved
 loop-i-preserved c = record {
   so_far = folded_step static_step _ _ _ _ _ _ _ c.loop-i-test.true c.in-Ok.ensures.value c.loop-i.invariant.so_far;
   few = omega (arith, c.in-Ok.ensures.len, c.loop-i.invariant.few);
-  room = c.in-Ok.ensures.room;
+  space = c.in-Ok.ensures.space;
 }
 
 pub returns : goal.returns

@@ -7,5 +7,5 @@ abbrev pub invariant-loop-i : goal.invariant-loop-i
 invariant-loop-i l = record {
   so_far : read (folded static_step (l.count - l.i) l.speeds) l.reader ≡ read (folded static_step l.count l.fn.speeds) l.fn.reader;
   few : length l.speeds.steps.items ≡ length l.fn.speeds.steps.items + l.i;
-  room : length l.speeds.differences.items ≤ 70;
+  space : length l.speeds.differences.items ≤ 70;
 }

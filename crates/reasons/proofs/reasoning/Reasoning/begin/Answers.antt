@@ -16,13 +16,13 @@ none_held false number = refl
 
 pub returns-clause-stands : goal.returns-clause-stands
 returns-clause-stands c = λ story left.
-    let initial = onward story (PowerUp c.args.word) in
+    let initial = onward story (PowerUp c.args.cold) in
     let knows = c.power_up-state.ensures.initial (past_at story) left in
     let number : c.args.kept.now.events ≡ number_after story = ap (λ (k : Kept). k.events) left in
     record {
       knows = knows;
-      numbered = omega (arith, number, one_more_after story (PowerUp c.args.word));
-      runs_are = c.initial-runs.ensures story c.args.word (c.causes_in-causes.ensures (past_at initial).life knows.life_is) number;
+      numbered = omega (arith, number, one_more_after story (PowerUp c.args.cold));
+      runs_are = c.initial-runs.ensures story c.args.cold (c.causes_in-causes.ensures (past_at initial).life knows.life_is) number;
       trip_is = none_held (is_among cause.OwesTrip (later_causes initial)) (number_after story);
       groups_are = record { mode_is = refl; closings_are = refl };
     }

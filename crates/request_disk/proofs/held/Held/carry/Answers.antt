@@ -31,6 +31,6 @@ returns-in-Few-clause-known c =
 
 pub returns-in-Few-clause-held : goal.returns-in-Few-clause-held
 returns-in-Few-clause-held c = λ medium size held.
-    let all : All (IsHeld c.args.sectors medium) (before c) = subst (λ (it : Held). AreHeld c.args.sectors medium it) c.in-Few.is held in
+    let all : All (IsHeld c.args.sectors medium) (before c) = subst (λ (store : Held). AreHeld c.args.sectors medium store) c.in-Few.is held in
     subst (λ (known : List Known). All (IsHeld c.args.sectors (carried c.args.written.now medium c.args.requests.now)) known) (sym (renews c))
     (held_renewed c.args.sectors medium c.args.written.now c.args.requests.now (before c) c.requires.within size all)

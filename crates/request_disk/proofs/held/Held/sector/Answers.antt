@@ -9,7 +9,7 @@ use Rattle.request_disk.proofs.held.Held.sector.Goals as goal
 
 pub returns-in-Whole-clause-bytes : goal.returns-in-Whole-clause-bytes
 returns-in-Whole-clause-bytes c = λ medium held.
-    let same : c.in-Whole.bytes.items ≡ medium = subst (λ (it : Held). AreHeld c.args.sectors medium it) c.in-Whole.is held in
+    let same : c.in-Whole.bytes.items ≡ medium = subst (λ (store : Held). AreHeld c.args.sectors medium store) c.in-Whole.is held in
     let at : c.args.sector * 512 ≡ 512 * c.args.sector = omega arith in
     let size : c.args.sector * 512 + 512 - c.args.sector * 512 ≡ 512 = omega arith in
     λ i. take (size i) (drop (at i) ((c.deref.ensures.value ∙ same) i))
@@ -22,7 +22,7 @@ returns-in-Some-clause-known c =
 
 pub returns-in-Some-clause-bytes : goal.returns-in-Some-clause-bytes
 returns-in-Some-clause-bytes c = λ medium held.
-    let all : All (IsHeld c.args.sectors medium) c.in-Few.known.items = subst (λ (it : Held). AreHeld c.args.sectors medium it) c.in-Few.is held in
+    let all : All (IsHeld c.args.sectors medium) c.in-Few.known.items = subst (λ (store : Held). AreHeld c.args.sectors medium store) c.in-Few.is held in
     let found : position (λ k. k.sector == c.args.sector) c.in-Few.known.items ≡ Some c.in-Some.place =
     ap (λ (known : List Known). position (λ k. k.sector == c.args.sector) known) (sym c.deref-in-Few.ensures.value) ∙ sym c.place_in.ensures ∙ c.in-Some.is in
     ap (λ (k : Known). k.bytes) c.index.ensures

@@ -32,7 +32,7 @@ invariant_of-self c =
     record {
       whole = ap length (carries c) ∙ carried_size m.sectors m.medium.bytes (bytes c) (calls c) (within c) c.self.invariant.whole;
       held = subst (λ (medium : List ℕ). AreHeld m.sectors medium c.carry-2.new.self) (sym (carries c)) held;
-      held_fit = c.carry-2.ensures.room c.self.invariant.held_fit;
+      held_fit = c.carry-2.ensures.space c.self.invariant.held_fit;
       within = subst (λ (l : List Call). All (IsWithin m.sectors (vec_len c.clear-2.new.self)) l) (sym c.clear.ensures.items) (All-nil (IsWithin m.sectors (vec_len c.clear-2.new.self)));
       only = subst (λ (l : List Call). All IsRequest l) (sym c.clear.ensures.items) (All-nil IsRequest);
       none = λ _. c.clear-2.ensures.len;

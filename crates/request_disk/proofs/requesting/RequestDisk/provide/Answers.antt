@@ -25,7 +25,7 @@ module _ (c : goal.After-add) where
   }
 
   unknown : knows c.args.sector w ≡ false
-  unknown = let it : knows c.args.sector c.args.self.now ≡ false = search rules in ap (λ (v : Requesting). knows c.args.sector v) c.self.view_is ∙ it
+  unknown = let unknown_sector : knows c.args.sector c.args.self.now ≡ false = search rules in ap (λ (v : Requesting). knows c.args.sector v) c.self.view_is ∙ unknown_sector
 
   below : c.args.sector < w.sectors
   below = subst (λ (v : Requesting). c.args.sector < v.sectors) (sym c.self.view_is) c.requires
@@ -39,20 +39,20 @@ module _ (c : goal.After-add) where
   carries : c.carry.new.self.bytes ≡ next
   carries = c.carry.ensures
 
-  abbrev it : Known
-  it = record { sector = c.args.sector; bytes = c.args.bytes.now }
+  abbrev unknown_sector : Known
+  unknown_sector = record { sector = c.args.sector; bytes = c.args.bytes.now }
 
 pub invariant_of-self-2 : goal.invariant_of-self-2
 invariant_of-self-2 c =
     let m = c.self.inside in let s = c.args.sector in
-    let one : IsHeld m.sectors (next c) (it c) = record { below = below c; bytes = sym (put_one m.sectors m.medium.bytes c.args.bytes.now s (below c) (size c) c.self.invariant.whole) } in
+    let one : IsHeld m.sectors (next c) (unknown_sector c) = record { below = below c; bytes = sym (put_one m.sectors m.medium.bytes c.args.bytes.now s (below c) (size c) c.self.invariant.whole) } in
     let held : AreHeld m.sectors (next c) c.add.new.self =
     c.add.ensures.held m.sectors m.medium.bytes (next c) (unknown_held s (w c) (unknown c))
     (put_other m.sectors m.medium.bytes c.args.bytes.now s (below c) (size c) c.self.invariant.whole) one c.self.invariant.held in
     record {
       whole = ap length (carries c) ∙ put_size m.sectors m.medium.bytes c.args.bytes.now s (below c) (size c) c.self.invariant.whole;
       held = subst (λ (medium : List ℕ). AreHeld m.sectors medium c.add.new.self) (sym (carries c)) held;
-      held_fit = c.add.ensures.room;
+      held_fit = c.add.ensures.space;
       within = c.self.invariant.within;
       only = c.self.invariant.only;
       none = c.self.invariant.none;

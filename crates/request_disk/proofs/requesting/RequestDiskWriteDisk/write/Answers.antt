@@ -9,11 +9,11 @@ returns-clause-moments c =
     let old = c.args.self.now in
     let at : c.len.result ≡ length old.written = search rules in
     let N : ℕ → Type 0 = λ n. IsNoted (Written (record { first = c.args.first; sectors = length c.args.bytes.now / 512; from = n })) c.args.bytes.now old c.note.new.self in
-    write_touches old c.note.new.self c.has_room.ensures.kept c.args.first c.args.bytes.now c.requires (subst N at c.note.ensures)
+    write_touches old c.note.new.self c.has_space.ensures.kept c.args.first c.args.bytes.now c.requires (subst N at c.note.ensures)
 
 pub returns-clause-written : goal.returns-clause-written
 returns-clause-written c =
     let old = c.args.self.now in
     let at : c.len.result ≡ length old.written = search rules in
     let N : ℕ → Type 0 = λ n. IsNoted (Written (record { first = c.args.first; sectors = length c.args.bytes.now / 512; from = n })) c.args.bytes.now old c.note.new.self in
-    write_holds old c.note.new.self c.has_room.ensures.kept c.args.first c.args.bytes.now c.requires (subst N at c.note.ensures)
+    write_holds old c.note.new.self c.has_space.ensures.kept c.args.first c.args.bytes.now c.requires (subst N at c.note.ensures)

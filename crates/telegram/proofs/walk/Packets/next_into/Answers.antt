@@ -56,5 +56,5 @@ returns-clause-some c =
     let some : 0 < c.self.inside.left = omega arith in
     let here : read next_packet c.self.inside.reader ≡ Ok (Some c.read_next.new.out, c.read_next.new.reader) = rw c.if-not-more.false at c.in-Ok.ensures in
     let end : 8 * length c.self.inside.bytes.now - c.remaining.result ≡ c.self.inside.start + length_of c.read_next.new.out = omega (arith, taken _ _ _ here, c.remaining.ensures.value, c.self.invariant.1) in
-    let shown = ap (λ (w : Walk). w.items) (sym c.self.view_is) ∙ ap (located_from c.self.inside.bytes.now c.self.inside.start) (packets_in-first _ _ _ _ some here) in
-    rw (c.bytes_between-item-inside.ensures, end) shown
+    let field_list = ap (λ (w : Walk). w.items) (sym c.self.view_is) ∙ ap (located_from c.self.inside.bytes.now c.self.inside.start) (packets_in-first _ _ _ _ some here) in
+    rw (c.bytes_between-item-inside.ensures, end) field_list

@@ -1,6 +1,6 @@
 use Rattle.std.proofs.Common.{◌≡◌, ◌≤◌, ap, subst}
 use Rattle.balise_groups.specs.Groups as groups
-use Rattle.balise_groups.specs.Rooms.{packets_in, packets_of_closed}
+use Rattle.balise_groups.specs.PacketCounts.{packets_in, packets_of_closed}
 use Rattle.track_picture.specs.StandsFor.{KnownTrack}
 use Rattle.track_picture.proofs.parts.Parts.leave.Goals as goal
 

@@ -20,13 +20,13 @@ returns-in-Broken-clause-stands g c life initial used s =
     let inside = seen c.self.view_is s in
     let before = up_to_groups (record blank { initial = initial; used = used }) life.entries in
     let links = ap (λ (k : KnownTrack). k.links) inside.parts_are ∙ sym (links_are before) in
-    let asked = ap (λ (k : KnownTrack). broken_effect k.links b.group b.linked) (inside.parts_are ∙ sym (same_parts (grown_so_far life initial used))) in
+    let requested = ap (λ (k : KnownTrack). broken_effect k.links b.group b.linked) (inside.parts_are ∙ sym (same_parts (grown_so_far life initial used))) in
     subst (λ (group : Closed). StandsForColumns g.T.ProfileStores.stores (record { parts = c.give_up.new.self; restrictions = c.self.inside.restrictions; gradients = c.self.inside.gradients; speeds = c.self.inside.speeds })
     (grown_so_far life initial (after_group c.args.mode life.entries initial used group)))
     (sym c.in-Broken.is)
     (subst (λ (effect : Effect). StandsForColumns g.T.ProfileStores.stores (record { parts = c.give_up.new.self; restrictions = c.self.inside.restrictions; gradients = c.self.inside.gradients; speeds = c.self.inside.speeds })
     (grown_so_far life initial (added (NoMessage b) (asking_for effect used))))
-    asked
+    requested
     (reported_as (ap (λ (k : KnownLinks). after_breaking k b (reported_in before)) links ∙ sym (reported_judged (NoMessage b) before)) (record {
       parts_are = c.give_up.ensures life initial used (reported_in before) inside.parts_are;
       restrictions_are = inside.restrictions_are;

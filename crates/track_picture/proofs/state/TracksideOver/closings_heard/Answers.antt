@@ -4,7 +4,7 @@ use Rattle.std.proofs.lemmas.List.{length-map}
 use Rattle.std.proofs.lemmas.Result.{IfOk-weaker}
 use Rattle.telegram.specs.declared.message.Telegram.{Telegram}
 use Rattle.balise_groups.specs.Groups.GroupEntry.{Read}
-use Rattle.balise_groups.specs.Rooms.{packets_in}
+use Rattle.balise_groups.specs.PacketCounts.{packets_in}
 use Rattle.mode_table.specs.declared.mode.Mode.{Mode}
 use Rattle.track_picture.specs.declared.closings.Closing.{Closing}
 use Rattle.track_picture.specs.declared.closings.Closings.{Closings}
@@ -14,7 +14,7 @@ use Rattle.track_picture.specs.Columns.{StandsForColumns, columns_of}
 use Rattle.track_picture.specs.Entry.{TrackEntry, InputEffect, nothing, nothing_happened}
 use Rattle.track_picture.specs.History.{place_of}
 use Rattle.track_picture.specs.Sentences.{heard, with_closed, with_groups}
-use Rattle.track_picture.specs.StandsFor.{Life, Knowledge, grown_so_far, room_in}
+use Rattle.track_picture.specs.StandsFor.{Life, Knowledge, grown_so_far, space_in}
 use Rattle.track_picture.proofs.Carrying.{carried_in, refused_none}
 use Rattle.track_picture.proofs.Standing.{seen_columns as seen}
 use Rattle.track_picture.proofs.state.TracksideOver.closings_heard.Goals as goal
@@ -51,10 +51,10 @@ returns-clause-closings g c =
     c.closings_of.ensures.closings
 
 pub returns-clause-quiet : goal.returns-clause-quiet
-returns-clause-quiet g c none room =
+returns-clause-quiet g c none space =
     let readings = c.args.self.now.parts.groups.readings in
-    let most = room_in g.T.ProfileStores.stores c.args.self.now in
-    let enough = subst (λ (o : Option Telegram). option_map_or (λ t. packets_in readings + length t.packets.items) o 0 ≤ most) (carried_in _ _ ((c.in-Ok.ensures.found _).0 refl)) room in
+    let most = space_in g.T.ProfileStores.stores c.args.self.now in
+    let enough = subst (λ (o : Option Telegram). option_map_or (λ t. packets_in readings + length t.packets.items) o 0 ≤ most) (carried_in _ _ ((c.in-Ok.ensures.found _).0 refl)) space in
     let count : c.packets.result ≡ packets_in readings =
     c.packets.ensures.number ∙ ap (λ w. packets_in w.parts.groups.readings) c.self-inside.view_is
     ∙ ap (λ (k : Knowledge g.row.T-Gradients.Denot g.row.T-Speeds.Denot). packets_in k.parts.groups.readings) c.self.view_is in

@@ -5,7 +5,7 @@ use Rattle.track_picture.specs.declared.closings.Closing.{Closing}
 use Rattle.track_picture.specs.Closings.{closings_in, closing_as, listed}
 use Rattle.track_picture.specs.Entry.{Used}
 use Rattle.track_picture.specs.Sentences.{with_closed}
-use Rattle.track_picture.proofs.OneGroup.{alone, one_if, one_more}
+use Rattle.track_picture.proofs.OneGroup.{entry_with, one_if, one_more}
 use Rattle.track_picture.proofs.Standing.{seen_columns as seen}
 use Rattle.track_picture.proofs.state.TracksideOver.closings_of.Goals as goal
 
@@ -21,7 +21,7 @@ pub returns-in_default-clause-closings : goal.returns-in_default-clause-closings
 returns-in_default-clause-closings g c life initial happened s is =
     let mode = c.args.mode in
     let first : Used = record { groups = []; happened = happened } in
-    alone c.closing_if.result
+    entry_with c.closing_if.result
     ∙ ap listed c.closing_if.ensures
     ∙ one_if mode life initial happened c.args.parts c.args.ended is
     ∙ ap (λ (group : Option Closed). closings_in life.entries initial (with_closed mode life.entries initial group (with_closed mode life.entries initial c.args.ended first)).groups)

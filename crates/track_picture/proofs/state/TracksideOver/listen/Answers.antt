@@ -3,11 +3,11 @@ use Rattle.std.specs.Option.{option_map, option_map_or}
 use Rattle.std.proofs.lemmas.Result.{on_ok_weaker}
 use Rattle.telegram.specs.declared.message.Telegram.{Telegram}
 use Rattle.balise_groups.specs.Groups.GroupEntry.{Read}
-use Rattle.balise_groups.specs.Rooms.{packets_in}
+use Rattle.balise_groups.specs.PacketCounts.{packets_in}
 use Rattle.track_picture.specs.Entry.{InputEffect, nothing_happened, nothing}
 use Rattle.track_picture.specs.History.{place_of}
 use Rattle.track_picture.specs.Sentences.{with_groups}
-use Rattle.track_picture.specs.StandsFor.{Life, grown_so_far, room_in}
+use Rattle.track_picture.specs.StandsFor.{Life, grown_so_far, space_in}
 use Rattle.track_picture.specs.Columns.{StandsForColumns}
 use Rattle.track_picture.proofs.Carrying.{carried_in, refused_none}
 use Rattle.track_picture.proofs.Standing.{seen_columns as seen}
@@ -20,11 +20,11 @@ returns-in-Ok-clause-stands g c =
     c.read.ensures.stands
 
 pub returns-in-Ok-clause-quiet : goal.returns-in-Ok-clause-quiet
-returns-in-Ok-clause-quiet g c room =
+returns-in-Ok-clause-quiet g c space =
     let packets = packets_in c.args.self.now.parts.groups.readings in
-    let most = room_in g.T.ProfileStores.stores c.args.self.now in
+    let most = space_in g.T.ProfileStores.stores c.args.self.now in
     c.read.ensures.quiet
-    (subst (λ (o : Option Telegram). option_map_or (λ t. packets + length t.packets.items) o 0 ≤ most) (carried_in _ _ ((c.in-Ok.ensures.found _).0 refl)) room)
+    (subst (λ (o : Option Telegram). option_map_or (λ t. packets + length t.packets.items) o 0 ≤ most) (carried_in _ _ ((c.in-Ok.ensures.found _).0 refl)) space)
 
 pub returns-in-Ok-clause-idle : goal.returns-in-Ok-clause-idle
 returns-in-Ok-clause-idle g c none =

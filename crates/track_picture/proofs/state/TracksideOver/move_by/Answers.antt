@@ -1,7 +1,7 @@
 use Rattle.std.proofs.Common.{◌≡◌, Bool, is_none, if◌then◌else◌, ap, subst, sym, ◌∙◌, arith}
-use Rattle.balise_groups.specs.Rooms.{packets_in}
+use Rattle.balise_groups.specs.PacketCounts.{packets_in}
 use Rattle.track_picture.specs.StandsFor.{Knowledge, SameTrack}
-use Rattle.track_picture.proofs.Moving.{moved_alone}
+use Rattle.track_picture.proofs.Moving.{only_moved}
 use Rattle.track_picture.proofs.Standing.{seen_columns as seen}
 use Rattle.track_picture.proofs.state.TracksideOver.move_by.Goals as goal
 
@@ -10,7 +10,7 @@ pub returns-then-is_idle-clause-stands : goal.returns-then-is_idle-clause-stands
 returns-then-is_idle-clause-stands g c life s =
     let inside = seen c.self.view_is s in
     let stays = c.go.ensures.idle (sym (c.is_idle.ensures ∙ ap (λ w. is_none w.parts.groups.current) c.self-inside.view_is) ∙ c.if-is_idle.true) in
-    moved_alone c.args.mode life c.args.reading.now (c.go.ensures.stands life inside.parts_are stays) (c.go.ensures.none life inside.parts_are stays) inside
+    only_moved c.args.mode life c.args.reading.now (c.go.ensures.stands life inside.parts_are stays) (c.go.ensures.none life inside.parts_are stays) inside
 
 pub returns-clause-idle : goal.returns-clause-idle
 returns-clause-idle g c none =
@@ -23,6 +23,6 @@ returns-clause-idle g c none =
     let count : c.packets-packets.result ≡ packets_in known.parts.groups.readings =
     c.packets-packets.ensures.number ∙ ap (λ w. packets_in w.parts.groups.readings) c.self-inside.view_is
     ∙ ap (λ (k : Knowledge g.row.T-Gradients.Denot g.row.T-Speeds.Denot). packets_in k.parts.groups.readings) c.self.view_is in
-    let same = c.make_room.ensures.same (omega (arith, empty, count)) in
+    let same = c.make_space.ensures.same (omega (arith, empty, count)) in
     subst (λ (k : Knowledge g.row.T-Gradients.Denot g.row.T-Speeds.Denot). SameTrack k c.move_on.new.self) same
     (c.move_on.ensures.idle (subst (λ (k : Knowledge g.row.T-Gradients.Denot g.row.T-Speeds.Denot). packets_in k.parts.groups.readings ≡ 0) (sym same) empty))

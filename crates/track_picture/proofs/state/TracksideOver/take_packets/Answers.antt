@@ -7,7 +7,7 @@ use Rattle.track_picture.specs.Entry.{TrackEntry, InputEffect, Used, Fact, blank
 use Rattle.track_picture.specs.Entry.Outcome.{Accepted}
 use Rattle.track_picture.specs.Columns.{after_facts, StandsForColumns, description_of}
 use Rattle.track_picture.specs.Steps.{facts}
-use Rattle.track_picture.specs.StandsFor.{Life, Knowledge, grown, grown_so_far, room_in}
+use Rattle.track_picture.specs.StandsFor.{Life, Knowledge, grown, grown_so_far, space_in}
 use Rattle.track_picture.specs.Reported.{Walked, IsReported, after_earlier, after_later}
 use Rattle.track_picture.specs.Happenings.{comes_later, happenings}
 use Rattle.track_picture.specs.History.{is_stopped}
@@ -60,23 +60,23 @@ returns-else-take_all-clause-stands g c life initial groups message announced fi
     stands _ _ life reported initial groups message announced fix
     (subst (IsReported g.T.ProfileStores.stores c.take_all.new.state) (sym (none_later c.args.used.now c.args.packets.now _ none)) first)
 
--- the first walk takes no more room than for its packets, the second none
-pub returns-then-take_all-clause-room : goal.returns-then-take_all-clause-room
-returns-then-take_all-clause-room g c =
+-- the first walk takes no more space than for its packets, the second none
+pub returns-then-take_all-clause-space : goal.returns-then-take_all-clause-space
+returns-then-take_all-clause-space g c =
     let count = length c.args.packets.now in
-    let room = room_in g.T.ProfileStores.stores c.args.self.now in
-    let inside : count ≤ room = c.requires in
-    let split : count + (room - count) ≤ room = omega arith in
-    let first : room - count ≤ room_in g.T.ProfileStores.stores c.take_all.new.state =
-    omega (arith, c.take_all.ensures.room (room - count) split) in
-    let left = c.take_all-then-take_all.ensures.room (room - count) first in
+    let space = space_in g.T.ProfileStores.stores c.args.self.now in
+    let inside : count ≤ space = c.requires in
+    let split : count + (space - count) ≤ space = omega arith in
+    let first : space - count ≤ space_in g.T.ProfileStores.stores c.take_all.new.state =
+    omega (arith, c.take_all.ensures.space (space - count) split) in
+    let left = c.take_all-then-take_all.ensures.space (space - count) first in
     omega arith
 
-pub returns-else-take_all-clause-room : goal.returns-else-take_all-clause-room
-returns-else-take_all-clause-room g c =
+pub returns-else-take_all-clause-space : goal.returns-else-take_all-clause-space
+returns-else-take_all-clause-space g c =
     let count = length c.args.packets.now in
-    let room = room_in g.T.ProfileStores.stores c.args.self.now in
-    let inside : count ≤ room = c.requires in
-    let split : count + (room - count) ≤ room = omega arith in
-    let left = c.take_all.ensures.room (room - count) split in
+    let space = space_in g.T.ProfileStores.stores c.args.self.now in
+    let inside : count ≤ space = c.requires in
+    let split : count + (space - count) ≤ space = omega arith in
+    let left = c.take_all.ensures.space (space - count) split in
     omega arith

@@ -49,5 +49,5 @@ invariant_of-result g c =
 pub returns-clause-value : goal.returns-clause-value
 returns-clause-value g c =
     let items = c.deref-fact-items.result.now in
-    let listed : List (Remembered _) → Listed _ = λ facts. record { facts = facts; room = c.self.inside.room } in
+    let listed : List (Remembered _) → Listed _ = λ facts. record { facts = facts; space = c.self.inside.space } in
     ap listed (c.loop-fact.invariant.0 ∙ take_all c.loop-fact.fact-index items c.loop-fact-test.false ∙ c.deref-fact-items.ensures.value) ∙ c.self.view_is

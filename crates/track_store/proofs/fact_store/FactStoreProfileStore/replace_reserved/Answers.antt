@@ -11,14 +11,14 @@ from_first false old given = refl
 
 pub unwrap-requires : goal.unwrap-requires
 unwrap-requires g c =
-    let room : c.self.inside.room ≡ c.args.self.now.room = ap (λ (l : Listed _). l.room) c.self.view_is in
-    c.insert.ensures.succeeds (omega (arith, c.self.invariant.0, c.requires.room, room))
+    let space : c.self.inside.space ≡ c.args.self.now.space = ap (λ (l : Listed _). l.space) c.self.view_is in
+    c.insert.ensures.succeeds (omega (arith, c.self.invariant.0, c.requires.space, space))
 
 pub invariant_of-self : goal.invariant_of-self
 invariant_of-self g c =
-    let room : c.self.inside.room ≡ c.args.self.now.room = ap (λ (l : Listed _). l.room) c.self.view_is in
+    let space : c.self.inside.space ≡ c.args.self.now.space = ap (λ (l : Listed _). l.space) c.self.view_is in
     let len : vec_len c.insert.new.self ≡ vec_len c.self.inside.facts + 1 = rw c.unwrap.ensures at c.insert.ensures.len in
-    (omega (arith, len, c.insert.ensures.capacity, c.self.invariant.0, c.requires.room, room), omega (arith, c.in-Some.ensures.len, c.self.invariant.1))
+    (omega (arith, len, c.insert.ensures.capacity, c.self.invariant.0, c.requires.space, space), omega (arith, c.in-Some.ensures.len, c.self.invariant.1))
 
 pub returns-in-Some-clause-value : goal.returns-in-Some-clause-value
 returns-in-Some-clause-value g c place =

@@ -13,8 +13,8 @@ pub returns-clause-value : goal.returns-clause-value
 returns-clause-value g c there =
     c.drop_below.ensures.value there ∙ ap (λ store. from_mark c.args.place (value_kept store) there) c.self.view_is
 
-pub returns-clause-room : goal.returns-clause-room
-returns-clause-room g c = ap (λ (store : Segmented _). store.room) c.self.view_is
+pub returns-clause-space : goal.returns-clause-space
+returns-clause-space g c = ap (λ (store : Segmented _). store.space) c.self.view_is
 
 pub returns-clause-size : goal.returns-clause-size
 returns-clause-size g c = omega (arith, c.drop_below.ensures.len, ap size_of c.self.view_is)

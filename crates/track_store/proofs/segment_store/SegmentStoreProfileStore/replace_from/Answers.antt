@@ -18,5 +18,5 @@ returns-clause-ok g c place =
     ∙ ap (λ segments. replaced (value_of_segments segments) c.args.start c.args.steps.now place) c.reserve.ensures.items
     ∙ ap (λ store. replaced (value_kept store) c.args.start c.args.steps.now place) c.self.view_is
 
-pub returns-clause-room : goal.returns-clause-room
-returns-clause-room g c = ap (λ (store : Segmented _). store.room) c.self.view_is
+pub returns-clause-space : goal.returns-clause-space
+returns-clause-space g c = ap (λ (store : Segmented _). store.space) c.self.view_is

@@ -21,7 +21,7 @@ use Rattle.std.proofs.raw_atomic.Walks.{proved_at, leaves}
 use Rattle.std.specs.contracts.alloc.Global as heap
 use Rattle.std.proofs.alloc.Global.TheLaws as heap_laws
 use Rattle.std.specs.contracts.impls.GlobalAllocator.TheImpl.{ghosts}
-use Rattle.unit_calls.proofs.HeldValues.{both, al, held_shut, none_good, ptr_good}
+use Rattle.unit_calls.proofs.HeldValues.{pair_value, al, held_shut, none_good, ptr_good}
 use Rattle.unit_calls.specs.contracts.handle.Opened as unit
 use Rattle.unit_calls.proofs.Values.{Raw, one, raw_good, raw_out}
 use Rattle.unit_calls.specs.contracts.raw.Raw.into_held as f
@@ -43,4 +43,4 @@ into_held_spec 𝓤 𝓛 𝓜 𝓡 wired =
     sets ! (of_opd ! (get_in ! (fld ! refl (stop !)) (sub ! 0 refl (whole !)))) refl (ptr_good p) $ sets ! (of_opd ! (get ! refl)) refl (ptr_good p) $
     sets ! (agg ! (and_then ! (get ! refl) (and_then ! (get ! refl) (no_more !)))) refl made $
     held_shut R Z LZ ghosts ! p h a v.value $ use0 𝓛 (raw (fact 𝓤 (v.value ≡ v.value))) (fact_i 𝓤 (v.value ≡ v.value) (emp 𝓤) refl) $ nothing ! $ nothing ! $ fjoin ! $ nothing ! $ fjoin ! $
-    returns ! (look_at ! 0 refl) $ free_all ! refl $ keep ! (3 ∷ 0 ∷ 2 ∷ 1 ∷ []) $ by ! (leaves 𝓛 f.ended hs c z (both (ptr_val p) h) (record { at = p; alloc = a; value = v.value }) (tt, (tt, tt)) (tt, (tt, tt)))))))
+    returns ! (look_at ! 0 refl) $ free_all ! refl $ keep ! (3 ∷ 0 ∷ 2 ∷ 1 ∷ []) $ by ! (leaves 𝓛 f.ended hs c z (pair_value (ptr_val p) h) (record { at = p; alloc = a; value = v.value }) (tt, (tt, tt)) (tt, (tt, tt)))))))

@@ -21,7 +21,7 @@ use Rattle.std.proofs.raw_atomic.Walks.{proved_at, leaves}
 use Rattle.std.specs.contracts.alloc.Global as heap
 use Rattle.std.proofs.alloc.Global.TheLaws as heap_laws
 use Rattle.std.specs.contracts.impls.GlobalAllocator.TheImpl.{ghosts}
-use Rattle.unit_calls.proofs.HeldValues.{both, Held, held_open, none_good, ptr_good}
+use Rattle.unit_calls.proofs.HeldValues.{pair_value, Held, held_open, none_good, ptr_good}
 use Rattle.unit_calls.specs.contracts.place.Place as place
 use Rattle.unit_calls.proofs.Values.{one, raw_good}
 use Rattle.unit_calls.proofs.PlaceValues.{place_in}
@@ -37,7 +37,7 @@ of_spec 𝓤 𝓛 𝓜 𝓡 wired =
     proved_at 𝓛 f.ended hs c 𝓜 𝓡 (Goes-blank 𝓛 0 (plain (λ _. Held R Z LZ ghosts)) yes (λ κs x w. tt), tt) f.Key.name fn (code.unfolded 𝓤 H 𝓜 𝓡 wired) (λ z are.
     let v = z.0.3.0 in let p : Ptr = v.at in let Post : Val → SProp 𝓤 = (walk_of 𝓛 f.ended hs c).post z in let Run : List Val → SProp 𝓤 = λ ws. WpFn 𝓤 H 𝓣.C 𝓣.Λ fn ws Post in
     qed 𝓛 ((‵ ftrue ⊛ ‵ (owns (types_at f.ended.signature.params z.0.0) z.0.3 z.0.4)) ∷ raw ((c z.0.0 z.0.3).requires z.1) ∷ []) ∵ split ! $ move ! (1 ∷ []) $ fsplit ! $
-    held_open R Z LZ ghosts ! v z.0.4.0 (λ h ws fits. let w : Val = both (ptr_val p) h in move ! (1 ∷ []) $ drop ! $ move ! (1 ∷ []) $ drop ! $
+    held_open R Z LZ ghosts ! v z.0.4.0 (λ h ws fits. let w : Val = pair_value (ptr_val p) h in move ! (1 ∷ []) $ drop ! $ move ! (1 ∷ []) $ drop ! $
     suffices ! (Run (w ∷ [])) (subst (λ (us : List Val). ent 𝓤 (Run (w ∷ [])) (Run us)) (sym (λ i. ws i ++ [])) (id⊢ 𝓤 (Run (w ∷ [])))) $
     enter ! 𝓣.C 𝓣.Λ fn (w ∷ []) Post $ alloc_all ! (λ l. pass_all ! refl (none_good R Z LZ ghosts p h fits, tt) $
     sets ! (of_opd ! (get_in ! (fld ! refl (stop !)) (sub ! 0 refl (whole !)))) refl (ptr_good p) $ sets ! (of_opd ! (get ! refl)) refl (ptr_good p) $

@@ -7,14 +7,14 @@ use Rattle.disk.proofs.memory.calls.MemoryDisk.read.Goals as goal
 pub returns-in-Runs-clause-moments : goal.returns-in-Runs-clause-moments
 returns-in-Runs-clause-moments c =
     let m = c.args.self.now in
-    let kept : IsRecording m = c.has_room.ensures.kept in
+    let kept : IsRecording m = c.has_space.ensures.kept in
     quiet_to 0 0 (length m.written) m.sectors m.faults _ m.start m.written m.calls Quiet _ _ _ _
     kept.recorded refl kept.whole (λ s. leaves_quiet s) (within_quiet m.sectors (length m.written)) (search rules) (search rules) (search rules) (search rules)
 
 pub returns-in-Fails-clause-moments : goal.returns-in-Fails-clause-moments
 returns-in-Fails-clause-moments c =
     let m = c.args.self.now in
-    let kept : IsRecording m = c.has_room.ensures.kept in
+    let kept : IsRecording m = c.has_space.ensures.kept in
     quiet_to 0 0 (length m.written) m.sectors m.faults _ m.start m.written m.calls Quiet _ _ _ _
     kept.recorded refl kept.whole (λ s. leaves_quiet s) (within_quiet m.sectors (length m.written)) (search rules) (search rules) (search rules) (search rules)
 

@@ -6,7 +6,7 @@ use Rattle.disk.proofs.Calls.{noted_still, quiet_to, leaves_quiet, within_quiet}
 use Rattle.disk.proofs.memory.calls.MemoryWriteDisk.sync.Goals as goal
 
 pub returns-in-Runs-clause-moments : goal.returns-in-Runs-clause-moments
-returns-in-Runs-clause-moments c = noted_still c.note.ensures c.has_room.ensures.kept tt
+returns-in-Runs-clause-moments c = noted_still c.note.ensures c.has_space.ensures.kept tt
 
 pub returns-in-Runs-clause-synced : goal.returns-in-Runs-clause-synced
 returns-in-Runs-clause-synced c = grind (arith, common_steps)
@@ -14,6 +14,6 @@ returns-in-Runs-clause-synced c = grind (arith, common_steps)
 pub returns-in-Fails-clause-moments : goal.returns-in-Fails-clause-moments
 returns-in-Fails-clause-moments c =
     let m = c.args.self.now in
-    let kept : IsRecording m = c.has_room.ensures.kept in
+    let kept : IsRecording m = c.has_space.ensures.kept in
     quiet_to 0 0 (length m.written) m.sectors m.faults _ m.start m.written m.calls Quiet _ _ _ _
     kept.recorded refl kept.whole (λ s. leaves_quiet s) (within_quiet m.sectors (length m.written)) (search rules) (search rules) (search rules) (search rules)

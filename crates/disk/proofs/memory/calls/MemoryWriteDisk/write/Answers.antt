@@ -9,7 +9,7 @@ use Rattle.disk.proofs.memory.calls.MemoryWriteDisk.write.Goals as goal
 pub returns-in-Runs-clause-moments : goal.returns-in-Runs-clause-moments
 returns-in-Runs-clause-moments c =
     let m = c.args.self.now in
-    let kept : IsRecording m = c.has_room.ensures.kept in
+    let kept : IsRecording m = c.has_space.ensures.kept in
     let whole : length c.args.bytes.now ≡ 512 * (length c.args.bytes.now / 512) = omega (arith, c.requires.whole) in
     let at : c.len.result ≡ length m.written = search rules in
     let span : Span = record { first = c.args.first; sectors = length c.args.bytes.now / 512; from = c.len.result } in
@@ -23,7 +23,7 @@ returns-in-Runs-clause-moments c =
 pub returns-in-Runs-clause-written : goal.returns-in-Runs-clause-written
 returns-in-Runs-clause-written c =
     let m = c.args.self.now in
-    let kept : IsRecording m = c.has_room.ensures.kept in
+    let kept : IsRecording m = c.has_space.ensures.kept in
     let whole : length c.args.bytes.now ≡ 512 * (length c.args.bytes.now / 512) = omega (arith, c.requires.whole) in
     let at : c.len.result ≡ length m.written = search rules in
     let span : Span = record { first = c.args.first; sectors = length c.args.bytes.now / 512; from = c.len.result } in
@@ -32,7 +32,7 @@ returns-in-Runs-clause-written c =
 pub returns-in-Runs-clause-handed : goal.returns-in-Runs-clause-handed
 returns-in-Runs-clause-handed c = λ _ _.
     let m = c.args.self.now in
-    let kept : IsRecording m = c.has_room.ensures.kept in
+    let kept : IsRecording m = c.has_space.ensures.kept in
     let whole : length c.args.bytes.now ≡ 512 * (length c.args.bytes.now / 512) = omega (arith, c.requires.whole) in
     let at : c.len.result ≡ length m.written = search rules in
     let span : Span = record { first = c.args.first; sectors = length c.args.bytes.now / 512; from = c.len.result } in
@@ -41,7 +41,7 @@ returns-in-Runs-clause-handed c = λ _ _.
 pub returns-in-Runs-clause-others_handed : goal.returns-in-Runs-clause-others_handed
 returns-in-Runs-clause-others_handed c =
     let m = c.args.self.now in
-    let kept : IsRecording m = c.has_room.ensures.kept in
+    let kept : IsRecording m = c.has_space.ensures.kept in
     let whole : length c.args.bytes.now ≡ 512 * (length c.args.bytes.now / 512) = omega (arith, c.requires.whole) in
     let at : c.len.result ≡ length m.written = search rules in
     let span : Span = record { first = c.args.first; sectors = length c.args.bytes.now / 512; from = c.len.result } in
@@ -55,7 +55,7 @@ returns-in-Runs-clause-others_handed c =
 pub returns-in-Fails-clause-moments : goal.returns-in-Fails-clause-moments
 returns-in-Fails-clause-moments c =
     let m = c.args.self.now in
-    let kept : IsRecording m = c.has_room.ensures.kept in
+    let kept : IsRecording m = c.has_space.ensures.kept in
     let whole : length c.args.bytes.now ≡ 512 * (length c.args.bytes.now / 512) = omega (arith, c.requires.whole) in
     let at : c.len.result ≡ length m.written = search rules in
     let span : Span = record { first = c.args.first; sectors = length c.args.bytes.now / 512; from = c.len.result } in
@@ -69,14 +69,14 @@ returns-in-Fails-clause-moments c =
 pub returns-in-Fails-clause-old_bytes : goal.returns-in-Fails-clause-old_bytes
 returns-in-Fails-clause-old_bytes c =
     let m = c.args.self.now in
-    let kept : IsRecording m = c.has_room.ensures.kept in
+    let kept : IsRecording m = c.has_space.ensures.kept in
     let span : Span = record { first = c.args.first; sectors = length c.args.bytes.now / 512; from = c.len.result } in
     torn_contents (length m.written) m.sectors m.start m.written c.args.bytes.now m.calls span c.fault-in-Fails.new.self.start c.fault-in-Fails.new.self.written c.fault-in-Fails.new.self.calls kept.recorded refl (search rules) (search rules) (search rules)
 
 pub returns-in-Fails-clause-handed : goal.returns-in-Fails-clause-handed
 returns-in-Fails-clause-handed c = λ _ _.
     let m = c.args.self.now in
-    let kept : IsRecording m = c.has_room.ensures.kept in
+    let kept : IsRecording m = c.has_space.ensures.kept in
     let whole : length c.args.bytes.now ≡ 512 * (length c.args.bytes.now / 512) = omega (arith, c.requires.whole) in
     let at : c.len.result ≡ length m.written = search rules in
     let span : Span = record { first = c.args.first; sectors = length c.args.bytes.now / 512; from = c.len.result } in
@@ -85,7 +85,7 @@ returns-in-Fails-clause-handed c = λ _ _.
 pub returns-in-Fails-clause-others_handed : goal.returns-in-Fails-clause-others_handed
 returns-in-Fails-clause-others_handed c =
     let m = c.args.self.now in
-    let kept : IsRecording m = c.has_room.ensures.kept in
+    let kept : IsRecording m = c.has_space.ensures.kept in
     let whole : length c.args.bytes.now ≡ 512 * (length c.args.bytes.now / 512) = omega (arith, c.requires.whole) in
     let at : c.len.result ≡ length m.written = search rules in
     let span : Span = record { first = c.args.first; sectors = length c.args.bytes.now / 512; from = c.len.result } in
@@ -99,7 +99,7 @@ returns-in-Fails-clause-others_handed c =
 pub returns-in-Dead-clause-moments : goal.returns-in-Dead-clause-moments
 returns-in-Dead-clause-moments c =
     let m = c.args.self.now in
-    let kept : IsRecording m = c.has_room.ensures.kept in
+    let kept : IsRecording m = c.has_space.ensures.kept in
     let after = c.fault-in-Dead.new.self in
     quiet_to c.args.first (length c.args.bytes.now) (length m.written) m.sectors m.faults after.faults m.start m.written m.calls Quiet after.sectors after.start after.written after.calls
     kept.recorded refl kept.whole (λ s. leaves_quiet s) (within_quiet m.sectors (length m.written)) (search rules) (search rules) (search rules) (search rules)

@@ -8,7 +8,7 @@ use Rattle.speed_profile.proofs.targets.speeds.SpeedTargetsIterator.next.Goals a
 pub returns-then-is_some-clause-steps : goal.returns-then-is_some-clause-steps
 returns-then-is_some-clause-steps g c =
     one_reported c.args.self.now c.next_piece-target.new.self c.loop-self.self.targets c.next_piece-target.result
-    c.loop-self.invariant.0 c.next_piece-target.ensures.asked (sym c.is_some-in-loop-self.ensures ∙ c.if-is_some.true)
+    c.loop-self.invariant.0 c.next_piece-target.ensures.requested (sym c.is_some-in-loop-self.ensures ∙ c.if-is_some.true)
 
 pub returns-clause-steps : goal.returns-clause-steps
 returns-clause-steps g c =
@@ -22,7 +22,7 @@ loop-self-preserved g c =
     let fewer = some_left c.start.result c.loop-self.self.speeds_from c.next_piece-target.new.self.most c.loop-self.self.most
     (sym c.is_some.ensures ∙ c.loop-self-test.true) c.start.ensures.place c.next_piece-target.ensures.fewer in (
       passed_over c.args.self.now.targets c.loop-self.self.targets c.next_piece-target.new.self.targets c.next_piece-target.result
-          c.loop-self.invariant.0 c.next_piece-target.ensures.asked (sym c.is_some-in-loop-self.ensures ∙ c.if-is_some.false),
+          c.loop-self.invariant.0 c.next_piece-target.ensures.requested (sym c.is_some-in-loop-self.ensures ∙ c.if-is_some.false),
       omega (arith, c.loop-self.invariant.1, fewer),
     )
 

@@ -1,0 +1,179 @@
+"""Scenarios that run together: what the program prints, the images that it writes, and a program that dies or can't write."""
+import os
+import pickle
+import struct
+import tempfile
+import unittest
+from collections.abc import Iterable, Iterator
+from pathlib import Path
+from unittest.mock import patch
+
+from gaknifur import play
+from gaknifur.journal import layout, played_image
+from gaknifur.journal.reading import Json
+from gaknifur.play import Died, Result
+from gaknifur.program import Failed
+from gaknifur.simulation import campaign_jobs
+from gaknifur.simulation.campaign import Job, Row
+
+SLOTS = 4
+MODES = {name: number for number, name in played_image.MODES.items()}
+INPUTS = {"powerup": (1, bytes(1)), "clock": (4, bytes(8)), "odometer": (3, struct.pack(">iI", -5, 7))}
+
+
+def record_bytes(event: int, kind: str, mode: str, place: int) -> bytes:
+    """A record of format 3."""
+    code, payload = INPUTS[kind]
+    return struct.pack(">6BHQQqQI4x", code, MODES[mode], 2, len(payload), 255, 0, 8, event, 9, place, 500, 40_000).ljust(48, b"\0") + payload.ljust(208, b"\0")
+
+
+def image_of(*all_blocks: list[bytes], slots: int = SLOTS, first: int = 1) -> bytes:
+    """An image of one life with these blocks of records."""
+    image = bytearray(played_image.empty(slots))
+    for number, block in enumerate(all_blocks, first):
+        events = int.from_bytes(block[-1][8:16], "big") + 1
+        slot = layout.gate(number) + struct.pack(">8sQQIB", b"ETCSHED3", number, events, 1, len(block)).ljust(512, b"\0") + b"".join(block)
+        at = layout.slot_at(number % slots)
+        image[at:at + layout.SLOT] = slot.ljust(layout.SLOT, b"\0")
+    return bytes(image)
+
+
+def blocks_of(*modes: str) -> list[list[bytes]]:
+    """The block of a power-up, and one with an event for each mode."""
+    return [[record_bytes(0, "powerup", "SB", 0)], [record_bytes(event, "clock", mode, 100 * event) for event, mode in enumerate(modes, 1)]]
+
+
+def output(event: int, mode: str) -> Json:
+    """The output of a record."""
+    return {"event": event, "mode": mode, "level": None, "brake": "emergency", "limit_m_per_h": 40_000, "indications": ["trip"]}
+
+
+class Images(unittest.TestCase):
+    """Images, read in this process."""
+
+    def test_records(self) -> None:
+        found = played_image.records(image_of(*blocks_of("FS"), [record_bytes(2, "odometer", "TR", -7)]))
+        self.assertEqual([one["kind"] for one in found], ["powerup", "clock", "odometer"])
+        self.assertEqual(found[2], {
+            "block": 3, "byte": layout.slot_at(3) + 1024, "event": 2, "life": 1, "kind": "odometer", "time_ms": 9, "mode": "TR", "level": None,
+            "brake": "emergency", "indications": ["trip"], "place_cm": -7, "uncertainty_cm": 500, "min_safe_front_cm": -507, "max_safe_front_cm": 493,
+            "limit_m_per_h": 40_000, "movement_cm": -5, "speed_m_per_h": 7})
+        self.assertEqual([one.place_cm for one in played_image.answers(image_of(*blocks_of("FS", "TR")))], [0, 100, 200])
+        self.assertEqual(played_image.records(played_image.empty(SLOTS)), [])
+
+    def test_what_is_no_such_image(self) -> None:
+        good = image_of(*blocks_of("FS", "TR"))
+        gap = [blocks_of("FS")[0], [record_bytes(2, "clock", "FS", 0)]]
+        for name, image in (("cut", good[:-1]), ("no first sector", bytes(512) + good[512:]), ("no bytes", b""), ("a gap of events", image_of(*gap)),
+                            ("a gap of blocks", image_of(*blocks_of("FS"), first=2)), ("an open gate", bytes(good).replace(layout.gate(2), layout.gate(3), 1)),
+                            ("another mark", good.replace(b"ETCSHED3", b"ETCSHED2")), 
+                            ("a mode", image_of(blocks_of()[0], [b"\4\5" + record_bytes(1, "clock", "FS", 0)[2:]]))):
+            with self.subTest(name), self.assertRaises(Failed):
+                played_image.answers(image)
+                played_image.records(image)
+
+
+class Lines(unittest.TestCase):
+    """Scenarios on one line."""
+
+    def test_what_is_a_json_object(self) -> None:
+        self.assertEqual(play.on_a_line(b'{"a":\n\t[1],\r\n"b":"\\n"}'), b'{"a":  [1],  "b":"\\n"}')
+        for text in (b"", b"[]", b"{", b'{"a":"\n"}', b'{"a":NaN}', b'{"a":1}}', b'{"a":1},{}', b"\xff{}", b'{"a":' + b"[" * 100_000, b"{%b}" % (b" " * play.LONGEST)):
+            self.assertIsNone(play.on_a_line(text), text[:20])
+
+
+PROGRAM = """#!/usr/bin/python3
+import os, sys
+for number, line in enumerate(sys.stdin, 1):
+    if "die" in line:
+        sys.stdout.flush()
+        os.kill(os.getpid(), 9)
+    if "full" in line:
+        sys.stdout.flush()
+        print("etcs_lab: 2.image: can't be written", file=sys.stderr)
+        sys.exit(3)
+    if "cut" in line:
+        sys.stdout.write('{"id":')
+        sys.exit(0)
+    print('{"id":null,"line":%d,"status":"done"}' % number)
+"""
+
+
+class Programs(unittest.TestCase):
+    """Stand-ins of the program."""
+
+    def results(self, *scenarios: str) -> tuple[int, str]:
+        """How many results there are, and the error after them."""
+        count = 0
+        with tempfile.TemporaryDirectory() as folder:
+            path = Path(folder, "lab")
+            path.write_text(PROGRAM)
+            path.chmod(0o755)
+            with patch.dict(os.environ, GAKNIFUR_ETCS_LAB=str(path)):
+                try:
+                    for _ in play.play({"scenario": one} for one in scenarios):
+                        count += 1
+                except Failed as failed:
+                    return count, f"{type(failed).__name__} {failed.status}: {failed}"
+        return count, ""
+
+    def test_what_ends_early(self) -> None:
+        self.assertEqual(self.results("a", "b"), (2, ""))
+        self.assertEqual(self.results("a", "die", "b"), (1, "Died 1: etcs_lab ended with status -9, after 1 results"))
+        self.assertEqual(self.results("a", "full", "b"), (1, "Failed 3: 2.image: can't be written"))
+        self.assertEqual(self.results("a", "cut"), (1, "Died 1: etcs_lab play printed a line that isn't a JSON object, or only a part of one"))
+
+
+class Rows(unittest.TestCase):
+    """The rows of a campaign for scenarios that run together."""
+
+    def rows(self, results: Iterable[tuple[Result, bytes] | Exception], count: int) -> list[Row]:
+        """The rows, where the program has these results."""
+        def play_images(scenarios: Iterable[tuple[bytes, int]], folder: Path) -> Iterator[tuple[Result, bytes]]:
+            self.assertEqual(list(scenarios), [(b'{"number":%d}' % number, SLOTS) for number in range(count)])
+            for one in results:
+                if isinstance(one, Exception):
+                    raise one
+                yield one
+
+        with patch.object(campaign_jobs, "play_images", play_images):
+            return campaign_jobs.play_all([Job(str(number), "scenario", (("scenario.json", b'{"number":%d}' % number),), SLOTS) for number in range(count)])
+
+    def test_values_and_an_altered_output(self) -> None:
+        image = image_of(*blocks_of("FS", "TR"))
+        good = {"status": "done", "outputs": [output(1, "FS"), output(2, "TR")]}
+        altered = {"status": "stopped", "number": 7, "name": "ClockFell", "outputs": [output(1, "FS"), output(2, "FS")]}
+        refused = {"status": "refused", "fault": 2, "name": "Shape"}
+        rows = self.rows([(good, image), (altered, image), (refused, b""), (good, image[:-1])], 4)
+        self.assertEqual([(row["name"], row["ended"], row["events"], row["trips"], row["place_cm"], row["sound"]) for row in rows], [
+            ("0", "carried out", 3, 1, 200, 1), ("1", "stopped 7 ClockFell", 3, 1, 200, 0), ("2", "refused 2 Shape", 0, None, None, 1),
+            ("3", "failed: the image that etcs_lab play wrote has no valid first sector, or another size", None, None, None, 0)])
+        self.assertEqual(rows[1]["first_missed"].splitlines()[:2],
+                         ["expected: the output of its record: event 2 mode TR level - brake emergency limit 40000 ind 8",
+                          "found:    this output was released: event 2 mode FS level - brake emergency limit 40000 ind 8"])
+        self.assertEqual(rows[2]["image_sha256"], played_image.sha256(played_image.empty(SLOTS), SLOTS))
+
+    def test_a_full_disk_and_a_dead_program(self) -> None:
+        good = {"status": "done", "outputs": [output(1, "FS"), output(2, "TR")]}, image_of(*blocks_of("FS", "TR"))
+        rows = self.rows([good, Failed("2.image: can't be written", 3)], 3)
+        self.assertEqual([row["ended"] for row in rows], ["carried out", *["failed: 2.image: can't be written"] * 2])
+        with self.assertRaises(Died):
+            self.rows([good, Died("status -9", 1)], 3)
+
+    def test_refused_memory(self) -> None:
+        with patch.object(campaign_jobs, "play", lambda job, folder: {"name": job.name, "ended": "by itself"}):
+            rows = self.rows([({"status": "no_memory", "name": "NoMemory"}, b"")], 1)
+        self.assertEqual([row["ended"] for row in rows], ["by itself"])
+
+
+class Sent(unittest.TestCase):
+    """Errors that a process sends to another one."""
+
+    def test_keep_type_and_status(self) -> None:
+        for error in (Failed("one", 3), Died("other", 1)):
+            got = pickle.loads(pickle.dumps(error))
+            self.assertEqual((type(got), str(got), got.status), (type(error), str(error), error.status))
+
+
+if __name__ == "__main__":
+    unittest.main()

@@ -22,7 +22,7 @@ sys.path[:0] = [str(TOP / part) for part in ("tests", "packaging")]
 import statements  # noqa: E402
 from compared import Compared  # noqa: E402
 
-SLOW, LEAST = 4, 25
+SLOW, LEAST = 20, 25
 """The greatest processor time of an answer in seconds, and the least number of tries. A missing answer is waited for five minutes."""
 VERSION, COMMIT, STAMP = "1.2.3+unproved", "0" * 40, "2001-02-03T04:05:06Z"
 DEB = f"gaknifur_{VERSION}_amd64.deb"

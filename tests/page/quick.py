@@ -10,7 +10,7 @@ from desks import TELEGRAMS, etcs
 from gaknifur.evidence import times
 
 EVENTS, RUNS, STEPS = 10_000, 5, 200
-OPENS_S, PAUSE_MS, FRAME_MS = 3.0, 250, 1000 / 60
+OPENS_S, PAUSE_MS, FRAME_MS = 3.0, 250, 50  # (a busy machine takes 12 ms for a frame)
 MOST_EVENTS, MOST_RUNS = 100_000, 3
 MARKS, MARKS_S = 100_000, 20
 START: list[Any] = [{"driver": [1, "IC 704"]}, {"driver": [4, 1]}, {"driver": [3, 20000, 160000, 70, 0, 15]}, {"telegram": TELEGRAMS[0]}, {"driver": [6]}]

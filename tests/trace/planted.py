@@ -21,6 +21,8 @@ WHOLE = (
     "suites",
     "tools",
     "python/gaknifur",
+    "python/tests",
+    "packaging",
     "tests",
     "CHANGELOG.md",
     "SECURITY.md",
@@ -126,6 +128,13 @@ PAGES = (  # for tools/docs --check
         "out/docs/review.md: crates/kernel/specs/Output.antt has no line 9",
     ),
     (
+        "a source that isn't there",
+        "docs/project/contributing.md",
+        "`python/tests/test_words.py`",
+        "`python/tests/test_word.py`",
+        "docs/project/contributing.md: there is no python/tests/test_word.py",
+    ),
+    (
         "a page for nobody",
         "docs/howto/oracle.md",
         "How-to for makers",
@@ -150,7 +159,7 @@ def copy(top):
         else:
             shutil.copy2(source, target)
     for crate in (TOP / "crates").iterdir():
-        for part in ("src", "specs", "must-fail"):
+        for part in ("src", "specs", "proofs", "must-fail"):
             if (crate / part).is_dir():
                 shutil.copytree(crate / part, top / "crates" / crate.name / part)
         if (crate / "README.md").is_file():

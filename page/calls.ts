@@ -1,5 +1,5 @@
-// The calls of include/etcs_unit.h, etcs_image.h and etcs_guard.h, of the library for WebAssembly. Nothing here knows a rule
-// of the unit: it puts bytes into the memory, calls, and reads what was written there. An address is a BigInt.
+// The calls of include/etcs_unit.h, etcs_image.h and etcs_guard.h, of the library for WebAssembly. Nothing here knows a
+// rule of the unit: it puts bytes into the memory, calls, and reads what was written there. An address is a BigInt.
 import {bytesOfHex} from "./hex";
 import {Block, BYTES, Demand, Facts, JournalRecord, Output, Reader} from "./layouts";
 import {Replay, Request, SECTOR, Slot, State, TrainData, Why} from "./layouts";
@@ -215,7 +215,7 @@ export class Calls {
         });
     }
 
-    /** The numbers of a guard after a power-up, which brakes: its policy, the brake that it holds, whether it has heard. */
+    /** The numbers of a guard after a power-up: its policy (strict), the brake that it holds, whether it has heard. */
     newGuard(): Uint32Array {
         const guard = new Uint32Array(3);
         this.guarding(guard, at => this.x.etcs_guard_begin_(at, STRICT));

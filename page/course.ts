@@ -82,7 +82,8 @@ export class Course {
     }
 
     accept(step: Step, origin?: number): void {
-        if ("telegram" in step) this.guard.hear(step.telegram, this.groupOf(step.telegram, origin), this.heard, this.output);
+        if ("telegram" in step)
+            this.guard.hear(step.telegram, this.groupOf(step.telegram, origin), this.heard, this.output);
         this.life.accept(step);
         if ("telegram" in step) this.heard.push({ place: origin ?? this.motion.place, telegram: step.telegram });
         if ("clock" in step) this.moment = step.clock;

@@ -1,5 +1,5 @@
-// The guard next to the unit of the desk (include/etcs_guard.h): the stop that a telegram demands and the unit skips. The
-// desk only shows it, and its train obeys the unit.
+// The guard next to the unit of the desk (include/etcs_guard.h): the stop that a telegram demands and the unit skips.
+// The desk only shows it, and its train obeys the unit.
 import {Calls} from "./calls";
 import {Heard} from "./course";
 import {at, say} from "./dom";
@@ -60,5 +60,5 @@ export function showStop(guard: Guard|null, press: () => void): void {
     const stop = guard?.stop;
     at("guard").hidden = !stop;
     at("guard").onclick = press;
-    say("guard", stop ? SAY.demandsStop(STOPS[stop.finding] ?? "") : "");
+    if (stop) say("guard", SAY.demandsStop(STOPS[stop.finding] ?? ""));
 }

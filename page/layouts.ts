@@ -1,5 +1,5 @@
-// The structs of include/etcs_unit.h, etcs_image.h and etcs_guard.h, as the calls write them, and the readers of their bytes.
-// All numbers are little-endian. Offsets are those that the headers assert.
+// The structs of include/etcs_unit.h, etcs_image.h and etcs_guard.h, as the calls write them, and the readers of their
+// bytes. All numbers are little-endian. Offsets are those that the headers assert.
 
 export interface Output {
     event: number;

@@ -382,6 +382,12 @@ def check_words(env, wrong):
         Path(room, "s.yaml").write_text("include: common.yaml\nsteps:\n  - use: staff\n  - drive: -1.5 m at 0 km/h\n")
         done = lab(env, "s.yaml", cwd=room)
         wanted("a scenario in YAML", done.returncode == 4 and done.stdout.startswith("s.yaml:4:5: SAFETY 12: /steps/4/drive: "), done)
+        Path(room, "skipped.yaml").write_text("include: common.yaml\nsteps:\n  - use: staff\n  - telegram: 'NID_BG 7; 137: Q_SRSTOP 0'\n")
+        done = lab(env, "skipped.yaml", cwd=room)
+        wanted("with the library", done.returncode == 4 and "SAFETY 45" in done.stdout, done)
+        done = lab(env | {"GAKNIFUR_ETCS_UNIT": "none"}, "skipped.yaml", cwd=room)
+        wanted("without the library", done.returncode == 4 and "SAFETY" not in done.stdout
+               and "; telegrams that the unit skips or refuses are not judged" in done.stderr, done)
 
 
 def check_own(env, wrong):

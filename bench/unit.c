@@ -1,12 +1,16 @@
 /* A life of BATCHES batches of eight through the calls of include/etcs_unit.h, on four slots in memory that are used again: readings of 1 cm in
  * Full Supervision, or moments of the clock in Stand By. Or an opening, over a copy or by sectors, on a ring of so many slots that was written over.
- * bench/unit.sh counts within its calls.
+ * Or a telegram, decoded and heard by a
+ * guard eight times a batch. bench/unit.sh counts within its calls.
  *
  *     unit BATCHES [s]
+ *     unit BATCHES guard
  *     unit open SLOTS copy|sectors */
 #include <stdlib.h>
 
 #include "../tests/unit/medium.h"
+#include "etcs.h"
+#include "etcs_guard.h"
 
 static const uint8_t authority[] = {0x90, 0x00, 0x7F, 0x80, 0x20, 0x01, 0x43, 0x20, 0x24, 0xA8, 0x00, 0x7F, 0xE0, 0x07, 0xD0, 0x02,
                                     0xB0, 0x0D, 0x90, 0x00, 0x10, 0x00, 0x0D, 0xC0, 0x3A, 0x40, 0x00, 0x20, 0x80, 0x1F, 0xE0};
@@ -31,10 +35,21 @@ static uint32_t open_on(uint32_t slots, int by_sectors) {
     return wrong;
 }
 
+static uint32_t guarded(int batches) {
+    const etcs_situation situation = {ETCS_FULL_SUPERVISION, ETCS_DIRECTION_NOMINAL, 0};
+    etcs_guard guard = {0};
+    uint32_t count = 0, wrong = etcs_guard_begin(&guard, ETCS_GUARD_STRICT);
+    for (int i = 0; i < ETCS_UNIT_OUTPUTS * batches; i++)
+        wrong |= etcs_decode(authority, sizeof authority) | etcs_guard_hear_(&guard, authority, sizeof authority, &situation, &count) | count;
+    return wrong;
+}
+
 int main(int count, char **words) {
     etcs_unit_output outputs[ETCS_UNIT_OUTPUTS];
     etcs_unit unit = {0};
     uint32_t released, wrong = 0;
+    if (count == 3 && strcmp(words[2], "guard") == 0)
+        return guarded(atoi(words[1])) != 0;
     if (count == 4)
         return open_on((uint32_t)atoi(words[2]), strcmp(words[3], "sectors") == 0) != 0;
     medium on = formatted(4);

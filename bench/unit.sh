@@ -1,7 +1,7 @@
 #!/bin/sh
 # Print what an event costs through the calls of include/etcs_unit.h, next to the same call in Rattle: the instructions within an
-# accept and within an eighth of a flush (prepare, each request with its bytes, done, release). Then an opening by sectors next to
-# one over a copy, on rings that were written over.
+# accept and within an eighth of a flush (prepare, each request with its bytes, done, release). Then a telegram that a guard hears,
+# next to its decoding; and an opening by sectors next to one over a copy, on rings that were written over.
 #
 #     bench/unit.sh PREFIX    the library below PREFIX (tools/library PREFIX)
 #     bench/unit.sh --help    print this
@@ -20,7 +20,8 @@ memory=$(dirname "$(rt doc)")/c/liblibc_c.a
 mkdir -p "$out"
 if [ -n "${UNPROVED:-}" ]; then
     "$top/bench/unproved" etcs_unit "$out/etcs_unit.o" >&2
-    gcc -std=c99 -O2 -g -I "$top/include" "$top/bench/unit.c" "$out/etcs_unit.o" "$memory" -o "$out/unit"
+    "$top/bench/unproved" etcs_c "$out/etcs_c.o" >&2
+    gcc -std=c99 -O2 -g -I "$top/include" "$top/bench/unit.c" "$out/etcs_unit.o" "$out/etcs_c.o" "$memory" -o "$out/unit"
     "$top/bench/unproved" relayed "$out/relayed.o" >&2
     gcc -O2 -g "$top/bench/relayed.c" "$out/relayed.o" "$memory" -o "$out/relayed"
 else
@@ -70,6 +71,9 @@ flush='etcs_unit_prepare_ etcs_unit_request_ etcs_unit_done_ etcs_unit_release_'
 # shellcheck disable=SC2086
 row 'an eighth of a flush, all calls of it' "$(event_of ./unit s $flush)" "$(event_of ./unit s 'onboard::onboard::Onboard::flush*')"
 row 'an eighth of a flush, prepare alone' "$(event_of ./unit s etcs_unit_prepare_)" "$(event_of ./unit s 'onboard::onboard::Onboard::flush*')"
+
+printf '\n%-60s %8s %8s\n' 'a telegram of 31 bytes' 'guard' 'decoded'
+printf '%-60s %8d %8d\n' 'heard in Full Supervision' "$(event_of ./unit guard etcs_guard_hear_)" "$(event_of ./unit guard etcs_decode)"
 
 printf '\n%-60s %10s %10s\n' 'an opening' 'by sectors' 'a copy'
 for slots in 4 64 1000 7200; do

@@ -1,12 +1,13 @@
-// The calls of include/etcs_unit.h and include/etcs_image.h, of the library for WebAssembly. Nothing here knows a rule
-// of the unit: it puts bytes into the memory, calls, and reads what was written there. An address is a BigInt.
-import {Block, BYTES, Facts, JournalRecord, Output, Reader} from "./layouts";
+// The calls of include/etcs_unit.h, etcs_image.h and etcs_guard.h, of the library for WebAssembly. Nothing here knows a
+// rule of the unit: it puts bytes into the memory, calls, and reads what was written there. An address is a BigInt.
+import {bytesOfHex} from "./hex";
+import {Block, BYTES, Demand, Facts, JournalRecord, Output, Reader} from "./layouts";
 import {Replay, Request, SECTOR, Slot, State, TrainData, Why} from "./layouts";
 
 export const OK = 0, END = 38, DAMAGED = 32, NO_SUCH_REQUEST = 249;
 /** How many records of a journal come at once. */
 export const AT_ONCE = 256;
-const OUTPUTS = 8;
+const OUTPUTS = 8, STRICT = 1;
 /** The number of the interface: tools/page puts in that of include/etcs_unit.h. */
 declare const ABI: number;
 
@@ -40,6 +41,10 @@ interface Exports {
     etcs_journal_next_(image: bigint, size: bigint, journal: bigint, record: bigint): number;
     etcs_image_replay_(image: bigint, size: bigint, abi: number, journal: bigint, replay: bigint): number;
     etcs_image_why_(image: bigint, size: bigint, abi: number, number: bigint, event: bigint, why: bigint): number;
+    etcs_guard_begin_(guard: bigint, policy: number): number;
+    etcs_guard_hear_(guard: bigint, bytes: bigint, len: bigint, situation: bigint, count: bigint): number;
+    etcs_guard_demand_(bytes: bigint, len: bigint, situation: bigint, index: number, demand: bigint): number;
+    etcs_guard_acknowledge_(guard: bigint, speed: number): number;
 }
 
 /** The answer of a call: its status, and where that is OK its value. */
@@ -197,6 +202,41 @@ export class Calls {
         const status = this.x.etcs_unit_release_(unit, this.out, BigInt(OUTPUTS), count);
         return this.answer(
             status, (r, at) => Array.from({ length: r.u32(Number(count)) }, (_, n) => r.output(at + BYTES.output * n)));
+    }
+
+    // ---- a guard
+
+    /** Calls with a guard, whose numbers it may change. */
+    private guarding<T>(guard: Uint32Array, use: (at: bigint) => T): T {
+        return this.with(new Uint8Array(guard.buffer), held => {
+            const answer = use(held.at);
+            guard.set(new Uint32Array(this.bytesOf(held).buffer));
+            return answer;
+        });
+    }
+
+    /** The numbers of a guard after a power-up: its policy (strict), the brake that it holds, whether it has heard. */
+    newGuard(): Uint32Array {
+        const guard = new Uint32Array(3);
+        this.guarding(guard, at => this.x.etcs_guard_begin_(at, STRICT));
+        return guard;
+    }
+
+    acknowledge(guard: Uint32Array, speed: number): void {
+        this.guarding(guard, at => this.x.etcs_guard_acknowledge_(at, speed));
+    }
+
+    /** Has a guard hear a telegram; its demands in a situation of mode, direction and override. */
+    hear(guard: Uint32Array, telegram: string, situation: number[]): Demand[] {
+        const numbers = new Uint8Array(Uint32Array.from(situation).buffer), found: Demand[] = [];
+        return this.with(bytesOfHex(telegram), ({ at, size }) => this.with(numbers, held => {
+            let status = this.guarding(guard, one => this.x.etcs_guard_hear_(one, at, BigInt(size), held.at, this.out));
+            for (let index = 0; status === OK; index++) {
+                status = this.x.etcs_guard_demand_(at, BigInt(size), held.at, index, this.out);
+                if (status === OK) found.push(this.reader().demand(Number(this.out)));
+            }
+            return found;
+        }));
     }
 }
 

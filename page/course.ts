@@ -2,6 +2,7 @@
 // step the train moves, and the unit is given the moment, the way up to each balise with its telegram, and the rest of
 // the way.
 import {Calls, Held} from "./calls";
+import {Guard} from "./guarding";
 import {Output, State} from "./layouts";
 import {Group, Life, Scenario, Step} from "./life";
 import {LONGEST_CM, Motion, round, Train} from "./train";
@@ -46,6 +47,7 @@ export const BEFORE: Output = {
 
 export class Course {
     life: Life;
+    guard: Guard;
     output = BEFORE;
     moment = 0;
     readonly lives: Life[] = [];
@@ -59,6 +61,7 @@ export class Course {
         private readonly calls: Calls, readonly medium: Held, train: Train, readonly balises: Balise[], cold: number) {
         this.motion = new Motion(train);
         this.life = new Life(calls, medium, cold);
+        this.guard = new Guard(calls);
         this.lives.push(this.life);
     }
 
@@ -68,6 +71,7 @@ export class Course {
     /** Powers up again, with the word on movement. The train is where it was. */
     powerUp(cold: number): void {
         this.life = new Life(this.calls, this.medium, cold);
+        this.guard = new Guard(this.calls);
         this.lives.push(this.life);
         this.output = BEFORE;
         this.moment = this.reportedCm = 0;
@@ -78,9 +82,17 @@ export class Course {
     }
 
     accept(step: Step, origin?: number): void {
+        if ("telegram" in step)
+            this.guard.hear(step.telegram, this.groupOf(step.telegram, origin), this.heard, this.output);
         this.life.accept(step);
         if ("telegram" in step) this.heard.push({ place: origin ?? this.motion.place, telegram: step.telegram });
         if ("clock" in step) this.moment = step.clock;
+    }
+
+    /** The telegrams of a group, as the train passes them. */
+    private groupOf(telegram: string, origin?: number): string[] {
+        const group = this.balises.filter(one => one.origin === origin).map(one => one.telegram);
+        return group.length ? group : [telegram];
     }
 
     /** What is pending is recorded, and the last output holds. */

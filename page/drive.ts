@@ -11,6 +11,7 @@ import {Dial, distanceBar, shownOf} from "./dial";
 import {at, make, say, show} from "./dom";
 import {State, Why} from "./layouts";
 import {bytesOfHex} from "./hex";
+import {showStop} from "./guarding";
 import {formatted, Refused} from "./life";
 import {aheadOf, drawPlan} from "./planning";
 import {brakeReason, brakeText, count, indicationTexts, keptTexts, kmh} from "./shown";
@@ -289,6 +290,7 @@ export class Drive {
         say("level", this.isOff ? "" : `level ${levelText(output.level)}`);
         say("brake", this.isOff ? "" : brakeText(output.brake));
         at("brake").className = `lamp brake-${this.isOff ? 0 : output.brake}`;
+        showStop(this.isOff ? null : course.guard, () => this.guard(() => course.guard.acknowledge(course.speed)));
         say("shown-texts",
             this.isOff ? SAY.powerOff
                        : `Shown: ${indicationTexts(output.indications).join(", ") || "nothing"}. ${

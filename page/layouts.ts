@@ -1,5 +1,5 @@
-// The structs of include/etcs_unit.h and include/etcs_image.h, as the calls write them, and the readers of their bytes.
-// All numbers are little-endian. Offsets are those that the headers assert.
+// The structs of include/etcs_unit.h, etcs_image.h and etcs_guard.h, as the calls write them, and the readers of their
+// bytes. All numbers are little-endian. Offsets are those that the headers assert.
 
 export interface Output {
     event: number;
@@ -98,6 +98,10 @@ export interface Replay {
     kernel: JournalRecord;
     journalKept: Kept;
     kernelKept: Kept;
+}
+export interface Demand {
+    demanded: number;
+    finding: number
 }
 export interface Why {
     event: number;
@@ -228,6 +232,8 @@ export class Reader {
             countries,
         };
     }
+
+    demand(at: number): Demand { return { demanded: this.u32(at), finding: this.u32(at + 4) }; }
 
     block(at: number): Block {
         return {

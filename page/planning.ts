@@ -39,7 +39,7 @@ function scaleOf(packet: Packet): number {
 }
 
 /** The elements of a packet that begin with a field of this name, each with the fields up to the next one. */
-function elements(packet: Packet, first: string): Record<string, number>[] {
+export function elements(packet: Packet, first: string): Record<string, number>[] {
     const found: Record<string, number>[] = [];
     for (const [name, value] of packet.fields) {
         if (name === first) found.push({});

@@ -144,7 +144,16 @@ export const TELEGRAM_FAULTS = [
     "", "Truncated", "WrongLength", "Spare", "OutOfRange", "WrongVersion", "NotUplink", "NotBalise", "NoEnd", "TooLong"
 ];
 
+/** Findings of the guard that demand a stop, by their numbers. */
+export const STOPS: Record<number, string> = {
+    1: "packet 137, stop if in SR",
+    2: "packet 132, danger for SH",
+    11: "a telegram of a greater version",
+    14: "a refused telegram of a group that isn't linked",
+};
+
 export const SAY = {
+    demandsStop: (what: string): string => `The guard demands a stop: ${what}`,
     old: "This browser has no WebAssembly with memories of 64 bits. Chromium has it since 133, Firefox since 134.",
     loading: "The page is loading.",
     printed: (build: string, utc: string): string =>

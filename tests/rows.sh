@@ -46,6 +46,6 @@ rows test_journal 1100
 rows test_onboard 34585
 rows test_kernel 705
 rows test_track 86
-rows test_guard 72
+rows test_guard 181
 rows test_json 12
 exit $status

@@ -21,4 +21,5 @@ python3 law_rows.py || status=1
 python3 program_rows.py --check || status=1
 python3 format_rows.py || status=1
 python3 table_rows.py || status=1
+python3 guard.py || status=1
 exit $status

@@ -3,7 +3,7 @@
 # has a case or a reason, the records reach all that can be reached, untrue cases fail, lint finds weak tracks, the commands of the
 # pages for test laboratories print what the pages say, and a search over random lives finds no fault.
 #
-#     tests/suites.sh [ETCS_LAB ETCS]    on other programs
+#     tests/suites.sh [ETCS_LAB ETCS [PREFIX]]    on other programs, and with the unit's library below PREFIX
 . "$(dirname "$(readlink -f -- "$0")")/both_programs" || exit 1
 cd "$top" || exit 1
 export GAKNIFUR_ETCS_LAB=$lab GAKNIFUR_ETCS=$etcs
@@ -11,6 +11,7 @@ least=800 # results
 made=$(mktemp -d) || exit 1
 trap 'rm -rf "$made"' EXIT
 tools/python --checks || exit 1
+find_library "$made" "$3" # its guard judges telegrams that the unit skips or refuses
 status=0
 output=$(./lab test suites --reached "$made/reached.json" 2>&1) || status=1
 count=$(sed -n 's/^\([0-9]*\) passed in .*/\1/p' <<< "$output")

@@ -133,14 +133,19 @@ for name in brake flash why; do
     g++ -x c++ -std=c++17 "${strict[@]}" -Wno-missing-field-initializers -I "$include" -fsyntax-only "$top/examples/embedding/$name.c" ||
         fails "examples/embedding/$name.c isn't C++ too"
 done
+for compiler in "${compilers[@]}"; do build "stops.$compiler" "$top/examples/embedding/guard.c" "$compiler" -x c -std=c99 -O2; done
+build stops.cpp "$top/examples/embedding/guard.cpp" g++ -x c++ -std=c++17 -O2
 link=("$archive" -Wl,--wrap=malloc,--wrap=realloc,--wrap=free)
 build refused.gcc "$top/tests/unit/refused.c" gcc -x c -std=c99 -O2
 build refused.checked "$top/tests/unit/refused.c" gcc -x c -std=c99 -O1 "${sanitizers[@]}"
 link=(-L "$prefix/lib" -letcs_unit)
 for name in misuse two reading starts; do build "$name.shared" "$top/tests/unit/$name.c" gcc -x c -std=c99 -O2; done
-rustc --edition 2021 -D warnings -O -L "$prefix/lib" -l static=etcs_unit "$top/examples/embedding/rust/brake.rs" -o "$made/brake.rs" &&
-    built=$((built + 1)) || fails "examples/embedding/rust doesn't compile"
-counted "programs built" $built 53
+for name in brake guard; do
+    out=${name/guard/stops}.rs
+    rustc --edition 2021 -D warnings -O -L "$prefix/lib" -l static=etcs_unit "$top/examples/embedding/rust/$name.rs" -o "$made/$out" &&
+        built=$((built + 1)) || fails "examples/embedding/rust/$name.rs doesn't compile"
+done
+counted "programs built" $built 56
 
 # ---- what they answer
 
@@ -183,6 +188,16 @@ for lines in "$made"/lines.*; do
 done
 for image in "$made"/image.*; do cmp "$image" "$made/image.brake.gcc" || fails "the journals of the examples differ"; done
 counted "trains that brake" $trains 5
+
+# ---- the guard of the examples: by packet 137 it stops in Staff Responsible, and in no other mode (SUBSET-026, 4.6.3)
+
+guards=0
+printf '%s\n' 'FS: none' 'OS: none' 'SR: emergency' 'SH: none' 'UN: none' 'packet 137: trip, 4.6.3, sure' >"$made/stops"
+for program in "$made"/stops.* "$python $top/examples/embedding/guard.py"; do
+    # shellcheck disable=SC2086
+    PYTHONPATH=$top/python $program >"$made/said" 2>&1 && diff "$made/stops" "$made/said" && guards=$((guards + 1)) || fails "${program##*/} has other lines"
+done
+counted "guards of the examples" $guards 4
 
 # ---- images: what is listed by the calls is what the program lists
 
@@ -254,8 +269,8 @@ for program in "$made"/refused.*; do "$python" "$top/tests/unit/refused_lives.py
 
 # ---- the package in Python, and the pages
 
-(cd "$top/python" && "$python" -m unittest -q tests.test_unit tests.test_guard) >"$made/said" 2>&1 && grep -q '^Ran 30 tests' "$made/said" && ! grep -q skipped "$made/said" ||
-    { cat "$made/said"; fails "python/tests/test_{unit,guard}.py: failures, or other than 30 tests"; }
+(cd "$top/python" && "$python" -m unittest -q tests.test_unit tests.test_guard) >"$made/said" 2>&1 && grep -q '^Ran 32 tests' "$made/said" && ! grep -q skipped "$made/said" ||
+    { cat "$made/said"; fails "python/tests/test_{unit,guard}.py: failures, or other than 32 tests"; }
 "$python" "$top/tests/unit/integration.py" || status=1
 ETCS_LAB=$lab ETCS_UNIT_ARCHIVE=$raw ETCS_C_ARCHIVE=${ETCS_C_ARCHIVE:-$top/crates/etcs_c/out/libetcs_c.a} "$python" "$top/tests/documents.py" start/c howto/c-loop howto/c-flash \
     howto/c-static-memory howto/c-display howto/c-guard howto/c-installed-tracks howto/c-journal howto/cpp howto/python howto/rust || status=1

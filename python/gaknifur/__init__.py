@@ -18,7 +18,7 @@ if TYPE_CHECKING:
 
     from .lives import replay, why
 
-__all__ = ["brake_causes", "journal", "replay", "why"]
+__all__ = ["brake_causes", "demands", "journal", "replay", "why"]
 
 
 def __getattr__(name: str) -> Any:
@@ -44,3 +44,12 @@ def brake_causes(path: str | Path) -> "pd.DataFrame":
 
     from .journal import causes, reading
     return pd.DataFrame(causes.rows(reading.read(path, replay=True, why=True)), columns=causes.ROW)
+
+
+def demands(path: str | Path) -> "pd.DataFrame":
+    """A row for each demand of a guard next to the unit, the oldest first: outside the unit, for telegrams that it skips or refuses and a train of
+    issue 2.3.0 acts on. It needs the library of `gaknifur.unit`."""
+    import pandas as pd
+
+    from .journal import demands as of_guard, reading
+    return pd.DataFrame(of_guard.rows(reading.read(path)), columns=of_guard.ROW).astype({"packet": "Int64"})

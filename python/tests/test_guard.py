@@ -6,9 +6,15 @@ import os
 import re
 import unittest
 from pathlib import Path
+from typing import Any
 
 from gaknifur.guard import Demand, Demanded, Direction, Fault, Finding, Guard, GuardPolicy, Sureness, demands
+from gaknifur.journal.demands import rows
+from gaknifur.journal.reading import Json
+from gaknifur.testing import telegrams
 from gaknifur.unit import Brake, Mode, Refused
+
+from .samples import journal, record
 
 HEADER = Path(__file__).resolve().parents[2] / "include/etcs_guard.h"
 STOP = bytes.fromhex("90007f8020016260 0c3fc0".replace(" ", ""))
@@ -69,6 +75,36 @@ class Guards(unittest.TestCase):
                 guard.acknowledge(speed)
         with self.assertRaisesRegex(Refused, "OUT_OF_RANGE"):
             guard.command(Brake.EMERGENCY + 1)  # type: ignore[arg-type]
+
+
+def telegram(event: int, text: str, **more: Any) -> Json:
+    """The record of a telegram."""
+    sent = telegrams.telegram(text)
+    decoded = {"header": dict(sent.header), "packets": [{"packet": packet[0][1], "fields": packet} for packet in sent.packets]}
+    return record(event, "telegram", telegram=sent.digits.lower(), decoded=decoded, **more)
+
+
+@unittest.skipUnless(os.environ.get("GAKNIFUR_ETCS_UNIT"), "GAKNIFUR_ETCS_UNIT names no library")
+class Afterwards(unittest.TestCase):
+    """What a guard demands by the telegrams of a journal: packet 137 with Q_SRSTOP 0, by the mode before it and the direction of its group."""
+
+    def demanded(self, *records: Json) -> list[tuple[int, str, str, str]]:
+        return [(one["event"], one["mode"], one["direction"], one["demanded"]) for one in rows(journal(*records))]
+
+    def test_the_mode_before(self) -> None:
+        stop = "NID_BG 7; 137: Q_DIR 2, Q_SRSTOP 0"
+        self.assertEqual(self.demanded(record(1, mode="SR"), telegram(2, stop, mode="FS"), telegram(3, stop, mode="SR")), [(2, "SR", "not_known", "trip")])
+        self.assertEqual(self.demanded(record(1, mode="SR", indications=["overridden"]), telegram(2, stop, mode="SR")), [])
+        self.assertEqual(self.demanded(record(1, mode="SR"), telegram(3, stop, mode="SR")), [])  # (no record 2)
+
+    def test_the_direction(self) -> None:
+        stop, link = "137: Q_DIR 0, Q_SRSTOP 0", "NID_BG 2; 5: D_LINK 100, NID_BG 7, Q_LINKORIENTATION {}, Q_LINKREACTION 1, Q_LOCACC 5"
+        start, first, second = record(1, mode="SR"), f"NID_BG 7, N_PIG 1, N_TOTAL 1; {stop}", "NID_BG 7, N_TOTAL 1"
+        self.assertEqual(self.demanded(start, telegram(2, first, mode="SR"), telegram(3, second, mode="SR")), [(2, "SR", "reverse", "trip")])
+        self.assertEqual(self.demanded(start, telegram(2, second, mode="SR"), telegram(3, first, mode="SR")), [])
+        self.assertEqual(self.demanded(start, telegram(2, link.format(0), mode="SR"), telegram(3, f"NID_BG 7; {stop}", mode="SR")),
+                         [(3, "SR", "reverse", "trip")])
+        self.assertEqual(self.demanded(start, telegram(2, link.format(1), mode="SR"), telegram(3, f"NID_BG 7; {stop}", mode="SR")), [])
 
 
 if __name__ == "__main__":

@@ -20,6 +20,7 @@ import charts  # noqa: E402
 import days  # noqa: E402
 import desks  # noqa: E402
 import first  # noqa: E402
+import guarded  # noqa: E402
 import handing  # noqa: E402
 import manners  # noqa: E402
 import own  # noqa: E402
@@ -27,7 +28,7 @@ import paper  # noqa: E402
 import quick  # noqa: E402
 from browsing import Browser  # noqa: E402
 
-CHECKS = {**desks.CHECKS, **own.CHECKS, **apart.CHECKS, **asking.CHECKS, **days.CHECKS, **briefs.CHECKS, **first.CHECKS, **charts.CHECKS, **manners.CHECKS, **handing.CHECKS, **paper.CHECKS, **quick.CHECKS}
+CHECKS = {**desks.CHECKS, **own.CHECKS, **apart.CHECKS, **asking.CHECKS, **days.CHECKS, **briefs.CHECKS, **first.CHECKS, **charts.CHECKS, **manners.CHECKS, **guarded.CHECKS, **handing.CHECKS, **paper.CHECKS, **quick.CHECKS}
 ALL = CHECKS | quick.LONG
 CHROMIUM_ALONE = ("edited",)
 

@@ -19,7 +19,7 @@ TOP = Path(__file__).resolve().parents[2]
 sys.path.insert(0, str(TOP / "python"))
 from gaknifur.testing import track_checks  # noqa: E402
 
-LEAST_ROWS, LEAST_ITEMS, LEAST_CASES = 75, 28, 247
+LEAST_ROWS, LEAST_ITEMS, LEAST_CASES = 77, 28, 247
 HEAD = """test_case: NAME
 feature: Lint
 sections: [3.13]
@@ -33,6 +33,8 @@ PROFILE = "21: D_GRADIENT 0, Q_GDIR 1, G_A 0; 27: D_STATIC 0, V_STATIC 24, Q_FRO
 VALUES = ("3: D_VALIDNV 32767, V_NVSHUNT 6, V_NVSTFF 8, V_NVONSIGHT 6, V_NVUNFIT 20, V_NVREL 8, D_NVROLL 3, V_NVALLOWOVTRP 0, V_NVSUPOVTRP 6, "
           "D_NVOVTRP 200, T_NVOVTRP 60, D_NVSTFF 32767")
 RESTRICTION = "007F802001506023A0E04B0064427F80"
+STOP = "007F80200162600C3FC0"
+INVALID = "90007F802001105023A0E01900193CFF80"  # Q_LINK 0; packet 65 with V_TSR 121
 INSTALLED = "90007F80200140E0583FFFC0184062820001400300C83C01907FBFFF90A00F83FF80"
 COUNTRY_FIRST = "90007F802003C0E05D3FFFC400061018A080004000C0320F006423DFFFE41808E83800003E905FE0"  # NID_C 64, then N_ITER 0
 
@@ -237,6 +239,12 @@ ROWS = [
      f'{{steps: [use: staff, {{telegram: "91{RESTRICTION}"}}]}}', f"91{RESTRICTION}", f"90{RESTRICTION}"),
     ("version_2_0", [("advice", "/steps/4/telegram", ["5 WrongVersion"]), (40, "/steps/4/telegram", ["M_VERSION 32, version 2.0", "2.3.0 trips"])],
      f'{{steps: [use: staff, {{telegram: "A0{RESTRICTION}"}}]}}', f"A0{RESTRICTION}", f"90{RESTRICTION}"),
+    # What a train of issue 2.3.0 does by an invalid value with Q_LINK 0 (V_TSR 121 here), and by a packet of a telegram of version 1.1.
+    ("an_invalid_value_of_an_unlinked_group", [("advice", "/steps/4/telegram", ["4 OutOfRange"]), (40, "/steps/4/telegram", ["OutOfRange", "service brake"])],
+     f'{{steps: [use: staff, {{telegram: "{INVALID}"}}]}}', INVALID, f"90{RESTRICTION}"),
+    ("a_stop_in_a_telegram_of_version_1_1", [("advice", "/steps/4/telegram", ["5 WrongVersion"]), (40, "/steps/4/telegram", ["version 1.1"]),
+                                             (45, "/steps/4/telegram", ["packet 137 ", "version 1.1", "trips in Staff Responsible (4.6.3, sure)"])],
+     f'{{steps: [use: staff, {{telegram: "91{STOP}"}}]}}', f"91{STOP}", f"90{RESTRICTION}"),
     ("a_group_of_unknown_identity", [(40, "/steps/0/telegram", ["group 1/2", "NID_BG 16383 at 100 m", "Q_LINKREACTION 1 is applied"])],
      f"{{steps: [{full(f'; 5: {link(16383, 100)}', 1500)}]}}", "NID_BG 16383", "NID_BG 3"),
     *(skipped(number, packet, text) for number, packet, text in (
@@ -374,6 +382,12 @@ def check_words(env, wrong):
         Path(room, "s.yaml").write_text("include: common.yaml\nsteps:\n  - use: staff\n  - drive: -1.5 m at 0 km/h\n")
         done = lab(env, "s.yaml", cwd=room)
         wanted("a scenario in YAML", done.returncode == 4 and done.stdout.startswith("s.yaml:4:5: SAFETY 12: /steps/4/drive: "), done)
+        Path(room, "skipped.yaml").write_text("include: common.yaml\nsteps:\n  - use: staff\n  - telegram: 'NID_BG 7; 137: Q_SRSTOP 0'\n")
+        done = lab(env, "skipped.yaml", cwd=room)
+        wanted("with the library", done.returncode == 4 and "SAFETY 45" in done.stdout, done)
+        done = lab(env | {"GAKNIFUR_ETCS_UNIT": "none"}, "skipped.yaml", cwd=room)
+        wanted("without the library", done.returncode == 4 and "SAFETY" not in done.stdout
+               and "; telegrams that the unit skips or refuses are not judged" in done.stderr, done)
 
 
 def check_own(env, wrong):

@@ -152,19 +152,19 @@ def lines_of(subject: Subject) -> Iterator[Line]:
 
 
 @functools.cache
-def has_loop() -> bool:
-    """Whether the unit's library, which a closed loop needs, is available; says so once if it isn't."""
+def has_library() -> bool:
+    """Whether the unit's library, which closed loops and the guard need, is available; says so once if it isn't."""
     try:
         closed_loop.check_library()
     except Failed as failed:
-        say(f"{failed}; for drives in a closed loop only the steps before them are judged")
+        say(f"{failed}; telegrams that the unit skips or refuses are not judged, and of drives in a closed loop only the steps before them are")
         return False
     return True
 
 
 def playable(life: Life) -> Life:
     """A life as far as it can be played."""
-    return replace(life, drive=None) if life.drive and not has_loop() else life
+    return replace(life, drive=None) if life.drive and not has_library() else life
 
 
 def safety_of(subject: Subject, lives: list[Life]) -> Iterator[Line]:
@@ -173,7 +173,8 @@ def safety_of(subject: Subject, lives: list[Life]) -> Iterator[Line]:
     for number, (life, events) in enumerate(zip(lives, played([playable(life) for life in lives])), 1):
         walked = walk(events, kept)
         kept = walked.known[-1] if walked.known else kept
-        for found in track_checks.findings(Judged(walked, life.drive)):
+        has_guard = not any(map(track_checks.asks_guard, events)) or has_library()
+        for found in track_checks.findings(Judged(walked, life.drive, has_guard)):
             members = {"safety": found.safety, "found": found.found, "do": found.do}
             yield Line(subject, number if subject.case else None, found.pointer, located(life, found.pointer), members,
                        finding_text(found))

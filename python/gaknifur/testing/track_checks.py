@@ -8,14 +8,15 @@ from dataclasses import dataclass
 from decimal import Decimal
 from itertools import pairwise
 
+from .. import guard, unit
 from ..journal import unused_packets
 from ..journal.reading import Json
 from ..journal.wording import kmh
 from ..simulation.drives import Drive
-from .course import DRIVE
+from .course import DRIVE, Event
 from .telegrams import WIDTH, packets_in
-from .track_messages import (INFILL, NATIONAL_SPEED, NEAR_CM, NONE, ONBOARD, ON_SIGHT, SHUNTING, TRIP, Area, Known, Link, Message,
-                             National, Packet, Read, Restriction, Train, Walked, links_of, name_of, rounded_up, speed_of)
+from .track_messages import (NATIONAL_SPEED, NEAR_CM, NONE, ONBOARD, ON_SIGHT, SHUNTING, TRIP, Area, Known, Link, Message,
+                             National, Packet, Restriction, Train, Walked, links_of, name_of, rounded_up, speed_of)
 
 RESTRICTING = (3, 12, 27, 41, 65, 80)
 """Packets that may restrict: if one is lost, something is allowed that it would have forbidden."""
@@ -26,8 +27,8 @@ FIX_CM, KM_CM, ACKNOWLEDGED_WITHIN_S = 500, 100_000, 5
 CM_PER_S2 = 2_592
 """The growth per cm of the square of a speed in m/h, at 1 cm/s2."""
 UNKNOWN_GRADIENT, LEVEL_1 = 255, 2
-WRONG_VERSION, UNKNOWN_GROUP = 5, 16_383
-"""The refusal of a telegram by its M_VERSION; NID_BG of a group whose identity isn't known."""
+UNKNOWN_GROUP = 16_383
+"""NID_BG of a group whose identity isn't known."""
 TRIP_MODES = ("FS", "OS", "SR")
 
 
@@ -47,6 +48,8 @@ class Judged:
 
     walked: Walked
     drive: Drive | None = None
+    has_guard: bool = True
+    """Whether the unit's library, which has the guard, is there."""
 
     @property
     def authorities(self) -> Iterator[tuple[Message, Packet]]:
@@ -535,22 +538,6 @@ def authority_in_level_0(judged: Judged) -> Iterator[Finding]:
 
 
 @item(40)
-def other_versions(judged: Judged) -> Iterator[Finding]:
-    """A telegram of another version, which is refused."""
-    for event in judged.walked.events:
-        if not is_refused(event.record) or event.record["decoded"]["refused"]["number"] != WRONG_VERSION:
-            continue
-        version = int(event.record["telegram"][:2], 16) % 128
-        text = f"the telegram has M_VERSION {version}, version {version // 16}.{version % 16}; it is refused and has no effect"
-        if version // 16 == 1:
-            yield Finding(40, event.pointer, f"{text}, and a train of issue 2.3.0 uses it",
-                          "send M_VERSION 16, or announce each such group with a reaction")
-        elif version // 16 > 1:
-            yield Finding(40, event.pointer, f"{text}, and a train of issue 2.3.0 trips",
-                          "announce the first such groups with Q_LINKREACTION 0")
-
-
-@item(40)
 def group_of_unknown_identity(judged: Judged) -> Iterator[Finding]:
     """An announcement of a repositioning group by NID_BG 16383."""
     for message in judged.walked.messages:
@@ -612,39 +599,52 @@ def packet_3_of_installed_tracks(judged: Judged) -> Iterator[Finding]:
                               "send a packet 3 of this profile (docs/explain/conformance.md)")
 
 
-@dataclass(frozen=True)
-class Obeyed:
-    """What a packet that the unit skips makes a train of issue 2.3.0 do, and what to do instead."""
-
-    does: str
-    do: str
-    go_bit: int | None = None
-    """The bit of the packet that is 1 if such a train needs to do nothing."""
-
-
+BRAKE = "let the equipment around the unit brake there"
+GUARD = guard.Finding
 OBEYED = {
-    16: Obeyed("takes L_SECTION from this group on as what is left of its section", "send the authority anew (packet 12) by this group"),
-    46: Obeyed("changes to a level of the list where its own isn't in it", "order the level by a packet 41"),
-    49: Obeyed("trips in Shunting at each group that isn't listed", "let the equipment around the unit brake there"),
-    51: Obeyed("runs no faster than the speed for its axle load", "send that speed as a restriction (packet 65), or let no heavier train run "
-               "there", 25),
-    70: Obeyed("stops before the place that it isn't suitable for", "let only suitable trains run there", 25),
-    71: Obeyed("brakes by what slippery rails allow", "enter a deceleration that they allow, or send a restriction (packet 65)", 55),
-    132: Obeyed("trips in Shunting", "let the equipment around the unit brake there", 23),
-    135: Obeyed("doesn't go on with Shunting when the desk is opened", "let the driver close the desk, which leads to Stand By"),
-    137: Obeyed("trips in Staff Responsible", "let the equipment around the unit brake there", 23),
+    GUARD.REPOSITIONING: ("takes L_SECTION from this group on as what is left of its section", "send the authority anew (packet 12) by this group"),
+    GUARD.CONDITIONAL_LEVEL: ("changes to a level of the list where its own isn't in it", "order the level by a packet 41"),
+    GUARD.SHUNTING_BALISES: ("trips in Shunting at each group that isn't listed", BRAKE),
+    GUARD.AXLE_LOAD_SPEEDS: ("runs no faster than the speed for its axle load", "send that speed as a restriction (packet 65), or let no heavier "
+                             "train run there"),
+    GUARD.ROUTE_SUITABILITY: ("stops before the place that it isn't suitable for", "let only suitable trains run there"),
+    GUARD.SLIPPERY_RAIL: ("brakes by what slippery rails allow", "enter a deceleration that they allow, or send a restriction (packet 65)"),
+    GUARD.DANGER_FOR_SHUNTING: ("trips in Shunting", BRAKE),
+    GUARD.STOP_SHUNTING: ("doesn't go on with Shunting when the desk is opened", "let the driver close the desk, which leads to Stand By"),
+    GUARD.STOP_IN_STAFF_RESPONSIBLE: ("trips in Staff Responsible", BRAKE),
+    GUARD.SAME_VERSION: ("uses it", "send M_VERSION 16, or announce each such group with a reaction"),
+    GUARD.GREATER_VERSION: ("trips", "announce the first such groups with Q_LINKREACTION 0"),
+    GUARD.REFUSED_UNLINKED: ("commands the service brake", "send valid values, or announce the group with a reaction"),
 }
-"""These packets. docs/reference/packets.md has the places of the bits."""
+"""What a train of issue 2.3.0 does by a finding of the guard, and what to do instead. A V_LOA without end has a check of its own (44), and of
+other refused telegrams nothing is known."""
+TRACKINIT = {GUARD.AXLE_LOAD_SPEEDS: 25, GUARD.ROUTE_SUITABILITY: 25}
+"""The place of Q_TRACKINIT in a packet. If it is 1, the packet ends what the unit doesn't have; the guard reports it all the same."""
 
 
-def skipped_by(judged: Judged, message: Message, read: Read) -> Iterator[int]:
-    """The packets of a telegram that are skipped, are valid in its direction, and that a train of issue 2.3.0 obeys."""
-    for number, bits in packets_sent(judged.walked.events[read.event].record):
-        if number == INFILL:
-            return
-        one = OBEYED.get(number)
-        if one and int(bits[8:10], 2) in (2, message.direction) and not (one.go_bit and bits[one.go_bit:one.go_bit + 1] == "1"):
-            yield number
+def asks_guard(event: Event) -> bool:
+    """Whether an event is a telegram that the unit doesn't use in full, so that the guard may demand something."""
+    return event.record["kind"] == "telegram" and (bool(event.record["unused"]) or is_refused(event.record))
+
+
+def demands_of(judged: Judged, event: Event, direction: int | None) -> list[guard.Demand]:
+    """What the guard demands by a telegram, in the order of its packets, each once. Since trains pass a track in any mode, the mode may be any."""
+    if not judged.has_guard or not asks_guard(event):
+        return []
+    telegram, way = bytes.fromhex(event.record["telegram"]), guard.Direction.NOT_KNOWN if direction is None else guard.Direction(direction)
+    found = {(one.start, one.finding): one for mode in unit.Mode for one in guard.demands(telegram, mode, way)}
+    return [one for _, one in sorted(found.items()) if one.finding in OBEYED and not ends_a_profile(telegram, one)]
+
+
+def ends_a_profile(telegram: bytes, demand: guard.Demand) -> bool:
+    """Whether a packet only brings an initial state back."""
+    place = demand.start + TRACKINIT.get(demand.finding, demand.bits)
+    return demand.finding in TRACKINIT and bool(telegram[place // 8] >> (7 - place % 8) & 1)
+
+
+def obeyed(demand: guard.Demand) -> str:
+    """What a train of issue 2.3.0 does by a demand, with the section that says so."""
+    return f"a train of issue 2.3.0 {OBEYED[demand.finding][0]} ({demand.section}, {demand.sureness.name.lower().replace('_', ' ')})"
 
 
 @item(45)
@@ -652,9 +652,21 @@ def packets_not_obeyed(judged: Judged) -> Iterator[Finding]:
     """A packet that a train of issue 2.3.0 obeys, and the unit skips."""
     for message in judged.walked.messages:
         for read in message.reads if message.is_used else ():
-            for number in skipped_by(judged, message, read):
-                yield Finding(45, read.pointer, f"group {message.name} sends packet {unused_packets.name_of(number)}, which is skipped, and is read in "
-                              f"{message.mode}; a train of issue 2.3.0 {OBEYED[number].does}", OBEYED[number].do)
+            for one in demands_of(judged, judged.walked.events[read.event], message.direction):
+                if one.packet is not None:
+                    yield Finding(45, read.pointer, f"group {message.name} sends packet {unused_packets.name_of(one.packet)}, which is skipped, and is "
+                                  f"read in {message.mode}; {obeyed(one)}", OBEYED[one.finding][1])
+
+
+@item(40)
+def refused_telegrams(judged: Judged) -> Iterator[Finding]:
+    """A telegram that is refused, and that a train of issue 2.3.0 acts on, or on a packet of it."""
+    for event in judged.walked.events:
+        for one in demands_of(judged, event, None) if is_refused(event.record) else ():
+            what = "" if one.packet is None else f"packet {unused_packets.name_of(one.packet)} of "
+            name, version = event.record["decoded"]["refused"]["name"], int(event.record["telegram"][:2], 16) % 128
+            yield Finding(40 if one.packet is None else 45, event.pointer, f"{what}the telegram of M_VERSION {version}, version {version // 16}."
+                          f"{version % 16}, is refused ({name}) and has no effect; {obeyed(one)}", OBEYED[one.finding][1])
 
 
 @item(41)

@@ -11,6 +11,7 @@ trap 'rm -rf "$made"' EXIT
 find_library "$made" "$3"
 status=0
 /usr/bin/python3 "$top/tests/suites/drive_rows.py" "$etcs" "$lab" || status=1
+/usr/bin/python3 "$top/tests/suites/line_rows.py" "$etcs" "$lab" drives || status=1
 ETCS=$etcs ETCS_LAB=$lab /usr/bin/python3 "$top/tests/documents.py" howto/closed-loop || status=1
 GAKNIFUR_ETCS=$etcs GAKNIFUR_ETCS_LAB=$lab "$top/lab" lint "$top/examples/closed_loop" || { status=1; echo "lab lint finds more in examples/closed_loop than the cases list under shows"; }
 exit $status

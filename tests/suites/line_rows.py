@@ -52,7 +52,7 @@ def lab(*words, status=0):
     """Runs ./lab, which has to end with a status; its output."""
     done = subprocess.run([TOP / "lab", "line", *words], capture_output=True, text=True, env=os.environ, check=False)
     if done.returncode != status:
-        sys.exit(f"lab line {' '.join(map(str, words))}: status {done.returncode} and not {status}\n{done.stdout}{done.stderr}")
+        sys.exit(f"lab line {' '.join(map(str, words))}: status {done.returncode} and not {status}\n{done.stderr}")
     return done.stdout, done.stderr
 
 

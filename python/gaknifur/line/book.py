@@ -1,5 +1,6 @@
 """Read a line book: the balise groups of a line with their places and telegrams, and its trains. docs/howto/line.md describes the
 keys."""
+import re
 from collections.abc import Iterable
 from dataclasses import dataclass, field
 from pathlib import Path
@@ -16,13 +17,14 @@ from ..testing import cases, scenarios
 from ..testing.scenarios import Scenario
 from ..testing.telegrams import telegram
 from ..testing.track_messages import Group as Identity
-from ..yaml_files import Value, document
+from ..yaml_files import Value, document, shortened
 
 OTHER_MODES = ("SR", "SH", "UN", "SB", "TR", "PT")
 """The modes in which groups can be read except in FS, and in OS, to which a train comes from FS where an area of the track asks for it."""
 USUAL_MODES = ("SR", "SH", "UN", "TR", "PT")
 DIRECTIONS = ("ascending", "descending")
 MOST_GROUPS, MOST_TRAINS, MOST_READING_CM, READING_CM = 5_000, 20, 2_000, 500
+NAME = re.compile(r"[\w .-]{1,40}")
 LINE = "line"
 """The item of findings about the book itself."""
 STEP_MS, SLOW_M_PER_H = 500, 30_000
@@ -136,6 +138,8 @@ def group_of(at: Value, shared: scenarios.Shared) -> Group:
 
 def train_of(name: str, at: Value) -> Train:
     """A train."""
+    if not NAME.fullmatch(name):
+        raise at.fault(f"the name of a train has 1 to 40 letters, digits, spaces, dots, hyphens and underscores, and this one is \"{shortened(name)}\"")
     members = at.members(("enter_train_data", "train"), ("reading",))
     reading = scenarios.quantity_of(members["reading"], "distance", 1, MOST_READING_CM) if "reading" in members else READING_CM
     return Train(at, name, scenarios.train_of(members["enter_train_data"]), drives.train_of(members["train"]), reading)
@@ -215,6 +219,8 @@ def read(path: Path) -> Book:
     sent = [*before, *(one for group in groups for some in (group.balises, *group.aspects.values()) for one in some)]
     trip = telegram(f"NID_C {country_of(sent[0])}, NID_BG 16382, Q_LINK 0; 12: V_MAIN 0, L_ENDSECTION 0").digits
     decoded = decode([*sent, trip], path)
+    if any("refused" in decoded[one] for one in before):
+        raise members["before"].fault("the unit refuses one of these telegrams")
     return Book(at, members["line"].text(), modes_of(members["modes"]) if "modes" in members else list(USUAL_MODES),
                 identified(groups, decoded), trains, before,
                 [explained_of(one) for one in members["explained"].elements()] if "explained" in members else [], trip, decoded)

@@ -4,6 +4,7 @@ from dataclasses import dataclass
 from pathlib import Path
 
 from .. import files
+from ..escaping import shown
 from ..journal.reading import Progress
 from ..journal.wording import kmh
 from ..simulation import closed_loop, driving
@@ -36,7 +37,7 @@ class Made:
         groups = "\n".join(f"  - {{at: {way} cm, balises: [{digits}]}}" for _, _, way, digits in life.balises)
         before = "\n".join(f"  - telegram: {one}" for one in life.book.before)
         return f"""\
-# Made by ./lab line drive of {life.book.at.path.name}: {life.train.name} runs {life.direction}{what}. It starts at km {km(life.start_cm)}.
+# Made by ./lab line drive of {shown(life.book.at.path.name)}: {life.train.name} runs {life.direction}{what}. It starts at km {km(life.start_cm)}.
 groups:
 {groups}
 steps:

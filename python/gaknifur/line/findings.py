@@ -8,6 +8,7 @@ from collections.abc import Iterator
 from dataclasses import dataclass, field
 from pathlib import Path
 
+from ..escaping import shown
 from ..journal import causes
 from ..journal.reading import Json, Progress, parsed
 from ..program import Run
@@ -24,7 +25,7 @@ SUPERVISED = ("FS", "OS")
 LEADS_TO_FS = {12, 21, 27}
 """The packets with which a group leads to Full Supervision."""
 Key = tuple[str, str, int | None, int | None, str]
-"""An item, a direction, a group and its balise, and the words of the text."""
+"""An item, a direction, a group and its balise (of a brake its place), and the words of the text."""
 
 
 @dataclass
@@ -53,7 +54,8 @@ class Found:
     @property
     def key(self) -> Key:
         """What the findings of several lives have in common if they are one."""
-        return self.item, self.direction, self.group, self.balise, " ".join(re.findall("[a-z]{2,}", self.text))
+        where = self.place_cm if self.group is None and self.item == LINE else self.group
+        return self.item, self.direction, where, self.balise, " ".join(re.findall("[a-z]{2,}", self.text))
 
 
 @dataclass
@@ -305,8 +307,8 @@ def text_of(one: Found, book: Book) -> str:
             f"m from km {km(one.from_cm)}" if re.search(r"\bat [\d.]+ m\b", one.text) else ""]
     where = f"km {km(one.place_cm)} {one.direction}: " if one.direction else ""
     notes = "; ".join(filter(None, more))
-    return (f"{one.at.path}:{one.at.line}:{one.at.column}: {where}{name}{one.item}: {one.text}{f'. Do: {one.do}' if one.do else ''}"
-            f"{f' [{notes}]' if notes else ''}")
+    return shown(f"{one.at.path}:{one.at.line}:{one.at.column}: {where}{name}{one.item}: {one.text}{f'. Do: {one.do}' if one.do else ''}"
+                 f"{f' [{notes}]' if notes else ''}")
 
 
 def object_of(one: Found, book: Book) -> Json:

@@ -110,6 +110,7 @@ class Several(InAFolder):
         checked = Checked(replace(self.book(), explained=some))
         findings.explain(checked, [one])
         self.assertEqual([(found.item, found.modes) for found in checked.found], [("14", {"FS"}), ("line", set())])
+        self.assertEqual([findings.object_of(found, self.book())["explained"] for found in checked.found], [[], []])
         checked = Checked(replace(self.book(), explained=[some[0], replace(some[0], modes=["FS"])]))
         findings.explain(checked, [self.found(modes=("FS", "SR"))])
         self.assertEqual((checked.found, [found.because for found in checked.explained]), ([], [["why", "why"]]))

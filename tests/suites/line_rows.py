@@ -39,7 +39,7 @@ PLANTED = [
     ("an aspect", [("at: 2.0 km", "spacing: 3 m", 'spacing: 3 m\n    aspects: {stop: ["NID_BG 3, N_PIG 0, N_TOTAL 1; 12: Q_DIR 1, V_MAIN 20, '
                     'L_ENDSECTION 2000, D_DP 20, V_RELEASEDP 126; 21: Q_DIR 1, D_GRADIENT 0, Q_GDIR 1, G_A 0; 27: Q_DIR 1, D_STATIC 0, '
                     'V_STATIC 20, Q_FRONT 0", "NID_BG 3, N_PIG 1, N_TOTAL 1"]}')],
-     ["14 ascending 2.000 1/3 SR railcar", "14 ascending 2.000 1/3 SR freight"]),
+     ["14 ascending 2.000 1/3 FS SR railcar", "14 ascending 2.000 1/3 FS SR freight"]),
     ("a train that brakes less than entered", [("railcar:", "service: 0.9 m/s2, emergency: 1.1 m/s2", "service: 0.8 m/s2")],
      ["27 ascending 0.150 None  railcar", "27 descending 7.853 None  railcar"]),
     ("read in level 0", [("modes:", "[SR", "[UN, SR")],

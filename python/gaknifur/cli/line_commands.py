@@ -18,7 +18,7 @@ def check_line(given: SimpleNamespace, progress: Progress) -> int:
     found = book.read(given.book)
     checked = findings.check(found, progress)
     for one in (*checked.found, *(checked.explained if given.json else ())):
-        line = json.dumps(findings.object_of(one, found), ensure_ascii=False) if given.json else findings.text_of(one, found)
+        line = json.dumps(findings.object_of(one, found), ensure_ascii=False) if given.json else findings.text_of(one)
         sys.stdout.write(line + "\n")
     sys.stdout.flush()
     if out:

@@ -18,7 +18,7 @@ from ..testing.track_checks import RESTRICTING, Judged, metres
 from ..testing.track_messages import Message, Walked, links_of, name_of, walk
 from ..yaml_files import Value
 from . import lives
-from .book import LINE, Book, Explained, km
+from .book import LINE, Book, Explained, Group, km
 from .lives import Life
 
 SUPERVISED = ("FS", "OS")
@@ -50,6 +50,11 @@ class Found:
     unread: list[str] = field(default_factory=list)
     because: list[str] = field(default_factory=list)
     """Why it does no harm, as the book explains; `modes` has only the modes that aren't explained."""
+
+    @property
+    def is_explained(self) -> bool:
+        """Whether the book explains it in all its modes."""
+        return bool(self.because) and not self.modes
 
     @property
     def key(self) -> Key:
@@ -132,11 +137,10 @@ def of_places(life: Life, walked: Walked) -> Iterator[Found]:
                     yield from [found] if found else []
 
 
-def first_of(book: Book, group: object) -> int:
+def first_of(book: Book, group: Group) -> int:
     """The place of the balise of a group from which its distances count: the one with N_PIG 0, or the first one."""
-    one = next(one for one in book.groups if one is group)
-    numbers = [book.decoded[digits].get("header", {}).get("N_PIG") for digits in one.balises]
-    return one.places[numbers.index(0) if 0 in numbers else 0]
+    numbers = [book.decoded[digits].get("header", {}).get("N_PIG") for digits in group.balises]
+    return group.places[numbers.index(0) if 0 in numbers else 0]
 
 
 def sends(message: Message) -> list[int]:
@@ -267,7 +271,7 @@ def check(book: Book, progress: Progress) -> Checked:
     for life, events in lives.played(partly, "missing balises", progress):
         walked = followed(life, events)
         for one in (*of_safety(life, walked), *(of_unread(life, events, nominal[life.direction]) if life.unread else ())):
-            findings.add_new(one)
+            (findings.add_new if life.unread else findings.add)(one)
     checked.lives = len(checked.nominal) + len(others) + len(partly)
     explain(checked, findings.merged(len(book.trains)))
     return checked
@@ -291,7 +295,7 @@ def explain(checked: Checked, found: list[Found]) -> None:
                 one.modes = one.modes - set(explanation.modes) if explanation.modes else set()
                 if not one.modes:
                     break
-        (checked.explained if one.because and not one.modes else checked.found).append(one)
+        (checked.explained if one.is_explained else checked.found).append(one)
     for number, explanation in enumerate(checked.book.explained):
         if number not in used:
             checked.found.append(Found(LINE, "", None, None, 0, 0, f"`explained` has item {explanation.item}, and nothing is found that it "
@@ -300,7 +304,7 @@ def explain(checked: Checked, found: list[Found]) -> None:
 
 # ---- text and JSON
 
-def text_of(one: Found, book: Book) -> str:
+def text_of(one: Found) -> str:
     """A finding on a line."""
     name = "" if one.item in (cases.ADVICE, LINE) else "SAFETY "
     more = [", ".join(sorted(one.modes)), ", ".join(one.trains), f"unread: {', '.join(one.unread)}" if one.unread else "",
@@ -317,4 +321,4 @@ def object_of(one: Found, book: Book) -> Json:
             "km": km(one.place_cm) if one.direction else None, "group": None if one.group is None else book.groups[one.group].name,
             "balise": None if one.balise is None else one.balise + 1, "modes": sorted(one.modes or one.read_in), "trains": one.trains,
             "unread": one.unread, "from_km": km(one.from_cm) if one.direction else None, "found": one.text, "do": one.do,
-            "explained": one.because}
+            "explained": one.because if one.is_explained else []}

@@ -172,7 +172,7 @@ def supervised(book: Book, direction: str, authorities: set[int]) -> Iterator[Li
         some, balises = groups[first:at + 2], len(book.groups[number].balises)
         yield Life(book, direction, train, "FS", some, Unread(number))
         yield from (Life(book, direction, train, "FS", some, Unread(number, one)) for one in range(balises) if balises > 1)
-        yield from (Life(book, direction, train, "FS", some, None, (number, name)) for name in book.groups[number].aspects)
+        yield from (Life(book, direction, one, "FS", some, None, (number, name)) for one in book.trains for name in book.groups[number].aspects)
 
 
 # ---- playing

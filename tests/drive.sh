@@ -1,7 +1,7 @@
 #!/bin/bash
 # Tests trains in a closed loop with the onboard unit (examples/closed_loop), with the library that tests/unit.sh left, or else a new one:
-# each expected result comes, each planted fault is found, and the program gives the same answers as the library. Also runs the commands of
-# docs/howto/closed-loop.md.
+# each expected result comes, each planted fault is found, and the program gives the same answers as the library. Also the drives of
+# a line book, and the commands of docs/howto/closed-loop.md.
 #
 #     tests/drive.sh [ETCS_LAB ETCS [PREFIX]]    on other programs, and on the library below PREFIX
 . "$(dirname "$(readlink -f -- "$0")")/both_programs" || exit 1

@@ -27,8 +27,8 @@ MOST_GROUPS, MOST_TRAINS, MOST_READING_CM, READING_CM = 5_000, 20, 2_000, 500
 NAME = re.compile(r"[\w .-]{1,40}")
 LINE = "line"
 """The item of findings about the book itself."""
-STEP_MS, SLOW_M_PER_H = 500, 30_000
-"""The time step of a drive, and the mean speed that its longest duration allows for."""
+STEP_MS, SLOW_M_PER_H, BEYOND_CM = 500, 30_000, 500_000
+"""The time step of a drive; the mean speed and the way beyond the last group that its longest duration allows for."""
 
 
 @dataclass(frozen=True)
@@ -67,7 +67,7 @@ class Train:
 
     def drive(self, way_cm: int) -> Drive:
         """Its drive in a closed loop over a way."""
-        lasts = 60_000 + 36_000 * way_cm // SLOW_M_PER_H
+        lasts = 60_000 + 36_000 * (way_cm + BEYOND_CM) // SLOW_M_PER_H
         return Drive(self.at, self.model, Driver("limit", 4_000, acknowledges_ms=2_000), STEP_MS, min(lasts, drives.MOST_LASTS_MS), True)
 
 

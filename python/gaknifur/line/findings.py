@@ -34,6 +34,7 @@ class Found:
 
     item: str
     direction: str
+    """Empty if it is about a train."""
     group: int | None
     balise: int | None
     place_cm: int
@@ -104,8 +105,9 @@ def finding(life: Life, events: list[Event], item: str, pointer: str, text: str,
     place = target(life, pointer, events[first] if events else None)
     if place is None:
         return None
-    modes = {str(events[first - 1].record["mode"])} if first and pointer != course.DRIVE else set()
-    return Found(item, life.direction, *place, life.start_cm, text, do, value_of(life, *place[:2], pointer), modes=modes,
+    is_of_train = pointer == course.DRIVE
+    modes = {str(events[first - 1].record["mode"])} if first and not is_of_train else set()
+    return Found(item, "" if is_of_train else life.direction, *place, life.start_cm, text, do, value_of(life, *place[:2], pointer), modes=modes,
                  trains=[life.train.name], unread=[life.unread.text()] if life.unread else [])
 
 

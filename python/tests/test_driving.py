@@ -296,6 +296,15 @@ class Loops(unittest.TestCase):
         self.assertEqual(text[0], "time_ms,first_event,event,place_cm,speed_m_per_h,limit_m_per_h,above_m_per_h,brake,mode,braking_cm_per_s2")
         self.assertEqual(len(text), 1 + len(driven.rows))
 
+    def test_the_end_for_the_direction_of_the_train(self) -> None:
+        """Balises that are read in reverse: the authority of Q_DIR 0 counts; in their order that of Q_DIR 1."""
+        head = "telegram N_PIG={} NID_C=1 NID_BG=4"
+        decoded = {"AA": [head.format(0), "packet 12 Q_DIR=1 Q_SCALE=1 L_ENDSECTION=900", "packet 12 Q_DIR=0 Q_SCALE=1 L_ENDSECTION=300 D_DP=20", "bits 9"],
+                   "BB": [head.format(1), "bits 9"]}
+        with patch("gaknifur.program.decode", decoded.__getitem__):
+            self.assertEqual(closed_loop.ends_of(driving.Driven(heard=[(100.0, "BB"), (400.0, "AA")])), (30_400, 32_400))
+            self.assertEqual(closed_loop.ends_of(driving.Driven(heard=[(100.0, "AA"), (400.0, "BB")])), (90_100, 90_100))
+
     def test_faults_and_their_places(self) -> None:
         for wrong, message in (
                 (DRIVE.replace("service", "servise"), 'drive.yaml:9:35: "servise" is not allowed here; did you mean "service"?'),

@@ -56,16 +56,29 @@ def fresh(scenario: scenarios.Scenario, drive: Drive) -> bytes:
     return MemoryMedium.formatted(slots_for(scenario, drive)).read()
 
 
+def fields_of(line: str) -> list[tuple[str, int]]:
+    """The variables on a line of `etcs decode`; none of a telegram that is refused."""
+    pairs = (word.partition("=") for word in line.split() if "=" in word)
+    return [(name, int(number)) for name, _, number in pairs]
+
+
+def is_for(fields: dict[str, int], header: dict[str, int], heard: list[dict[str, int]]) -> bool:
+    """Whether a packet is valid in the direction in which the balises of its group were read. With only one of them both directions count."""
+    order = [one["N_PIG"] for one in heard if one and (one["NID_C"], one["NID_BG"]) == (header["NID_C"], header["NID_BG"])]
+    return len(order) < 2 or fields["Q_DIR"] in (2, int(order[-2] < order[-1]))
+
+
 def ends_of(driven: driving.Driven) -> tuple[int, int] | None:
-    """The end of the last authority and its supervised location, as packet 12 announced them, in cm from the start of the drive;
-    None without an authority."""
-    for origin, digits in reversed(driven.heard):
+    """The end of the last authority for the train's direction and its supervised location, as packet 12 announced them, in cm from the
+    start of the drive; None without an authority."""
+    headers = [dict(fields_of(program.decode(digits)[0])) for _, digits in driven.heard]
+    for (origin, digits), header in zip(reversed(driven.heard), reversed(headers)):
         for line in program.decode(digits):
-            if not line.startswith("packet 12 "):
+            fields = fields_of(line)
+            one = dict(fields)
+            if not line.startswith("packet 12 ") or not is_for(one, header, headers):
                 continue
-            fields = [(name, int(number)) for name, _, number in (word.partition("=") for word in line.split()[2:])]
-            scale = SCALES_CM.get(dict(fields)["Q_SCALE"], 100)
+            scale = SCALES_CM.get(one["Q_SCALE"], 100)
             end = round(origin) + scale * sum(number for name, number in fields if name in ("L_SECTION", "L_ENDSECTION"))
-            beyond = dict(fields).get("D_OL", dict(fields).get("D_DP", 0))
-            return end, end + scale * beyond
+            return end, end + scale * one.get("D_OL", one.get("D_DP", 0))
     return None

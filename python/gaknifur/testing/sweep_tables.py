@@ -48,7 +48,12 @@ def rows(sweep: Sweep, results: Sequence[PointResult]) -> list[list[str]]:
 
 def as_text(sweep: Sweep, results: Sequence[PointResult]) -> str:
     """The table as text."""
-    table = [[one or "-" for one in row] for row in rows(sweep, results)]
+    return aligned(rows(sweep, results))
+
+
+def aligned(found: Sequence[Sequence[str]]) -> str:
+    """The rows of a table as text, with `-` for an empty cell."""
+    table = [[one or "-" for one in row] for row in found]
     widths = [max(map(len, column)) for column in zip(*table)]
     return "".join("  ".join(one.rjust(width) for one, width in zip(row, widths)).rstrip() + "\n" for row in table)
 

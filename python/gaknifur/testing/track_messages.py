@@ -309,10 +309,14 @@ class Walked:
     known: list[Known] = field(default_factory=list)
     messages: list[Message] = field(default_factory=list)
     lost: list[Lost] = field(default_factory=list)
+    reading_cm: int | None = None
+    """The longest movement of a reading on the train, if its readings aren't those of the events."""
 
     @property
     def longest_cm(self) -> int:
         """The longest movement of a reading."""
+        if self.reading_cm is not None:
+            return self.reading_cm
         return max((abs(event.record["movement_cm"]) for event in self.events if "movement_cm" in event.record), default=0)
 
     def mode_before(self, event: int) -> str:
@@ -410,7 +414,8 @@ class Walk:
         for link in missed:
             if reading and reading[0].group == link.group and reading[0].header["Q_LINK"] == 1:
                 self.walked.lost.append(Lost(link, number, reading[0]))
-        self.known = replace(self.known, links=tuple(link for link in self.known.links if link not in missed))
+        if missed:
+            self.known = replace(self.known, links=tuple(link for link in self.known.links if link not in missed))
 
     def judge(self, message: Message, mode: str) -> None:
         """Decides whether a closed group and its packets are used."""

@@ -1,0 +1,1 @@
+"""Line books: a whole line in one file, checked and driven."""

@@ -70,7 +70,7 @@ node $wide --no-warnings "$here/driver.mjs" "$wasm/lib/etcs.wasm" <"$made/script
 # ---- the tests of the unit from C, on aarch64
 
 rows=0
-for name in misuse two reading; do
+for name in misuse two reading executive; do
     "$cross" -x c -std=c99 -O2 "${strict[@]}" -static -I "$arm/include" -I "$top/tests/unit" "$top/tests/unit/$name.c" -x none "$arm/lib/libetcs_unit.a" -pthread -o "$made/$name" ||
         fails "$name.c doesn't compile for aarch64"
     qemu-aarch64 "$made/$name" >"$made/said" 2>&1 && rows=$((rows + 1)) || { cat "$made/said"; fails "$name.c on aarch64"; }
@@ -81,7 +81,7 @@ done
 "$python" "$top/tests/unit/layout.py" --program >"$made/places.c" && "$cross" -std=c99 "${strict[@]}" -static -I "$arm/include" "$made/places.c" -o "$made/layout.elf" &&
     printf '#!/bin/bash\nexec qemu-aarch64 %q\n' "$made/layout.elf" >"$made/layout" && chmod +x "$made/layout" && "$python" "$top/tests/unit/layout.py" "$made/layout" && rows=$((rows + 1)) ||
     fails "sizes and places on aarch64"
-[ $rows -eq 5 ] || fails "of the tests from C there are 5 to be run on aarch64"
+[ $rows -eq 6 ] || fails "of the tests from C there are 6 to be run on aarch64"
 
 # ---- the examples; the board's time is counted by its instructions, of which there are 62.5 million a second, and no sleep is waited for
 

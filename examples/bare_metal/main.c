@@ -173,7 +173,8 @@ static void obey(void *unused, const etcs_unit_output *command) {
         say_number(world->speed_m_per_h, " m/h\n");
     }
     world->brake = command->brake;
-    if ((executive.cycles == 1u) && (command->event <= world->newest)) {
+    /* (the event before the outputs of a life's first cycle is its power-up, which comes after all that was obeyed) */
+    if ((executive.cycles == 1u) && (world->lives > 1u) && ((command->event - executive.released) <= world->newest)) {
         say("an event whose output was obeyed is lost\n");
     }
     world->newest = (command->event > world->newest) ? command->event : world->newest;

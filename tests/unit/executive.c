@@ -1,9 +1,19 @@
 /* Tests include/etcs_executive.h: what it calls and in which order, what is obeyed, each fault and how long it holds.
  *
  *     executive             the cases
- *     executive self-test   prints the digest of the self-test */
+ *     executive self-test   prints the digest of the self-test
+ *
+ * With OWN_MEMORY over a library that takes memory from a buffer, with AS_SOURCE too over the C source. */
 #include "etcs_executive.h"
 #include "medium.h"
+#ifdef OWN_MEMORY
+#include "etcs_memory.h"
+#ifdef AS_SOURCE
+#define MORE ETCS_MEMORY_OF_SOURCE
+#else
+#define MORE 0
+#endif
+#endif
 
 enum { SLOTS = 8, CYCLE_US = 100000, LATE_US = 50000 };
 
@@ -235,6 +245,11 @@ static void brakes(void) {
 int main(int count, char **words) {
     uint64_t digest = 0;
     (void)words;
+#ifdef OWN_MEMORY
+    static uint8_t memory[MORE + ETCS_MEMORY_BYTES(0, 16, 32, 100, 100)];
+    if (etcs_memory_use(memory, sizeof memory) != ETCS_UNIT_OK)
+        return 2;
+#endif
     if (count > 1) {
         const uint32_t status = etcs_executive_self_test(&executive, &digest);
         printf("%llx\n", (unsigned long long)digest);

@@ -409,6 +409,7 @@ static inline uint32_t etcs_self_test_live_(etcs_executive *executive, uint32_t 
 /** Runs the self-test: two short lives on a ring in memory, by the library and by the executive's own code. Writes the digest of
  * their outputs, of their requests and of the ring; it has to be ETCS_SELF_TEST_DIGEST. etcs_executive_begin calls it. The executive must not be
  * running. Returns OK, or the first answer of the unit that isn't. */
+ETCS_MUST_USE
 static inline uint32_t etcs_executive_self_test(etcs_executive *executive, uint64_t *digest) {
     const etcs_equipment *const equipment = executive->equipment;
     etcs_equipment test;

@@ -182,7 +182,7 @@ channel channel_llvm "$first/lib/libetcs_unit_static.a"
 channel channel_gcc -DAS_SOURCE "$made"/source_gcc.etcs_{wasm,calls,source}.o -lm
 "$made/channel_llvm" alone "$made/lives" "$made/answers" || fails "a channel has no answers"
 "$made/channel_gcc" along "$made/lives" "$made/answers" || fails "two channels differ"
-for name in channel_llvm channel_gcc; do "$made/$name" flips "$made/lives" "$made/answers" 64 || fails "a flipped bit isn't noticed ($name)"; done
+for name in channel_llvm channel_gcc; do "$made/$name" flips "$made/lives" "$made/answers" 128 || fails "a flipped bit isn't noticed ($name)"; done
 
 # ---- sizes and places
 

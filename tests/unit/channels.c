@@ -189,7 +189,7 @@ static int flips(const char *path, uint64_t count) {
         else if (found[i] > 0)
             printf(" %s %llu,", outcomes[i], (unsigned long long)found[i]);
     puts("");
-    return done < count || found[WRONG_COMMAND] > 0;
+    return done < count || found[WRONG_COMMAND] > 0 || found[NO_EFFECT] == done;
 }
 
 int main(int count, char **words) {

@@ -4,6 +4,16 @@
  *     executive self-test   prints the digest of the self-test
  *
  * With OWN_MEMORY over a library that takes memory from a buffer, with AS_SOURCE too over the C source. */
+#include "etcs_unit.h"
+
+/* A library that is wrong by a millisecond in the self-test, where that is wanted. */
+static uint64_t wrong_by_ms;
+
+static inline uint32_t other_clock(etcs_unit *unit, uint64_t moment_ms) {
+    return etcs_unit_clock(unit, moment_ms + wrong_by_ms);
+}
+
+#define etcs_unit_clock other_clock
 #include "etcs_executive.h"
 #include "medium.h"
 #ifdef OWN_MEMORY
@@ -13,6 +23,7 @@
 #else
 #define MORE 0
 #endif
+static uint8_t memory[MORE + ETCS_MEMORY_BYTES(0, 16, 32, 100, 100)];
 #endif
 
 enum { SLOTS = 8, CYCLE_US = 100000, LATE_US = 50000 };
@@ -242,11 +253,23 @@ static void brakes(void) {
     etcs_executive_end(&executive);
 }
 
+/* Where the self-test fails no unit is open, and nothing is fed. */
+static void self_test(void) {
+    uint64_t digest;
+    wrong_by_ms = 1;
+    is("a begin", begins(), ETCS_EXECUTIVE_SELF_TEST);
+    is("its calls", strcmp(calls, "O") == 0, 1);
+    is("its brake", obeyed.brake, ETCS_BRAKE_EMERGENCY);
+    cycles("a cycle after it", ETCS_EXECUTIVE_SELF_TEST, "WO");
+    is("no answer differs", etcs_executive_self_test(&executive, &digest), ETCS_UNIT_OK);
+    is("the digest does", digest != ETCS_SELF_TEST_DIGEST, 1);
+    wrong_by_ms = 0;
+}
+
 int main(int count, char **words) {
     uint64_t digest = 0;
     (void)words;
 #ifdef OWN_MEMORY
-    static uint8_t memory[MORE + ETCS_MEMORY_BYTES(0, 16, 32, 100, 100)];
     if (etcs_memory_use(memory, sizeof memory) != ETCS_UNIT_OK)
         return 2;
 #endif
@@ -270,6 +293,7 @@ int main(int count, char **words) {
     equipment.obey = obey;
     equipment.feed = feed;
     equipment.exchange = exchange;
+    self_test();
     orders();
     faults();
     power_ups();
@@ -279,5 +303,5 @@ int main(int count, char **words) {
         is("a name", (uint64_t)strcmp(etcs_executive_fault_name(300 + i), names[i]), 0);
     is("the name of an answer", (uint64_t)strcmp(etcs_executive_fault_name(ETCS_UNIT_FAILED), "FAILED"), 0);
     free(on.bytes);
-    return report("executive", 570);
+    return report("executive", 580);
 }

@@ -467,6 +467,36 @@ static inline uint32_t etcs_file_close(etcs_file *file, etcs_unit *unit) {
     return answer;
 }
 
+/** Opens, locks and settles the file as the medium of an executive (etcs_executive.h), without a unit; `sectors` is how many
+ * sectors it has. Call it before etcs_executive_begin, and etcs_file_close at the end, with the executive's unit. Where the
+ * file is open already it answers UNIT (IS_OPEN), and it stays so. After any other answer than OK it isn't open. */
+ETCS_MUST_USE
+static inline uint32_t etcs_file_open_medium(etcs_file *file, const char *path, uint64_t *sectors) {
+    if (etcs_file_at_(file) >= 0)
+        return etcs_file_is_open_(file);
+    uint32_t answer = etcs_file_lock_(file, path, 0);
+    if (answer == ETCS_FILE_OK)
+        answer = etcs_file_settle_(file);
+    const off_t end = answer == ETCS_FILE_OK ? lseek(file->descriptor, 0, SEEK_END) : 0;
+    if (end < 0)
+        answer = etcs_file_failed_(file, ETCS_FILE_CANT_READ);
+    if (answer != ETCS_FILE_OK)
+        etcs_file_shut_(file);
+    else
+        *sectors = (uint64_t)end / ETCS_UNIT_SECTOR;
+    return answer;
+}
+
+/** Reads a sector of the file, an etcs_file: read_sector of etcs_equipment. Returns 1, or 0 where that failed. */
+static inline int etcs_file_read_sector(void *file, uint64_t sector, uint8_t *bytes) {
+    return etcs_file_read_((etcs_file *)file, bytes, ETCS_UNIT_SECTOR, sector * ETCS_UNIT_SECTOR) == ETCS_FILE_OK;
+}
+
+/** Carries out a request on the file, an etcs_file: carry_out of etcs_equipment. Returns 1, or 0 where that failed. */
+static inline int etcs_file_carry_out_request(void *file, const etcs_unit_request_info *request, const uint8_t *bytes) {
+    return etcs_file_do_((etcs_file *)file, request, bytes) == ETCS_FILE_OK;
+}
+
 /** Makes the file an empty journal of this many slots, as `etcs format` does; what was in it is lost. Call it once, before
  * the first power-up. What is there is locked before it is emptied, and its folder is synced, so that the name of a new
  * file survives a loss of power. The file isn't open then. One that is open already stays so: UNIT (IS_OPEN). */

@@ -33,8 +33,9 @@
  *     etcs_unit_close(&unit);
  *
  * where carry_out takes request after request, 0 and on, until one answers ETCS_UNIT_NO_SUCH_REQUEST, and then calls
- * etcs_unit_done with their number, or etcs_unit_fail where the medium failed. etcs_file.h has one for a POSIX file. The
- * release of a power-up hands out no output: until the first one, obey the emergency brake, with which `command` begins.
+ * etcs_unit_done with their number, or etcs_unit_fail where the medium failed. etcs_file.h has one for a POSIX file, and
+ * etcs_executive.h has this loop with all that a cycle owes. The release of a power-up hands out no output: until the first
+ * one, obey the emergency brake, with which `command` begins.
  *
  * A unit that holds no copy of its medium takes as much memory whatever the medium's size. It is powered up in steps, each
  * as far as sectors are known; the maker reads the sector that is wanted, and hands it in:

@@ -4,9 +4,9 @@
 
 #include <stdint.h>
 
-extern uint8_t stack_guard[], stack_end[], stack_top[];
+#include "etcs_executive.h"
 
-#define STACK_PAINT 0xA5u
+extern uint8_t stack_guard[], stack_end[], stack_top[];
 
 /* What an exception or the watchdog ends in, on a stack of its own (start.S): the program has it, and the board is switched
  * off after it. */
@@ -20,15 +20,7 @@ static inline void board_put(char of) {
 static inline void board_paint(void) {
     uint8_t *const here = (uint8_t *)__builtin_frame_address(0) - 256;
     for (volatile uint8_t *at = stack_guard; at < here; at++)
-        *at = STACK_PAINT;
-}
-
-/* Whether the guard is as it was painted; else the stack went beyond its end. */
-static inline int board_guard_is_whole(void) {
-    const volatile uint8_t *at = stack_guard;
-    while (at < stack_end && *at == STACK_PAINT)
-        at++;
-    return at == stack_end;
+        *at = ETCS_STACK_PAINT;
 }
 
 /* Feeds the watchdog: where this isn't called again within so many milliseconds, board_brake is. QEMU's `virt` has no
@@ -44,11 +36,36 @@ static inline void board_write(uint64_t at, uint32_t value) {
     *(volatile uint32_t *)at = value;
 }
 
-/* Lets the timer's interrupt (27) through the interrupt controller to the processor, and feeds for the first time. */
+/* The moment now, by the board's clock. */
+static inline uint64_t board_now_us(void) {
+    uint64_t hz, count;
+    __asm__ volatile("mrs %0, cntfrq_el0\n isb\n mrs %1, cntpct_el0" : "=r"(hz), "=r"(count));
+    return (count / hz * 1000000u) + (count % hz * 1000000u / hz);
+}
+
+/* Sleeps until a moment. The other timer (its interrupt is 30) wakes the processor, which takes no interrupt meanwhile: that of
+ * the watchdog is taken right after it. */
+static inline void board_wait_until_us(uint64_t moment_us) {
+    uint64_t hz;
+    __asm__ volatile("mrs %0, cntfrq_el0" : "=r"(hz));
+    while (board_now_us() < moment_us) {
+        const uint64_t left = ((moment_us - board_now_us()) * (hz / 1000u) / 1000u) + 1u;
+        __asm__ volatile("msr daifset, #2\n msr cntp_tval_el0, %0\n msr cntp_ctl_el0, %1\n isb\n wfi\n msr cntp_ctl_el0, xzr\n isb\n msr daifclr, #2\n isb"
+                         : : "r"(left), "r"(UINT64_C(1)) : "memory");
+    }
+}
+
+/* The board loses its power, and gets it back (PSCI). Only what lies above the program's memory stays. */
+static inline void board_reset(void) {
+    register uint64_t call __asm__("x0") = UINT64_C(0x84000009);
+    __asm__ volatile("hvc #0" : "+r"(call) : : "memory");
+}
+
+/* Lets the timer's interrupt (27), and that of the sleep (30), through the interrupt controller to the processor, and feeds for the first time. */
 static inline void board_watch(uint64_t ms) {
     board_feed(ms);
     board_write(UINT64_C(0x08000000), 1);
-    board_write(UINT64_C(0x08000100), UINT32_C(1) << 27);
+    board_write(UINT64_C(0x08000100), (UINT32_C(1) << 27) | (UINT32_C(1) << 30));
     board_write(UINT64_C(0x08010004), 0xFF);
     board_write(UINT64_C(0x08010000), 1);
     __asm__ volatile("msr daifclr, #2" : : : "memory");
@@ -62,7 +79,7 @@ static inline int board_was_late(void) {
 /* How many bytes of the stack were written to, from its beginning on. */
 static inline uint64_t board_stack(void) {
     const uint8_t *at = stack_end;
-    while (at < stack_top && *(const volatile uint8_t *)at == STACK_PAINT)
+    while (at < stack_top && *(const volatile uint8_t *)at == ETCS_STACK_PAINT)
         at++;
     return (uint64_t)(stack_top - at);
 }

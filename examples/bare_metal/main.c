@@ -1,32 +1,41 @@
-/* The unit on a board without an operating system and without a C library: QEMU's `virt`, 64 bits of ARM. Its memory is a
- * buffer, its journal is in memory that survives a reset, and the commands go to the serial line. The unit holds no copy of
- * the journal: it gets the sectors that it asks for.
+/* The executive on a board without an operating system and without a C library: QEMU's `virt`, 64 bits of ARM. Memory is a
+ * buffer, the journal is in memory that survives a loss of power, and the commands go to the serial line.
  *
- * A cycle of 100 ms, as a timer would call it: the odometer, the clock, and where there is one a telegram; then all of it
- * goes onto the medium, and the most restrictive brake of what is released holds until the next release. Only then the
- * watchdog is fed; a program that stops, an exception and a stack that went beyond its end mean the emergency brake. The
- * train is simulated: it gets an authority of 1,000 m, and doesn't heed it. Where it stands, the board is reset, and the
- * next life goes on from the medium. */
+ * A cycle of 100 ms, by the board's timer: the odometer, the clock, and what the driver does. The watchdog is fed once the
+ * command of a cycle is obeyed: a program that stops and an exception mean the emergency brake, and so does each fault of the
+ * executive, as a late cycle or a stack that went beyond its end. The train is simulated: it gets authorities of 1,000 m, and
+ * doesn't heed them. Power is lost again and again, while any byte is written; the next life goes on from the medium, with the
+ * train where it is. */
 #include "board.h"
+#include "etcs_executive.h"
 #include "etcs_memory.h"
 
-/* (WATCHDOG_MS: an emulated board runs as fast as its host lets it. Equipment takes two cycles.) */
-enum { CYCLE_MS = 100, MOST_CYCLES = 2000, SLOTS = 64, SECTORS = 1 + 6 * SLOTS, WATCHDOG_MS = 10000 };
+/* How many cycles all lives have together, and how many there are until power is lost, at most. */
+#ifndef CYCLES
+#define CYCLES 3000
+#define LIFE_CYCLES 1200
+#endif
+
+enum { CYCLE_MS = 100, LATE_MS = 50, WATCHDOG_MS = 200, SLOTS = 64, SECTORS = 1 + 6 * SLOTS, CYCLE_BYTES = 3584 };
 
 /* What the unit may take: groups of at most 16 packets, 32 restrictions, 100 gradients, 100 static speeds at once. Whatever
  * the slots, it holds 16 sectors. */
 static _Alignas(16) uint8_t memory[ETCS_MEMORY_BYTES(0, 16, 32, 100, 100)];
+static etcs_executive executive;
 
-/* The medium: memory that keeps what it has where the board is reset, and whose reads can't fail. Equipment has a driver of a
+/* The medium: memory that keeps what it has where power is lost, and whose reads can't fail. Equipment has a driver of a
  * flash in its place; examples/embedding/flash.c shows what to do where a read fails. */
 static uint8_t (*const medium)[ETCS_UNIT_SECTOR] = (uint8_t (*)[ETCS_UNIT_SECTOR])UINT64_C(0x4A000000);
 
-typedef struct {
-    uint64_t moment_ms;
-    int64_t rest; /* what of a movement is no whole centimetre, in 1/36,000 cm: it goes into the next reading */
+/* What goes on without the board: the train, and when power is lost. (QEMU's memory is zeros at first.) */
+static struct {
+    uint64_t lives, cycles, longest_us, random;
+    uint64_t bytes_left;    /* that are written until power is lost */
+    uint64_t newest;        /* the newest event of all lives whose output was obeyed */
+    int64_t rest;           /* what of a movement is no whole centimetre, in 1/36,000 cm: it goes into the next reading */
     uint32_t speed_m_per_h;
-    etcs_unit_output command;
-} train;
+    uint8_t brake;
+} *const world = (void *)UINT64_C(0x4B000000);
 
 /* ---- the serial line */
 
@@ -36,7 +45,7 @@ static void say(const char *text) {
     }
 }
 
-static void say_number(uint64_t number) {
+static void say_number(uint64_t number, const char *text) {
     char digits[20];
     unsigned count = 0;
     do {
@@ -46,6 +55,7 @@ static void say_number(uint64_t number) {
     while (count > 0u) {
         board_put(digits[--count]);
     }
+    say(text);
 }
 
 /* What the watchdog and each exception end in. */
@@ -55,77 +65,34 @@ void board_brake(void) {
 
 /* ---- the medium */
 
+static int read_sector(void *unused, uint64_t sector, uint8_t *bytes) {
+    (void)unused;
+    for (unsigned i = 0; i < ETCS_UNIT_SECTOR; i++) {
+        bytes[i] = medium[sector][i];
+    }
+    return 1;
+}
+
 /* Carries out one request; 0 where the medium failed. A sync waits until all that was written is kept: here it is. */
-static int carries_out(const etcs_unit_request_info *request, const uint8_t *bytes) {
-    const uint64_t length = request->sectors * ETCS_UNIT_SECTOR;
+static int carry_out(void *unused, const etcs_unit_request_info *request, const uint8_t *bytes) {
+    (void)unused;
     if ((request->kind == ETCS_REQUEST_WRITE) && ((request->sector + request->sectors) > SECTORS)) {
         return 0;
     }
-    for (uint64_t i = 0; i < length; i++) {
+    for (uint64_t i = 0; i < (request->sectors * ETCS_UNIT_SECTOR); i++) {
+        if (--world->bytes_left == 0u) {
+            board_reset();
+        }
         medium[request->sector][i] = bytes[i];
     }
     return 1;
 }
 
-/* Powers up: goes on as far as it is known what the medium holds, and hands in the sector that is wanted. */
-static uint32_t power_up(etcs_unit *unit) {
-    etcs_opening opening = {0};
-    uint64_t sector = 0;
-    uint32_t status = etcs_opening_begin(&opening, SECTORS, ETCS_COLD_UNKNOWN);
-    if (status != ETCS_UNIT_OK) {
-        return status;
-    }
-    while ((status = etcs_opening_go_on(&opening, unit)) == ETCS_UNIT_SECTOR_WANTED) {
-        status = etcs_opening_wanted(&opening, &sector);
-        if (status == ETCS_UNIT_OK) {
-            status = etcs_opening_provide(&opening, sector, medium[sector], ETCS_UNIT_SECTOR);
-        }
-        if (status != ETCS_UNIT_OK) {
-            (void)etcs_opening_close(&opening);
-            break;
-        }
-    }
-    return status;
-}
-
-/* Prepares a flush: the unit asks for the gate of the slot that it will write to, where it doesn't know it. */
-static uint32_t prepare(etcs_unit *unit) {
-    uint64_t sector = 0;
-    uint32_t status;
-    while ((status = etcs_unit_prepare(unit)) == ETCS_UNIT_SECTOR_WANTED) {
-        status = etcs_unit_wanted(unit, &sector);
-        if (status == ETCS_UNIT_OK) {
-            status = etcs_unit_provide(unit, sector, medium[sector], ETCS_UNIT_SECTOR);
-        }
-        if (status != ETCS_UNIT_OK) {
-            break;
-        }
-    }
-    return status;
-}
-
-/* Carries out the list, one request after the other, and releases what was held back. */
-static uint32_t release(etcs_unit *unit, etcs_unit_output *outputs, uint32_t *count) {
-    static uint8_t bytes[ETCS_UNIT_REQUEST_BYTES];
-    etcs_unit_request_info request;
-    uint32_t index = 0, status;
-    while ((status = etcs_unit_request(unit, index, &request, bytes, sizeof bytes)) == ETCS_UNIT_OK) {
-        if (carries_out(&request, bytes) == 0) {
-            (void)etcs_unit_fail(unit);
-            return ETCS_UNIT_FAILED;
-        }
-        index++;
-    }
-    status = (status == ETCS_UNIT_NO_SUCH_REQUEST) ? etcs_unit_done(unit, index) : status;
-    return (status == ETCS_UNIT_OK) ? etcs_unit_release(unit, outputs, ETCS_UNIT_OUTPUTS, count) : status;
-}
-
 static uint32_t format(void) {
-    static uint8_t bytes[ETCS_UNIT_SECTOR];
     etcs_unit_request_info request;
     uint32_t index = 0, status;
-    while ((status = etcs_unit_format_request(SLOTS, index, &request, bytes, sizeof bytes)) == ETCS_UNIT_OK) {
-        if (carries_out(&request, bytes) == 0) {
+    while ((status = etcs_unit_format_request(SLOTS, index, &request, executive.bytes, sizeof executive.bytes)) == ETCS_UNIT_OK) {
+        if (carry_out(NULL, &request, executive.bytes) == 0) {
             return ETCS_UNIT_FAILED;
         }
         index++;
@@ -136,33 +103,13 @@ static uint32_t format(void) {
 /* ---- the train */
 
 /* Its movement in one cycle, in whole centimetres: it pulls with 0.5 m/s^2, and slows with 0.7 and 1. */
-static int64_t moved(train *our) {
+static int64_t moved(void) {
     static const int64_t gained[] = {180, -252, -360}; /* m/h in 100 ms */
-    const int64_t speed = (int64_t)our->speed_m_per_h + gained[our->command.brake];
-    our->speed_m_per_h = (speed < 0) ? 0u : ((speed > 100000) ? 100000u : (uint32_t)speed);
-    const int64_t way = ((int64_t)our->speed_m_per_h * CYCLE_MS) + our->rest;
-    our->rest = way % 36000;
+    const int64_t speed = (int64_t)world->speed_m_per_h + gained[world->brake];
+    world->speed_m_per_h = (speed < 0) ? 0u : ((speed > 100000) ? 100000u : (uint32_t)speed);
+    const int64_t way = ((int64_t)world->speed_m_per_h * CYCLE_MS) + world->rest;
+    world->rest = way % 36000;
     return way / 36000;
-}
-
-/* The most restrictive brake of a release holds until the next one. The watchdog is fed once it is obeyed. */
-static uint32_t obey(train *our, const etcs_unit_output *outputs, uint32_t count) {
-    const uint8_t before = our->command.brake;
-    const uint32_t status = etcs_unit_command(outputs, count, &our->command);
-    if (status != ETCS_UNIT_OK) {
-        return status;
-    }
-    if (our->command.brake != before) {
-        say("event ");
-        say_number(our->command.event);
-        say(": brake ");
-        say(etcs_brake_name(our->command.brake));
-        say(", limit ");
-        say_number(our->command.limit_m_per_h);
-        say(" m/h\n");
-    }
-    board_feed(WATCHDOG_MS);
-    return ETCS_UNIT_OK;
 }
 
 /* The driver makes the train ready, and a group gives the authority. */
@@ -183,83 +130,99 @@ static uint32_t make_ready(etcs_unit *unit) {
     return (status == ETCS_UNIT_OK) ? etcs_unit_action(unit, ETCS_START) : status;
 }
 
-/* One cycle: the inputs of the sensors, a flush to the medium, and the outputs. */
-static uint32_t cycle(etcs_unit *unit, train *our) {
-    etcs_unit_output outputs[ETCS_UNIT_OUTPUTS];
-    uint32_t count = 0;
-    our->moment_ms += CYCLE_MS;
-    const int64_t movement = moved(our); /* (first, since the speed goes with it) */
-    uint32_t status = etcs_unit_odometer(unit, movement, our->speed_m_per_h);
-    if (status == ETCS_UNIT_OK) {
-        status = etcs_unit_clock(unit, our->moment_ms);
-    }
-    if (status == ETCS_UNIT_OK) {
-        status = prepare(unit);
-    }
-    if (status == ETCS_UNIT_OK) {
-        status = release(unit, outputs, &count);
-    }
-    if (board_guard_is_whole() == 0) {
-        say("the stack went beyond its end\n");
-        status = ETCS_UNIT_FAILED;
-    }
-    return (status == ETCS_UNIT_OK) ? obey(our, outputs, count) : status;
+/* ---- what the executive calls: these, and the board's timer and watchdog */
+
+static uint64_t now_us(void *unused) {
+    (void)unused;
+    return board_now_us();
 }
 
-/* A life: from the power-up until the train stands, or for so many cycles. */
-static uint32_t live(int is_ready, int cycles) {
-    train our = {0, 0, 0, {0, 0, ETCS_STAND_BY, ETCS_LEVEL_INVALID, ETCS_BRAKE_EMERGENCY, ETCS_SHOWS_NOT_REVALIDATED}};
-    etcs_unit unit = {0};
-    etcs_unit_output outputs[ETCS_UNIT_OUTPUTS];
-    uint32_t count = 0, status = power_up(&unit);
+static void wait_until_us(void *unused, uint64_t moment_us) {
+    (void)unused;
+    board_wait_until_us(moment_us);
+}
+
+static void feed(void *unused) {
+    (void)unused;
+    board_feed(WATCHDOG_MS);
+}
+
+/* Once the train stands in a life that has no driver yet, he makes it ready. */
+static uint32_t take_inputs(void *unused, etcs_unit *unit) {
+    static int is_ready;
+    const int64_t movement = moved(); /* (first, since the speed goes with it) */
+    uint32_t status = etcs_unit_odometer(unit, movement, world->speed_m_per_h);
+    (void)unused;
     if (status == ETCS_UNIT_OK) {
-        status = release(&unit, outputs, &count);
+        status = etcs_unit_clock(unit, executive.cycles * CYCLE_MS);
     }
-    if (status == ETCS_UNIT_OK) {
-        status = obey(&our, outputs, count);
+    if ((status == ETCS_UNIT_OK) && (is_ready == 0) && (world->speed_m_per_h == 0u)) {
+        status = make_ready(unit);
+        is_ready = 1;
     }
-    if ((status == ETCS_UNIT_OK) && (is_ready != 0)) {
-        status = make_ready(&unit);
-    }
-    for (int at = 0; (status == ETCS_UNIT_OK) && (at < cycles) && ((at < 3) || (our.speed_m_per_h > 0u)); at++) {
-        status = cycle(&unit, &our);
-    }
-    if (status != ETCS_UNIT_OK) {
-        our.command.brake = ETCS_BRAKE_EMERGENCY;
-    }
-    say("the train stands after ");
-    say_number(our.moment_ms);
-    say(" ms, ");
-    say((our.command.brake == ETCS_BRAKE_EMERGENCY) ? "emergency brake\n" : "no emergency brake\n");
-    (void)etcs_unit_close(&unit);
     return status;
+}
+
+static void obey(void *unused, const etcs_unit_output *command) {
+    (void)unused;
+    if ((command->event > 0u) && (command->brake != world->brake)) {
+        say_number(executive.cycles * CYCLE_MS, " ms: brake ");
+        say(etcs_brake_name(command->brake));
+        say(", limit ");
+        say_number(command->limit_m_per_h, " m/h, speed ");
+        say_number(world->speed_m_per_h, " m/h\n");
+    }
+    world->brake = command->brake;
+    /* (the event before the outputs of a life's first cycle is its power-up, which comes after all that was obeyed) */
+    if ((executive.cycles == 1u) && (world->lives > 1u) && ((command->event - executive.released) <= world->newest)) {
+        say("an event whose output was obeyed is lost\n");
+    }
+    world->newest = (command->event > world->newest) ? command->event : world->newest;
+}
+
+/* ---- a life */
+
+/* Every byte that is written may be the one at which power is lost. (A linear congruential generator by Knuth.) */
+static void choose_loss(void) {
+    world->random = (world->random * UINT64_C(6364136223846793005)) + UINT64_C(1442695040888963407);
+    world->bytes_left = 1u + ((world->random >> 20) % (UINT64_C(1) * LIFE_CYCLES * CYCLE_BYTES));
+}
+
+static uint32_t live(void) {
+    const etcs_equipment equipment = {NULL, NULL, SECTORS, CYCLE_MS * 1000u, LATE_MS * 1000u, stack_guard, (size_t)(stack_end - stack_guard), read_sector, carry_out,
+                                      now_us, wait_until_us, take_inputs, obey, feed, NULL};
+    uint32_t fault = etcs_memory_use(memory, sizeof memory);
+    if ((fault == ETCS_UNIT_OK) && (world->lives == 0u)) {
+        world->bytes_left = UINT64_MAX;
+        fault = format();
+    }
+    world->lives++;
+    choose_loss();
+    if (fault == ETCS_UNIT_OK) {
+        fault = etcs_executive_begin(&executive, &equipment, ETCS_COLD_UNKNOWN);
+    }
+    while ((fault == ETCS_UNIT_OK) && (world->cycles < CYCLES)) {
+        fault = etcs_executive_cycle(&executive);
+        world->cycles++;
+        world->longest_us = (executive.longest_us > world->longest_us) ? executive.longest_us : world->longest_us;
+    }
+    return fault;
 }
 
 int main(void) {
     etcs_memory_info info = {0, 0, 0, 0, 0};
     board_paint();
     board_watch(WATCHDOG_MS);
-    uint32_t status = etcs_memory_use(memory, sizeof memory);
-    if (status == ETCS_UNIT_OK) {
-        status = format();
-    }
-    if (status == ETCS_UNIT_OK) {
-        status = live(1, MOST_CYCLES);
-    }
-    if (status == ETCS_UNIT_OK) {
-        status = live(0, 2); /* the board was reset */
-    }
-    if (status == ETCS_UNIT_OK) {
-        status = etcs_memory_state(&info);
-    }
-    say((status == ETCS_UNIT_OK) ? "memory: " : "emergency brake: ");
-    say((status == ETCS_UNIT_OK) ? "" : etcs_status_name(status));
-    say((status == ETCS_UNIT_OK) ? "" : ", ");
-    say_number(info.most_used);
-    say(" of ");
-    say_number(info.size);
-    say(" bytes; stack: ");
-    say_number(board_stack());
-    say(" bytes\n");
+    const uint32_t fault = live();
+    (void)etcs_memory_state(&info);
+    say((fault == ETCS_UNIT_OK) ? "no fault: " : "emergency brake: ");
+    say((fault == ETCS_UNIT_OK) ? "" : etcs_executive_fault_name(fault));
+    say((fault == ETCS_UNIT_OK) ? "" : ", ");
+    say_number(world->cycles, " cycles in ");
+    say_number(world->lives, " lives, the longest took ");
+    say_number(world->longest_us, " us\nmemory: ");
+    say_number(info.most_used, " of ");
+    say_number(info.size, " bytes; stack: ");
+    say_number(board_stack(), " bytes\n");
     return 0;
 }

@@ -1,13 +1,14 @@
-/* The unit in a cyclic task on Linux: on a Cortex-A, or any other machine with POSIX threads.
+/* The executive in a cyclic task on Linux: on a Cortex-A, or any other machine with POSIX threads.
  *
  *     cyclic IMAGE [CYCLES [MILLISECONDS [LATE]]]    a journal that etcs_file_format made; where there is no such file it is made
  *
- * One task opens the unit, and hands it to the cyclic one under a lock. The cyclic task runs every 100 ms by the system's
- * clock: sensors, medium, outputs. Memory is a buffer of the program's own and is locked, so no cycle waits for a page.
- * A cycle that ends LATE milliseconds after it was due, or later, means the emergency brake and the end of the task, and so
- * does any answer that is a fault. A wrong entry is shown to the driver, who enters it again. Separate hardware has to brake where this
- * program stops: here `alive` is the signal that it watches. */
+ * One task begins, and hands the executive to the cyclic one by starting it. That one runs every 100 ms by the system's clock.
+ * Memory is a buffer of the program's own and is locked, so no cycle waits for a page. A cycle that ends LATE milliseconds after
+ * it was due, or later, means the emergency brake and the end of the task, and so does any other fault. A wrong entry is shown
+ * to the driver, who enters it again. Separate hardware has to brake where this program stops: here `fed` counts how often the
+ * executive would feed it. */
 #include "etcs_file.h"
+#include "etcs_executive.h"
 #include "etcs_memory.h"
 
 #include <inttypes.h>
@@ -18,110 +19,86 @@
 
 enum { SLOTS = 64, CYCLE_MS = 100, LATE_MS = 50 };
 
-static uint8_t memory[ETCS_MEMORY_BYTES(SLOTS, 16, 32, 100, 100)];
+static uint8_t memory[ETCS_MEMORY_BYTES(0, 16, 32, 100, 100)];
+static etcs_executive executive;
+static uint64_t most_cycles = 20, cycle_ms = CYCLE_MS;
 
-/* All that the tasks share, under its lock. */
+/* What other tasks may read, under its lock. */
 static struct {
     pthread_mutex_t lock;
-    etcs_unit unit;
-    etcs_file file;
     etcs_unit_output command; /* what the train is commanded now */
-    uint64_t cycles, longest_us, alive;
-    uint32_t fault; /* the first answer that was one */
-    int is_late, is_over;
-} our = {.lock = PTHREAD_MUTEX_INITIALIZER, .command = {0, 0, ETCS_STAND_BY, ETCS_LEVEL_INVALID, ETCS_BRAKE_EMERGENCY, ETCS_SHOWS_NOT_REVALIDATED}};
+    uint64_t fed;
+} our = {.lock = PTHREAD_MUTEX_INITIALIZER};
 
-static uint64_t most_cycles = 20, cycle_ms = CYCLE_MS, late_ms = LATE_MS;
+/* ---- what the executive calls */
 
-static uint64_t now_us(void) {
+static uint64_t now_us(void *of) {
     struct timespec at;
+    (void)of;
     clock_gettime(CLOCK_MONOTONIC, &at);
     return (uint64_t)at.tv_sec * 1000000u + (uint64_t)at.tv_nsec / 1000u;
 }
 
-/* The next moment of a cycle; a cycle that was missed isn't made up for. */
-static void wait_until(uint64_t us) {
-    const struct timespec at = {(time_t)(us / 1000000u), (long)(us % 1000000u) * 1000};
+static void wait_until_us(void *of, uint64_t moment_us) {
+    const struct timespec at = {(time_t)(moment_us / 1000000u), (long)(moment_us % 1000000u) * 1000};
+    (void)of;
     while (clock_nanosleep(CLOCK_MONOTONIC, TIMER_ABSTIME, &at, NULL) == EINTR)
         continue;
 }
 
-/* From here on the emergency brake is commanded, whatever else is released. */
-static void fail(uint32_t status) {
-    if (our.fault == ETCS_UNIT_OK)
-        our.fault = status;
-    our.command.brake = ETCS_BRAKE_EMERGENCY;
+static void obey(void *of, const etcs_unit_output *command) {
+    (void)of;
+    pthread_mutex_lock(&our.lock);
+    our.command = *command;
+    pthread_mutex_unlock(&our.lock);
 }
 
-/* Whether a call of the equipment did what it was asked; else the brake. */
-static int did(uint32_t status) {
-    if (etcs_status_classify(status, ETCS_OF_EQUIPMENT) != ETCS_KIND_OK)
-        fail(status);
-    return status == ETCS_UNIT_OK;
+static void feed(void *of) {
+    (void)of;
+    pthread_mutex_lock(&our.lock);
+    our.fed++;
+    pthread_mutex_unlock(&our.lock);
 }
 
 /* The driver enters his identity: where it is none, he is asked again, and nothing has changed. */
-static uint32_t enter(const char *identity) {
-    const uint32_t status = etcs_unit_identity(&our.unit, (const uint8_t *)identity, strlen(identity));
-    if (etcs_status_classify(status, ETCS_OF_DRIVER) == ETCS_KIND_MISTAKE)
-        printf("the driver enters \"%s\": %s, once more\n", identity, etcs_status_name(status));
-    else
-        (void)did(status);
+static uint32_t enter(etcs_unit *unit, const char *identity) {
+    const uint32_t status = etcs_unit_identity(unit, (const uint8_t *)identity, strlen(identity));
+    if (etcs_status_classify(status, ETCS_OF_DRIVER) != ETCS_KIND_MISTAKE)
+        return status;
+    printf("the driver enters \"%s\": %s, once more\n", identity, etcs_status_name(status));
+    return ETCS_UNIT_OK;
+}
+
+/* The train stands, and the driver enters his identity in the third cycle. (A reading of a sensor reports whole centimetres;
+ * what is left goes into the next one.) */
+static uint32_t take_inputs(void *of, etcs_unit *unit) {
+    uint32_t status = etcs_unit_odometer(unit, 0, 0);
+    (void)of;
+    if (status == ETCS_UNIT_OK)
+        status = etcs_unit_clock(unit, executive.cycles * cycle_ms);
+    if (status == ETCS_UNIT_OK && executive.cycles == 3)
+        status = enter(unit, "an identity that is far too long");
+    if (status == ETCS_UNIT_OK && executive.cycles == 3)
+        status = enter(unit, "IC 704");
     return status;
 }
 
-/* What was accepted goes onto the file, and the most restrictive brake of what is released holds. */
-static void flush(void) {
-    etcs_unit_output outputs[ETCS_UNIT_OUTPUTS];
-    uint32_t count = 0;
-    const uint32_t answer = etcs_file_flush(&our.file, &our.unit, outputs, &count);
-    if (answer != ETCS_FILE_OK) {
-        fail(our.file.status != ETCS_UNIT_OK ? our.file.status : (uint32_t)ETCS_UNIT_FAILED);
-        return;
-    }
-    (void)did(etcs_unit_command(outputs, count, &our.command));
-    if (our.fault != ETCS_UNIT_OK)
-        our.command.brake = ETCS_BRAKE_EMERGENCY;
-}
+/* ---- the tasks */
 
-/* The cyclic task: the train stands, and the driver enters his identity in the third cycle. */
 static void *cyclic(void *unused) {
-    const uint64_t from = now_us();
     (void)unused;
-    for (uint64_t cycle = 1; cycle <= most_cycles; cycle++) {
-        const uint64_t due = from + cycle * cycle_ms * 1000u;
-        wait_until(due);
-        pthread_mutex_lock(&our.lock);
-        /* (a reading of a sensor reports whole centimetres; what is left goes into the next one) */
-        if (our.fault == ETCS_UNIT_OK && did(etcs_unit_odometer(&our.unit, 0, 0)) && did(etcs_unit_clock(&our.unit, cycle * cycle_ms))) {
-            if (cycle == 3 && enter("an identity that is far too long") != ETCS_UNIT_OK)
-                (void)enter("IC 704");
-            flush();
-        }
-        const uint64_t took = now_us() - due;
-        our.longest_us = took > our.longest_us ? took : our.longest_us;
-        our.cycles++;
-        our.is_late = took >= late_ms * 1000u;
-        if (our.is_late)
-            our.command.brake = ETCS_BRAKE_EMERGENCY;
-        our.is_over = cycle == most_cycles || our.is_late || our.fault != ETCS_UNIT_OK;
-        if (!our.is_late && our.fault == ETCS_UNIT_OK)
-            our.alive++;
-        const int is_over = our.is_over;
-        pthread_mutex_unlock(&our.lock);
-        if (is_over)
-            break;
-    }
+    while (etcs_executive_cycle(&executive) == ETCS_UNIT_OK && executive.cycles < most_cycles)
+        continue;
     return NULL;
 }
 
-/* Opens the journal, or makes it; the power-up is released by the first flush of the cyclic task. */
-static uint32_t power_up(const char *path) {
-    uint32_t answer = etcs_file_open(&our.file, path, &our.unit, ETCS_COLD_UNKNOWN);
-    if (answer == ETCS_FILE_CANT_OPEN && our.file.error == ENOENT) {
-        answer = etcs_file_format(&our.file, path, SLOTS);
+/* Opens the journal, or makes it. */
+static uint32_t open_file(etcs_file *file, const char *path, uint64_t *sectors) {
+    uint32_t answer = etcs_file_open_medium(file, path, sectors);
+    if (answer == ETCS_FILE_CANT_OPEN && file->error == ENOENT) {
+        answer = etcs_file_format(file, path, SLOTS);
         if (answer == ETCS_FILE_OK)
-            answer = etcs_file_open(&our.file, path, &our.unit, ETCS_COLD_UNKNOWN);
+            answer = etcs_file_open_medium(file, path, sectors);
     }
     return answer;
 }
@@ -129,30 +106,29 @@ static uint32_t power_up(const char *path) {
 int main(int count, char **words) {
     pthread_t task;
     etcs_memory_info info = {0, 0, 0, 0, 0};
+    etcs_file file = {0};
     if (count < 2 || etcs_memory_use(memory, sizeof memory) != ETCS_UNIT_OK)
         return 2;
     most_cycles = count > 2 ? strtoull(words[2], NULL, 10) : most_cycles;
     cycle_ms = count > 3 ? strtoull(words[3], NULL, 10) : cycle_ms;
-    late_ms = count > 4 ? strtoull(words[4], NULL, 10) : late_ms;
+    const uint64_t late_ms = count > 4 ? strtoull(words[4], NULL, 10) : LATE_MS;
+    etcs_equipment equipment = {NULL, &file, 0, cycle_ms * 1000u, late_ms * 1000u, NULL, 0, etcs_file_read_sector,
+                                etcs_file_carry_out_request, now_us, wait_until_us, take_inputs, obey, feed, NULL};
     if (mlockall(MCL_CURRENT | MCL_FUTURE) != 0)
         puts("the memory can't be locked here: a cycle may wait for a page");
-    pthread_mutex_lock(&our.lock);
-    const uint32_t answer = power_up(words[1]);
-    pthread_mutex_unlock(&our.lock);
-    if (answer != ETCS_FILE_OK || pthread_create(&task, NULL, cyclic, NULL) != 0) {
-        printf("emergency brake: opening answered %" PRIu32 ", status %" PRIu32 ", system %d\n", answer, our.file.status, our.file.error);
+    const uint32_t answer = open_file(&file, words[1], &equipment.sectors);
+    if (answer != ETCS_FILE_OK || etcs_executive_begin(&executive, &equipment, ETCS_COLD_UNKNOWN) != ETCS_UNIT_OK
+        || pthread_create(&task, NULL, cyclic, NULL) != 0) {
+        printf("emergency brake: the file %s, the executive %s, system %d\n", etcs_file_answer_name(answer), etcs_executive_fault_name(executive.fault), file.error);
         return 1;
     }
     pthread_join(task, NULL);
-    pthread_mutex_lock(&our.lock);
     (void)etcs_memory_state(&info);
-    printf("%" PRIu64 " cycles, event %" PRIu64 ": brake %u; %s\n", our.cycles, our.command.event, (unsigned)our.command.brake, etcs_status_name(our.fault));
+    printf("%" PRIu64 " cycles, event %" PRIu64 ": brake %u; %s; fed %" PRIu64 " times\n", executive.cycles, our.command.event, (unsigned)our.command.brake,
+           etcs_executive_fault_name(executive.fault), our.fed);
     printf("memory: %" PRIu64 " of %" PRIu64 " bytes\n", info.most_used, info.size);
-    if (our.is_late)
-        puts("emergency brake: a cycle ended too late");
-    fprintf(stderr, "the longest cycle took %" PRIu64 " us\n", our.longest_us);
-    etcs_file_close(&our.file, &our.unit);
-    const int is_good = our.fault == ETCS_UNIT_OK && !our.is_late;
-    pthread_mutex_unlock(&our.lock);
-    return is_good ? 0 : 1;
+    fprintf(stderr, "the longest cycle took %" PRIu64 " us\n", executive.longest_us);
+    etcs_executive_end(&executive);
+    etcs_file_close(&file, &executive.unit);
+    return executive.fault == ETCS_UNIT_OK ? 0 : 1;
 }

@@ -1,18 +1,19 @@
-/* A maker's loop over a file, and a train that runs towards the end of its movement authority until it is braked.
+/* The unit over a file in a cyclic executive, and a train that runs towards the end of its movement authority until it is braked.
  *
  *     brake IMAGE    a journal that `etcs format` or etcs_file_format made; where there is no such file it is made
  *
  * It prints each command that differs from the one before. */
 #include "etcs_file.h"
+#include "etcs_executive.h"
 
 #include <inttypes.h>
 #include <stdio.h>
 
 enum { CYCLE_MS = 500, MOST_CYCLES = 1000, SLOTS = 64 };
 
-/* The equipment around the unit. Here it is a train that is simulated: it pulls up to 100 km/h, and slows where a brake
- * is commanded. A reading reports whole centimetres: what is left of a movement is carried over to the next one, since cut
- * off it would be lost, at 5 km/h and ten readings a second 64 m of 1,000. */
+/* The equipment around the unit. Here it is a train that is simulated, with its time: it pulls up to 100 km/h, and slows where
+ * a brake is commanded. A reading reports whole centimetres: what is left of a movement is carried over to the next one, since
+ * cut off it would be lost, at 5 km/h and ten readings a second 64 m of 1,000. */
 typedef struct {
     uint64_t moment_ms;
     int64_t movement_cm;
@@ -32,29 +33,29 @@ static void go_on(train *our) {
     our->moment_ms += CYCLE_MS;
 }
 
-static void obey(train *our, const etcs_unit_output *command) {
-    if (command->brake != our->command.brake || command->mode != our->command.mode)
+/* ---- what the executive calls */
+
+static uint64_t now_us(void *of) {
+    return ((train *)of)->moment_ms * 1000u;
+}
+
+/* (here time passes in go_on; examples/cortex_a waits by the system's clock) */
+static void wait_until_us(void *of, uint64_t moment_us) {
+    (void)of;
+    (void)moment_us;
+}
+
+/* (a file has no watchdog) */
+static void feed(void *of) {
+    (void)of;
+}
+
+static void obey(void *of, const etcs_unit_output *command) {
+    train *const our = (train *)of;
+    if (command->event > our->command.event && (command->brake != our->command.brake || command->mode != our->command.mode))
         printf("event %" PRIu64 ": mode %s, brake %s, limit %" PRIu32 " m/h, speed %" PRIu32 " m/h\n", command->event,
                etcs_mode_name(command->mode), etcs_brake_name(command->brake), command->limit_m_per_h, our->speed_m_per_h);
     our->command = *command;
-}
-
-/* Any answer but OK ends here. The next power-up begins from what is on the file. */
-static int brake(const char *where, uint32_t answer, const etcs_file *file) {
-    printf("emergency brake: %s answered %" PRIu32 ", status %" PRIu32 ", system %d\n", where, answer, file->status, file->error);
-    return 1;
-}
-
-/* Puts what was accepted onto the file. The most restrictive brake of what is released holds until the next release. */
-static uint32_t flush(train *our, etcs_file *file, etcs_unit *unit) {
-    etcs_unit_output outputs[ETCS_UNIT_OUTPUTS], command = our->command;
-    uint32_t count;
-    const uint32_t answer = etcs_file_flush(file, unit, outputs, &count);
-    if (answer != ETCS_FILE_OK)
-        return answer;
-    file->status = etcs_unit_command(outputs, count, &command);
-    obey(our, &command);
-    return file->status == ETCS_UNIT_OK ? ETCS_FILE_OK : ETCS_FILE_UNIT;
 }
 
 /* The driver makes the train ready, and a group gives an authority of 1,000 m. */
@@ -76,50 +77,43 @@ static uint32_t make_ready(etcs_unit *unit) {
     return status;
 }
 
-/* What the sensors report in one cycle. */
-static uint32_t accept(const train *our, etcs_unit *unit) {
+/* What the driver does in the first cycle, and what the sensors report in each later one. */
+static uint32_t take_inputs(void *of, etcs_unit *unit) {
+    const train *const our = (train *)of;
+    if (our->moment_ms == 0)
+        return make_ready(unit);
     const uint32_t status = etcs_unit_odometer(unit, our->movement_cm, our->speed_m_per_h);
     return status == ETCS_UNIT_OK ? etcs_unit_clock(unit, our->moment_ms) : status;
 }
 
-static int run(train *our, etcs_file *file, etcs_unit *unit) {
-    uint32_t status, answer = flush(our, file, unit); /* the power-up */
-    if (answer != ETCS_FILE_OK)
-        return brake("the power-up", answer, file);
-    status = make_ready(unit);
-    if (status != ETCS_UNIT_OK)
-        return brake("making ready", status, file);
-    for (int cycle = 0; cycle < MOST_CYCLES; cycle++) {
-        answer = flush(our, file, unit);
-        if (answer != ETCS_FILE_OK)
-            return brake("a flush", answer, file);
-        go_on(our);
-        if (our->speed_m_per_h == 0 && cycle > 0)
-            break;
-        status = accept(our, unit);
-        if (status != ETCS_UNIT_OK)
-            return brake("an input", status, file);
-    }
-    printf("the train stands after %" PRIu64 " ms\n", our->moment_ms);
-    return 0;
-}
-
 int main(int count, char **words) {
-    /* Before the first output the emergency brake is on. */
+    static etcs_executive executive;
     train our = {0, 0, 0, 0, {0, 0, ETCS_STAND_BY, ETCS_LEVEL_INVALID, ETCS_BRAKE_EMERGENCY, ETCS_SHOWS_NOT_REVALIDATED}};
-    etcs_unit unit = {0};
     etcs_file file = {0};
+    etcs_equipment equipment = {&our, &file, 0, CYCLE_MS * 1000u, CYCLE_MS * 1000u, NULL, 0, etcs_file_read_sector,
+                                etcs_file_carry_out_request, now_us, wait_until_us, take_inputs, obey, feed, NULL};
     if (count != 2)
         return 2;
-    uint32_t answer = etcs_file_open(&file, words[1], &unit, ETCS_COLD_UNKNOWN);
+    uint32_t answer = etcs_file_open_medium(&file, words[1], &equipment.sectors);
     if (answer == ETCS_FILE_CANT_OPEN && file.error == ENOENT) {
         answer = etcs_file_format(&file, words[1], SLOTS);
         if (answer == ETCS_FILE_OK)
-            answer = etcs_file_open(&file, words[1], &unit, ETCS_COLD_UNKNOWN);
+            answer = etcs_file_open_medium(&file, words[1], &equipment.sectors);
     }
-    if (answer != ETCS_FILE_OK)
-        return brake("opening", answer, &file);
-    const int status = run(&our, &file, &unit);
-    etcs_file_close(&file, &unit);
-    return status;
+    if (answer != ETCS_FILE_OK) {
+        printf("emergency brake: opening answered %s, system %d\n", etcs_file_answer_name(answer), file.error);
+        return 1;
+    }
+    uint32_t fault = etcs_executive_begin(&executive, &equipment, ETCS_COLD_UNKNOWN);
+    do {
+        fault = fault == ETCS_UNIT_OK ? etcs_executive_cycle(&executive) : fault;
+        go_on(&our);
+    } while (fault == ETCS_UNIT_OK && (our.speed_m_per_h > 0 || executive.cycles < 2) && executive.cycles < MOST_CYCLES);
+    if (fault == ETCS_UNIT_OK)
+        printf("the train stands after %" PRIu64 " ms\n", our.moment_ms);
+    else
+        printf("emergency brake: %s, system %d\n", etcs_executive_fault_name(fault), file.error);
+    etcs_executive_end(&executive);
+    etcs_file_close(&file, &executive.unit);
+    return fault == ETCS_UNIT_OK ? 0 : 1;
 }

@@ -9,30 +9,43 @@ import sys
 from pathlib import Path
 
 # The train pulls, and passes the limit by more than 5 km/h and then by more than 10, since it heeds nothing: service brake, emergency brake. Where it
-# stands the emergency brake of the speed ends. In the second life the driver has not revalidated: the emergency brake holds.
-# Events 1 to 5 make the train ready, before the driver's Start in the brake of the power-up: the release of the first cycle holds it on, the second one doesn't.
-BOARD = [r"event 9: brake none, limit \d+ m/h", r"event \d+: brake service, limit \d+ m/h", r"event \d+: brake emergency, limit \d+ m/h", r"event \d+: brake none, limit 0 m/h",
-         r"the train stands after \d+ ms, no emergency brake", r"the train stands after 200 ms, emergency brake",
-         r"memory: (\d+) of (\d+) bytes; stack: (\d+) bytes"]
-# Event 0 is the power-up; 20 cycles have two events each, and the driver's entry is one more.
-# The fault comes in the 50th cycle, when the train runs.
-FAULTS = {"hangs": [BOARD[0], r"emergency brake: the watchdog wasn't fed"], "crashes": [BOARD[0], r"emergency brake: an exception"],
-          "overflows": [BOARD[0], r"the stack went beyond its end", r"the train stands after 5000 ms, emergency brake", r"emergency brake: FAILED, 0 of 0 bytes; stack: (\d+) bytes"]}
-CYCLIC = [r'the driver enters "an identity that is far too long": OUT_OF_RANGE, once more', r"20 cycles, event 41: brake 2; OK", r"memory: (\d+) of (\d+) bytes"]
+# stands the emergency brake of the speed ends. After a loss of power the emergency brake holds until the driver has made the train ready. In the first
+# cycle the release of his Start still holds the brake of the power-up, in the second one it doesn't.
+CHANGE = r"(\d+) ms: brake (none|service|emergency), limit \d+ m/h, speed \d+ m/h"
+FIRST = r"200 ms: brake none, limit \d+ m/h, speed 0 m/h"
+ENDS = [r"no fault: 3000 cycles in (\d+) lives, the longest took (\d+) us", r"memory: (\d+) of (\d+) bytes; stack: (\d+) bytes"]
+# The fault comes in the 50th cycle of a life.
+FAULTS = {"hangs": [r"emergency brake: the watchdog wasn't fed"], "crashes": [r"emergency brake: an exception"],
+          "overflows": [r"5000 ms: brake emergency, limit \d+ m/h, speed \d+ m/h", r"emergency brake: STACK, \d+ cycles in \d+ lives, the longest took \d+ us", ENDS[1]]}
+# Event 0 is the power-up; 20 cycles have two events each, and the driver's entry is one more. The power-up is fed too.
+CYCLIC = [r'the driver enters "an identity that is far too long": OUT_OF_RANGE, once more', r"20 cycles, event 41: brake 2; OK; fed 21 times",
+          r"memory: (\d+) of (\d+) bytes"]
+LEAST_LIVES, LATE_US = 5, 50_000
 MOST_STACK = 1 << 17
+
+
+def is_board(lines, ends):
+    """Whether the train's changes of the brake are as they should be, and then these lines."""
+    changes, rest = lines[:-len(ends)], lines[-len(ends):]
+    found = [re.fullmatch(one, line) for one, line in zip(ends, rest)]
+    if not changes or not re.fullmatch(FIRST, changes[0]) or not all(re.fullmatch(CHANGE, line) for line in changes) or not all(found):
+        return False
+    if ends is not ENDS:
+        return True
+    (lives, longest), (used, size, stack) = (map(int, one.groups()) for one in found)
+    brakes = {re.fullmatch(CHANGE, line)[2] for line in changes}
+    return len(brakes) == 3 and lives >= LEAST_LIVES and 0 < longest < LATE_US and 0 < used < size and 0 < stack < MOST_STACK
+
+
+def is_cyclic(lines):
+    found = [re.fullmatch(one, line) for one, line in zip(CYCLIC, lines)]
+    return len(lines) == len(CYCLIC) and all(found) and 0 < int(found[-1][1]) < int(found[-1][2])
 
 
 def main(which, path):
     lines = [line for line in Path(path).read_text().splitlines() if not line.startswith("the memory can't be locked here")]
-    wanted = {"board": BOARD, "cyclic": CYCLIC, **FAULTS}[which]
-    found = [re.fullmatch(one, line) for one, line in zip(wanted, lines)]
-    if len(lines) != len(wanted) or not all(found):
-        return 1
-    if which in FAULTS:
-        return 0
-    used, size, *stack = map(int, found[-1].groups())
-    moments = [int(re.search(r"\d+", line).group()) for line in lines if line.startswith("event")]
-    return 0 if 0 < used < size and moments == sorted(moments) and all(one < MOST_STACK for one in stack) else 1
+    is_right = is_cyclic(lines) if which == "cyclic" else is_board(lines, FAULTS.get(which, ENDS))
+    return 0 if is_right else 1
 
 
 if __name__ == "__main__":

@@ -1,7 +1,9 @@
 /* Each call whose answer may mean the brake, with its answer dropped: a compiler warns on each line of the body, and on no other. */
 #include "etcs_file.h"
+#include "etcs_executive.h"
 #include "etcs_guard.h"
 #include "etcs_memory.h"
+#include "etcs_odometer.h"
 
 void drops(etcs_unit *unit, etcs_opening *opening, etcs_file *file, etcs_unit_output *outputs, uint8_t *bytes, uint64_t *number, uint32_t *count);
 
@@ -14,6 +16,11 @@ void drops(etcs_unit *unit, etcs_opening *opening, etcs_file *file, etcs_unit_ou
     static const etcs_situation situation = {ETCS_FULL_SUPERVISION, ETCS_DIRECTION_NOMINAL, 0};
     static etcs_guard guard;
     static etcs_demand demand;
+    static etcs_executive executive;
+    static etcs_equipment equipment;
+    static etcs_pulses pulses;
+    static etcs_pulses_reading reading;
+    static etcs_held held;
     /* from here on */
     etcs_decode(bytes, 8);
     etcs_status_classify(*count, ETCS_OF_DRIVER);
@@ -47,6 +54,14 @@ void drops(etcs_unit *unit, etcs_opening *opening, etcs_file *file, etcs_unit_ou
     etcs_file_flush(file, unit, outputs, count);
     etcs_file_format(file, "image", 4);
     etcs_memory_use(bytes, 8192);
+    etcs_file_open_medium(file, "image", number);
+    etcs_executive_begin(&executive, &equipment, ETCS_COLD_UNKNOWN);
+    etcs_executive_cycle(&executive);
+    etcs_executive_self_test(&executive, number);
+    etcs_pulses_read(&pulses, 100, count, &reading);
+    etcs_held_sample(&held, 100, 0, 0);
+    etcs_held_telegram(&held, 0, bytes, 8);
+    etcs_held_hand_in(&held, unit);
     etcs_guard_begin(&guard, ETCS_GUARD_STRICT);
     etcs_guard_hear(&guard, bytes, 8, &situation, count);
     etcs_guard_demand(bytes, 8, &situation, 0, &demand);

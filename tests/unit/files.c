@@ -209,6 +209,37 @@ static void open_already(void) {
     is("close", etcs_file_close(&file, &unit), ETCS_FILE_OK);
 }
 
+/* A file as the medium of an executive: locked and settled, read and written by sectors, without a unit. */
+static void as_medium(void) {
+    etcs_file file = {0}, other = {0};
+    etcs_unit unit = {0};
+    uint64_t sectors = 7;
+    uint8_t bytes[ETCS_UNIT_SECTOR], again[ETCS_UNIT_SECTOR];
+    etcs_unit_request_info request = {1, 1, ETCS_REQUEST_WRITE}, sync = {0, 0, ETCS_REQUEST_SYNC};
+    is("no such file", etcs_file_open_medium(&file, "nowhere", &sectors), ETCS_FILE_CANT_OPEN);
+    is("its number", (uint64_t)file.error, ENOENT);
+    is("no sectors are written", sectors, 7);
+    is("a format", etcs_file_format(&file, "medium", 8), ETCS_FILE_OK);
+    forget();
+    is("a medium", etcs_file_open_medium(&file, "medium", &sectors), ETCS_FILE_OK);
+    is("is settled", strcmp(order, "SD") == 0, 1);
+    is("its sectors", sectors, 49);
+    is("once more", etcs_file_open_medium(&file, "medium", &sectors), ETCS_FILE_UNIT);
+    is("its status", file.status, ETCS_UNIT_IS_OPEN);
+    is("its lock", etcs_file_open_medium(&other, "medium", &sectors), ETCS_FILE_LOCKED);
+    memset(bytes, 0x5A, sizeof bytes);
+    forget();
+    is("a write", (uint64_t)etcs_file_carry_out_request(&file, &request, bytes), 1);
+    is("a sync", (uint64_t)etcs_file_carry_out_request(&file, &sync, bytes), 1);
+    is("their order", strcmp(order, "WS") == 0, 1);
+    is("a read", (uint64_t)etcs_file_read_sector(&file, 1, again), 1);
+    is("what was written", memcmp(bytes, again, sizeof bytes) == 0, 1);
+    is("a read beyond the end", (uint64_t)etcs_file_read_sector(&file, 49, again), 0);
+    is("close", etcs_file_close(&file, &unit), ETCS_FILE_UNIT);
+    is("a read of a closed file", (uint64_t)etcs_file_read_sector(&file, 1, again), 0);
+    is("a write to it", (uint64_t)etcs_file_carry_out_request(&file, &request, bytes), 0);
+}
+
 /* A file of zeros is none: no descriptor is closed, nor written to. */
 static void zeros(void) {
     static uint8_t before[6656], after[6656];
@@ -408,6 +439,7 @@ static void with_units(void) {
     opens();
     settles();
     open_already();
+    as_medium();
     great();
     lives();
     fails(0);
@@ -424,5 +456,5 @@ int main(int words, char **word) {
     opens_by = etcs_file_open_by_sectors;
     with_units();
     by_sectors();
-    return report("files", 1040);
+    return report("files", 1060);
 }

@@ -8,7 +8,7 @@ from gaknifur.testing.hazards import HAZARDS, WEAK_POINTS
 from gaknifur.yaml_files import document
 
 SOURCE, PAGE = Path("docs/hazards.yaml"), Path("out/docs/hazards.md")
-KINDS = {"laws": "law", "safety": "item of SAFETY", "premises": "premise", "sections": "section"}
+KINDS = {"laws": "law", "safety": "item of SAFETY", "premises": "premise", "sections": "section", "cases": "test case"}
 HEAD = """# Hazards by mode
 
 Written by `tools/trace` from [hazards.yaml](../../docs/hazards.yaml) and from the definitions in
@@ -48,7 +48,7 @@ class Hazards:
         self.reader, self.faults, self.cells = reader, [], {}
         self.known = {
             "laws": set(reader.sources.laws), "premises": set(reader.premises),
-            "sections": {it.section for it in reader.requirements if it.part == "sections"},
+            "sections": {it.section for it in reader.requirements if it.part == "sections"}, "cases": {one.name for one in reader.cases},
             "safety": {it.identity.removeprefix("S-") for it in reader.requirements if it.part == "safety"},
         }
         for name, at in document(SOURCE).members(tuple(HAZARDS)).items():
@@ -83,6 +83,9 @@ def shown(kind, one, reader):
     if kind == "laws":
         _, place = reader.sources.laws.get(one, ("", None))
         return f"[{one}](../../{place.path}#L{place.line})" if place else one
+    if kind == "cases":
+        place = next((case.place for case in reader.cases if case.name == one), None)
+        return f"[{one}](../../{place.path}#L{place.line})" if place else one
     return f"SAFETY {one}" if kind == "safety" else one
 
 
@@ -90,12 +93,12 @@ def page(hazards):
     """The lines of the page."""
     lines = [HEAD]
     for name, judge in HAZARDS.items():
-        lines += [f"## {name}", "", " ".join(judge.__doc__.split()), "", "| Mode | Why it doesn't come | Laws | Premises | May come all the same |",
-                  "|---|---|---|---|---|"]
+        lines += [f"## {name}", "", " ".join(judge.__doc__.split()), "", "| Mode | Why it doesn't come | Laws | Premises | May come all the same | Test cases |",
+                  "|---|---|---|---|---|---|"]
         rows = {}
         for mode in MODES.values():
             cell = hazards.cells.get((name, mode), {})
-            given = [", ".join(shown(kind, one, hazards.reader) for one in cell.get(kind, [])) for kind in ("laws", "premises", "safety")]
+            given = [", ".join(shown(kind, one, hazards.reader) for one in cell.get(kind, [])) for kind in ("laws", "premises", "safety", "cases")]
             more = f" ({', '.join(cell['sections'])})" if cell.get("sections") else ""
             rows.setdefault((cell.get("why", "") + more, *given), []).append(mode)
         lines += [f"| {' '.join(modes)} | {' | '.join(row)} |" for row, modes in rows.items()]

@@ -12,6 +12,7 @@ from dataclasses import dataclass, field
 from pathlib import Path
 from typing import Any, NamedTuple, Protocol
 
+from .. import files
 from ..journal.reading import Json, Progress
 from ..program import REFUSED, Failed
 from ..simulation.driving import MODES
@@ -25,6 +26,7 @@ from .yaml_text import quoted
 
 Kind = tuple[str, Mode, str]
 """A hazard, the mode in which it comes, and the weak point that explains it; none is empty."""
+FILE = files.beginning("a search for hazards", b'{"hazards": ')
 MOST_STATES = 1_500_000
 """The most states that one process remembers; then it forgets all, and merges less."""
 LOOKS_AT_CLOCK = 256
@@ -139,8 +141,8 @@ class Walker:
             result.inputs += len(steps)
             if result.inputs % LOOKS_AT_CLOCK < len(steps) and time.monotonic() > self.end:
                 raise TimeIsOver
-            now = child.now
-            key = hash((now, child.entered))
+            answer, track, *train = child.now
+            key = hash((answer, track.groups, *train, child.entered))
             if self.merges and self.seen.get(key, 0) >= depth:
                 result.merged += 1
                 continue
@@ -228,13 +230,13 @@ class Search:
         if self.file is None or not self.file.exists():
             return
         try:
-            first, *lines = self.file.read_text(encoding="utf-8").splitlines(keepends=True) or [""]
+            first, *lines = files.bytes_of(self.file).decode().splitlines(keepends=True) or [""]
             if first != self.head():
                 raise ValueError("it is of another search")
             for line in lines:
                 if line.endswith("\n"):
                     self.take(read_line(line))
-        except (OSError, ValueError, TypeError, KeyError) as error:
+        except (ValueError, TypeError, KeyError) as error:
             raise Failed(f"{self.file}: can't be resumed ({error}). Nothing was searched.", REFUSED) from error
 
     def take(self, result: Result) -> None:
@@ -248,7 +250,7 @@ class Search:
         """Searches the parts that aren't done, until time is over."""
         left = [one for one in parts if one not in self.results]
         if self.file:
-            self.file.write_text(self.head() + "".join(one.line() for one in self.results.values()), encoding="utf-8")
+            files.write(files.Out(self.file, FILE, is_forced=True), [self.head(), *(one.line() for one in self.results.values())])
         with multiprocessing.get_context("fork").Pool(self.jobs, start, (self.wanted, time.monotonic() + self.seconds, self.merges)) as pool:
             for result in pool.imap(walk, left):
                 self.take(result)

@@ -173,7 +173,7 @@ def steps_of(symbol: Symbol, now: Moment) -> list[Step]:
     word, *values = symbol
     if word == "telegram":
         step = telegram(values[0])
-        return [] if any(digits == step["telegram"] for digits, _, _ in now.track.groups) else [step]
+        return [] if any(digits == step["telegram"] for digits, *_ in now.track.groups) else [step]
     if word == "reach":
         ahead = [place + values[0] - now.place for place in places(now)]
         ahead = [way for way in ahead if 0 < way <= FARTHEST_AHEAD_CM]

@@ -64,8 +64,8 @@ class Track(NamedTuple):
     restrictions: tuple[Restriction, ...] = ()
     national: tuple[National, ...] = (National(),)
     is_linked: bool = False
-    groups: tuple[tuple[str, int, int], ...] = ()
-    """Each telegram in its order, with the place and the moment at which it was read."""
+    groups: tuple[tuple[str, int, int, int], ...] = ()
+    """Each telegram in its order, with the place, the life and the moment in which it was read. All else follows from these."""
 
     def powered_up(self) -> Self:
         """What still counts after a power-up."""
@@ -76,7 +76,7 @@ class Track(NamedTuple):
         found = self
         for packet in packets_of(digits):
             found = found.with_packet(packet, place, life, moment)
-        return found._replace(groups=(*self.groups, (digits, place, moment)))
+        return found._replace(groups=(*self.groups, (digits, place, life, moment)))
 
     def with_packet(self, packet: Pairs, place: int, life: int, moment: int) -> Self:
         """The track after a packet."""

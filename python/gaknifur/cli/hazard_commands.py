@@ -4,7 +4,6 @@ from pathlib import Path
 from types import SimpleNamespace
 from typing import Any
 
-from ..journal.reading import Progress
 from ..program import FOUND, REFUSED, WRONG_WORDS, Failed
 from ..simulation import closed_loop
 from ..simulation.driving import MODES
@@ -14,6 +13,7 @@ from ..testing.hazard_search import Kind, Search
 from ..testing.hazards import HAZARDS
 from ..testing.scenarios import Scenario
 from ..unit import Brake
+from .progress import Terminal
 
 DEPTH, MINUTES, MOST_DEPTH, MOST_JOBS = 3, 10.0, 12, 256
 
@@ -82,7 +82,7 @@ def report(given: SimpleNamespace, search: Search) -> int:
     return unexplained
 
 
-def hazards(given: SimpleNamespace, progress: Progress) -> int:
+def hazards(given: SimpleNamespace, progress: Terminal) -> int:
     """Runs `lab hazards`."""
     check(given)
     closed_loop.check_library()
@@ -92,6 +92,7 @@ def hazards(given: SimpleNamespace, progress: Progress) -> int:
     parts = list(hazard_search.works(given.depth, lambda track: given.track in track.name))
     before, since = sum(one.inputs for one in search.results.values()), time.monotonic()
     search.run(parts, progress)
+    progress.end()
     inputs, seconds = sum(one.inputs for one in search.results.values()) - before, time.monotonic() - since
     report_depths(search, parts)
     print(f"{inputs:,} inputs in {seconds:,.0f} s, {inputs / max(seconds, 0.001):,.0f} a second")

@@ -248,13 +248,15 @@ class Search:
 
     def run(self, parts: list[Work], progress: Progress) -> None:
         """Searches the parts that aren't done, until time is over."""
-        left = [one for one in parts if one not in self.results]
+        left, inputs, since = [one for one in parts if one not in self.results], 0, time.monotonic()
         if self.file:
             files.write(files.Out(self.file, FILE, is_forced=True), [self.head(), *(one.line() for one in self.results.values())])
         with multiprocessing.get_context("fork").Pool(self.jobs, start, (self.wanted, time.monotonic() + self.seconds, self.merges)) as pool:
             for result in pool.imap(walk, left):
                 self.take(result)
-                progress(f"depth {result.work.depth}, {len(self.found)} found", len(self.results), len(parts))
+                inputs += result.inputs
+                rate = inputs / max(time.monotonic() - since, 0.001)
+                progress(f"depth {result.work.depth}, {rate:,.0f} inputs a second, {len(self.found)} found", len(self.results), len(parts))
                 if self.file and result.is_whole:
                     with self.file.open("a", encoding="utf-8") as file:
                         file.write(result.line())

@@ -146,7 +146,7 @@ TRACKS = (
         *sends("national"), *(("drive", way, speed) for way in (-1, -100, -200, -201) for speed in (0, 1_000)), ("drive", 100, 1_000), STANDS,
         ("driver", 6), ("driver", 11), ("driver", 10, 1))),
     SmallTrack("each mode", tuple(BEGINS), (
-        *((("telegram", name)) for name in TELEGRAMS), *REACHES, STANDS, FAR, ("drive", 1_000, FAST), ("wait", 4_999), ("wait", 1), ("wait", 60_000),
+        *sends(""), *REACHES, STANDS, FAR, ("drive", 1_000, FAST), ("wait", 4_999), ("wait", 1), ("wait", 60_000),
         *ENTRIES, *ANSWERS, *POWER)),
 )
 

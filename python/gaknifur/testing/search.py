@@ -21,8 +21,8 @@ from ..program import REFUSED, Failed
 from ..units import oracle
 from . import case_runner, properties
 from .properties import Property, Violated
-from .scenarios import ACKNOWLEDGED, WITHOUT_VALUE, COLD, CONFIRMED
-from .strategies import Made, lives, text_of
+from .scenario_text import life_lines, telegram_lines, text_of
+from .strategies import Made, lives
 from .yaml_text import flow, quoted
 
 Lives = tuple[str, ...]
@@ -218,52 +218,6 @@ def shrunk(search: Search, made: Made, examples: int, seed: int) -> Found:
 
 # ---- as a test case
 
-def name_of(numbers: dict[str, int], value: int) -> str:
-    """The name of a number."""
-    return next(word for word, number in numbers.items() if number == value)
-
-
-def action_text(action: list[Any]) -> str:
-    """An action of the driver as a step in YAML."""
-    code, *values = action
-    if not values:
-        return name_of(WITHOUT_VALUE, code)
-    if code == 3:
-        length, maximum, deceleration, reaction, category = values
-        return (f"enter_train_data: {{length: {length} cm, maximum: {maximum} m/h, deceleration: {deceleration} cm/s2, "
-                f"reaction: {reaction} ms, category: {category}}}")
-    if code in (5, 10):
-        word, words = ("confirm", CONFIRMED) if code == 5 else ("acknowledge", ACKNOWLEDGED)
-        return f"{word}: {name_of(words, values[0])}"
-    return {1: f"enter_identity: {quoted(str(values[0]))}", 2: f"enter_running_number: {values[0]}",
-            4: f"choose_level: {values[0]}"}[code]
-
-
-def step_text(step: Json, made: Made) -> str:
-    """A step in YAML."""
-    (word, value), = step.items()
-    if word == "telegram":
-        return f"telegram: {made.texts[value][0] if value in made.texts else value}"
-    if word == "drive":
-        return f"drive: {value[0]} cm at {value[1]} m/h"
-    if word == "clock":
-        return f"clock: {value} ms"
-    return action_text(value) if word == "driver" else "flush"
-
-
-def life_text(text: str, made: Made) -> list[str]:
-    """A life in YAML, one line for each step."""
-    life = json.loads(text)
-    lines = [f"  - cold: {name_of(COLD, life['cold'])}"]
-    if life["groups"]:
-        lines.append("    groups:")
-    for group in life["groups"]:
-        balises = ", ".join(made.texts[one][0] if one in made.texts else one for one in group["balises"])
-        lines.append(f"      - {{at: {group['at']} cm, balises: [{balises}]}}")
-    steps = [f"      - {step_text(step, made)}" for step in life["steps"]]
-    return [*lines, *(["    steps:", *steps] if steps else ["    steps: []"])]
-
-
 def expected_text(found: Found) -> str:
     """The requirement on the record, as an expected result."""
     of, record = found.of, found.record
@@ -281,19 +235,10 @@ def expected_text(found: Found) -> str:
 def case_text(found: Found, made: Made, name: str, how: str) -> str:
     """The test case of what was found."""
     assert found.lives is not None
-    used = {digits for life in found.lives for digits in digits_of(json.loads(life)) if digits in made.texts}
-    telegrams = sorted(made.texts[digits] for digits in used)
     return "\n".join([
         f"# {how}", f"test_case: {name}", "feature: Search",
         f"sections: [{', '.join(quoted(one) for one in found.of.sections or ['4.4'])}]",
         f"rule: {quoted(found.of.note)}", "starting_conditions: power comes on",
-        *(["telegrams:", *(f"  {one}: {quoted(' '.join(text.split()))}" for one, text in telegrams)] if telegrams
-          else []),
-        "lives:", *(line for life in found.lives for line in life_text(life, made)),
+        *telegram_lines(map(json.loads, found.lives), made.texts),
+        "lives:", *(line for life in found.lives for line in life_lines(json.loads(life), made.texts)),
         "expected:", f"  - {{note: {quoted(found.of.note)}, {expected_text(found)}}}", ""])
-
-
-def digits_of(life: Json) -> list[str]:
-    """The telegrams of a life."""
-    return [step["telegram"] for step in life["steps"] if "telegram" in step] + [one for group in life["groups"]
-                                                                                 for one in group["balises"]]

@@ -4,7 +4,6 @@ A file of properties may say what its scenarios are made of (docs/howto/searchin
 choice of each strategy is the simplest, towards which hypothesis shrinks. Forward movements are the most frequent: with equal
 frequencies a life would stay near its beginning.
 """
-import json
 from collections.abc import Callable, Iterable
 from dataclasses import dataclass, field
 from typing import Any
@@ -13,6 +12,7 @@ from hypothesis import strategies as st
 
 from ..yaml_files import Value
 from . import scenarios, telegrams
+from .scenario_text import text_of
 from .scenarios import ACKNOWLEDGED, WITHOUT_VALUE, CONFIRMED, Shared
 
 Step = dict[str, Any]
@@ -207,8 +207,3 @@ def lives(made: Made) -> st.SearchStrategy[tuple[str, ...]]:
         return text_of({"groups": draw(groups(made)), "steps": timed(all_steps), "cold": draw(st.integers(0, 2))})
 
     return st.lists(life(), min_size=1, max_size=made.most["lives"]).map(tuple)
-
-
-def text_of(life: dict[str, Any]) -> str:
-    """A scenario as text; equal scenarios have equal texts."""
-    return json.dumps(life, separators=(",", ":"))

@@ -1,0 +1,291 @@
+"""Search small tracks for hazards: all sequences of symbols up to a depth, in processes, with equal states merged.
+
+Two states are merged if all that the unit reports is equal, and the true train, the track that was sent (each telegram with its place and
+moment), what the driver did, and the path and moment at which the mode was entered. That is a heuristic: the unit keeps more than it reports.
+"""
+import json
+import multiprocessing
+import re
+import time
+from collections.abc import Callable, Iterable, Iterator
+from dataclasses import dataclass, field
+from pathlib import Path
+from typing import Any, NamedTuple, Protocol
+
+from .. import files
+from ..journal.reading import Json, Progress
+from ..program import REFUSED, Failed
+from ..simulation.driving import MODES
+from ..unit import Brake, Mode
+from . import hazard_tracks
+from .branching import Answer, Branches, Step
+from .hazard_tracks import BEGINS, TRACKS, SmallTrack
+from .hazards import HAZARDS, Moment, after, found_at
+from .scenario_text import life_lines, telegram_lines
+from .yaml_text import quoted
+
+Kind = tuple[str, Mode, str]
+"""A hazard, the mode in which it comes, and the weak point that explains it; none is empty."""
+FILE = files.beginning("a search for hazards", b'{"hazards": ')
+MOST_STATES = 1_500_000
+"""The most states that one process remembers; then it forgets all, and merges less."""
+LOOKS_AT_CLOCK = 256
+
+
+class Unit(Protocol):
+    """A unit whose states can be gone back to."""
+
+    @property
+    def first(self) -> Any:
+        """The state of a unit that never had power."""
+
+    def take(self, state: Any, step: Step, room: Any = None) -> tuple[Any, Answer]:
+        """The state and the answer after an input."""
+
+
+class Node(NamedTuple):
+    """A state of the search: the unit's state, the moment, and the path and moment at which the mode was entered."""
+
+    state: Any
+    now: Moment
+    entered: tuple[int, int]
+
+
+class Work(NamedTuple):
+    """A part of the search: all sequences of a length that begin with one symbol."""
+
+    track: int
+    begin: str
+    depth: int
+    symbol: int
+
+
+@dataclass
+class Result:
+    """What a part of the search tried and found. `is_whole` is False if time ran out."""
+
+    work: Work
+    states: int = 0
+    merged: int = 0
+    inputs: int = 0
+    is_whole: bool = True
+    found: dict[Kind, list[Step]] = field(default_factory=dict)
+
+    def line(self) -> str:
+        """A line of the file to resume from."""
+        found = [[name, mode.name, point, steps] for (name, mode, point), steps in self.found.items()]
+        return json.dumps([*self.work, self.states, self.merged, self.inputs, found]) + "\n"
+
+
+def read_line(line: str) -> Result:
+    """The result of a line."""
+    *work, states, merged, inputs, found = json.loads(line)
+    return Result(Work(*work), states, merged, inputs, True,
+                  {(name, Mode[mode], point): steps for name, mode, point, steps in found})
+
+
+class TimeIsOver(Exception):
+    """The search has to end."""
+
+
+class Walker:
+    """Walks through the states of a unit."""
+
+    def __init__(self, unit: Unit, wanted: tuple[str, ...], end: float, merges: bool = True) -> None:
+        self.unit, self.wanted, self.end, self.merges = unit, wanted, end, merges
+        self.seen: dict[int, int] = {}
+        self.of: tuple[int, str] | None = None
+        self.rooms: list[Any] = []
+
+    def begun(self, begin: str) -> tuple[Node, list[Step]]:
+        """The state after the steps with which a drive begins."""
+        node, path = None, BEGINS[begin]
+        for step in path:
+            node = self.taken(node, step, None)
+        assert node is not None
+        return node, path
+
+    def taken(self, node: Node | None, step: Step, room: Any) -> Node:
+        """The state after a step."""
+        state, answer = self.unit.take(node.state if node else self.unit.first, step, room)
+        now = after(node.now if node else None, step, answer)
+        is_entered = node is None or node.now.answer.mode != answer.mode
+        return Node(state, now, (now.path, now.time_ms) if is_entered or node is None else node.entered)
+
+    def walk(self, work: Work) -> Result:
+        """The result of a part."""
+        result = Result(work)
+        if self.of != work[:2] or len(self.seen) > MOST_STATES:
+            self.of, self.seen = work[:2], {}
+        node, path = self.begun(work.begin)
+        self.rooms = [None] * (work.depth + 1)
+        symbols = TRACKS[work.track].symbols
+        try:
+            self.explore(node, [*path], symbols[work.symbol:work.symbol + 1], symbols, work.depth, result)
+        except TimeIsOver:
+            result.is_whole = False
+        return result
+
+    def explore(self, node: Node, path: list[Step], first: Iterable[Any], symbols: tuple[Any, ...], depth: int, result: Result) -> None:
+        """Tries symbols, and after each all sequences up to the depth."""
+        for symbol in first:
+            child, steps = node, hazard_tracks.steps_of(symbol, node.now)
+            for count, step in enumerate(steps):
+                child = self.taken(child, step, self.rooms[depth])
+                self.rooms[depth] = child.state
+                for kind in found_at(child.now, self.wanted):
+                    if kind not in result.found:
+                        result.found[kind] = [*path, *steps[:count + 1]]
+            if not steps:
+                continue
+            result.inputs += len(steps)
+            if result.inputs % LOOKS_AT_CLOCK < len(steps) and time.monotonic() > self.end:
+                raise TimeIsOver
+            answer, track, *train = child.now
+            key = hash((answer, track.groups, *train, child.entered))
+            if self.merges and self.seen.get(key, 0) >= depth:
+                result.merged += 1
+                continue
+            self.seen[key] = depth
+            result.states += 1
+            if depth > 1:
+                self.explore(child, path + steps, symbols, symbols, depth - 1, result)
+
+
+# ---- shrinking
+
+def played(unit: Unit, steps: list[Step]) -> Iterator[Moment]:
+    """The moments of a drive on a unit. Ends at a step that the unit refuses."""
+    state, now = unit.first, None
+    for step in steps:
+        try:
+            state, answer = unit.take(state, step)
+        except Failed:
+            return
+        now = after(now, step, answer)
+        yield now
+
+
+def ends_in(unit: Unit, steps: list[Step], kind: Kind) -> list[Step] | None:
+    """The steps up to the first moment with this hazard; None if it doesn't come."""
+    for at, now in enumerate(played(unit, steps)):
+        if kind in found_at(now, kind[:1]):
+            return steps[:at + 1]
+    return None
+
+
+def shrunk(unit: Unit, steps: list[Step], kind: Kind) -> list[Step]:
+    """The steps without those that the hazard doesn't need. The first power-up stays."""
+    at = len(steps) - 1
+    while at > 0:
+        less = ends_in(unit, steps[:at] + steps[at + 1:], kind)
+        steps = less or steps
+        at = min(at - 1, len(steps) - 1)
+    return steps
+
+
+# ---- all parts
+
+def works(depth: int, wanted: Callable[[SmallTrack], bool]) -> Iterator[Work]:
+    """The parts of the search up to a depth, the least depth first."""
+    for deep in range(1, depth + 1):
+        for number, track in enumerate(TRACKS):
+            for begin in track.begins if wanted(track) else ():
+                yield from (Work(number, begin, deep, symbol) for symbol in range(len(track.symbols)))
+
+
+WALKER: list[Walker] = []
+"""The walker of this process."""
+
+
+def start(wanted: tuple[str, ...], end: float, merges: bool) -> None:
+    """Makes the walker of a process."""
+    WALKER[:] = [Walker(Branches(), wanted, end, merges)]
+
+
+def walk(work: Work) -> Result:
+    """Walks a part."""
+    return WALKER[0].walk(work)
+
+
+@dataclass
+class Search:
+    """A search, with the file to resume from, if there is one."""
+
+    wanted: tuple[str, ...]
+    jobs: int
+    seconds: float
+    file: Path | None = None
+    merges: bool = True
+    results: dict[Work, Result] = field(default_factory=dict)
+    found: dict[Kind, list[Step]] = field(default_factory=dict)
+
+    def head(self) -> str:
+        """The first line of the file: what the search is of."""
+        alphabet = [[one.name, list(one.begins), [list(symbol) for symbol in one.symbols]] for one in TRACKS]
+        return json.dumps({"hazards": list(self.wanted), "merges": self.merges, "tracks": alphabet, "begins": BEGINS}) + "\n"
+
+    def resume(self) -> None:
+        """Reads the parts that are done. A last line that isn't whole is dropped."""
+        if self.file is None or not self.file.exists():
+            return
+        try:
+            first, *lines = files.bytes_of(self.file).decode().splitlines(keepends=True) or [""]
+            if first != self.head():
+                raise ValueError("it is of another search")
+            for line in lines:
+                if line.endswith("\n"):
+                    self.take(read_line(line))
+        except (ValueError, TypeError, KeyError) as error:
+            raise Failed(f"{self.file}: can't be resumed ({error}). Nothing was searched.", REFUSED) from error
+
+    def take(self, result: Result) -> None:
+        """Keeps a result, and of each kind of hazard the shortest drive."""
+        self.results[result.work] = result
+        for kind, steps in result.found.items():
+            if kind not in self.found or len(steps) < len(self.found[kind]):
+                self.found[kind] = steps
+
+    def run(self, parts: list[Work], progress: Progress) -> None:
+        """Searches the parts that aren't done, until time is over."""
+        left, inputs, since = [one for one in parts if one not in self.results], 0, time.monotonic()
+        if self.file:
+            files.write(files.Out(self.file, FILE, is_forced=True), [self.head(), *(one.line() for one in self.results.values())])
+        with multiprocessing.get_context("fork").Pool(self.jobs, start, (self.wanted, time.monotonic() + self.seconds, self.merges)) as pool:
+            for result in pool.imap(walk, left):
+                self.take(result)
+                inputs += result.inputs
+                rate = inputs / max(time.monotonic() - since, 0.001)
+                progress(f"depth {result.work.depth}, {rate:,.0f} inputs a second, {len(self.found)} found", len(self.results), len(parts))
+                if self.file and result.is_whole:
+                    with self.file.open("a", encoding="utf-8") as file:
+                        file.write(result.line())
+                if not result.is_whole:
+                    return
+
+
+# ---- what was found
+
+def lives_of(steps: list[Step]) -> list[Json]:
+    """The scenarios of a drive: one for each life."""
+    lives: list[Json] = []
+    for step in steps:
+        if "cold" in step:
+            lives.append({"groups": [], "steps": [], "cold": step["cold"]})
+        else:
+            lives[-1]["steps"].append(step)
+    return lives
+
+
+def case_text(kind: Kind, steps: list[Step], name: str, brake: Brake) -> str:
+    """The test case of a drive that ends in a hazard. It expects what the unit answers, so it holds until that changes."""
+    hazard, mode, point = kind
+    says = " ".join((HAZARDS[hazard].__doc__ or "").split())
+    note = f"{hazard}, by {point or 'nothing that is known'}: {says}"
+    lives, names = lives_of(steps), hazard_tracks.TEXTS
+    return "\n".join([
+        "# Found by ./lab hazards, and shrunk", f"test_case: {name}", "feature: Hazards",
+        f"sections: [{', '.join(quoted(one) for one in re.findall(r'[(]([0-9.]+)[)]', says))}]", f"rule: {quoted(note)}",
+        "starting_conditions: power comes on", *telegram_lines(lives, names),
+        "lives:", *(line for life in lives for line in life_lines(life, names)),
+        "expected:", f"  - {{note: {quoted(note)}, at: {{event: {len(steps) - 1}}}, expect: {{mode: {MODES[mode]}, brake: {brake.name.lower()}}}}}", ""])

@@ -1,25 +1,27 @@
 // Asking an image: what is dropped goes to the worker, and what that reports is shown.
-import {imageTexts, interventionTexts, lifeCells, lostTexts, outcomeText, replayText, slotText} from "./answers";
+import {imageTexts, lostTexts, replayText, slotText} from "./answers";
+import {Braking} from "./braking";
 import {bytesOfMarks, misfit, sorted, whenChosen} from "./choosing";
-import {briefRows, counted, reasonOf} from "./brief";
+import {briefRows, counted} from "./brief";
 import {Day, MarksFile, utcText} from "./day";
 import {Calls, Records, END, OK} from "./calls";
-import {Dial, scaleOf, shownOf} from "./dial";
-import {at, make, pressed, row, say, show, table} from "./dom";
+import {at, make, say, show} from "./dom";
+import {EventView} from "./eventview";
 import {Findings, offerToSave} from "./evidence";
-import {Graphs} from "./graphs";
-import {fieldsOf, placeOf, showBytes, sizeOf} from "./fields";
-import {Block, Facts, POWER_UP, Replay, Slot, TELEGRAM, Why} from "./layouts";
+import {Block, Facts, Replay, Slot, Why} from "./layouts";
+import {Lists} from "./lists";
 import {Intervention, lastOf, LifeRange} from "./lives";
 import {Head, Order, RecordsReport, Report, SlotsReport, Unwritten} from "./messages";
+import {Notes} from "./notes";
 import {drawRing, legendOf} from "./ring";
-import {brakeReason, brakeText, count, eventText, keptTexts, kmh, levelText, limitText} from "./shown";
-import {modeName} from "./shown";
+import {count, keptTexts} from "./shown";
 import {BySlots, imageSize} from "./slots";
 import {choose} from "./tabs";
-import {offerApart} from "./telegram";
-import {BRIEF, DAY, SAY, STATUSES, WORDS} from "./texts";
+import {DAY, SAY, STATUSES} from "./texts";
 import {Utc} from "./times";
+import {verdictOf} from "./verdict";
+import {Viewer} from "./viewer";
+import {VIEW} from "./wording";
 
 const LINK_MS = 100;
 
@@ -33,6 +35,7 @@ export class Ask {
     private speeds = new Float64Array();
     private interventions: Intervention[] = [];
     private trips: number[] = [];
+    private braking: Braking[] = [];
     private unwritten: Unwritten|null = null;
     private slots: Slot[] = [];
     private heads = new Map<number, Head>();
@@ -40,34 +43,40 @@ export class Ask {
     private unreadable: number[] = [];
     private journalStatus = OK;
     private causes = new Map<number, Why|null>();
-    private whys = new Map<number, {why: Why|null}>();
     private replays: Replay[]|null = null;
     private digest = "";
     index = 0;
     /** Whether everything about the image is shown. */
     isDone = false;
     private isWhole: boolean|null = null;
-    private asking = 0;
     private linking = 0;
     /** The link that this page wrote itself, for the image before. */
     private ownLink = "";
-    private readonly dial = new Dial(at("ask-dial"));
-    private readonly graphs = new Graphs(n => this.choose(n));
     private readonly day = new Day(() => this.showDay());
+    private readonly event: EventView;
+    private readonly lists = new Lists(this.day, event => this.chooseEvent(event));
+    private readonly notes: Notes = new Notes(() => this.viewer.draw(), event => this.chooseEvent(event));
+    readonly viewer: Viewer = new Viewer(n => this.choose(n), () => this.noted);
     private readonly bySlots = new BySlots((file, slots) => this.ask(this.name, file, null, slots));
     private slotsGiven: number|null = null;
 
-    constructor(private readonly worker: { postMessage(order: Order, transfer?: Transferable[]): void },
-        private readonly calls: Calls) {
+    constructor(private readonly worker: { postMessage(order: Order, transfer?: Transferable[]): void }, calls: Calls) {
+        this.event = new EventView(worker, calls, this.day);
         whenChosen(files => void this.take(files));
         at("scrub").addEventListener("input", () => this.choose(Number(at<HTMLInputElement>("scrub").value)));
         at("event-number")
             .addEventListener("change", () => this.chooseEvent(Number(at<HTMLInputElement>("event-number").value)));
-        const move: [string, () => number][] = [
-            ["first", () => 0], ["before", () => this.index - 1], ["after", () => this.index + 1],
-            ["last", () => (this.records?.count ?? 1) - 1]
+        const move: [string, () => number | null][] = [
+            ["first", () => this.viewer.next(-1, 1)], ["before", () => this.viewer.next(this.index, -1)],
+            ["after", () => this.viewer.next(this.index, 1)],
+            ["last", () => this.viewer.next(this.records?.count ?? 0, -1)]
         ];
-        for (const [id, to] of move) at(id).addEventListener("click", () => this.choose(to()));
+        for (const [id, to] of move)
+            at(id).addEventListener("click", () => {
+                const index = to();
+                say("filter-said", index === null ? VIEW.noMatch : "");
+                if (index !== null) this.choose(index);
+            });
         at("print").addEventListener("click", () => print());
         offerToSave(() => this.evidence());
         addEventListener("hashchange", () => this.followHash());
@@ -76,11 +85,28 @@ export class Ask {
     /** What can be saved; null before everything is shown. */
     private evidence(): Findings|null {
         const { records, isDone, day, name, digest, isWhole, unreadable, replays, interventions, trips, speeds } = this;
+        const { braking, verdict, viewer: { seen }, notes: { all: notes } } = this;
         if (!records || !isDone) return null;
         const utc = (n: number): Utc|null => day.of(records.life(n), records.moment(n)), bytes = this.bytes.length,
               causes = counted(records, replays, this.causes), slots = this.facts?.slots ?? 0, sha256 = digest;
         return {
-            name, bytes, sha256, slots, isWhole, unreadable, replays, interventions, trips, records, speeds, causes, utc
+            name,
+            bytes,
+            sha256,
+            slots,
+            isWhole,
+            unreadable,
+            replays,
+            interventions,
+            trips,
+            records,
+            speeds,
+            causes,
+            utc,
+            braking,
+            verdict,
+            seen,
+            notes
         };
     }
 
@@ -116,17 +142,18 @@ export class Ask {
         this.day.begin(marks);
         this.records = this.replays = this.newest = this.facts = this.unwritten = this.isWhole = null;
         this.causes.clear();
-        this.whys.clear();
+        this.event.forget();
         this.heads.clear();
         this.slots = [];
         this.index = 0;
         this.isDone = false;
         clearTimeout(this.linking);
         if (location.hash === this.ownLink) this.link("");
-        this.graphs.forget();
+        this.viewer.forget();
         say("ask-error", "");
         say("ask-progress", SAY.reading);
-        for (const part of ["brief", "lives", "interventions", "hex", "fields", "kept", "ring", "ring-legend"])
+        for (const part
+                 of ["brief", "braking", "lives", "interventions", "hex", "fields", "kept", "ring", "ring-legend"])
             show(part);
         for (const part of ["replay-said", "slot-said", "verdict"]) say(part, "");
         this.worker.postMessage({ kind: "image", id: this.id, file, slots });
@@ -137,17 +164,20 @@ export class Ask {
         if (report.kind === "bytes") {
             this.bytes = new Uint8Array(report.bytes);
             this.digest = report.digest;
+            this.notes.take(report.digest);
         } else if (report.kind === "facts") this.showFacts(report.status, report.facts);
         else if (report.kind === "records") this.takeRecords(report);
-        else if (report.kind === "slots") this.takeSlots(report);
+        else if (report.kind === "braking") {
+            this.braking = report.rows;
+            if (this.records) this.lists.showBraking(this.records, report.rows);
+        } else if (report.kind === "slots") this.takeSlots(report);
         else if (report.kind === "replay") this.takeReplay(report.lives, report.unreadable);
         else if (report.kind === "causes") {
             for (const [index, why] of report.causes) this.causes.set(index, why);
             this.showInterventions();
         } else if (report.kind === "why") {
-            this.whys.set(report.event, report);
-            this.asking = 0;
-            this.showWhy();
+            this.event.hear(report);
+            this.showEvent();
         } else if (report.kind === "progress")
             say("ask-progress", SAY.progress(report.done, report.all || report.done, report.what));
         else if (report.kind === "done") {
@@ -174,7 +204,8 @@ export class Ask {
         show("facts", ...rows.flatMap(([name, value]) => [make("dt", {}, name), make("dd", {}, value)]));
     }
 
-    private takeRecords({ status, bytes, unreadable, lives, speeds, interventions, trips }: RecordsReport): void {
+    private takeRecords(report: RecordsReport): void {
+        const { status, bytes, unreadable, lives, speeds, interventions, trips } = report;
         this.journalStatus = status;
         this.unreadable = unreadable;
         this.records = new Records(new Uint8Array(bytes));
@@ -183,6 +214,7 @@ export class Ask {
         this.interventions = interventions;
         this.trips = trips;
         this.day.hold(this.records);
+        this.viewer.take(report.signals, lives, interventions);
         this.showImage();
         this.showInterventions();
         const scrub = at<HTMLInputElement>("scrub");
@@ -219,7 +251,7 @@ export class Ask {
                 ...keptTexts(newest.kept).flatMap(([name, value]) => [make("dt", {}, name), make("dd", {}, value)]));
         const bad = slots.findIndex(slot => !slot.isSound);
         this.chooseSlot(bad >= 0 ? bad : null);
-        this.showBytes();
+        this.showEvent();
     }
 
     private chooseSlot(slot: number|null): void {
@@ -233,65 +265,48 @@ export class Ask {
         this.replays = lives;
         this.showLives();
         this.showInterventions();
-        this.showWhy();
+        this.showEvent();
         say("replay-said", replayText(lives, unreadable));
     }
 
     private showLives(): void {
-        const rows = (this.replays ?? []).map(life => {
-            const cells = [...lifeCells(life, this.wordOf(life.first)), ...this.dayCells(this.indexOf(life.first))];
-            return this.linked(row(...cells), life.verdict === 2 ? life.event : life.first);
-        });
-        show("lives", table(["life", "events", "power-up", "replay", ...this.dayHeads()], rows));
+        if (this.records && this.replays) this.lists.showLives(this.records, this.replays);
     }
 
-    private dayHeads(): string[] { return this.day.times ? [DAY.column] : []; }
-    private dayCells(index: number|null): string[] {
-        const { records, day } = this;
-        if (!day.times) return [];
-        return [utcText(index === null || !records ? null : day.of(records.life(index), records.moment(index)))];
-    }
     private showDay(): void {
-        if (this.replays) this.showLives();
+        this.showLives();
         this.showInterventions();
-        this.graphs.forget();
-        if (!this.records?.count) return;
+        this.viewer.setTimes(this.day.times);
         this.showEvent();
-        this.showCharts();
-    }
-
-    private wordOf(event: number): string {
-        const index = this.indexOf(event), record = index === null ? null : this.records?.get(index);
-        return record?.kind === POWER_UP ? WORDS[record.payload[0] ?? 0] ?? "" : "not there";
-    }
-
-    private linked(line: HTMLTableRowElement, event: number): HTMLTableRowElement {
-        return pressed(line, () => this.chooseEvent(event));
     }
 
     private showInterventions(): void {
-        const { records } = this;
+        const { records, interventions, speeds, trips } = this;
         if (!records) return;
         const causes = counted(records, this.replays, this.causes);
-        const all = this.interventions.filter(one => !one.isPowerUp),
-              rows = all.slice(-500).map(one => this.linked(row(...interventionTexts(records, one,
-                                                                    this.speeds[one.first] ?? 0, this.trips, causes),
-                                                                ...this.dayCells(one.first)),
-                                             records.event(one.first)));
-        const heads = ["events", "place", "time", "speed", "command", "causes", ...this.dayHeads()];
-        show("interventions", all.length ? table(heads, rows) : BRIEF.noIntervention,
-            all.length > 500 && make("p", {}, `The last 500 of ${count(all.length)}.`));
+        this.lists.showInterventions(records, interventions, speeds, trips, causes);
         this.showBrief();
     }
 
+    /** The records that have a note. */
+    private get noted(): number[] {
+        return this.notes.all.map(({ event }) => this.indexOf(event)).filter((n): n is number => n !== null);
+    }
+
+    /** The sentences of the verdict; null as long as they aren't known. */
+    private get verdict(): string[]|null {
+        const { journalStatus, isWhole, replays } = this;
+        return isWhole === null || !replays ? null : verdictOf(journalStatus, isWhole, replays);
+    }
+
     private showBrief(): void {
-        const { records, day } = this, causes = records && counted(records, this.replays, this.causes);
-        if (!records?.count || !causes) return;
+        const { records, day, verdict } = this, causes = records && counted(records, this.replays, this.causes);
+        if (!records || !causes) return;
         const utc = (n: number): string =>
             day.times ? `, ${utcText(day.of(records.life(n), records.moment(n)))} UTC ${DAY.byMarks}` : "";
-        const { lives, speeds, interventions, trips, isWhole, replays, newest, unwritten } = this;
+        const { lives, speeds, interventions, trips, isWhole, newest, unwritten } = this;
         const
-            known = { records, lives, speeds, interventions, trips, isWhole, replays, newest, unwritten, causes, utc };
+            known = { records, lives, speeds, interventions, trips, isWhole, verdict, newest, unwritten, causes, utc };
         show("brief", ...briefRows(known).flatMap(([name, says]) => [make("dt", {}, name), make("dd", {}, ...says)]));
     }
 
@@ -325,71 +340,34 @@ export class Ask {
         clearTimeout(this.linking);
         this.linking = setTimeout(() => this.link(`#event=${event}`), LINK_MS) as unknown as number;
         this.showEvent();
-        this.showWhy();
-        this.showBytes();
-        this.showCharts();
+        this.notes.show(event);
+        this.viewer.choose(this.index);
     }
 
     private showEvent(): void {
-        const { records, index } = this;
-        if (!records) return;
-        const record = records.get(index), speed = this.speeds[index] ?? 0;
-        say("event-said",
-            `Event ${count(record.event)} of life ${record.life}, block ${count(record.block)}: ${eventText(record)}`);
-        say("ask-texts", outcomeText(record));
-        say("ask-day", this.day.text(record));
-        say("ask-mode", modeName(record.mode));
-        say("ask-level", `level ${levelText(record.level)}`);
-        say("ask-brake", brakeText(record.brake));
-        at("ask-brake").className = `lamp brake-${record.brake}`;
-        say("ask-dial-said", `${kmh(speed)} km/h, limit ${kmh(record.limit)} km/h`);
-        this.dial.setScale(scaleOf(Math.max(speed, record.limit)));
-    }
-
-    private showWhy(): void {
-        const { records, index } = this;
-        if (!records || !records.count) return;
-        const record = records.get(index), answer = this.whys.get(record.event);
-        this.dial.show(
-            shownOf(this.speeds[index] ?? 0, record.limit, record.brake, record.indications, answer?.why ?? null));
-        if (!answer) {
-            show("ask-causes", make("li", {}, "…"));
-            say("ask-limit", "");
-            clearTimeout(this.asking);
-            this.asking = setTimeout(() => this.worker.postMessage(
-                                         { kind: "why", id: this.id, block: record.block, event: record.event }),
-                              40) as unknown as number;
-            return;
-        }
-        const reason = this.replays ? reasonOf(this.replays, record.event) : null, why = reason ? null : answer.why;
-        show("ask-causes", ...(why ? brakeReason(why, record) : [
-            reason ? SAY.whyNot(reason) : SAY.notReplayed
-        ]).map(text => make("li", {}, text)));
-        say("ask-limit", why ? limitText(why) : "");
-    }
-
-    private showBytes(): void {
-        const { records, facts } = this, record = records?.count ? records.get(this.index) : null,
-                               head = record && this.heads.get(record.block);
-        if (!record || !head || !facts) return;
-        const place = placeOf(record, head.firstEvent, facts.slots);
-        showBytes(at("hex"), at("fields"), this.bytes.slice(place, place + sizeOf(record)), place,
-            fieldsOf(record, this.calls));
-        offerApart(record.kind === TELEGRAM ? record.payload : null);
-    }
-
-    private showCharts(): void {
-        const { records, index } = this, life = this.lives.find(one => one.from <= index && index < one.end);
-        if (records && life) this.graphs.show(records, this.speeds, life, this.interventions, index, this.day.times);
+        const { id, records, speeds, replays, heads, bytes, facts, index } = this;
+        if (records?.count && facts) this.event.show({ id, records, speeds, replays, heads, bytes, facts }, index);
     }
 
     /** What tests read. */
     get findings(): object {
         return {
-            facts: this.facts, slots: this.slots, status: this.journalStatus, unreadable: this.unreadable,
-            lives: this.replays, digest: this.digest, interventions: this.interventions, trips: this.trips,
-            unwritten: this.unwritten, causes: [...this.causes], count: this.records?.count ?? 0,
-            newest: this.newest, isWhole: this.isWhole, day: this.day.findings,
+            facts: this.facts,
+            slots: this.slots,
+            status: this.journalStatus,
+            unreadable: this.unreadable,
+            lives: this.replays,
+            digest: this.digest,
+            interventions: this.interventions,
+            trips: this.trips,
+            unwritten: this.unwritten,
+            causes: [...this.causes],
+            count: this.records?.count ?? 0,
+            newest: this.newest,
+            isWhole: this.isWhole,
+            day: this.day.findings,
+            braking: this.braking,
+            verdict: this.verdict,
             counted: this.records && [...counted(this.records, this.replays, this.causes)],
             events: [...this.causes.keys()].map(index => this.records?.event(index))
         };

@@ -1,4 +1,4 @@
-// What an image says, for who reads no further: whether all is whole, the last life, the last intervention with all its
+// What an image says, for who reads no further: the verdict, the last life, the last intervention with all its
 // causes, the trips, which outputs left the unit, and of which this isn't known. As the report of `lab report` has it.
 import {Records} from "./calls";
 import {Child, make} from "./dom";
@@ -18,8 +18,9 @@ import {
     tripCauseText
 } from "./shown";
 import {BRIEF, VERDICTS} from "./texts";
+import {VERDICT} from "./wording";
 
-const MOST_TRIPS = 12, OVERWRITTEN = 4;
+const MOST_TRIPS = 12;
 
 /** What is known of an image so far; what isn't yet is null or not there. */
 export interface Known {
@@ -31,7 +32,8 @@ export interface Known {
     /** The causes that count, by the indexes of records; and of others why they don't. */
     causes: Map<number, Why|string>;
     isWhole: boolean|null;
-    replays: Replay[]|null;
+    /** The sentences of the verdict. */
+    verdict: string[]|null;
     newest: Block|null;
     unwritten: Unwritten|null;
     /** The time of day of a record by marks, with a comma before it; nothing where there are no marks. */
@@ -88,17 +90,9 @@ export function tripReason(why: Why|string|undefined): string {
 function link(event: number): HTMLElement { return make("a", { href: `#event=${event}` }, `event ${count(event)}`); }
 function strong(text: string): HTMLElement { return make("strong", { class: "bad" }, text); }
 
-function whole({ isWhole, replays }: Known): Child[] {
-    if (isWhole === null || !replays) return [BRIEF.notYet];
-    const faults = isWhole ? [] : [BRIEF.notWhole];
-    for (const life of replays) {
-        if (life.verdict === 2) faults.push(BRIEF.differs(`event ${count(life.event)}`));
-        else if (life.verdict === 3) faults.push(BRIEF.differs(`the head of block ${count(life.block)}`));
-        else if (life.verdict > OVERWRITTEN && isWhole)
-            faults.push(`events ${count(life.first)} to ${count(life.last)} ${VERDICTS[life.verdict]}`);
-    }
-    const says = replays.some(life => life.verdict === 1) ? BRIEF.whole + BRIEF.agrees : BRIEF.whole;
-    return faults.length ? [strong(faults.join("; "))] : [says];
+function verdict({ verdict: said }: Known): Child[] {
+    if (!said) return [BRIEF.notYet];
+    return [said.length ? strong(`${said.join("; ")}.`) : `${VERDICT.none}.`, ` ${VERDICT.notJudged}`];
 }
 
 /** Where and how fast the train was at a record. */
@@ -160,8 +154,10 @@ function released({ records, newest, unwritten, isWhole }: Known): Child[] {
     const says: Child[] = isPowerUp ? [BRIEF.powerUp(count(number))]
         : unwritten?.life === lives
         ? [BRIEF.released(count(number))]
-        : [isLeft && BRIEF.left(lives, count(firstEvent - 1)), strong(BRIEF.outputsNotKnown),
-            BRIEF.outputs(count(number), count(firstEvent), count(events - 1))];
+        : [
+              isLeft && BRIEF.left(lives, count(firstEvent - 1)), strong(BRIEF.outputsNotKnown),
+              BRIEF.outputs(count(number), count(firstEvent), count(events - 1))
+          ];
     return unwritten ? [
         ...says, ". ",
         strong(BRIEF.unwritten(count(unwritten.number), count(unwritten.firstEvent), count(unwritten.events - 1)))
@@ -172,9 +168,10 @@ function released({ records, newest, unwritten, isWhole }: Known): Child[] {
 /** The rows: what each is called, and what it says. */
 export function briefRows(known: Known): [string, Child[]][] {
     const powerUps = known.interventions.filter(one => one.isPowerUp).length;
+    if (!known.records.count) return [["Verdict", verdict(known)]];
     return [
-        ["Last intervention", intervention(known)], ["Trips", trips(known)], ["Last life", lastLife(known)],
-        ["Whole", whole(known)], ["Released", released(known)],
+        ["Verdict", verdict(known)], ["Last intervention", intervention(known)], ["Trips", trips(known)],
+        ["Last life", lastLife(known)], ["Released", released(known)],
         ...(powerUps ? [["Power-ups", [BRIEF.powerUps(powerUps)]] as [string, Child[]]] : [])
     ];
 }

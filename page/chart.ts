@@ -16,6 +16,10 @@ export interface Plot {
     marks: { index: number; brake: number }[];
     pick: ((index: number) => void)|null;
     title: string;
+    /** A further curve: places of the axis with speeds. */
+    curve?: [number, number][];
+    /** What is said where there is nothing to draw. */
+    empty?: string
 }
 const LEFT = 46, RIGHT = 12, TOP = 12, BOTTOM = 34, COLUMNS = 700, MOST_DOTS = 400, NARROW = 560;
 
@@ -45,7 +49,7 @@ export function thinned(x: number[], values: (number|null)[]): number[] {
     return [...kept].sort((a, b) => a - b);
 }
 
-function bounds(numbers: number[]): [number, number] {
+export function bounds(numbers: Iterable<number>): [number, number] {
     let low = Infinity, high = -Infinity;
     for (const number of numbers) {
         if (number < low) low = number;
@@ -67,14 +71,16 @@ export function steps(low: number, high: number, about: number): number[] {
 export function draw(root: SVGSVGElement, plot: Plot): (index: number) => void {
     const isNarrow = root.clientWidth > 0 && root.clientWidth < NARROW, width = isNarrow ? 420 : 760, height = 250;
     root.setAttribute("viewBox", `0 0 ${width} ${height}`);
-    let [low, high] = bounds(plot.x);
+    const curve = plot.curve ?? [];
+    let [low, high] = bounds([...plot.x, ...curve.map(([x]) => x)]);
     if (high <= low) {
-        root.replaceChildren(svg("text", { x: LEFT, y: height / 2, class: "axis" }, NOTHING_TO_DRAW));
+        root.replaceChildren(svg("text", { x: LEFT, y: height / 2, class: "axis" }, plot.empty ?? NOTHING_TO_DRAW));
         root.onclick = null;
         return () => undefined;
     }
     if (high - low < plot.per) high = low + plot.per;
-    const most = 1.08 * Math.max(10_000, bounds(plot.speed)[1], bounds(plot.limit.map(limit => limit ?? 0))[1]);
+    const most = 1.08 *
+        Math.max(10_000, bounds(plot.speed)[1], bounds(plot.limit.map(limit => limit ?? 0))[1], curve[0]?.[1] ?? 0);
     const X = (x: number): number => LEFT + (width - LEFT - RIGHT) * (x - low) / (high - low);
     const Y = (v: number): number => height - BOTTOM - (height - TOP - BOTTOM) * v / most;
     const parts: Element[] = [svg("title", {}, plot.title)];
@@ -97,6 +103,10 @@ export function draw(root: SVGSVGElement, plot: Plot): (index: number) => void {
         svg("text", { x: LEFT, y: height - 3, class: "axis" }, "km/h"),
         line(plot.limit, plot, X, Y, "limit-line", (x, y) => `H${x}V${y}`),
         line(plot.speed, plot, X, Y, "speed-line", (x, y) => `L${x} ${y}`));
+    if (curve.length) {
+        const d = curve.map(([x, v], n) => `${n ? "L" : "M"}${X(x).toFixed(1)} ${Y(v).toFixed(1)}`).join("");
+        parts.push(svg("path", { d, class: "promise-line", fill: "none" }));
+    }
     if (plot.x.length <= MOST_DOTS) {
         for (const [values, kind] of [[plot.limit, "limit-dots"], [plot.speed, "speed-dots"]] as const)
             parts.push(line(values, plot, X, Y, kind, (x, y) => `M${x} ${y}h0`));

@@ -4,7 +4,7 @@ import {SECTOR} from "./layouts";
 import {SAY} from "./texts";
 import {looksLikeMarks} from "./times";
 
-const MOST_BYTES = 256 * 1024 * 1024, MOST_OF_MARKS = 16 * 1024 * 1024;
+const MOST_BYTES = 512 * 1024 * 1024, MOST_OF_MARKS = 16 * 1024 * 1024;
 
 /** Hands on the files that are dropped or chosen together. */
 export function whenChosen(take: (files: File[]) => void): void {

@@ -91,6 +91,7 @@ export function setKeys(drive: Drive): void {
     show("keys", table(["key", "does"], [
         ...ACTIONS.map(one => row(one.key, one.text)), ...OTHERS.map(([key, does]) => row(name(key), does)),
         row("?", "this help"), row("← →", "on the scrubber of an image: one event back or on"),
+        row("+ − 0 ← → Home End", "on the chart of an image: zoom in and out, all, move, first and last event"),
         row("← → PgUp PgDn Delete",
             "on a group of the track that is edited: 1 m or 100 m, with shift ten times as far; removes it")
     ]));

@@ -122,9 +122,9 @@ export interface Why {
 
 export const SECTOR = 512;
 /** The kinds of events that the page looks for. */
-export const POWER_UP = 1, TELEGRAM = 2, ODOMETER = 3;
-/** The mode Trip. */
-export const TRIP = 7;
+export const POWER_UP = 1, TELEGRAM = 2, ODOMETER = 3, DRIVER = 5;
+/** The modes Stand By and Trip. */
+export const STAND_BY = 6, TRIP = 7;
 export const BYTES = {
     output: 16,
     request: 24,
@@ -247,6 +247,10 @@ export class Reader {
         };
     }
 
+    /** Of a record only its level, and whether it has a place and a limit. */
+    level(at: number): number { return this.u8(at + 51); }
+    hasPlace(at: number): boolean { return this.u8(at + 54) !== 0; }
+
     record(at: number): JournalRecord {
         return {
             event: this.u64(at),
@@ -259,10 +263,10 @@ export class Reader {
             format: this.u8(at + 48),
             kind: this.u8(at + 49),
             mode: this.u8(at + 50),
-            level: this.u8(at + 51),
+            level: this.level(at),
             brake: this.u8(at + 52),
             indications: this.u8(at + 53),
-            hasPlace: this.u8(at + 54) !== 0,
+            hasPlace: this.hasPlace(at),
             payload: this.bytes(at + 56, this.u8(at + 55))
         };
     }

@@ -12,6 +12,7 @@ import {caseOf, setKeeping} from "./keeping";
 import {setKeys} from "./keys";
 import {formatted, Life, openAt, recordsOf} from "./life";
 import {Order, Report} from "./messages";
+import {columnsOf} from "./signals";
 import {readScenario} from "./scenario";
 import {choose, whenAsked} from "./tabs";
 import {SAY} from "./texts";
@@ -77,7 +78,8 @@ async function begin(): Promise<void> {
                 readScenario,
                 telegrams,
                 bitsOf,
-                faultAt
+                faultAt,
+                columnsOf
             }
         }
     });

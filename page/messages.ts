@@ -1,6 +1,8 @@
 // What the page and its worker say to each other.
+import {Braking} from "./braking";
 import {Block, Facts, Replay, Slot, Why} from "./layouts";
 import {Intervention, LifeRange} from "./lives";
+import {Signals} from "./signals";
 
 /** The module, before all other orders. */
 export interface ModuleOrder {
@@ -53,8 +55,14 @@ export interface RecordsReport {
     unreadable: number[];
     lives: LifeRange[];
     speeds: Float64Array;
+    signals: Signals;
     interventions: Intervention[];
     trips: number[]
+}
+export interface BrakingReport {
+    kind: "braking";
+    id: number;
+    rows: Braking[]
 }
 export interface SlotsReport {
     kind: "slots";
@@ -101,8 +109,8 @@ export interface FailedReport {
     id: number;
     says: string
 }
-export type Report = BytesReport|FactsReport|RecordsReport|SlotsReport|ReplayReport|CausesReport|WhyReport|
-    ProgressReport|DoneReport|FailedReport;
+export type Report = BytesReport|FactsReport|RecordsReport|BrakingReport|SlotsReport|ReplayReport|CausesReport|
+    WhyReport|ProgressReport|DoneReport|FailedReport;
 
 /** The block after the newest, which was being written: its number, life and events. */
 export interface Unwritten {

@@ -165,7 +165,7 @@ export const SAY = {
     slow: (event: number): string => `As of event ${event}.`,
     refused: (what: string): string => `The unit refuses this: ${what}. Nothing changed.`,
     tooBig: (name: string): string =>
-        `${name} isn't read: it has more than 256 MB, and the page reads images up to that size.`,
+        `${name} isn't read: it has more than 512 MB, and the page reads images up to that size.`,
     tooSmall: (name: string): string => `${name} isn't an image: it has less than one sector of 512 bytes.`,
     noImage: (name: string, why: string): string => `${name}: ${why}.`,
     oneFile: "Drop one image at a time, with its marks if there are some.",
@@ -209,10 +209,6 @@ export const BRIEF = {
     causeNotKnown: (reason: string): string => `cause not known: ${reason}`,
     none: "none",
     noIntervention: "none but what each power-up commands",
-    whole: "nothing is lost, damaged or contradicts",
-    agrees: ", and the replay finds no difference",
-    notWhole: "something is lost, damaged or contradicts",
-    differs: (where: string): string => `the replay differs at ${where}`,
     earlier: (trips: number): string => `${trips} earlier one${trips === 1 ? "" : "s"}`,
     notKnown: "not known: the newest block can't be read",
     powerUp: (block: string): string =>

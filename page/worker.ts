@@ -1,10 +1,12 @@
 // Reads an image apart from the page, so that the page never waits: facts, records, slots, replays and causes, in this
 // order.
+import {brakingOf} from "./braking";
 import {AT_ONCE, Calls, END, Held, OK, Records} from "./calls";
 import {hexOf} from "./hex";
 import {Block, BYTES, Facts, Replay, SECTOR, Slot, Why} from "./layouts";
 import {askedOf, Intervention, interventionsOf, lastOf, livesOf, speedsOf, tripsOf} from "./lives";
 import {Head, Order, Report, Unwritten} from "./messages";
+import {signalsOf} from "./signals";
 import {SAY} from "./texts";
 import {isWhole} from "./whole";
 
@@ -67,11 +69,12 @@ async function readRecords(calls: Calls, id: number, held: Held): Promise<Read|n
     }, AT_ONCE);
     journal.drop();
     if (!isRead) return null;
-    const bytes = room.slice(0, BYTES.record * count), records = new Records(bytes.slice());
+    const own = room.subarray(0, BYTES.record * count), bytes = own.slice(), records = new Records(own);
     const lives = livesOf(records), speeds = speedsOf(records, lives), interventions = interventionsOf(records, lives);
-    const trips = tripsOf(records, lives);
-    send({ kind: "records", id, status, bytes: bytes.buffer, unreadable, lives, speeds, interventions, trips },
-        [bytes.buffer, speeds.buffer]);
+    const trips = tripsOf(records, lives), [signals, buffers] = signalsOf(own, records, speeds);
+    send({ kind: "records", id, status, bytes: bytes.buffer, unreadable, lives, speeds, signals, interventions, trips },
+        [bytes.buffer, ...buffers]);
+    send({ kind: "braking", id, rows: brakingOf(records) });
     return { records, status, interventions, trips };
 }
 

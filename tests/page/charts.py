@@ -1,22 +1,48 @@
-"""The charts of an image: the limit in steps, a point for each record, and moments in UTC where marks give them."""
+"""The chart of an image: the limit in steps, what each column has, moments in UTC where marks give them, zoom, pan, cursor, filter, and what is saved of it."""
+import csv
+import io
+import json
+import random
 from pathlib import Path
+from typing import Any
 
-from asking import example, image
+from asking import bases, example, image, lab
 from browsing import Browser
+from chromium import Chromium
 from gaknifur.evidence import times
+from handing import CATCH, TEXT
 
+AXIS = "const axis = document.getElementById('viewer-axis'); axis.value = arguments[0]; axis.dispatchEvent(new Event('change')); window.gaknifur.ask.viewer.drawNow()"
 AT = """
-const path = document.querySelector('#place-chart .limit-line'), speed = document.querySelector('#place-chart .speed-line'), found = [];
+const path = document.querySelector('#viewer-chart .limit-line'), speed = document.querySelector('#viewer-chart .speed-line'), found = [];
 const at = (line, x) => { const all = []; for (let s = 0; s <= line.getTotalLength(); s += 0.25) { const p = line.getPointAtLength(s);
     if (Math.abs(p.x - x) < 0.4) all.push(p.y); } return all; };
-const { records } = window.gaknifur.ask, places = Array.from({ length: records.count }, (_, n) => records.front(n) / 100), [least, most] = [Math.min(...places), Math.max(...places)];
-const box = document.querySelector('#place-chart').viewBox.baseVal, X = m => 46 + (box.width - 58) * (m - least) / (most - least);
+const { viewer } = window.gaknifur.ask, X = m => 58 + (document.querySelector('#viewer-chart').viewBox.baseVal.width - 68) * (100 * m - viewer.from) / (viewer.to - viewer.from);
 for (const m of arguments[0]) { const limit = at(path, X(m)), driven = at(speed, X(m)); found.push([Math.min(...limit), Math.max(...limit), Math.max(...driven)]); }
 return found;
 """
-GRID = "return [...document.querySelectorAll('#place-chart text.axis[text-anchor=end]')].map(one => [one.textContent, +one.getAttribute('y')])"
-DOTS = "return ['limit-dots', 'speed-dots'].map(name => (document.querySelector('#place-chart .' + name)?.getAttribute('d') ?? '').split('M').length - 1)"
-TICKS = "return [...document.querySelectorAll('#time-chart text.axis[text-anchor=middle]')].map(one => one.textContent)"
+GRID = "return [...document.querySelectorAll('#viewer-chart text.axis[text-anchor=end]')].map(one => [one.textContent, +one.getAttribute('y')])"
+DOTS = "return ['limit-dots', 'speed-dots'].map(name => (document.querySelector('#viewer-chart .' + name)?.getAttribute('d') ?? '').split('M').length - 1)"
+TICKS = "window.gaknifur.ask.viewer.drawNow(); return [...document.querySelectorAll('#viewer-chart .tick-label')].map(one => one.textContent)"
+WINDOW = "const { viewer } = window.gaknifur.ask; viewer.drawNow(); return [viewer.from, viewer.to]"
+COLUMNS = """
+const [from, to, columns, kind] = arguments, { viewer } = window.gaknifur.ask, { columnsOf } = window.gaknifur.parts;
+const all = columnsOf(viewer.signals, viewer.axis, from, to, columns, kind ? n => viewer.signals.kind[n] === kind : null), list = band => [...band.low].map((low, n) => low > band.high[n] ? null : [low, band.high[n]]);
+return [list(all.speed), list(all.limit), [...all.brake], [...all.mode], all.count, all.matches];
+"""
+POINTER = """
+const chart = document.getElementById('viewer-chart'), box = chart.getBoundingClientRect();
+for (const [type, id, part] of arguments[0]) chart.dispatchEvent(new PointerEvent(type, {pointerId: id, clientX: box.left + part * box.width, clientY: box.top + 90, bubbles: true}));
+"""
+WHEEL = """
+const chart = document.getElementById('viewer-chart'), box = chart.getBoundingClientRect();
+return chart.dispatchEvent(new WheelEvent('wheel', {deltaY: arguments[0], clientX: box.left + arguments[1] * box.width, clientY: box.top + 90, bubbles: true, cancelable: true}));
+"""
+KEY = "document.getElementById('viewer-chart').dispatchEvent(new KeyboardEvent('keydown', {key: arguments[0], bubbles: true, cancelable: true}))"
+MODES = {"FS": 0, "OS": 1, "SR": 2, "SH": 3, "UN": 4, "SB": 6, "TR": 7, "PT": 8, "SF": 9}
+SIZE = "const done = arguments[1], picture = new Image(); window.saved[arguments[0]].arrayBuffer().then(bytes => { const text = [...new Uint8Array(bytes)].map(one => String.fromCharCode(one)).join('');" \
+       "picture.onload = () => { const canvas = document.createElement('canvas'); canvas.width = picture.width; canvas.height = picture.height; const c = canvas.getContext('2d'); c.drawImage(picture, 0, 0);" \
+       "done([picture.width, picture.height, new Set(new Uint32Array(c.getImageData(0, 0, picture.width, picture.height).data.buffer)).size]); }; picture.src = 'data:image/png;base64,' + btoa(text); });"
 
 
 def steps(browser: Browser, _page: Path, folder: Path) -> int:
@@ -24,6 +50,7 @@ def steps(browser: Browser, _page: Path, folder: Path) -> int:
     path = folder / "image"
     path.write_bytes(image(folder, [example("trip")], 16))
     count = browser.ask(path)["count"]
+    browser.run(AXIS, "place")
     zero, forty = (next(y - 4 for text, y in browser.run(GRID) if text == wanted) for wanted in ("0", "40"))
     wanted = zero - (zero - forty) * 39.271 / 40
     for least, most, speed in browser.run(AT, [205, 238, 250, 295]):
@@ -45,10 +72,139 @@ def in_utc(browser: Browser, _page: Path, folder: Path) -> int:
     browser.ask(path, marks)
     ticks = browser.run(TICKS)
     assert ticks[:3] == ["10:02:11", "10:02:13", "10:02:15"] and len(ticks) == len(plain), ticks
-    assert "UTC by marks, from 2026-03-01 on" in browser.text("time-chart")
+    assert "UTC by marks, from 2026-03-01 on" in browser.text("viewer-chart")
     browser.ask(path)
     assert browser.run(TICKS) == plain
     return len(plain)
 
 
-CHECKS = {"steps": (steps, 4), "in_utc": (in_utc, 5)}
+def wanted_of(records: list[Any], x: list[float], window: tuple[float, float], columns: int, kind: str | None) -> Any:
+    """What the columns of a window have: the least and the greatest speed of the records in each, and the worst brake; without what holds from before."""
+    speeds: list[Any] = [None] * columns
+    brakes, count, matches, speed, life = [0] * columns, 0, 0, 0, None
+    for record, place in zip(records, x):
+        speed = record["speed_m_per_h"] if record["kind"] == "odometer" else speed if record["life"] == life else 0
+        life = record["life"]
+        if not window[0] <= place < window[1]:
+            continue
+        column = int((place - window[0]) * (columns / (window[1] - window[0])))
+        if column >= columns:
+            continue
+        low, high = speeds[column] or (speed, speed)
+        speeds[column] = [min(low, speed), max(high, speed)]
+        brakes[column] = max(brakes[column], ("none", "service", "emergency").index(record["brake"]))
+        count, matches = count + 1, matches + (kind in (None, record["kind"]))
+    return speeds, brakes, count, matches
+
+
+def columns_hold(browser: Browser, _page: Path, folder: Path) -> int:
+    """Of random windows: each column has the least and the greatest speed of its records, its worst brake, and as many events as match."""
+    dice, count = random.Random(9), 0
+    for number, data in enumerate(bases(folder, dice)):
+        path = folder / f"image{number}"
+        path.write_bytes(data)
+        browser.ask(path)
+        records = [line for line in lab("events", str(path))[1] if "event" in line]
+        for axis in ("moment", "place"):
+            browser.run(AXIS, axis)
+            x, spans = browser.run("const { axis } = window.gaknifur.ask.viewer; return [[...axis.x], axis.spans.map(one => [one.life.from, one.life.end, one.low, one.high])]")
+            values = [record["time_ms" if axis == "moment" else "place_cm"] for record in records]
+            assert [span[0] for span in spans] == [n for n, one in enumerate(records) if not n or one["life"] != records[n - 1]["life"]], spans
+            for first, end, low, _ in spans:  # (each life keeps its distances, and none covers another)
+                assert all(abs(place - low - value + min(values[first:end])) < 1e-3 for place, value in zip(x[first:end], values[first:end])), (number, axis)
+            assert all(one[3] < other[2] for one, other in zip(spans, spans[1:])), spans
+            for _ in range(4):
+                window = sorted(dice.uniform(min(x) - 10, max(x) + 10) for _ in range(2))
+                columns, kind = dice.choice((1, 7, 100)), dice.choice((0, 2, 3, 5))
+                speed, _, brake, _, seen, matching = browser.run(COLUMNS, *window, columns, kind)
+                wanted = wanted_of(records, x, (window[0], window[1]), columns, {2: "telegram", 3: "odometer", 5: "driver"}.get(kind))
+                assert (speed, seen, matching) == (wanted[0], *wanted[2:]), (number, axis, window, columns, speed, wanted)
+                assert all(one >= other for one, other in zip(brake, wanted[1])), (number, axis, window, brake, wanted[1])
+                count += columns
+    return count
+
+
+def moves(browser: Browser, _page: Path, folder: Path) -> int:
+    """Zoom and pan by wheel, drag, two fingers and keys; a click chooses the nearest event; the cursor shows all signals; the window follows it."""
+    path = folder / "image"
+    path.write_bytes(image(folder, [example("power_cut"), example("power_cut", "restart.json"), example("trip")], 16))
+    browser.ask(path)
+    browser.run(AXIS, "place")
+    all_, labels = browser.run(WINDOW), browser.run("return [...document.querySelectorAll('#viewer-chart text')].map(one => one.textContent).filter(one => one.startsWith('life '))")
+    assert labels[0] == "life 1" and labels[-1] == "life 3", labels
+    assert browser.run(WHEEL, 100, 0.5) and browser.run(WINDOW) == all_, "a wheel that can't zoom out further scrolls the page"
+    assert not browser.run(WHEEL, -120, 0.5)
+    near = browser.run(WINDOW)
+    share = 0.5 + (0.5 * (58 + 10) - 58) / (browser.run("return document.getElementById('viewer-chart').viewBox.baseVal.width") - 68)  # (the chart's middle, by its margins)
+    assert abs((near[1] - near[0]) * 1.25 ** 2 / (all_[1] - all_[0]) - 1) < 1e-6, (near, all_)
+    assert abs(near[0] + share * (near[1] - near[0]) - all_[0] - share * (all_[1] - all_[0])) < 1e-3 * (all_[1] - all_[0]), (near, all_, share)
+    browser.run(POINTER, [["pointerdown", 1, 0.6], ["pointermove", 1, 0.5], ["pointerup", 1, 0.5]])
+    dragged = browser.run(WINDOW)
+    assert abs((dragged[0] - near[0]) / (near[1] - near[0]) - 0.1) < 0.01, (near, dragged)
+    browser.run(POINTER, [["pointerdown", 1, 0.4], ["pointerdown", 2, 0.6], ["pointermove", 2, 0.8], ["pointerup", 1, 0.4], ["pointerup", 2, 0.8]])
+    pinched = browser.run(WINDOW)
+    assert abs((pinched[1] - pinched[0]) / (dragged[1] - dragged[0]) - 0.5) < 0.01, (dragged, pinched)
+    for key, times_ in (("+", 0.8), ("-", 1.25)):
+        before = browser.run(WINDOW)
+        browser.run(KEY, key)
+        after = browser.run(WINDOW)
+        assert abs((after[1] - after[0]) / (before[1] - before[0]) - times_) < 1e-6, (key, before, after)
+    browser.run(KEY, "ArrowRight")
+    after = browser.run(WINDOW)
+    assert after[0] > pinched[0]
+    browser.run(KEY, "0")
+    assert browser.run(WINDOW) == all_
+    index = browser.run("return window.gaknifur.ask.records.find(24)")
+    part = browser.run("const { viewer } = window.gaknifur.ask, { width } = viewer.root.viewBox.baseVal; return (58 + (width - 68) * (viewer.axis.x[arguments[0]] - viewer.from) / (viewer.to - viewer.from)) / width", index)
+    browser.run(POINTER, [["pointerdown", 1, part], ["pointerup", 1, part]])
+    assert browser.run("const { ask } = window.gaknifur; return ask.viewer.axis.x[ask.index] === ask.viewer.axis.x[arguments[0]]", index)
+    browser.run("window.gaknifur.ask.chooseEvent(24)")
+    said = browser.text("viewer-at")
+    assert said == ("At the cursor: speed 15.0 km/h; limit, which is the permitted speed, 0.0 km/h; emergency brake; Full Supervision; level 1; front at 300.00 m;"
+                    " moment 0 s."), said
+    browser.run("const { viewer } = window.gaknifur.ask; viewer.zoom(0.05, viewer.axis.low)")
+    browser.run("window.gaknifur.ask.choose(window.gaknifur.ask.records.count - 1)")
+    window, x = browser.run(WINDOW), browser.run("const { ask } = window.gaknifur; return ask.viewer.axis.x[ask.index]")
+    assert window[0] <= x <= window[1], (window, x)
+    return 14
+
+
+def filters(browser: Browser, _page: Path, folder: Path) -> int:
+    """The filter steers the steps from event to event and what is saved; CSV, JSON and PNG have what is seen."""
+    path = folder / "image"
+    path.write_bytes(image(folder, [example("power_cut"), example("power_cut", "restart.json"), example("trip")], 16))
+    browser.ask(path)
+    records = [line for line in lab("events", str(path))[1] if "event" in line]
+    choose = "const s = document.getElementById('filter-' + arguments[0]); s.value = [...s.options].find(one => one.textContent === arguments[1]).value; s.dispatchEvent(new Event('change'))"
+    browser.run(choose, "kind", "odometer")
+    browser.run(choose, "brake", "emergency brake")
+    wanted = [one["event"] for one in records if (one["kind"], one["brake"]) == ("odometer", "emergency")]
+    assert len(wanted) >= 3, wanted
+    found = []
+    browser.click("first")
+    for _ in range(len(wanted) + 1):
+        found.append(browser.run("const { ask } = window.gaknifur; return ask.records.event(ask.index)"))
+        browser.click("after")
+    assert found == [*wanted, wanted[-1]] and browser.text("filter-said") == "No further event matches.", (found, wanted)
+    browser.run("window.gaknifur.ask.viewer.drawNow()")
+    assert browser.text("viewer-said") == f"{len(records)} of {len(records)} events are in the window; {len(wanted)} of these match the filter.", browser.text("viewer-said")
+    browser.run(CATCH)
+    browser.click("save-seen-csv", "save-seen-json", "save-png")
+    rows = list(csv.DictReader(io.StringIO(browser.run_later(TEXT, "image.seen.csv"))))
+    assert [int(row["event"]) for row in rows] == wanted, rows
+    saved = json.loads(browser.run_later(TEXT, "image.seen.json"))
+    assert [one["event"] for one in saved["events"]] == wanted and saved["seen"]["filter"] == {"kind": "odometer", "brake": "emergency brake"}, saved["seen"]
+    browser.until("return 'image.seen.png' in window.saved")
+    width, height, colours = browser.run_later(SIZE, "image.seen.png")
+    assert width >= 600 and height >= 300 and colours >= 8, (width, height, colours)
+    browser.run("const { viewer } = window.gaknifur.ask; viewer.showLife(); viewer.drawNow()")
+    browser.click("save-seen-csv")
+    rows = list(csv.DictReader(io.StringIO(browser.run_later(TEXT, "image.seen.csv"))))
+    assert {row["life"] for row in rows} == {"3"}, rows
+    if isinstance(browser, Chromium):
+        said = browser.complaints()
+        assert not said, said
+    return 10
+
+
+CHECKS = {"steps": (steps, 4), "in_utc": (in_utc, 5), "columns": (columns_hold, 500), "moves": (moves, 14), "filters": (filters, 10)}

@@ -1,7 +1,7 @@
 #!/usr/bin/python3 -IB
 """The page of tools/page in headless Chromium, along with the programs `etcs` and `etcs_lab` and the library for C.
 
-    tests/page/check.py PAGE [NAME..]    run all checks of a page, or those of these names; `opens_long` runs only by its name
+    tests/page/check.py PAGE [NAME..]    run all checks of a page, or those of these names; `opens_long` and `fluid_long` run only by their names
 
 Where GAKNIFUR_BROWSER is `firefox`, run them in Firefox, except those that need Chromium's driver. The last line has the number of comparisons.
 """
@@ -15,6 +15,7 @@ HERE = Path(__file__).resolve().parent
 sys.path[:0] = [str(HERE), str(HERE.parents[1] / "python")]
 import apart  # noqa: E402
 import asking  # noqa: E402
+import braked  # noqa: E402
 import briefs  # noqa: E402
 import charts  # noqa: E402
 import days  # noqa: E402
@@ -28,7 +29,7 @@ import paper  # noqa: E402
 import quick  # noqa: E402
 from browsing import Browser  # noqa: E402
 
-CHECKS = {**desks.CHECKS, **own.CHECKS, **apart.CHECKS, **asking.CHECKS, **days.CHECKS, **briefs.CHECKS, **first.CHECKS, **charts.CHECKS, **manners.CHECKS, **guarded.CHECKS, **handing.CHECKS, **paper.CHECKS, **quick.CHECKS}
+CHECKS = {**desks.CHECKS, **own.CHECKS, **apart.CHECKS, **asking.CHECKS, **days.CHECKS, **briefs.CHECKS, **braked.CHECKS, **first.CHECKS, **charts.CHECKS, **manners.CHECKS, **guarded.CHECKS, **handing.CHECKS, **paper.CHECKS, **quick.CHECKS}
 ALL = CHECKS | quick.LONG
 CHROMIUM_ALONE = ("edited",)
 

@@ -13,6 +13,8 @@ EVENTS, RUNS, STEPS = 10_000, 5, 200
 OPENS_S, PAUSE_MS, FRAME_MS = 3.0, 250, 50  # (a busy machine takes 12 ms for a frame)
 MOST_EVENTS, MOST_RUNS = 100_000, 3
 MARKS, MARKS_S = 100_000, 20
+SEEN_EVENTS, MOST_SEEN, FRAMES = 30_000, 1_000_000, 60
+PICTURE_S, DRAW_MS, SLOWER = 2.0, 33, 5  # (on an idle machine: 30 frames a second; one that is busy may take five times as long)
 START: list[Any] = [{"driver": [1, "IC 704"]}, {"driver": [4, 1]}, {"driver": [3, 20000, 160000, 70, 0, 15]}, {"telegram": TELEGRAMS[0]}, {"driver": [6]}]
 WATCH = """
 const { ask } = window.gaknifur;
@@ -101,5 +103,59 @@ def marks(browser: Browser, _page: Path, folder: Path) -> int:
     return count
 
 
-CHECKS = {"opens": (opens, RUNS + STEPS), "marks": (marks, 2 * MARKS)}
-LONG = {"opens_long": (opens_long, MOST_RUNS + STEPS)}
+PICTURE = """
+const { ask } = window.gaknifur, hear = ask.hear.bind(ask);
+window.picture = null;
+ask.hear = report => {
+    const begun = performance.now();
+    hear(report);
+    if (report.kind !== 'records') return;
+    ask.viewer.drawNow();
+    document.getElementById('viewer-chart').getBoundingClientRect();
+    window.picture = performance.now() - begun;
+};
+"""
+FRAME = """
+const { viewer } = window.gaknifur.ask, chart = document.getElementById('viewer-chart'), took = [], axis = document.getElementById('viewer-axis');
+chart.scrollIntoView();
+for (const kind of ['moment', 'place']) {
+    axis.value = kind;
+    axis.dispatchEvent(new Event('change'));
+    for (let n = 0; n < arguments[0]; n++) {
+        const begun = performance.now();
+        n % 3 ? viewer.pan(n % 2 ? 0.05 : -0.04) : viewer.zoom(n % 2 ? 0.8 : 1.1);
+        viewer.drawNow();
+        chart.getBoundingClientRect();
+        took.push(performance.now() - begun);
+    }
+}
+return [took.sort((one, other) => one - other), Math.max(...[...chart.querySelectorAll('path')].map(one => one.getAttribute('d').length))];
+"""
+
+
+def drawn(browser: Browser, folder: Path, events: int, seconds: int) -> int:
+    """The first picture after the records are read, and how long a frame takes while the window moves; no path grows as the events do."""
+    path = long_image(folder, events)
+    browser.run(PICTURE)
+    browser.hand(path)
+    browser.until("return window.picture !== null", seconds)
+    assert browser.run("return window.gaknifur.ask.records.count") == events
+    picture, (took, longest) = browser.run("return window.picture"), browser.run(FRAME, FRAMES)
+    frame = took[len(took) * 9 // 10]
+    print(f"page: {events} events: the first picture in {picture / 1000:.2f} s, nine frames of ten in {frame:.0f} ms, half of them in {took[len(took) // 2]:.0f} ms", flush=True)
+    assert picture <= SLOWER * 1000 * PICTURE_S and frame <= SLOWER * DRAW_MS and longest < 100_000, (picture, frame, longest)
+    return len(took)
+
+
+def fluid(browser: Browser, _page: Path, folder: Path) -> int:
+    """30,000 events."""
+    return drawn(browser, folder, SEEN_EVENTS, 60)
+
+
+def fluid_long(browser: Browser, _page: Path, folder: Path) -> int:
+    """1,000,000 events."""
+    return drawn(browser, folder, MOST_SEEN, 900)
+
+
+CHECKS = {"opens": (opens, RUNS + STEPS), "marks": (marks, 2 * MARKS), "fluid": (fluid, 2 * FRAMES)}
+LONG = {"opens_long": (opens_long, MOST_RUNS + STEPS), "fluid_long": (fluid_long, 2 * FRAMES)}

@@ -1,0 +1,233 @@
+// The signals of an image as arrays with a value for each record, and the axes over which they are drawn: the lives one
+// after the other, or by the time of day.
+import {Records} from "./calls";
+import {BYTES, Reader} from "./layouts";
+import {LifeRange} from "./lives";
+import {Times} from "./times";
+
+/** The value of a mode or level of which a record has none, or several records have different ones. */
+export const NOTHING = 255, SEVERAL = 254;
+
+export interface Signals {
+    moment: Float64Array;
+    place: Float64Array;
+    /** In m/h; a limit that a record lacks is NaN. */
+    speed: Float64Array;
+    limit: Float64Array;
+    kind: Uint8Array;
+    brake: Uint8Array;
+    mode: Uint8Array;
+    level: Uint8Array
+}
+
+/** The signals of records, and their buffers. Format 1 has no places and limits. */
+export function signalsOf(bytes: Uint8Array, records: Records, speed: Float64Array): [Signals, Transferable[]] {
+    const { count } = records, reader = new Reader(new DataView(bytes.buffer, bytes.byteOffset, bytes.byteLength));
+    const wide = (): Float64Array => new Float64Array(count), narrow = (): Uint8Array => new Uint8Array(count);
+    const all: Signals = {
+        moment: wide(),
+        place: wide(),
+        speed,
+        limit: wide(),
+        kind: narrow(),
+        brake: narrow(),
+        mode: narrow(),
+        level: narrow()
+    };
+    for (let n = 0; n < count; n++) {
+        const at = BYTES.record * n;
+        all.moment[n] = records.moment(n);
+        all.place[n] = records.front(n);
+        all.limit[n] = reader.hasPlace(at) ? records.limit(n) : NaN;
+        all.kind[n] = records.kind(n);
+        all.brake[n] = records.brake(n);
+        all.mode[n] = records.mode(n);
+        all.level[n] = reader.level(at);
+    }
+    return [all, Object.values(all).map(array => array.buffer as ArrayBuffer)];
+}
+
+export type AxisKind = "moment"|"place"|"utc";
+/** Where a life is on an axis: its values with an offset, from low to high. */
+export interface Span {
+    life: LifeRange;
+    offset: number;
+    low: number;
+    high: number;
+    /** Whether its records stand in the order of the axis. */
+    isSorted: boolean
+}
+export interface Axis {
+    kind: AxisKind;
+    /** The place of each record on the axis. */
+    x: Float64Array;
+    spans: Span[];
+    low: number;
+    high: number;
+    /** Lives that have no place on the axis. */
+    leftOut: number;
+    /** What is one on its labels. */
+    per: number
+}
+/** The part of an axis that gaps have; and how often a window is filled with what holds, where a train turns often. */
+const GAPS = 0.04, MOST_FILLED = 64;
+
+function spanOf(values: Float64Array, life: LifeRange): Span {
+    let low = Infinity, high = -Infinity, isSorted = true;
+    for (let n = life.from; n < life.end; n++) {
+        const value = values[n] ?? 0;
+        if (value < high) isSorted = false;
+        low = Math.min(low, value);
+        high = Math.max(high, value);
+    }
+    return { life, offset: 0, low, high, isSorted };
+}
+
+/** The axis of a kind. Lives stand one after the other with gaps, or by the time of day of their first record. */
+export function axisOf(kind: AxisKind, signals: Signals, lives: LifeRange[], times: Times|null): Axis {
+    const values = kind === "place" ? signals.place : signals.moment, per = kind === "place" ? 100 : 1000;
+    let spans = lives.map(life => spanOf(values, life));
+    if (kind === "utc") {
+        const utc = ({ life, low }: Span): number|null => times?.utc(life.number, low)?.utc ?? null;
+        spans = spans.filter(span => utc(span) !== null);
+        for (const span of spans) span.offset = (utc(span) ?? 0) - span.low;
+    } else {
+        const all = spans.reduce((sum, { low, high }) => sum + high - low, 0);
+        const gap = Math.max(per, GAPS * all) / Math.max(1, spans.length);
+        let next = spans[0]?.low ?? 0;
+        for (const span of spans) {
+            span.offset = next - span.low;
+            next += span.high - span.low + gap;
+        }
+    }
+    const x = new Float64Array(values.length).fill(NaN);
+    let low = Infinity, high = -Infinity;
+    for (const span of spans) {
+        span.low += span.offset;
+        span.high += span.offset;
+        low = Math.min(low, span.low);
+        high = Math.max(high, span.high);
+        for (let n = span.life.from; n < span.life.end; n++) x[n] = (values[n] ?? 0) + span.offset;
+    }
+    if (low > high) low = high = 0;
+    return { kind, x, spans, low, high: Math.max(high, low + per), leftOut: lives.length - spans.length, per };
+}
+
+/** The first index from which on the axis has at least a value. */
+function lowerBound(x: Float64Array, from: number, end: number, value: number): number {
+    let low = from, high = end;
+    while (low < high) {
+        const middle = (low + high) >> 1;
+        if ((x[middle] ?? 0) < value) low = middle + 1;
+        else high = middle;
+    }
+    return low;
+}
+
+/** The records of a span that a window may show, with one more at either side. */
+export function range(axis: Axis, span: Span, from: number, to: number): [number, number] {
+    const { life } = span;
+    if (span.high < from || span.low > to) return [life.from, life.from];
+    if (!span.isSorted) return [life.from, life.end];
+    return [
+        Math.max(life.from, lowerBound(axis.x, life.from, life.end, from) - 1),
+        Math.min(life.end, lowerBound(axis.x, life.from, life.end, to + 1e-9) + 1)
+    ];
+}
+
+/** The record that is next to a place of the axis; null where there is none. */
+export function nearest(axis: Axis, place: number): number|null {
+    let best: number|null = null, least = Infinity;
+    for (const span of axis.spans) {
+        if (span.low - place > least || place - span.high > least) continue;
+        const middle = span.isSorted ? lowerBound(axis.x, span.life.from, span.life.end, place) : 0;
+        const from = span.isSorted ? Math.max(span.life.from, middle - 1) : span.life.from;
+        const end = span.isSorted ? Math.min(span.life.end, middle + 1) : span.life.end;
+        for (let n = from; n < end; n++) {
+            const off = Math.abs((axis.x[n] ?? 0) - place);
+            if (off < least) [best, least] = [n, off];
+        }
+    }
+    return best;
+}
+
+/** What a window shows in each column: the least and the greatest of a signal, and what states hold. */
+export interface Columns {
+    speed: Band;
+    limit: Band;
+    other: Band;
+    brake: Uint8Array;
+    mode: Uint8Array;
+    level: Uint8Array;
+    /** Records that match the filter. */
+    matching: Uint32Array;
+    /** Records within the window, and those of them that match. */
+    count: number;
+    matches: number
+}
+export interface Band {
+    low: Float64Array;
+    high: Float64Array
+}
+
+function band(columns: number): Band {
+    return { low: new Float64Array(columns).fill(Infinity), high: new Float64Array(columns).fill(-Infinity) };
+}
+
+function widen({ low, high }: Band, column: number, value: number): void {
+    if (value < (low[column] ?? 0)) low[column] = value;
+    if (value > (high[column] ?? 0)) high[column] = value;
+}
+
+function merge(states: Uint8Array, column: number, state: number): void {
+    const before = states[column];
+    states[column] = before === NOTHING || before === state ? state : SEVERAL;
+}
+
+/** The columns of a window. What holds, holds up to the next record of its life; the signals are read once. */
+export function columnsOf(signals: Signals, axis: Axis, from: number, to: number, columns: number,
+    isMatch: ((index: number) => boolean)|null): Columns {
+    const { speed, limit, brake, mode, level } = signals,
+                                             other = axis.kind === "place" ? signals.moment : signals.place;
+    const all: Columns = {
+        speed: band(columns),
+        limit: band(columns),
+        other: band(columns),
+        brake: new Uint8Array(columns),
+        mode: new Uint8Array(columns).fill(NOTHING),
+        level: new Uint8Array(columns).fill(NOTHING),
+        matching: new Uint32Array(columns),
+        count: 0,
+        matches: 0
+    };
+    let left = MOST_FILLED * columns;
+    const scale = columns / (to - from), held = (column: number, n: number): void => {
+        widen(all.limit, column, limit[n] ?? NaN);
+        all.brake[column] = Math.max(all.brake[column] ?? 0, brake[n] ?? 0);
+        merge(all.mode, column, mode[n] ?? NOTHING);
+        merge(all.level, column, level[n] ?? NOTHING);
+    };
+    for (const span of axis.spans) {
+        const [first, end] = range(axis, span, from, to);
+        let before = NaN;
+        for (let n = first; n < end; n++) {
+            const column = Math.floor(((axis.x[n] ?? 0) - from) * scale);
+            if (n > first && column !== before) {
+                const one = Math.max(0, Math.min(before, column) + 1),
+                      end = Math.min(columns, Math.max(before, column));
+                for (let c = one; c < end && left > 0; c++, left--) held(c, n - 1);
+            }
+            before = column;
+            if (column < 0 || column >= columns) continue;
+            if (n > first) widen(all.limit, column, limit[n - 1] ?? NaN);
+            held(column, n);
+            widen(all.speed, column, speed[n] ?? 0);
+            widen(all.other, column, other[n] ?? 0);
+            all.count++;
+            if (isMatch && !isMatch(n)) continue;
+            all.matches++;
+            all.matching[column] = (all.matching[column] ?? 0) + 1;
+        }
+    }
+    return all;
+}

@@ -18,7 +18,7 @@
  *             if (status == ETCS_UNIT_OK)
  *                 status = etcs_held_sample(&held, now_ms(), reading.count_um, reading.speed_m_per_h);
  *             while (status == ETCS_UNIT_OK && reader_has(&telegram))
- *                 status = etcs_held_telegram(&held, telegram.count_um, telegram.bytes, telegram.len);
+ *                 status = etcs_held_telegram(&held, telegram.moment_ms, telegram.count_um, telegram.bytes, telegram.len);
  *         }
  *         return status == ETCS_UNIT_OK ? etcs_held_hand_in(&held, unit) : status;
  *     }
@@ -158,7 +158,8 @@ typedef struct {
 
 /** A telegram that is held back. */
 typedef struct {
-    int64_t count_um;                   /**< the place of the front when the antenna was over the balise */
+    uint64_t moment_ms;                 /**< when the antenna was over the balise */
+    int64_t count_um;                   /**< the place of the front then */
     uint32_t len;                       /**< how many bytes it has */
     uint8_t bytes[ETCS_TELEGRAM_BYTES]; /**< its bytes */
 } etcs_held_balise;
@@ -167,6 +168,7 @@ typedef struct {
 typedef struct {
     uint64_t hold_ms;                               /**< how long they are held back */
     uint64_t now_ms;                                /**< of the newest reading */
+    uint64_t given_ms;                              /**< of the last reading that the unit has */
     int64_t from_um;                                /**< where the count began */
     int64_t given_cm;                               /**< what of it the unit has, in whole centimetres */
     uint32_t samples;                               /**< how many readings are held */
@@ -185,6 +187,7 @@ static inline int64_t etcs_held_cm_(const etcs_held *held, int64_t count_um) {
 static inline void etcs_held_begin(etcs_held *held, uint64_t hold_ms, int64_t count_um) {
     held->hold_ms = hold_ms;
     held->now_ms = 0;
+    held->given_ms = 0;
     held->from_um = count_um;
     held->given_cm = 0;
     held->samples = 0;
@@ -205,20 +208,22 @@ static inline uint32_t etcs_held_sample(etcs_held *held, uint64_t moment_ms, int
     return (uint32_t)ETCS_UNIT_OK;
 }
 
-/** Takes a telegram, with the place of the front when the antenna was over its balise. Call it with each telegram, in the order of
- * their balises. Returns OK; ETCS_HELD_LATE where the unit is past that place already; ETCS_HELD_FULL; or OUT_OF_RANGE (`len`). */
+/** Takes a telegram, with the moment at which the antenna was over its balise, by the clock of the readings, and the place of the
+ * front then. Call it with each telegram, in the order of these moments. Returns OK; ETCS_HELD_LATE where the unit has a reading
+ * of that moment or later; ETCS_HELD_FULL; or OUT_OF_RANGE (`len`). */
 ETCS_MUST_USE
-static inline uint32_t etcs_held_telegram(etcs_held *held, int64_t count_um, const uint8_t *bytes, size_t len) {
+static inline uint32_t etcs_held_telegram(etcs_held *held, uint64_t moment_ms, int64_t count_um, const uint8_t *bytes, size_t len) {
     if ((len == 0u) || (len > (size_t)ETCS_TELEGRAM_BYTES)) {
         return (uint32_t)ETCS_UNIT_OUT_OF_RANGE;
     }
     if (held->telegrams == (uint32_t)ETCS_HELD_TELEGRAMS) {
         return (uint32_t)ETCS_HELD_FULL;
     }
-    if (etcs_held_cm_(held, count_um) < held->given_cm) {
+    if (moment_ms <= held->given_ms) {
         return (uint32_t)ETCS_HELD_LATE;
     }
     etcs_held_balise *const to = &held->telegram[held->telegrams++];
+    to->moment_ms = moment_ms;
     to->count_um = count_um;
     to->len = (uint32_t)len;
     for (size_t i = 0; i < len; i++) {
@@ -257,17 +262,18 @@ static inline uint32_t etcs_held_first_telegram_(etcs_held *held, etcs_unit *uni
     return status;
 }
 
-/** Hands in what is older than hold_ms, in the order of its places. Call it in each cycle, after the telegrams. Returns OK: all of
+/** Hands in what is older than hold_ms, in the order of its moments. Call it in each cycle, after the telegrams. Returns OK: all of
  * it; PENDING_FULL: flush, and call again; else the unit's answer, a fault. */
 ETCS_MUST_USE
 static inline uint32_t etcs_held_hand_in(etcs_held *held, etcs_unit *unit) {
     uint32_t status = (uint32_t)ETCS_UNIT_OK;
     while ((status == (uint32_t)ETCS_UNIT_OK) && (held->samples > 0u) && ((held->sample[0].moment_ms + held->hold_ms) <= held->now_ms)) {
-        if ((held->telegrams > 0u) && (held->telegram[0].count_um <= held->sample[0].count_um)) {
+        if ((held->telegrams > 0u) && (held->telegram[0].moment_ms <= held->sample[0].moment_ms)) {
             status = etcs_held_first_telegram_(held, unit);
         } else {
             status = etcs_held_move_(held, unit, held->sample[0].count_um, held->sample[0].speed_m_per_h);
             if (status == (uint32_t)ETCS_UNIT_OK) {
+                held->given_ms = held->sample[0].moment_ms;
                 held->samples--;
                 for (uint32_t i = 0; i < held->samples; i++) {
                     held->sample[i] = held->sample[i + 1u];

@@ -60,7 +60,7 @@ void drops(etcs_unit *unit, etcs_opening *opening, etcs_file *file, etcs_unit_ou
     etcs_executive_self_test(&executive, number);
     etcs_pulses_read(&pulses, 100, count, &reading);
     etcs_held_sample(&held, 100, 0, 0);
-    etcs_held_telegram(&held, 0, bytes, 8);
+    etcs_held_telegram(&held, 1, 0, bytes, 8);
     etcs_held_hand_in(&held, unit);
     etcs_guard_begin(&guard, ETCS_GUARD_STRICT);
     etcs_guard_hear(&guard, bytes, 8, &situation, count);

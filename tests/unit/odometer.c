@@ -105,11 +105,18 @@ static void wheels(void) {
 
 /* ---- what is held */
 
+static uint32_t flush_in(medium *on, etcs_unit *unit) {
+    etcs_unit_output outputs[ETCS_UNIT_OUTPUTS];
+    uint32_t count;
+    return flushed(on, unit, outputs, &count);
+}
+
 static void held_cases(void) {
     static etcs_held held;
     const uint8_t bytes[ETCS_TELEGRAM_BYTES + 1] = {0};
     etcs_unit unit = {0};
     etcs_unit_state_info state;
+    etcs_unit_why_info why;
     medium on = formatted(SLOTS);
     is("the power-up", powered_up(&on, &unit, ETCS_COLD_UNKNOWN), ETCS_UNIT_OK);
     etcs_held_begin(&held, 300, -15000);
@@ -117,37 +124,55 @@ static void held_cases(void) {
         is("a sample", etcs_held_sample(&held, 1000 + 100 * (uint64_t)i, -15000 + 24000 * i, 900), ETCS_UNIT_OK);
     is("handed in", etcs_held_hand_in(&held, &unit), ETCS_UNIT_OK);
     is("only what is 300 ms old", held.samples, 3);
-    is("a telegram of 0 bytes", etcs_held_telegram(&held, 10000, bytes, 0), ETCS_UNIT_OUT_OF_RANGE);
-    is("a telegram that is too long", etcs_held_telegram(&held, 10000, bytes, sizeof bytes), ETCS_UNIT_OUT_OF_RANGE);
-    is("a telegram in time", etcs_held_telegram(&held, 10000, bytes, 1), ETCS_UNIT_OK);
+    is("a telegram of 0 bytes", etcs_held_telegram(&held, 1104, 10000, bytes, 0), ETCS_UNIT_OUT_OF_RANGE);
+    is("a telegram that is too long", etcs_held_telegram(&held, 1104, 10000, bytes, sizeof bytes), ETCS_UNIT_OUT_OF_RANGE);
+    is("a telegram in time", etcs_held_telegram(&held, 1104, 10000, bytes, 1), ETCS_UNIT_OK);
     is("a sample", etcs_held_sample(&held, 1600, -15000 + 24000 * 6, 900), ETCS_UNIT_OK);
     is("handed in", etcs_held_hand_in(&held, &unit), ETCS_UNIT_OK);
     /* readings of 0, 2.4, 4.8 and 7.2 cm, and the balise at 2.5: 0, 2, 2 and its telegram, 4, 7 cm */
     is("state", etcs_unit_state(&unit, &state), ETCS_UNIT_OK);
     is("the place", (uint64_t)state.front_cm, 7);
     is("inputs", state.pending, 6);
-    is("a telegram that is too late", etcs_held_telegram(&held, 24000, bytes, 1), ETCS_HELD_LATE);
+    is("a telegram that is too late", etcs_held_telegram(&held, 1300, 57000, bytes, 1), ETCS_HELD_LATE);
     for (unsigned i = held.samples; i < ETCS_HELD_SAMPLES; i++)
         is("a sample", etcs_held_sample(&held, 2000, 200000, 0), ETCS_UNIT_OK);
     is("one too many", etcs_held_sample(&held, 2000, 200000, 0), ETCS_HELD_FULL);
     for (unsigned i = 0; i < ETCS_HELD_TELEGRAMS; i++)
-        is("a telegram", etcs_held_telegram(&held, 150000, bytes, 1), ETCS_UNIT_OK);
-    is("one too many", etcs_held_telegram(&held, 150000, bytes, 1), ETCS_HELD_FULL);
+        is("a telegram", etcs_held_telegram(&held, 1900, 150000, bytes, 1), ETCS_UNIT_OK);
+    is("one too many", etcs_held_telegram(&held, 1900, 150000, bytes, 1), ETCS_HELD_FULL);
     held.now_ms = 2300;
     is("more than eight inputs", etcs_held_hand_in(&held, &unit), ETCS_UNIT_PENDING_FULL);
+    etcs_unit_close(&unit);
+    /* A train that goes back over a balise: 0, -2, -3 and its telegram, -4 cm. */
+    is("a second power-up", powered_up(&on, &unit, ETCS_COLD_UNKNOWN), ETCS_UNIT_OK);
+    etcs_held_begin(&held, 300, 0);
+    for (int i = 0; i < 5; i++)
+        is("a sample backward", etcs_held_sample(&held, 1000 + 100 * (uint64_t)i, -20000 * i, 900), ETCS_UNIT_OK);
+    is("a telegram on the way back", etcs_held_telegram(&held, 1150, -30000, bytes, 1), ETCS_UNIT_OK);
+    is("handed in up to 1,100 ms", etcs_held_hand_in(&held, &unit), ETCS_UNIT_OK);
+    is("not yet the telegram", held.telegrams, 1);
+    is("a sample", etcs_held_sample(&held, 1500, -100000, 900), ETCS_UNIT_OK);
+    is("handed in", etcs_held_hand_in(&held, &unit), ETCS_UNIT_OK);
+    is("the telegram too", held.telegrams, 0);
+    is("state", etcs_unit_state(&unit, &state), ETCS_UNIT_OK);
+    is("the place", (uint64_t)state.front_cm, (uint64_t)INT64_C(-4));
+    is("inputs", state.pending, 5);
+    /* What moved doesn't stand yet. */
+    etcs_held_begin(&held, 0, 0);
+    for (uint32_t i = 0; i < 2; i++) {
+        is("a sample at speed 0", etcs_held_sample(&held, 2000 + 100 * i, 30000, 0), ETCS_UNIT_OK);
+        is("handed in", etcs_held_hand_in(&held, &unit), ETCS_UNIT_OK);
+        is("a flush", flush_in(&on, &unit), ETCS_UNIT_OK);
+        is("why", etcs_unit_why(&unit, &why), ETCS_UNIT_OK);
+        is("its speed", why.speed_m_per_h, 1 - i);
+    }
     etcs_unit_close(&unit);
     free(on.bytes);
 }
 
 typedef struct {
-    int64_t passed_um, count_um, reported_ms; /* where the balise is, what the odometer had counted there, when it is reported */
+    int64_t count_um, passed_ms, reported_ms; /* what the odometer had counted at the balise, when it was passed, when it is reported */
 } balise;
-
-static uint32_t flush_in(medium *on, etcs_unit *unit) {
-    etcs_unit_output outputs[ETCS_UNIT_OUTPUTS];
-    uint32_t count;
-    return flushed(on, unit, outputs, &count);
-}
 
 /* One train; how often and how far the unit's place was farther off than it said. */
 static uint32_t passes(char telegrams[][512], int holds, unsigned *looks, unsigned *outside, int64_t *farthest_cm) {
@@ -177,16 +202,16 @@ static uint32_t passes(char telegrams[][512], int holds, unsigned *looks, unsign
         const uint32_t reported = (uint32_t)(speed * 36 / 10);
         if (!is_waiting && before < place && place <= um) {
             const int64_t left_um = um - place;
-            waiting.passed_um = place;
             waiting.count_um = count_um - left_um * (1000 + wrong_by) / 1000;
-            waiting.reported_ms = moment - left_um / speed + random_in(EARLIEST_MS, LATEST_MS);
+            waiting.passed_ms = moment - left_um / speed;
+            waiting.reported_ms = waiting.passed_ms + random_in(EARLIEST_MS, LATEST_MS);
             is_waiting = 1;
         }
         const int is_reported = is_waiting && waiting.reported_ms <= moment;
         if (holds) {
             status = etcs_held_sample(&held, (uint64_t)moment, count_um, reported);
             if (status == ETCS_UNIT_OK && is_reported)
-                status = etcs_held_telegram(&held, waiting.count_um, bytes, bytes_of(telegrams[next], bytes, sizeof bytes));
+                status = etcs_held_telegram(&held, (uint64_t)waiting.passed_ms, waiting.count_um, bytes, bytes_of(telegrams[next], bytes, sizeof bytes));
             while (status == ETCS_UNIT_OK && (status = etcs_held_hand_in(&held, &unit)) == ETCS_UNIT_PENDING_FULL)
                 status = flush_in(&on, &unit);
             given_um = held.given_cm * ETCS_UM_PER_CM;
@@ -237,5 +262,5 @@ int main(int count, char **words) {
     cases();
     wheels();
     held_cases();
-    return report("odometer", 280);
+    return report("odometer", 300);
 }

@@ -3,14 +3,15 @@
 #
 #     by `etcs_lab play`         in one process: without outputs, with the last one of each, with all
 #     by the library for C       in one process, from calls that are read before, its medium in memory (bench/play.c)
+#     by the peer (bench/peer)   in one process, as etcs_lab play does
 #     by three processes each    `etcs format`, `etcs run` and `etcs journal` on an image in memory (/dev/shm), by a shell
 #
 #     bench/play.sh [SCENARIOS [TURNS]]    (default: 2000 3); the loop of three processes plays a tenth of the scenarios
 #     bench/play.sh --help                 print this
 #
 # The time is processor time, of the program and of the system, since the machine may have other work; the ways take turns, and
-# the minimum counts. Then the instructions of an event by callgrind, of the first two: what 40 scenarios take less what 20 take;
-# for C without the reading of the calls. Both have to give the same limits. All is compiled without a proof (bench/unproved),
+# the minimum counts. Then the instructions of an event by callgrind, of the first three: what 40 scenarios take less what 20 take;
+# for C without the reading of the calls. The peer has to print the same lines, and C to give the same limits. All is compiled without a proof (bench/unproved),
 # except programs that ETCS and ETCS_LAB name.
 set -e
 top=$(cd "$(dirname "$(readlink -f -- "$0")")/.." && pwd)
@@ -23,6 +24,8 @@ mkdir -p "$out"
 [ -n "$ETCS" ] || { "$top/bench/unproved" etcs "$out/etcs" >&2; ETCS=$out/etcs; }
 [ -n "$ETCS_LAB" ] || { "$top/bench/unproved" etcs_lab "$out/etcs_lab" >&2; ETCS_LAB=$out/etcs_lab; }
 "$top/bench/unproved" etcs_unit "$out/etcs_unit.o" >&2
+"$top/bench/peer.sh" --build
+PEER=$out/peer/release/etcs_peer
 gcc -std=gnu99 -O2 -g -I "$top/include" "$top/bench/play.c" "$out/etcs_unit.o" "$memory" -o "$out/play"
 room=$(mktemp -d -p /dev/shm)
 trap 'rm -rf "$room"' EXIT
@@ -54,11 +57,15 @@ declare -A least
 keep() { [ -n "${least[$1]}" ] && awk -v a="${least[$1]}" -v b="$2" 'BEGIN { exit !(a <= b) }' || least[$1]=$2; }
 for ((turn = 0; turn < turns; turn++)); do
     for which in none last all; do keep "$which" "$(took "$ETCS_LAB" play --slots $slots --outputs "$which" lines)"; done
+    for which in none last all; do keep "peer $which" "$(took "$PEER" play lines $slots "$which")"; done
     keep digest "$(took "$ETCS_LAB" play --slots $slots digested)"
     keep c "$("$out/play" calls $slots | cut -d' ' -f 4)"
     keep three "$(took three_processes)"
 done
-"$ETCS_LAB" play --slots $slots --outputs all lines >printed
+for which in none last all; do
+    "$ETCS_LAB" play --slots $slots --outputs $which lines >printed
+    "$PEER" play lines $slots $which | cmp - printed >&2
+done
 found=$(python3 -I -c 'import json, sys; lives = [json.loads(line)["outputs"] for line in open("printed")]
 print(len(lives), sum(map(len, lives)), sum(one["limit_m_per_h"] for life in lives for one in life))')
 [ "$found" = "$("$out/play" calls $slots | cut -d' ' -f 1-3)" ] || { echo "bench/play.sh: etcs_lab and the library give other limits" >&2; exit 1; }
@@ -72,6 +79,9 @@ row "etcs_lab play --outputs none" "${least[none]}" "$scenarios"
 row "etcs_lab play" "${least[last]}" "$scenarios"
 row "etcs_lab play --outputs all" "${least[all]}" "$scenarios"
 row "etcs_lab play, with the digest of each image" "${least[digest]}" "$scenarios"
+row "the peer, without outputs" "${least[peer none]}" "$scenarios"
+row "the peer, with the last output of each" "${least[peer last]}" "$scenarios"
+row "the peer, with all outputs" "${least[peer all]}" "$scenarios"
 row "etcs format, run and journal, by a shell" "${least[three]}" $((scenarios / 10))
 
 head -n 20 lines >few
@@ -85,4 +95,8 @@ printf '%-52s %10d\n' "the library for C, in one process" "$(an_event "$(instruc
 for which in none last all; do
     printf '%-52s %10d\n' "etcs_lab play --outputs $which" "$(an_event "$(instructions "$ETCS_LAB" play --slots $slots --outputs $which few)" \
         "$(instructions "$ETCS_LAB" play --slots $slots --outputs $which many)")"
+done
+for which in none last all; do
+    printf '%-52s %10d\n' "the peer, outputs: $which" "$(an_event "$(instructions "$PEER" play few $slots $which)" \
+        "$(instructions "$PEER" play many $slots $which)")"
 done

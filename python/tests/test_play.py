@@ -15,6 +15,8 @@ from gaknifur.play import Died, Result
 from gaknifur.program import Failed
 from gaknifur.simulation import campaign_jobs
 from gaknifur.simulation.campaign import Job, Row
+from gaknifur.testing import case_runner, cases, cases_together
+from gaknifur.testing.case_runner import Missed, Played
 
 SLOTS = 4
 MODES = {name: number for number, name in played_image.MODES.items()}
@@ -147,7 +149,7 @@ class Rows(unittest.TestCase):
         rows = self.rows([(good, image), (altered, image), (refused, b""), (good, image[:-1])], 4)
         self.assertEqual([(row["name"], row["ended"], row["events"], row["trips"], row["place_cm"], row["sound"]) for row in rows], [
             ("0", "carried out", 3, 1, 200, 1), ("1", "stopped 7 ClockFell", 3, 1, 200, 0), ("2", "refused 2 Shape", 0, None, None, 1),
-            ("3", "failed: the image that etcs_lab play wrote has no valid first sector, or another size", None, None, None, 0)])
+            ("3", "failed: the image of this run has no valid first sector, or another size", None, None, None, 0)])
         self.assertEqual(rows[1]["first_missed"].splitlines()[:2],
                          ["expected: the output of its record: event 2 mode TR level - brake emergency limit 40000 ind 8",
                           "found:    this output was released: event 2 mode FS level - brake emergency limit 40000 ind 8"])
@@ -164,6 +166,85 @@ class Rows(unittest.TestCase):
         with patch.object(campaign_jobs, "play", lambda job, folder: {"name": job.name, "ended": "by itself"}):
             rows = self.rows([({"status": "no_memory", "name": "NoMemory"}, b"")], 1)
         self.assertEqual([row["ended"] for row in rows], ["by itself"])
+
+
+CASE = """\
+test_case: {name}
+feature: F
+sections: [3.1]
+rule: r
+starting_conditions: s
+slots: 4
+lives: [{lives}]
+expected: [{{note: one, never: {{mode: SF}}}}]
+"""
+LIFE = "{steps: [{clock: 1 s}, {clock: 2 s}]}"
+GOOD = {"status": "done", "image": 1, "outputs": [output(1, "FS"), output(2, "TR")]}, image_of(*blocks_of("FS", "TR"))
+
+
+class Cases(unittest.TestCase):
+    """Test cases that run together, and those that don't."""
+
+    def setUp(self) -> None:
+        folder = tempfile.TemporaryDirectory()
+        self.addCleanup(folder.cleanup)
+        path = Path(folder.name, "a.case.yaml")
+        path.write_text("---\n".join(CASE.format(name=name, lives=lives) for name, lives in (
+            ("one", LIFE), ("two lives", f"{LIFE}, {LIFE}"), ("other", LIFE), ("last", LIFE))))
+        self.cases = cases.read(path)
+        self.given: list[tuple[bytes, int]] = []
+        self.alone: list[str] = []
+
+    def by_itself(self, case: cases.Case, keep: case_runner.Keep, why: bool, replay: bool) -> Played:
+        """Stands in for `etcs run`."""
+        self.alone.append(case.name)
+        keep(b"its image")
+        return Played([], {})
+
+    def taken(self, *results: tuple[Result, bytes] | Exception) -> dict[str, cases_together.Outcome]:
+        """The outcomes where `etcs_lab play` has these results; the last case is asked for first."""
+        def play_images(scenarios: Iterable[tuple[bytes, int]], folder: Path) -> Iterator[tuple[Result, bytes]]:
+            self.given += scenarios
+            for one in results:
+                if isinstance(one, Exception):
+                    raise one
+                yield one
+
+        with patch.object(cases_together, "play_images", play_images), patch.object(case_runner, "play", self.by_itself):
+            together = cases_together.Together(self.cases, False, False)
+            self.addCleanup(together.close)
+            return {case.name: together.take(case) for case in reversed(self.cases)}
+
+    def test_results(self) -> None:
+        stopped = {"status": "stopped", "number": 7, "name": "ClockFell"}
+        altered = GOOD[0] | {"outputs": [output(1, "FS"), output(2, "FS")]}
+        found = self.taken(GOOD, (altered, GOOD[1]), (GOOD[0] | stopped, GOOD[1]))
+        self.assertEqual((self.alone, [slots for _, slots in self.given]), (["two lives"], [4, 4, 4]))
+        self.assertEqual([one["event"] for one in found["one"].played().records], [0, 1, 2])
+        self.assertEqual((found["one"].image, found["two lives"].image), (GOOD[1], b"its image"))
+        for name, message in (("other", "the output of its record: event 2 mode TR"), ("last", "found:    stopped 7 ClockFell \\(steps of")):
+            with self.assertRaisesRegex(Missed, message):
+                found[name].played()
+            self.assertEqual(found[name].image, GOOD[1])
+
+    def test_other_results(self) -> None:
+        found = self.taken(({"status": "no_memory"}, b""), ({"status": "refused", "fault": 2, "name": "Shape"}, b""), (GOOD[0], GOOD[1][:-1]))
+        self.assertEqual(self.alone, ["one", "two lives"])
+        self.assertEqual(found["other"].image, played_image.empty(4))
+        for name, message in (("other", "found:    refused 2 Shape"), ("last", "no valid first sector")):
+            with self.assertRaisesRegex((Missed, Failed), message):
+                found[name].played()
+
+    def test_a_program_that_dies(self) -> None:
+        for end in (Died("status -9", 1), Failed("1.image: can't be written", 3)):
+            self.alone.clear()
+            with self.assertWarnsRegex(UserWarning, f"{end}; the other cases were run by etcs run"):
+                found = self.taken(GOOD, end)
+            self.assertEqual((sorted(self.alone), found["one"].image), (["last", "other", "two lives"], GOOD[1]))
+
+    def test_a_replay(self) -> None:
+        with patch.object(case_runner, "play", self.by_itself):
+            self.assertEqual([one.image for one in cases_together.play_all(self.cases, replay=True)], [b"its image"] * 4)
 
 
 class Sent(unittest.TestCase):

@@ -8,7 +8,7 @@ from unittest.mock import patch
 
 from gaknifur import files, program
 from gaknifur.program import Failed
-from gaknifur.testing import case_runner, sweep_tables, sweeps
+from gaknifur.testing import case_runner, cases_together, sweep_tables, sweeps
 from gaknifur.testing.case_runner import Missed, Played, with_speeds
 from gaknifur.testing.cases import Case
 from gaknifur.testing.sweeps import PointResult
@@ -42,7 +42,7 @@ drive:
 """
 
 
-def played(case: Case, keep: object = None, why: bool = False) -> Played:
+def played(case: Case, keep: object = None, why: bool = False, replay: bool = True) -> Played:
     """The records of a life that moved as its last step says; one of 30 km/h over 20 m doesn't end as reported."""
     scenario = case.lives[0].scenario
     assert scenario is not None
@@ -61,6 +61,7 @@ class Sweeps(unittest.TestCase):
         folder = tempfile.TemporaryDirectory()
         self.addCleanup(folder.cleanup)
         self.path = Path(folder.name) / "a.yaml"
+        self.enterContext(patch.object(cases_together, "line_of", lambda case: None))
 
     def read(self, text: str = SWEEP) -> sweeps.Sweep:
         """A sweep of this text."""
@@ -71,7 +72,7 @@ class Sweeps(unittest.TestCase):
         """A sweep, and what came of it."""
         sweep = self.read()
         with patch.object(case_runner, "play", played):
-            return sweep, [sweeps.play(sweep, point) for point in sweep.points()]
+            return sweep, sweeps.play(sweep, sweep.points())
 
     def test_points(self) -> None:
         sweep = self.read()
@@ -134,15 +135,15 @@ class Sweeps(unittest.TestCase):
     def test_three_parameters_have_a_map_for_each_of_the_first(self) -> None:
         sweep = self.read(SWEEP.replace("for: {", "for: {number: [1, 2], ").replace('"$way"', "$number"))
         with patch.object(case_runner, "play", played):
-            results = [sweeps.play(sweep, point) for point in sweep.points()]
+            results = sweeps.play(sweep, sweep.points())
         self.assertEqual([one.fixed for one in sweep_tables.maps(sweep, results)][:2], [{"number": "1"}, {"number": "2"}])
 
     def test_processes(self) -> None:
         sweep = self.read()
         with patch.object(case_runner, "play", played):
-            self.assertEqual(sweeps.play_all(sweep, 2), [sweeps.play(sweep, point) for point in sweep.points()])
+            self.assertEqual(sweeps.play_all(sweep, 2), sweeps.play(sweep, sweep.points()))
 
-        def fails(case: Case, keep: object = None, why: bool = False) -> Played:
+        def fails(case: Case, *more: object) -> Played:
             raise Failed("no program", 3)
 
         with patch.object(case_runner, "play", fails), self.assertRaisesRegex(Failed, "no program") as found:

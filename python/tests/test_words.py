@@ -25,7 +25,7 @@ from gaknifur.journal.causes import CAUSES
 from gaknifur.journal.plausibility import Thresholds
 from gaknifur.journal.reading import Json
 from gaknifur.journal.wording import INDICATIONS
-from gaknifur.testing import case_runner, measured_coverage
+from gaknifur.testing import case_runner, cases_together, measured_coverage
 from gaknifur.testing.case_runner import Keep, Played, with_speeds
 from gaknifur.testing.cases import Case
 from gaknifur.unit import BrakeCause, Indication
@@ -170,7 +170,9 @@ class Progress(unittest.TestCase):
                 self.shown(stderr, begun)
                 stderr.write("end")
                 stderr.flush()
-                text = os.read(screen, 65536).decode()
+                text = ""
+                while not text.endswith("end"):  # (a busy terminal hands it over in parts)
+                    text += os.read(screen, 65536).decode()
             os.close(screen)
             self.assertEqual(("events" in text, " 50%" in text, text.endswith("end")), (wanted, wanted, True), text)
 
@@ -241,7 +243,7 @@ class Checks(unittest.TestCase):
         self.assertIn("no such file", self.check(3, "", "etcs_lab: x: no such file")[2])
 
 
-def plays(case: Case, keep: Keep | None = None, why: bool = False) -> Played:
+def plays(case: Case, keep: Keep | None = None, why: bool = False, replay: bool = True) -> Played:
     """Stands in for the programs: one life with its power-up alone; with its journal where causes are asked for."""
     if keep:
         keep(b"the image")
@@ -260,6 +262,7 @@ class Suites(unittest.TestCase):
         for name in ("one", "two of a/kind"):
             (self.room / "suite" / f"{name[:3]}.case.yaml").write_text(SUITE.format(name))
         self.enterContext(patch.object(case_runner, "play", plays))
+        self.enterContext(patch.object(cases_together, "line_of", lambda case: None))
         self.enterContext(patch.dict(os.environ, {"XDG_CACHE_HOME": str(self.room / "cache")}))
 
     def lab(self, *words: str) -> tuple[int, str]:

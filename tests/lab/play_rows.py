@@ -3,7 +3,8 @@
 output, each count, and the image byte by byte), and with `etcs run` on an image in a file; the records of an image that Python reads, compared with
 those of `etcs_lab events`; hand-written cases that can't be played or read.
 
-    tests/lab/play_rows.py ETCS_LAB ETCS
+    tests/lab/play_rows.py ETCS_LAB ETCS                       the full check
+    tests/lab/play_rows.py ETCS_LAB ETCS SCENARIOS [SEED]      only random scenarios, each by `etcs_lab play`, `etcs run` and the reference model
 """
 import hashlib
 import json
@@ -124,13 +125,16 @@ class Plays(Compared):
         return objects(printed), status, said
 
     def cases(self):
-        numbers, chance = Numbers(SEED), random.Random(SEED)
         for path in sorted((TOP / "examples").glob("*/*.json")):
             scenario = json.loads(path.read_text())
             yield Case(f"example {path.parent.name}", scenario, lived(scenario), 16, None)
         for number, steps in enumerate(FALLING):
             yield Case(f"a clock that falls, {number}", {"groups": [], "steps": steps}, None, 16, None)
-        for number in range(SCENARIOS):
+        yield from self.random_cases(SCENARIOS, SEED)
+
+    def random_cases(self, count, seed):
+        numbers, chance = Numbers(seed), random.Random(seed)
+        for number in range(count):
             made = Played(numbers)
             yield Case(f"scenario {number}", made.scenario(), made.life.lines, chance.choice(SLOTS), chance.choice((None, None, 0, 1, 2)),
                        chance.choice((True, True, False, None)))
@@ -156,9 +160,7 @@ class Plays(Compared):
         """As `etcs run` on an image in a file."""
         path, image = self.folder / "scenario.json", self.folder / "image"
         for case in cases:
-            path.write_text(json.dumps(case.asked))
-            run(self.etcs, ["format", image, case.slots])
-            lines, _, status = run(self.etcs, ["run", path, image])
+            lines, status = self.ran(case, path, image)
             found, other, _ = self.play(json.dumps({"scenario": case.asked, "sha256": True}), "--outputs", "all", "--slots", case.slots)
             if not self.unless(len(found) == 1, f"{case.name}: {len(found)} lines"):
                 continue
@@ -170,6 +172,28 @@ class Plays(Compared):
                 printed += f"stopped {one['number']} {one['name']}\n"
             self.same(f"etcs run, {case.name}", (status, lines, hashlib.sha256(image.read_bytes()).hexdigest()), (other, printed, one["sha256"]))
             self.records(case, image)
+
+    def ran(self, case, path, image):
+        """The lines of `etcs run` and its status."""
+        path.write_text(json.dumps(case.asked))
+        run(self.etcs, ["format", image, case.slots])
+        lines, _, status = run(self.etcs, ["run", path, image])
+        return lines, status
+
+    def random_only(self, count, seed):
+        """Random scenarios, each by `etcs_lab play` and by `etcs run`: the outputs and the image of the reference model."""
+        for done in range(0, count, SCENARIOS):
+            with tempfile.TemporaryDirectory() as folder:
+                self.folder = Path(folder)
+                cases = list(self.random_cases(min(SCENARIOS, count - done), seed + done // SCENARIOS))
+                self.many("all", cases)
+                for case in cases:
+                    lines, status = self.ran(case, self.folder / "scenario.json", self.folder / "image")
+                    printed = RunRows.as_printed("".join(json.dumps(output) + "\n" for output in case.outputs))
+                    if case.end["end"] == "stopped":
+                        printed += f"stopped {case.end['number']} {case.end['name']}\n"
+                    self.same(f"etcs run, {case.name}", (lines, status, (self.folder / "image").read_bytes()), (printed, case.status, case.image))
+        return self.end(f"play: {self.count} comparisons, {count} random scenarios with {self.met['outputs']} outputs by etcs_lab play and etcs run")
 
     def records(self, case, image):
         """The records that the package reads from an image in Python, as `etcs_lab events` prints them."""
@@ -276,7 +300,9 @@ class Plays(Compared):
         return self.end(f"play: {self.count} comparisons, {len(cases)} scenarios in 4 ways, a fourth of them by etcs run")
 
 
-def main(lab, etcs):
+def main(lab, etcs, scenarios=None, seed=SEED):
+    if scenarios is not None:
+        return Plays(lab, etcs, None).random_only(int(scenarios), int(seed))
     with tempfile.TemporaryDirectory() as folder:
         return Plays(lab, etcs, Path(folder)).judged()
 

@@ -91,6 +91,7 @@ def run_tests(given: SimpleNamespace, progress: Progress) -> None:
     root = given.folder if given.folder.is_dir() else given.folder.parent
     selected = [f"--{name}={one}" for name in ("section", "feature") for one in getattr(given, name)]
     selected += [f"--keep={given.keep}"] if given.keep else []
+    selected += ["--replay"] if given.replay else []
     selected += [f"--against={given.against}", f"--answer-within={given.answer_within}"] if given.against else []
     for name in ("etcs", "etcs_lab"):  # pytest captures standard error, which says that they are unproved
         program.find(name)
@@ -159,7 +160,7 @@ def run_sweep(given: SimpleNamespace, progress: Progress) -> None:
     case, _, _ = sweeps.at_point(sweep, sweep.points()[0])
     if any(life.drive for life in case.lives):
         check_library()
-    found = sweeps.play_all(sweep, given.workers, progress)
+    found = sweeps.play_all(sweep, given.workers, progress, given.replay)
     from ..testing import sweep_tables
     makers = {"csv": sweep_tables.as_csv, "html": sweep_tables.as_page}
     for name, out in outs.items():

@@ -53,7 +53,7 @@ class Block(NamedTuple):
 
 def wrong(what: str) -> Failed:
     """The error for an image that isn't as `etcs_lab play` writes it."""
-    return Failed(f"the image that etcs_lab play wrote has {what}", REFUSED)
+    return Failed(f"the image of this run has {what}", REFUSED)
 
 
 def blocks(image: bytes) -> Iterator[Block]:

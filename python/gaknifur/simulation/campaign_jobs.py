@@ -11,6 +11,7 @@ import tempfile
 import time
 from collections.abc import Iterable, Iterator, Sequence
 from pathlib import Path
+from typing import TYPE_CHECKING
 
 from .. import etcs_run, program
 from ..etcs_run import CARRIED_OUT, Released
@@ -21,6 +22,10 @@ from ..play import AHEAD, Died, Result, ended, on_a_line, play_images
 from ..program import DEVICE, Failed
 from ..testing import soundness
 from .campaign import Job, Row, row_without
+
+if TYPE_CHECKING:
+    from ..testing.cases import Case
+    from ..testing.cases_together import Outcome
 
 
 def play(job: Job, folder: Path) -> Row:
@@ -94,30 +99,39 @@ def play_case(job: Job, folder: Path) -> Row:
             path = Path(own, name)
             path.parent.mkdir(parents=True, exist_ok=True)
             path.write_bytes(data)
-        return judged(Path(own, job.content[0][0]))
+        return judged(Path(own, job.content[0][0]), job.is_replayed)
 
 
-def judged(path: Path) -> Row:
+def judged(path: Path, replay: bool) -> Row:
     """The values of a row for a case file."""
-    from ..testing import case_runner, cases, mode_table
-    tests = missed = 0
-    first = None
+    from ..testing import case_runner, cases, cases_together
+    found = cases.read(path)
     records: list[Json] = []
-    for case in cases.read(path):
+    tests, messages = 0, list[str]()
+    with contextlib.closing(cases_together.play_all(found, replay=replay)) as outcomes:
+        for outcome, case in zip(outcomes, found):
+            count, missed = missed_by(case, outcome)
+            tests, messages = tests + count, messages + missed
+            if isinstance(outcome.result, case_runner.Played):
+                records += outcome.result.records
+    return {"image_sha256": None, "tests": tests, "missed": len(messages), "first_missed": messages[0] if messages else None,
+            "sound": int(not messages)} | values_of(records)
+
+
+def missed_by(case: "Case", outcome: "Outcome") -> tuple[int, list[str]]:
+    """The number of tests of a case, and a message for each that failed. A case that can't be judged counts as one test."""
+    from ..testing import case_runner, mode_table
+    try:
+        played = outcome.played()
+    except case_runner.Missed as failure:
+        return 1, [f"{case.name}: {failure}"]
+    messages = []
+    for expected in case.expected:
         try:
-            played = case_runner.play(case)
+            case_runner.judge(expected, played, mode_table.mode_table())
         except case_runner.Missed as failure:
-            tests, missed, first = tests + 1, missed + 1, first or f"{case.name}: {failure}"
-            continue
-        records += played.records
-        tests += not case.expected
-        for expected in case.expected:
-            tests += 1
-            try:
-                case_runner.judge(expected, played, mode_table.mode_table())
-            except case_runner.Missed as failure:
-                missed, first = missed + 1, first or f"{case.name}, line {expected.at.line}: {failure}"
-    return {"image_sha256": None, "tests": tests, "missed": missed, "first_missed": first, "sound": int(not missed)} | values_of(records)
+            messages.append(f"{case.name}, line {expected.at.line}: {failure}")
+    return max(1, len(case.expected)), messages
 
 
 # ---- scenarios that run together

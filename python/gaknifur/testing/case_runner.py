@@ -1,7 +1,7 @@
-"""Run a test case on the programs, and judge its expected results by the records that `etcs_lab events` prints.
+"""Run a test case with `etcs run`, and judge its expected results by the records that `etcs_lab events` prints.
 
 A journal is judged only if each life ended as expected, each released output is that of its record, the image is whole, and a
-replay by the kernel agrees with all of it.
+replay by the kernel agrees with all of it. The replay can be left out; `cases_together` does so, and runs many cases in one process.
 """
 from collections.abc import Callable, Sequence
 from dataclasses import dataclass
@@ -9,6 +9,7 @@ from pathlib import Path
 
 from .. import etcs_run, program
 from ..etcs_run import CARRIED_OUT, Released
+from ..journal import played_image
 from ..journal.reading import Journal, Json, read
 from ..simulation import closed_loop
 from ..simulation.driving import Driven
@@ -41,10 +42,15 @@ def run_life(life: Life, image: Path, folder: Path) -> list[Released]:
     if life.scenario:
         scenario.write_text(life.scenario.text(), encoding="utf-8")
     run = etcs_run.run_life(scenario, image)
-    wanted = life.ends or CARRIED_OUT
-    if run.ended != wanted:
-        raise Missed(f"the life of line {life.at.line} ends: {wanted}", f"{run.ended}{place_of(life, run.ended)}")
+    check_ended(life, run.ended)
     return run.released
+
+
+def check_ended(life: Life, ended: str) -> None:
+    """Fails unless a life ended as expected."""
+    wanted = life.ends or CARRIED_OUT
+    if ended != wanted:
+        raise Missed(f"the life of line {life.at.line} ends: {wanted}", f"{ended}{place_of(life, ended)}")
 
 
 def place_of(life: Life, ended: str) -> str:
@@ -55,9 +61,9 @@ def place_of(life: Life, ended: str) -> str:
     return ""
 
 
-def play(case: Case, keep: Keep | None = None, why: bool = False) -> Played:
+def play(case: Case, keep: Keep | None = None, why: bool = False, replay: bool = True) -> Played:
     """Runs the lives of a case in turn on one image, and reads the records; with `why` also the causes of brakes and limits. `keep`
-    receives the image, also if the lives didn't end as expected."""
+    receives the image, also if the lives didn't end as expected. Without `replay` the image of lives that `etcs run` ran is only read."""
     with program.temporary_folder(case.slots) as name:
         folder, image = Path(name), Path(name) / "image"
         program.format_image(image, case.slots)
@@ -71,11 +77,19 @@ def play(case: Case, keep: Keep | None = None, why: bool = False) -> Played:
         finally:
             if keep:
                 keep(image.read_bytes())
+        if not (replay or why or any(driven)):
+            return judged(case, played_image.records(image.read_bytes()), released)
         journal = read(image, replay=True, why=why, is_own=True)
     check_image(journal)
-    records = with_trains(with_speeds(journal.records), driven)
-    check_released(released, records)
-    return Played(records, marked(case, records, driven), journal)
+    return judged(case, journal.records, released, driven, journal)
+
+
+def judged(case: Case, records: Sequence[Json], released: list[Released], driven: Sequence[Driven | None] = (),
+           journal: Journal | None = None) -> Played:
+    """A case that was run, from its records. Each released output has to be that of its record."""
+    found = with_trains(with_speeds(records), driven)
+    check_released(released, found)
+    return Played(found, marked(case, found, driven), journal)
 
 
 def drive(life: Life, image: Path) -> Driven | None:
@@ -87,7 +101,7 @@ def drive(life: Life, image: Path) -> Driven | None:
     return driven
 
 
-def with_trains(records: list[Json], driven: list[Driven | None]) -> list[Json]:
+def with_trains(records: list[Json], driven: Sequence[Driven | None]) -> list[Json]:
     """The records, with the values of the train itself in a drive."""
     rows = {event: (row, location) for one in driven if one for location in (location_of(one),) for row in one.rows
             for event in range(row.first_event, row.event + 1)}
@@ -117,7 +131,7 @@ def with_speeds(records: Sequence[Json]) -> list[Json]:
     return found
 
 
-def marked(case: Case, records: list[Json], driven: list[Driven | None] | None = None) -> dict[str, int]:
+def marked(case: Case, records: list[Json], driven: Sequence[Driven | None] = ()) -> dict[str, int]:
     """The index of each mark's record. Fails if a life has another number of events than its scenario or its drive."""
     begins = {record["life"]: index for index, record in enumerate(records) if record["kind"] == "powerup"}
     lives = [(life, one) for life, one in zip(case.lives, driven or [None] * len(case.lives))

@@ -317,10 +317,10 @@ def marks_of(at: Value, lives: list[Life]) -> Counter[str]:
     return marks
 
 
-def case_of(at: Value) -> Case:
-    """The case of a document."""
+def case_of(at: Value, known: dict[Path, scenarios.Shared]) -> Case:
+    """The case of a document; `known` has what files contain that were included before."""
     members = at.members(CASE, MORE)
-    shared = scenarios.shared_of({name: members[name] for name in scenarios.SHARED if name in members}, at.path)
+    shared = scenarios.shared_of({name: members[name] for name in scenarios.SHARED if name in members}, at.path, known=known)
     lives = [life_of(one, shared) for one in members["lives"].elements()]
     if not lives:
         raise members["lives"].fault("a case needs at least one life")
@@ -337,7 +337,8 @@ def case_of(at: Value) -> Case:
 
 def read(path: Path) -> list[Case]:
     """The cases of a file."""
-    found = [case_of(document) for document in documents(path)]
+    known: dict[Path, scenarios.Shared] = {}
+    found = [case_of(document, known) for document in documents(path)]
     names = Counter(case.name for case in found)
     for case in found:
         if names[case.name] > 1:

@@ -4,6 +4,7 @@
 `all`: each member without a reason. `out_of_reach` lists for a set the members that no case can reach, and why; `*` is any text.
 A member that is reached although it has a reason is a fault too.
 """
+import contextlib
 import json
 import os
 from collections.abc import Iterable
@@ -17,12 +18,14 @@ from ..escaping import shown
 from ..journal.reading import Progress, silent
 from ..program import DEVICE, REFUSED, Failed
 from ..yaml_files import Value, document, guess, shortened
-from . import case_runner, coverage, coverage_sets
+from . import case_runner, cases_together, coverage, coverage_sets
 from .cases import Case
 from .record_coverage import measure
 
 FLOORS = "measured.yaml"
 ALL = "all"
+TOGETHER = 16
+"""The greatest number of cases that run in one process."""
 HEAD = b'{"reached_by": '
 FILE = files.beginning("what cases reach", HEAD)
 Sets = dict[str, list[str]]
@@ -59,18 +62,25 @@ def reached_by(played: case_runner.Played) -> Sets:
             for name, members in coverage_sets.members().items() if name in found}
 
 
+def reached_in(outcome: cases_together.Outcome, case: Case) -> Sets:
+    """What a case reached, from its outcome. Fails if it can't be judged."""
+    try:
+        return reached_by(outcome.played())
+    except case_runner.Missed as missed:
+        raise Failed(f"{case.path}:{case.at.line}: {case.name}: {' '.join(str(missed).split())}", REFUSED) from missed
+
+
 def play_all(cases: list[Case], progress: Progress = silent) -> ByCase:
     """Runs cases in parallel; returns what each reaches. Fails if one can't be judged."""
-    def one(case: Case) -> Sets:
-        try:
-            return reached_by(case_runner.play(case, why=True))
-        except case_runner.Missed as missed:
-            raise Failed(f"{case.path}:{case.at.line}: {case.name}: {' '.join(str(missed).split())}", REFUSED) from missed
+    def reached(some: list[Case]) -> list[Sets]:
+        with contextlib.closing(cases_together.play_all(some, why=True)) as outcomes:
+            return [reached_in(outcome, case) for outcome, case in zip(outcomes, some)]
 
     found: ByCase = {}
     with ThreadPoolExecutor(os.cpu_count()) as pool:
-        for case, sets in zip(cases, pool.map(one, cases)):
-            found[case.name] = sets
+        parts = [cases[at:at + TOGETHER] for at in range(0, len(cases), TOGETHER)]
+        for some, sets in zip(parts, pool.map(reached, parts)):
+            found |= {case.name: one for case, one in zip(some, sets)}
             progress("cases", len(found), len(cases))
     return found
 

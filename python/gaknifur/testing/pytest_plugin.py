@@ -1,13 +1,14 @@
 """Run test cases with pytest: it collects each `case.yaml` and `*.case.yaml`, and each expected result is a test of its own.
 
 `lab test FOLDER` is pytest with this plugin. A test belongs to its case, and is named by its sections, its case and its note.
-`--section` and `--feature` select tests; `--keep FOLDER` keeps the image and the report of each case with a failed test;
+`--section` and `--feature` select tests; `--replay` runs each case by itself and replays its image; `--keep FOLDER` keeps the image and the report of each case with a failed test;
 `--against COMMAND` also runs each case on another unit (docs/howto/oracle.md), and judges its answers; `-k`, `-x`, `--lf`,
 `--junitxml=FILE` and the others are pytest's own. In the JUnit XML the class of a test is its case, after its file, and each
 test has the properties `case`, `feature` and `sections`.
 """
 import re
 from collections.abc import Iterator
+from dataclasses import replace
 from pathlib import Path
 from typing import Any
 
@@ -17,11 +18,11 @@ from .. import program
 from ..cli import unit_commands
 from ..program import Failed
 from ..units import oracle, other_unit
-from . import case_files, case_runner, cases, mode_table
+from . import case_files, case_runner, cases, cases_together, mode_table
 from .reached_plugin import REACHES, Reaches
 
 AGREES = "another unit answers each event like the proved one"
-FIRST = "each life ends as expected; the records are released, whole and replayed"
+FIRST = "each life ends as expected; the image is whole, and its records are the released outputs"
 
 
 def pytest_addoption(parser: pytest.Parser) -> None:
@@ -30,6 +31,7 @@ def pytest_addoption(parser: pytest.Parser) -> None:
     group.addoption("--section", action="append", default=[], metavar="SECTION",
                     help="only results about this section of SUBSET-026 or its subsections; can be repeated")
     group.addoption("--feature", action="append", default=[], metavar="FEATURE", help="only cases of this feature")
+    group.addoption("--replay", action="store_true", help="run each case with `etcs run` on a file, and examine and replay its image")
     group.addoption("--keep", metavar="FOLDER", help="keep the image and report of each failed case in this new folder")
     group.addoption("--against", metavar="COMMAND", help="also run another unit, and compare and judge its answers (docs/howto/oracle.md)")
     group.addoption("--answer-within", metavar="SECONDS", type=float, default=other_unit.WITHIN_S, help="time limit for each answer of the other unit")
@@ -108,23 +110,19 @@ class Player:
         self.case, self.folder, self.reaches = case, folder, reaches
         self.against, self.within_s = against, within_s
         self.comparison: oracle.Comparison | None = None
-        self.played: case_runner.Played | None = None
-        self.failed: Exception | None = None
-        self.image: bytes | None = None
+        self.together: cases_together.Together | None = None
+        self.outcome: cases_together.Outcome | None = None
 
     def play(self) -> case_runner.Played:
         """The records. Raises the same failure each time if there are none to judge."""
-        if self.failed is not None:
-            raise self.failed
-        if self.played is None:
-            try:
-                self.played = case_runner.play(self.case, self.take if self.folder else None, self.reaches is not None)
-            except (case_runner.Missed, Failed) as failed:
-                self.failed = failed
-                raise
-            if self.reaches:
-                self.reaches.take(self.case, self.played)
-        return self.played
+        if self.outcome is None:
+            assert self.together
+            self.outcome = self.together.take(self.case)
+            if self.folder is None:
+                self.outcome = replace(self.outcome, image=b"")
+            if self.reaches and isinstance(self.outcome.result, case_runner.Played):
+                self.reaches.take(self.case, self.outcome.result)
+        return self.outcome.played()
 
     def compare(self, command: str) -> oracle.Comparison:
         """The answers of another unit to the events of the case."""
@@ -150,18 +148,14 @@ class Player:
             proved = "meets it" if case_runner.comes(expected, played, table) else "misses it too"
             raise case_runner.Missed.of(f"{missed}\nthe proved unit {proved}") from None
 
-    def take(self, image: bytes) -> None:
-        """Takes the image that the case left."""
-        self.image = image
-
     def keep(self) -> None:
         """Keeps image and report once, in a folder of the case's own."""
-        if self.folder is None or self.image is None:
+        if self.folder is None or self.outcome is None or not self.outcome.image:
             return
         from ..journal import report
         from ..journal.reading import read
 
-        image, self.image = self.image, None
+        image, self.outcome = self.outcome.image, replace(self.outcome, image=b"")
         self.folder.mkdir(parents=True, exist_ok=True)
         folder = new_folder(self.folder, self.case.name)
         path = folder / "image"
@@ -248,3 +242,14 @@ def pytest_collection_modifyitems(config: pytest.Config, items: list[pytest.Item
     if left:
         config.hook.pytest_deselected(items=left)
         items[:] = kept
+
+
+def pytest_collection_finish(session: pytest.Session) -> None:
+    """Lets the cases of all selected tests run together."""
+    players = {id(item.player): item.player for item in session.items if isinstance(item, Item)}
+    if players:
+        why = session.config.stash.get(REACHES, None) is not None
+        together = cases_together.Together([one.case for one in players.values()], why, session.config.getoption("--replay"))
+        session.config.add_cleanup(together.close)
+        for one in players.values():
+            one.together = together

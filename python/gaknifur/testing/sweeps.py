@@ -1,14 +1,15 @@
 """Run a sweep: a case with parameters, at each of their values. docs/howto/sweep.md describes the keys.
 
 `$name` in a text is the value of a parameter. The columns of a point are computed from its records, like the expected results of
-a case. Points run in parallel, each on an image of its own.
+a case. Points run in several processes, each on an image of its own.
 """
+import contextlib
 import multiprocessing
 import os
 import re
 from collections.abc import Iterator, Sequence
 from concurrent.futures import ProcessPoolExecutor
-from dataclasses import dataclass
+from dataclasses import dataclass, field
 from decimal import Decimal
 from itertools import product
 from pathlib import Path
@@ -19,13 +20,15 @@ import yaml
 from ..journal.reading import Progress, silent
 from ..program import Failed
 from ..yaml_files import Value, document, guess, shortened
-from . import case_runner, cases, mode_table, scenarios
+from . import case_runner, cases, cases_together, mode_table, scenarios
 from .cases import CONDITION, DRIVEN, Case, Condition
 
 PARAMETER = re.compile(r"\$(\w+)")
 RANGE = re.compile(r"(-?[0-9.]+)\.\.(-?[0-9.]+)(?: step ([0-9.]+))?")
 NAME = re.compile(r"[a-z][a-z0-9_]*")
 MOST_POINTS = 10_000
+PARTS, MOST_TOGETHER = 4, 64
+"""The number of parts of the points for each process, as far as there are enough, and the greatest number of points in a part, which run together."""
 SWEEP, MORE = ("sweep", "for", "columns", "lives"), ("expected", "slots", *scenarios.SHARED)
 VALUES = tuple(name for name in CONDITION if name != "indications")
 Point = dict[str, str]
@@ -51,6 +54,8 @@ class Sweep:
     at: Value
     name: str
     parameters: dict[str, list[str]]
+    included: dict[Path, scenarios.Shared] = field(default_factory=dict)
+    """What included files contain, so that each is read once."""
 
     def points(self) -> list[Point]:
         """All points, the last parameter changing first."""
@@ -214,7 +219,7 @@ def at_point(sweep: Sweep, point: Point) -> tuple[Case, list[Outcome], set[str]]
     """The case at a point, its columns, and the parameters that it uses."""
     filling = Filling(sweep.at.path, point)
     members = {name: value if name == "for" else Value(value.path, filling.node(value.node)) for name, value in sweep.at.entries().items()}
-    shared = scenarios.shared_of({name: members[name] for name in scenarios.SHARED if name in members}, sweep.at.path)
+    shared = scenarios.shared_of({name: members[name] for name in scenarios.SHARED if name in members}, sweep.at.path, known=sweep.included)
     lives = [cases.life_of(one, shared) for one in members["lives"].elements()]
     if not lives:
         raise members["lives"].fault("a sweep needs at least one life")
@@ -228,45 +233,50 @@ def at_point(sweep: Sweep, point: Point) -> tuple[Case, list[Outcome], set[str]]
     return Case(sweep.at, sweep.name, "", [], "", "", slots, lives, expected), outcomes, filling.used
 
 
-def play(sweep: Sweep, point: Point) -> PointResult:
-    """Plays a point."""
-    case, outcomes, _ = at_point(sweep, point)
+def play(sweep: Sweep, points: Sequence[Point], replay: bool = False) -> list[PointResult]:
+    """Runs some points, those of one life together; with `replay` each by itself, and its image is replayed."""
+    built = [at_point(sweep, point) for point in points]
+    with contextlib.closing(cases_together.play_all([case for case, _, _ in built], replay=replay)) as outcomes:
+        return [result_of(point, case, columns, outcome) for outcome, point, (case, columns, _) in zip(outcomes, points, built)]
+
+
+def result_of(point: Point, case: Case, columns: list[Outcome], outcome: cases_together.Outcome) -> PointResult:
+    """The result of a point that was run."""
     try:
-        played = case_runner.play(case)
+        played = outcome.played()
     except case_runner.Missed as missed:
         return PointResult(point, {}, fault=" ".join(str(missed).split()))
-    missed_notes = []
-    for expected in case.expected:
-        try:
-            case_runner.judge(expected, played, mode_table.mode_table())
-        except case_runner.Missed:
-            missed_notes.append(expected.note)
-    return PointResult(point, {one.name: cell_of(one, played) for one in outcomes}, tuple(missed_notes))
+    missed_notes = tuple(one.note for one in case.expected if not case_runner.comes(one, played, mode_table.mode_table()))
+    return PointResult(point, {one.name: cell_of(one, played) for one in columns}, missed_notes)
 
 
 # ---- all points
 
-process_sweep: list[Sweep] = []
-"""The sweep whose points this process plays."""
+process_sweep: list[tuple[Sweep, bool]] = []
+"""The sweep whose points this process runs, and whether they are replayed."""
 
 
-def in_process(point: Point) -> PointResult | tuple[str, int]:
-    """Plays a point in a process of its own; returns a failure as its message and status."""
+def in_process(points: Sequence[Point]) -> list[PointResult] | tuple[str, int]:
+    """Runs points in a process of their own; returns a failure as its message and status."""
     try:
-        return play(process_sweep[-1], point)
+        sweep, replay = process_sweep[-1]
+        return play(sweep, points, replay)
     except Failed as failed:
         return str(failed), failed.status
 
 
-def play_all(sweep: Sweep, workers: int | None = None, progress: Progress = silent) -> list[PointResult]:
-    """Plays all points. The processes are forked from this one, so that the sweep needn't be passed to them."""
+def play_all(sweep: Sweep, workers: int | None = None, progress: Progress = silent, replay: bool = False) -> list[PointResult]:
+    """Runs all points. The processes are forked from this one, so that the sweep needn't be passed to them."""
     points, found = sweep.points(), list[PointResult]()
     context: Any = multiprocessing.get_context("fork")
-    with ProcessPoolExecutor(workers or os.cpu_count(), context, process_sweep.append, (sweep,)) as pool:
-        for result in pool.map(in_process, points):
-            if isinstance(result, tuple):
+    count = workers or os.cpu_count() or 1
+    size = max(1, min(MOST_TOGETHER, len(points) // (PARTS * count)))
+    parts = [points[at:at + size] for at in range(0, len(points), size)]
+    with ProcessPoolExecutor(count, context, process_sweep.append, ((sweep, replay),)) as pool:
+        for results in pool.map(in_process, parts):
+            if isinstance(results, tuple):
                 pool.shutdown(cancel_futures=True)
-                raise Failed(*result)
-            found.append(result)
+                raise Failed(*results)
+            found += results
             progress("points", len(found), len(points))
     return found

@@ -1,0 +1,120 @@
+"""Run the test cases of one life together, in one process of `etcs_lab play`.
+
+Their records are read in this process, from the images that `etcs_lab play` writes. A case with several lives, a drive, or a scenario that is no JSON
+object is run by itself (`case_runner.play`), and so is each case if a replay of its image is wanted.
+"""
+import contextlib
+import warnings
+from collections.abc import Generator, Sequence
+from dataclasses import dataclass
+from pathlib import Path
+
+from .. import etcs_run, program
+from ..journal import played_image
+from ..journal.reading import read
+from ..play import AHEAD, Died, Result, ended, on_a_line, play_images
+from ..program import REFUSED, Failed
+from . import case_runner
+from .case_runner import Missed, Played
+from .cases import Case
+
+
+@dataclass(frozen=True)
+class Outcome:
+    """The records of a case that was run, or why there are none to judge, and its image, as far as there is one."""
+
+    result: Played | Missed | Failed
+    image: bytes
+
+    def played(self) -> Played:
+        """The records. Raises what happened instead."""
+        if isinstance(self.result, Played):
+            return self.result
+        raise self.result
+
+
+def line_of(case: Case) -> bytes | None:
+    """The scenario of a case on one line; None if the case is run by itself."""
+    life, *more = case.lives
+    if more or life.drive:
+        return None
+    try:
+        return on_a_line(life.scenario.text().encode() if life.scenario else life.path.read_bytes() if life.path else b"")
+    except OSError:
+        return None  # `etcs run` says why
+
+
+def by_itself(case: Case, why: bool, replay: bool = False) -> Outcome:
+    """The outcome of a case that is run by itself."""
+    images = [b""]
+    try:
+        return Outcome(case_runner.play(case, images.append, why, replay), images[-1])
+    except (Missed, Failed) as failed:
+        return Outcome(failed, images[-1])
+
+
+def records_of(case: Case, result: Result, image: bytes, path: Path | None) -> Played:
+    """The records of a case that ran with others; if a path is given, after a replay of the image there, with the causes."""
+    case_runner.check_ended(case.lives[0], ended(result) or "")
+    released = [etcs_run.output_of(one) for one in result.get("outputs", ())]
+    if path is None:
+        return case_runner.judged(case, played_image.records(image), released)
+    path.write_bytes(image)
+    journal = read(path, replay=True, why=True, is_own=True)
+    case_runner.check_image(journal)
+    return case_runner.judged(case, journal.records, released, journal=journal)
+
+
+def outcome_of(case: Case, result: Result, image: bytes, folder: Path, why: bool) -> Outcome:
+    """The outcome of a case that ran with others."""
+    if ended(result) is None:  # such as refused memory
+        return by_itself(case, why)
+    image = image or played_image.empty(case.slots)
+    try:
+        return Outcome(records_of(case, result, image, folder / "image" if why else None), image)
+    except (Missed, Failed) as failed:
+        return Outcome(failed, image)
+
+
+def play_all(cases: Sequence[Case], why: bool = False, replay: bool = False) -> Generator[Outcome, None, None]:
+    """The outcome of each case, in order; with `why` also the causes of brakes and limits. With `replay` each is run by itself. Fails if
+    `etcs_lab play` can't do its work, with `Died` if it is killed or crashes."""
+    lines = [None if replay else line_of(case) for case in cases]
+    together = [(line, case.slots) for case, line in zip(cases, lines) if line is not None]
+    with program.temporary_folder(AHEAD * max(case.slots for case in cases)) as name, contextlib.closing(play_images(together, Path(name))) as results:
+        for case, line in zip(cases, lines):
+            if line is None:
+                yield by_itself(case, why, replay)
+            elif found := next(results, None):
+                yield outcome_of(case, *found, Path(name), why)
+            else:
+                raise Died("etcs_lab play ended before it had run all cases", REFUSED)
+        if together:
+            next(results, None)  # it checks how the program ended
+
+
+class Together:
+    """Runs cases as their outcomes are asked for. If `etcs_lab play` fails, this is reported once, and each other case is run by itself."""
+
+    def __init__(self, cases: Sequence[Case], why: bool, replay: bool) -> None:
+        self.cases, self.why = iter(cases), why
+        self.outcomes = play_all(cases, why, replay)
+        self.waiting: dict[int, Outcome] = {}
+        """The outcomes that weren't asked for yet, by the identities of their cases."""
+
+    def take(self, case: Case) -> Outcome:
+        """The outcome of a case, which is asked for once."""
+        while id(case) not in self.waiting:
+            try:
+                outcome = next(self.outcomes)
+            except StopIteration:  # it failed before
+                return by_itself(case, self.why)
+            except Failed as failed:
+                warnings.warn(f"{failed}; the other cases were run by etcs run", stacklevel=2)
+                return by_itself(case, self.why)
+            self.waiting[id(next(self.cases))] = outcome
+        return self.waiting.pop(id(case))
+
+    def close(self) -> None:
+        """Ends the process, if it still runs."""
+        self.outcomes.close()

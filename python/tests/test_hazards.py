@@ -68,6 +68,8 @@ class Definitions(unittest.TestCase):
     def test_h2(self) -> None:
         self.limit("H2", moment(place=1_000, speed=130_001), moment(place=1_000, speed=130_000), moment(place=999, speed=130_001),
                    moment(place=1_000, speed=130_001, brake=EMERGENCY))
+        self.limit("H2", moment(place=30_999, speed=130_001), moment(place=31_000, speed=130_001))
+        self.limit("H2", moment(place=1_000, speed=10_001, names=("main_speed_0",)), moment(place=1_000, speed=10_000, names=("main_speed_0",)))
         self.limit("H2", moment(SR, speed=50_001), moment(SR, speed=50_000), moment(SR, speed=50_001, names=("greatest_national_values",)))
         self.limit("H2", moment(UN, speed=110_001), moment(UN, speed=110_000))
 
@@ -141,6 +143,7 @@ class Steps(unittest.TestCase):
         now = moment(place=1_000)
         self.assertEqual(hazard_tracks.steps_of(("reach", 1, 4_000), now), [{"drive": [1, 4_000]}])
         self.assertEqual(hazard_tracks.steps_of(("reach", -1, 4_000), now), [{"drive": [10_000, 4_000]}, {"drive": [9_999, 4_000]}])
+        self.assertEqual(hazard_tracks.steps_of(("reach", 0, 4_000), moment(place=21_000)), [{"drive": [10_000, 4_000]}])
         self.assertEqual(hazard_tracks.steps_of(("telegram", "authority"), now), [])
 
 

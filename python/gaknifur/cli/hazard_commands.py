@@ -1,14 +1,14 @@
 """The command `hazards`: searches small tracks for the hazards of a train (docs/howto/searching.md)."""
+import tempfile
 import time
 from pathlib import Path
 from types import SimpleNamespace
-from typing import Any
 
 from ..program import FOUND, REFUSED, WRONG_WORDS, Failed
 from ..simulation import closed_loop
 from ..simulation.driving import MODES
 from ..testing import hazard_search, hazard_tracks, scenario_text
-from ..testing.branching import Branches, Step
+from ..testing.branching import Branches, Step, compiled
 from ..testing.hazard_search import Kind, Search
 from ..testing.hazards import HAZARDS
 from ..testing.scenarios import Scenario
@@ -67,7 +67,7 @@ def report(given: SimpleNamespace, search: Search) -> int:
     if not search.found:
         print("found: no hazard")
         return 0
-    unit: Any = Branches()
+    unit = Branches(search.library)
     unexplained = 0
     for kind in sorted(search.found):
         steps = hazard_search.shrunk(unit, search.found[kind], kind)
@@ -82,12 +82,8 @@ def report(given: SimpleNamespace, search: Search) -> int:
     return unexplained
 
 
-def hazards(given: SimpleNamespace, progress: Terminal) -> int:
-    """Runs `lab hazards`."""
-    check(given)
-    closed_loop.check_library()
-    wanted = tuple(one for one in HAZARDS if not given.hazard or one in given.hazard)
-    search = Search(wanted, given.jobs, 60 * given.minutes, given.resume, not given.unmerged)
+def run(given: SimpleNamespace, search: Search, progress: Terminal) -> int:
+    """Runs a search, and prints its report; returns the exit status."""
     search.resume()
     parts = list(hazard_search.works(given.depth, lambda track: given.track in track.name))
     before, since = sum(one.inputs for one in search.results.values()), time.monotonic()
@@ -97,3 +93,12 @@ def hazards(given: SimpleNamespace, progress: Terminal) -> int:
     report_depths(search, parts)
     print(f"{inputs:,} inputs in {seconds:,.0f} s, {inputs / max(seconds, 0.001):,.0f} a second")
     return FOUND if report(given, search) else 0
+
+
+def hazards(given: SimpleNamespace, progress: Terminal) -> int:
+    """Runs `lab hazards`."""
+    check(given)
+    closed_loop.check_library()
+    wanted = tuple(one for one in HAZARDS if not given.hazard or one in given.hazard)
+    with tempfile.TemporaryDirectory() as folder:
+        return run(given, Search(compiled(Path(folder)), wanted, given.jobs, 60 * given.minutes, given.resume, not given.unmerged), progress)

@@ -8,7 +8,6 @@ import ctypes
 import functools
 import os
 import subprocess
-import tempfile
 from pathlib import Path
 from typing import Any, NamedTuple
 
@@ -103,11 +102,10 @@ def compiled(folder: Path) -> Path:
 
 
 class Branches:
-    """The unit of the library. One per process: all states are states of the same memory."""
+    """The unit of a compiled library. One per process: all states are states of the same memory."""
 
-    def __init__(self) -> None:
-        with tempfile.TemporaryDirectory() as folder:
-            self.library = ctypes.CDLL(str(compiled(Path(folder))))
+    def __init__(self, library: Path) -> None:
+        self.library = ctypes.CDLL(str(library))
         self.library.branch_bytes.restype = ctypes.c_size_t
         self.size = int(self.library.branch_bytes())
         self.reported = Reported()

@@ -6,6 +6,7 @@ moment), what the driver did, and the path and moment at which the mode was ente
 import json
 import multiprocessing
 import re
+import signal
 import time
 from collections.abc import Callable, Iterable, Iterator
 from dataclasses import dataclass, field
@@ -198,9 +199,10 @@ WALKER: list[Walker] = []
 """The walker of this process."""
 
 
-def start(wanted: tuple[str, ...], end: float, merges: bool) -> None:
-    """Makes the walker of a process."""
-    WALKER[:] = [Walker(Branches(), wanted, end, merges)]
+def start(library: Path, wanted: tuple[str, ...], end: float, merges: bool) -> None:
+    """Makes the walker of a process. An interruption is for the process that waits for it."""
+    signal.signal(signal.SIGINT, signal.SIG_IGN)
+    WALKER[:] = [Walker(Branches(library), wanted, end, merges)]
 
 
 def walk(work: Work) -> Result:
@@ -210,8 +212,9 @@ def walk(work: Work) -> Result:
 
 @dataclass
 class Search:
-    """A search, with the file to resume from, if there is one."""
+    """A search of the unit of a compiled library, with the file to resume from, if there is one."""
 
+    library: Path
     wanted: tuple[str, ...]
     jobs: int
     seconds: float
@@ -251,7 +254,7 @@ class Search:
         left, inputs, since = [one for one in parts if one not in self.results], 0, time.monotonic()
         if self.file:
             files.write(files.Out(self.file, FILE, is_forced=True), [self.head(), *(one.line() for one in self.results.values())])
-        with multiprocessing.get_context("fork").Pool(self.jobs, start, (self.wanted, time.monotonic() + self.seconds, self.merges)) as pool:
+        with multiprocessing.get_context("fork").Pool(self.jobs, start, (self.library, self.wanted, time.monotonic() + self.seconds, self.merges)) as pool:
             for result in pool.imap(walk, left):
                 self.take(result)
                 inputs += result.inputs

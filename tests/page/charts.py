@@ -7,11 +7,11 @@ from pathlib import Path
 from typing import Any
 
 from asking import bases, example, image, lab
+from braked import driven
 from browsing import Browser
 from chromium import Chromium
 from gaknifur.evidence import times
 from handing import CATCH, TEXT
-from quick import long_image
 
 AXIS = "const axis = document.getElementById('viewer-axis'); axis.value = arguments[0]; axis.dispatchEvent(new Event('change')); window.gaknifur.ask.viewer.drawNow()"
 AT = """
@@ -102,7 +102,8 @@ def wanted_of(records: list[Any], x: list[float], window: tuple[float, float], c
 def columns_hold(browser: Browser, _page: Path, folder: Path) -> int:
     """Of random windows: each column has the least and the greatest speed of its records, its worst brake, and as many events as match."""
     dice, count = random.Random(9), 0
-    for number, data in enumerate([*bases(folder, dice), long_image(folder, 3_000).read_bytes()]):
+    restless = driven(tuple((250 * n, dice.randrange(300), dice.randrange(38_000)) for n in range(600)), None)
+    for number, data in enumerate([*bases(folder, dice), image(folder, [restless, restless], 400)]):
         path = folder / f"image{number}"
         path.write_bytes(data)
         browser.ask(path)

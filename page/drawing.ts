@@ -3,7 +3,8 @@
 import {bounds, steps} from "./chart";
 import {svg} from "./dom";
 import {modeWord} from "./shown";
-import {Axis, Band, Columns, NOTHING, range, SEVERAL, Signals} from "./signals";
+import {Band, Columns} from "./columns";
+import {Axis, NOTHING, range, SEVERAL, Signals} from "./signals";
 import {VIEW} from "./wording";
 
 export const LEFT = 58, RIGHT = 10, HEIGHT = 392, TOP = 22, BOTTOM = 350;
@@ -132,20 +133,22 @@ class Painter {
         return path;
     }
 
-    /** A band of states; those of no interest are left out. */
+    /** A band of states, a path for each; those of no interest are left out. */
     private band(name: "brake"|"mode"|"level", states: Uint8Array, isEmpty: (state: number) => boolean,
         text: (state: number) => string): void {
-        const y = LANES[name];
+        const y = LANES[name], paths = new Map<number, string>(), texts: [number, string][] = [];
         for (let from = 0, end = 0; from < states.length; from = end) {
             const state = states[from] ?? NOTHING;
             for (end = from + 1; end < states.length && states[end] === state;) end++;
             if (isEmpty(state)) continue;
             const width = end - from, says = text(state);
-            this.parts.push(
-                svg("rect", { x: LEFT + from, y, width, height: LANE, class: `band ${name}-band state-of-${state}` },
-                    svg("title", {}, `${name} ${says}`)));
-            if (width > 7 * says.length + 6) this.text(LEFT + from + width / 2, y + 11, "middle", says, "band-text");
+            paths.set(state, `${paths.get(state) ?? ""}M${LEFT + from} ${y}h${width}v${LANE}h${- width}z`);
+            if (width > 7 * says.length + 6) texts.push([LEFT + from + width / 2, says]);
         }
+        for (const [state, d] of paths)
+            this.parts.push(svg("path", { d, class: `band ${name}-band state-of-${state}` },
+                svg("title", {}, `${VIEW.lanes[name]} ${text(state)}`)));
+        for (const [x, says] of texts) this.text(x, y + 11, "middle", says, "band-text");
     }
 
     private events(): void {

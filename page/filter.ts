@@ -10,6 +10,7 @@ type Part = typeof PARTS[number];
 export class Filter {
     private signals: Signals|null = null;
     private wanted: Partial<Record<Part, number>> = {};
+    matches: Uint32Array|null = null;
 
     constructor(private readonly changed: () => void) {
         for (const part of PARTS)
@@ -17,6 +18,7 @@ export class Filter {
                 const { value } = this.select(part);
                 if (value === "") delete this.wanted[part];
                 else this.wanted[part] = Number(value);
+                this.reckon();
                 this.changed();
             });
     }
@@ -27,6 +29,7 @@ export class Filter {
     take(signals: Signals): void {
         this.signals = signals;
         this.wanted = {};
+        this.reckon();
         const names: Record<Part, (value: number) => string> = {
             kind: value => KINDS[value] ?? "",
             brake: value => BRAKES[value] ?? "",
@@ -39,12 +42,18 @@ export class Filter {
         }
     }
 
-    /** Whether the event of a record matches; null where every one does. */
-    get match(): ((index: number) => boolean)|null {
-        const { signals, wanted } = this, all = Object.entries(wanted) as [Part, number][];
-        if (!signals || !all.length) return null;
-        return index => all.every(([part, value]) => signals[part][index] === value);
+    /** How many records match before each record, and all at the end; null where every one does. */
+    private reckon(): void {
+        const { signals } = this, all = Object.entries(this.wanted) as [Part, number][];
+        this.matches = null;
+        if (!signals || !all.length) return;
+        const { length } = signals.kind, matches = this.matches = new Uint32Array(length + 1);
+        for (let n = 0; n < length; n++)
+            matches[n + 1] = (matches[n] ?? 0) + Number(all.every(([part, value]) => signals[part][n] === value));
     }
+
+    /** Whether the event of a record matches. */
+    isMatch(n: number): boolean { return !this.matches || this.matches[n + 1] !== this.matches[n]; }
 
     /** What is chosen, by the names of the parts. */
     get chosen(): Record<string, string> {

@@ -2,6 +2,7 @@
 import {Ask} from "./ask";
 import {Asker} from "./asker";
 import {Calls} from "./calls";
+import {columnsOf} from "./columns";
 import {balisesOf, Course} from "./course";
 import {at, say} from "./dom";
 import {Drive} from "./drive";
@@ -12,7 +13,6 @@ import {caseOf, setKeeping} from "./keeping";
 import {setKeys} from "./keys";
 import {formatted, Life, openAt, recordsOf} from "./life";
 import {Order, Report} from "./messages";
-import {columnsOf} from "./signals";
 import {readScenario} from "./scenario";
 import {choose, whenAsked} from "./tabs";
 import {SAY} from "./texts";

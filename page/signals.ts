@@ -69,8 +69,8 @@ export interface Axis {
     /** What is one on its labels. */
     per: number
 }
-/** The part of an axis that gaps have; and how often a window is filled with what holds, where a train turns often. */
-const GAPS = 0.04, MOST_FILLED = 64;
+/** The part of an axis that gaps have. */
+const GAPS = 0.04;
 
 function spanOf(values: Float64Array, life: LifeRange): Span {
     let low = Infinity, high = -Infinity, isSorted = true;
@@ -149,85 +149,4 @@ export function nearest(axis: Axis, place: number): number|null {
         }
     }
     return best;
-}
-
-/** What a window shows in each column: the least and the greatest of a signal, and what states hold. */
-export interface Columns {
-    speed: Band;
-    limit: Band;
-    other: Band;
-    brake: Uint8Array;
-    mode: Uint8Array;
-    level: Uint8Array;
-    /** Records that match the filter. */
-    matching: Uint32Array;
-    /** Records within the window, and those of them that match. */
-    count: number;
-    matches: number
-}
-export interface Band {
-    low: Float64Array;
-    high: Float64Array
-}
-
-function band(columns: number): Band {
-    return { low: new Float64Array(columns).fill(Infinity), high: new Float64Array(columns).fill(-Infinity) };
-}
-
-function widen({ low, high }: Band, column: number, value: number): void {
-    if (value < (low[column] ?? 0)) low[column] = value;
-    if (value > (high[column] ?? 0)) high[column] = value;
-}
-
-function merge(states: Uint8Array, column: number, state: number): void {
-    const before = states[column];
-    states[column] = before === NOTHING || before === state ? state : SEVERAL;
-}
-
-/** The columns of a window. What holds, holds up to the next record of its life; the signals are read once. */
-export function columnsOf(signals: Signals, axis: Axis, from: number, to: number, columns: number,
-    isMatch: ((index: number) => boolean)|null): Columns {
-    const { speed, limit, brake, mode, level } = signals,
-                                             other = axis.kind === "place" ? signals.moment : signals.place;
-    const all: Columns = {
-        speed: band(columns),
-        limit: band(columns),
-        other: band(columns),
-        brake: new Uint8Array(columns),
-        mode: new Uint8Array(columns).fill(NOTHING),
-        level: new Uint8Array(columns).fill(NOTHING),
-        matching: new Uint32Array(columns),
-        count: 0,
-        matches: 0
-    };
-    let left = MOST_FILLED * columns;
-    const scale = columns / (to - from), held = (column: number, n: number): void => {
-        widen(all.limit, column, limit[n] ?? NaN);
-        all.brake[column] = Math.max(all.brake[column] ?? 0, brake[n] ?? 0);
-        merge(all.mode, column, mode[n] ?? NOTHING);
-        merge(all.level, column, level[n] ?? NOTHING);
-    };
-    for (const span of axis.spans) {
-        const [first, end] = range(axis, span, from, to);
-        let before = NaN;
-        for (let n = first; n < end; n++) {
-            const column = Math.floor(((axis.x[n] ?? 0) - from) * scale);
-            if (n > first && column !== before) {
-                const one = Math.max(0, Math.min(before, column) + 1),
-                      end = Math.min(columns, Math.max(before, column));
-                for (let c = one; c < end && left > 0; c++, left--) held(c, n - 1);
-            }
-            before = column;
-            if (column < 0 || column >= columns) continue;
-            if (n > first) widen(all.limit, column, limit[n - 1] ?? NaN);
-            held(column, n);
-            widen(all.speed, column, speed[n] ?? 0);
-            widen(all.other, column, other[n] ?? 0);
-            all.count++;
-            if (isMatch && !isMatch(n)) continue;
-            all.matches++;
-            all.matching[column] = (all.matching[column] ?? 0) + 1;
-        }
-    }
-    return all;
 }

@@ -1,11 +1,12 @@
 // The signals of all lives of an image on one axis, with zoom, pan and one cursor. Each change is drawn with the next
 // frame.
+import {Chunks, chunksOf, columnsOf} from "./columns";
 import {at, make, say, svg} from "./dom";
 import {BOTTOM, HEIGHT, LEFT, paint, plotWidth, TOP} from "./drawing";
 import {Filter} from "./filter";
 import {Intervention, LifeRange} from "./lives";
 import {brakeText, count, kmh, levelText, metres, modeName, seconds} from "./shown";
-import {Axis, AxisKind, axisOf, columnsOf, nearest, Signals} from "./signals";
+import {Axis, AxisKind, axisOf, nearest, Signals} from "./signals";
 import {DAY} from "./texts";
 import {iso, Times} from "./times";
 import {VIEW} from "./wording";
@@ -29,6 +30,7 @@ export class Viewer {
     private commands: { index: number; brake: number }[] = [];
     private times: Times|null = null;
     private axis: Axis|null = null;
+    private chunks: Chunks|null = null;
     private from = 0;
     private to = 1;
     private index = 0;
@@ -86,6 +88,7 @@ export class Viewer {
         const { signals, lives, times } = this;
         at<HTMLSelectElement>("viewer-axis").value = kind;
         this.axis = signals && axisOf(kind, signals, lives, times);
+        this.chunks = signals && this.axis && chunksOf(signals, this.axis);
         this.showAll();
     }
 
@@ -200,10 +203,10 @@ export class Viewer {
     drawNow(): void {
         cancelAnimationFrame(this.frame);
         this.frame = 0;
-        const { signals, axis, from, to, commands, times } = this;
-        if (!signals || !axis) return;
+        const { signals, axis, chunks, from, to, commands, times } = this;
+        if (!signals || !axis || !chunks) return;
         const width = Math.min(1600, Math.max(300, this.root.clientWidth || 760));
-        const columns = columnsOf(signals, axis, from, to, plotWidth(width), this.filter.match);
+        const columns = columnsOf(signals, axis, chunks, from, to, plotWidth(width), this.filter.matches);
         const labels: Record<AxisKind, (life: number, value: number) => string> = {
             moment: (_, ms) => (ms / 1000).toLocaleString("en", { maximumFractionDigits: 3 }),
             place: (_, cm) => (cm / 100).toLocaleString("en"),
@@ -247,9 +250,9 @@ export class Viewer {
 
     /** The next record before or after one that matches the filter; null where there is none. */
     next(index: number, by: 1|- 1): number|null {
-        const { match } = this.filter, all = this.signals?.kind.length ?? 0;
+        const all = this.signals?.kind.length ?? 0;
         for (let n = index + by; n >= 0 && n < all; n += by)
-            if (!match || match(n)) return n;
+            if (this.filter.isMatch(n)) return n;
         return null;
     }
 
@@ -257,11 +260,11 @@ export class Viewer {
     get seen(): Seen|null {
         const { axis, from, to, filter } = this;
         if (!axis) return null;
-        const { match, chosen } = filter, indexes: number[] = [];
+        const indexes: number[] = [];
         axis.x.forEach((x, n) => {
-            if (x >= from && x <= to && (!match || match(n))) indexes.push(n);
+            if (x >= from && x <= to && filter.isMatch(n)) indexes.push(n);
         });
-        return { axis: axis.kind, from, to, filter: chosen, indexes };
+        return { axis: axis.kind, from, to, filter: filter.chosen, indexes };
     }
 }
 

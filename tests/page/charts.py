@@ -7,6 +7,7 @@ from pathlib import Path
 from typing import Any
 
 from asking import bases, example, image, lab
+from braked import driven
 from browsing import Browser
 from chromium import Chromium
 from gaknifur.evidence import times
@@ -27,7 +28,8 @@ TICKS = "window.gaknifur.ask.viewer.drawNow(); return [...document.querySelector
 WINDOW = "const { viewer } = window.gaknifur.ask; viewer.drawNow(); return [viewer.from, viewer.to]"
 COLUMNS = """
 const [from, to, columns, kind] = arguments, { viewer } = window.gaknifur.ask, { columnsOf } = window.gaknifur.parts;
-const all = columnsOf(viewer.signals, viewer.axis, from, to, columns, kind ? n => viewer.signals.kind[n] === kind : null), list = band => [...band.low].map((low, n) => low > band.high[n] ? null : [low, band.high[n]]);
+const before = kind ? [...viewer.signals.kind].reduce((all, one) => (all.push(all[all.length - 1] + (one === kind)), all), [0]) : null;
+const all = columnsOf(viewer.signals, viewer.axis, viewer.chunks, from, to, columns, before), list = band => [...band.low].map((low, n) => low > band.high[n] ? null : [low, band.high[n]]);
 return [list(all.speed), list(all.limit), [...all.brake], [...all.mode], all.count, all.matches];
 """
 POINTER = """
@@ -100,7 +102,8 @@ def wanted_of(records: list[Any], x: list[float], window: tuple[float, float], c
 def columns_hold(browser: Browser, _page: Path, folder: Path) -> int:
     """Of random windows: each column has the least and the greatest speed of its records, its worst brake, and as many events as match."""
     dice, count = random.Random(9), 0
-    for number, data in enumerate(bases(folder, dice)):
+    restless = driven(tuple((250 * n, dice.randrange(300), dice.randrange(38_000)) for n in range(600)), None)
+    for number, data in enumerate([*bases(folder, dice), image(folder, [restless, restless], 400)]):
         path = folder / f"image{number}"
         path.write_bytes(data)
         browser.ask(path)

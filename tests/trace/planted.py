@@ -97,7 +97,7 @@ PLANTS = (
      ".ci/run doesn't run tests/why.sh"),
     ("a claim of a promise that isn't there", "docs/assurance.yaml", "of: [P-6, P-14]", "of: [P-66, P-14]",
      "G6 names P-66, which isn't there"),
-    ("a number that its runner doesn't have", "docs/project/tests.md", "2,758 rows", "2,759 rows",
+    ("a number that its runner doesn't have", "tests/README.md", "2,758 rows", "2,759 rows",
      '"parts: 2,759 rows" isn\'t what tests/rows.sh has: it has 2,758'),
     ("a number that nothing holds", "docs/project/tests.md", "## Requirements\n", "## Requirements\n\nIt tries 77 images.\n",
      "nothing holds the number in"),

@@ -99,7 +99,7 @@ def late(rows, room):
     found = archive.join(room / "late-joined", [path])
     rows.same("joined late", (found.missing, found.is_whole), (list(range(7, 17)), False))
     text, said, status = run(TOP / "lab", ["join", room / "late-out", path, image])
-    rows.same("in words", (text.splitlines()[-2:], said, status), (["missing 7..16", "joined blocks 3..6 17..23 in 21 slots"], "", 4))
+    rows.same("in words", (text.splitlines()[-2:], said, status), (["missing 7..16", "joined blocks 3..6 17..23 in 21 slots"], verdict(room / "late-out"), 4))
     with Ring(image) as ring_of:
         rows.same("all blocks after one", [number for number, _ in ring_of.blocks(2)], [20, 21, 22, 23])
     write(image, 4, by_number, 23, shut=20)
@@ -162,9 +162,15 @@ def contradictions(rows, room):
     found = archive.join(room / "mended-2", [one, bad])
     rows.same("and the source that can't be read", (found.chosen[7].path, sorted(found.mended), found.is_whole), (one, [7], False))
     text, said, status = run(TOP / "lab", ["join", room / "mended-3", bad, one])
-    rows.same("in words", ("block 7 can't be read in bad: it is taken from another source" in text.splitlines(), said, status), (True, "", 4))
+    rows.same("in words", ("block 7 can't be read in bad: it is taken from another source" in text.splitlines(), said, status),
+              (True, verdict(room / "mended-3"), 4))
     found = archive.join(room / "unreadable", [bad])
     rows.same("what can't be read stays so", (found.unreadable, found.is_whole), ([7], False))
+
+
+def verdict(path):
+    """What `lab check` says of an image."""
+    return run(TOP / "lab", ["check", path])[1]
 
 
 def strangers(rows, room):
@@ -179,7 +185,8 @@ def strangers(rows, room):
         found = archive.join(room / f"strangers-{name}", sources)
         rows.same(name, (found.contradictions, bool(found.breaks or found.differences), found.is_whole), ({}, True, False))
     text, said, status = run(TOP / "lab", ["join", room / "strangers", one, two])
-    rows.unless("the sources are of different units, or one was altered" in text and not said and status == 4, f"of two units: {text} {said} {status}")
+    rows.same("of two units", ("the sources are of different units, or one was altered" in text, said, status), (True, verdict(room / "strangers"), 4))
+    rows.unless("something is lost, damaged or contradicts" in said, f"of two units: {said}")
 
 
 def gates(rows, room):

@@ -397,7 +397,7 @@ def whole_bag(count, room, image):
         found, odd = seal.seal(image, room / "bag", seal.Sealing("one", "a medium", keys=keys(room)))
     count.same("the image was opened once, to be read", (opened, image.read_bytes()), ([os.O_RDONLY], data))
     count.same("the copy", (room / "bag/data/image").read_bytes(), data)
-    count.same("the content of seal.json", (found["by"], found["medium"], found["image"]["bytes"], odd), ("one", "a medium", len(data), []))
+    count.same("the content of seal.json", (found["by"], found["medium"], found["image"]["bytes"], odd.sentences), ("one", "a medium", len(data), []))
     stamp(room, room / "bag")
     count.same("its files", formats.names_in(room / "bag"), (sorted(FILES), []))
     count.same("their modes", {(room / "bag" / name).stat().st_mode & 0o222 for name in FILES if name != signing.ANSWER}, {0})

@@ -19,8 +19,9 @@ from typing import Self
 
 from .. import files
 from ..escaping import shown
-from ..journal import layout
-from ..journal.reading import Json, check, examine, silent
+from ..journal import layout, verdict
+from ..journal.reading import Json, examine, read
+from ..journal.verdict import Verdict
 from ..program import DEVICE, REFUSED, Failed
 
 
@@ -186,6 +187,8 @@ class Joined:
     """Blocks of the joined image that don't follow those before them, from its examination."""
     differences: list[Json] = field(default_factory=list)
     """The differences between the joined image's journal and its replay."""
+    judged: Verdict = field(default_factory=Verdict)
+    """The verdict of the joined image."""
 
     @property
     def slots(self) -> int:
@@ -311,10 +314,9 @@ def join(out: Path, paths: list[Path]) -> Joined:
 
 def judge(found: Joined, out: Path) -> None:
     """Examines and replays the joined image: blocks of different units don't follow one another, or differ from the replay."""
-    examination, replay = check(out, silent)
-    found.unreadable = [slot["block"] for slot in examination["slots"] if slot["state"] == "unreadable"]
-    found.breaks = [one for one in examination["between"] if one["what"] != "lost"]
-    found.differences = [line for line in replay if line.get("replay") in ("record_differs", "head_differs")]
+    journal = read(out, replay=True, is_own=True)
+    found.unreadable = [slot["block"] for slot in journal.slots if slot["state"] == "unreadable"]
+    found.breaks, found.differences, found.judged = journal.contradictions, journal.differences, verdict.of(journal)
 
 
 def as_json(found: Joined) -> list[Json]:
@@ -326,7 +328,8 @@ def as_json(found: Joined) -> list[Json]:
     lines += [{"mended": number, "unreadable_in": shown(place.path.name)} for number, place in found.mended.items()]
     lines += [{"breaks": one["block"], "what": one["what"]} for one in found.breaks]
     lines += [{"differs": one["block"], "life": one["life"], "event": one.get("event"), "field": one["field"]} for one in found.differences]
-    return [*lines, {"joined": runs(found.chosen), "slots": found.slots, "missing": runs(found.missing), "unreadable": runs(found.unreadable)}]
+    return [*lines, {"joined": runs(found.chosen), "slots": found.slots, "missing": runs(found.missing), "unreadable": runs(found.unreadable),
+                     **found.judged.as_json()}]
 
 
 def place_of(line: Json) -> str:

@@ -252,7 +252,7 @@ class AsText(unittest.TestCase):
         drive = braked()
         drive.read(*SLOWING)
         drive.clock()
-        self.assertEqual(text(drive.last()), "life 1 events 5..26: emergency brake at 36 km/h: the train stops; slows down after 0 to 2 s, 0 to 9.5 m, by 0.9 "
+        self.assertEqual(text(drive.last()), "life 1 events 5..26: emergency brake at 36 km/h: the train stops; deceleration begins after 0 to 2 s, 0 to 9.5 m: 0.9 "
                          "to 1.43 m/s²; standstill after 8 to 11 s, 50 m; the train data promise 1 m/s² after 0 s, 50 m: reaction not sure, rate not sure, way kept")
 
     def test_standing(self) -> None:

@@ -282,9 +282,9 @@ def text(one: Json) -> str:
             f"{ANSWERS[one['answer']]}")
     if one["answer"] in ("standing", "too_few"):
         return line
-    line += f"; slows down after {between(one['begins_ms'], 1000, 's')}, {between(one['begins_cm'], 100, 'm')}"
+    line += f"; deceleration begins after {between(one['begins_ms'], 1000, 's')}, {between(one['begins_cm'], 100, 'm')}"
     if one["rate_cm_per_s2"] != list(UNKNOWN):
-        line += f", by {between(one['rate_cm_per_s2'], 100, 'm/s²')}"
+        line += f": {between(one['rate_cm_per_s2'], 100, 'm/s²')}"
     line += f"; {one['until']} after {between(one['ends_ms'], 1000, 's')}, {between(one['way_cm'], 100, 'm')}"
     return line + (f"; {promise_text(one)}" if one["promised_cm"] is not None else "")
 

@@ -4,7 +4,7 @@ from .charts import END, SPEED, STYLE, svg_of
 from .matplotlib_defaults import Figure, FigureCanvasSVG, plain
 from .reading import Json
 
-MOST_DRAWN = 6
+MOST_DRAWN, MOST_DOTS = 6, 80
 
 
 def is_seen(one: Json) -> bool:
@@ -29,9 +29,11 @@ def draw(measured: Measured, title: str) -> str:
         FigureCanvasSVG(figure)
         axes = figure.subplots(1, 2, sharey=True, gridspec_kw={"wspace": 0.06, "left": 0.065, "right": 0.985, "top": 0.86, "bottom": 0.18})
         for axis, at, unit, name in ((axes[0], 1, 100, "way since the command, m"), (axes[1], 0, 1000, "time since the command, s")):
-            axis.plot([one[at] / unit for one in points], [one[2] / 1000 for one in points], color=SPEED, lw=1.6, marker="o", ms=3, label="readings")
+            axis.plot([one[at] / unit for one in points], [one[2] / 1000 for one in points], color=SPEED, lw=1.6, marker="o" if len(points) <= MOST_DOTS else None, ms=3,
+                      label="readings")
             if curve:
-                axis.plot([one[at] / unit for one in curve], [one[2] / 1000 for one in curve], color=END, lw=1.2, ls=(0, (4, 3)), label="promised by the train data")
+                axis.plot([one[at] / unit for one in curve], [one[2] / 1000 for one in curve], color=END, lw=1.4, ls=(0, (4, 3)), zorder=5,
+                          label="promised by the train data")
             axis.set_xlabel(name)
             axis.set_ylim(bottom=0)
             axis.grid(axis="y", color="#e6e6e6", lw=0.6)

@@ -173,6 +173,28 @@ def verdict(path):
     return run(TOP / "lab", ["check", path])[1]
 
 
+def identities(rows, room):
+    """What the files next to images and archives say: join and diff refuse strangers, and joined images and archives get the identity."""
+    by_number, at = journal(), room / "identities"
+    at.mkdir()
+    for name in ("one", "two", "other"):
+        write(at / name, 16, by_number, 9)
+        (at / f"{name}.identity").write_text(f"unit: {'18' if name == 'other' else '17'}\n")
+    # (4: the movements of these lives are implausible)
+    said = f"is of unit 18, and {at}/one of unit 17; --strangers goes on. Nothing was "
+    for words, status, wanted in (
+            (["join", at / "out", at / "one", at / "other"], 1, f"lab: {at}/other: {said}written.\n"), (["join", at / "same", at / "one", at / "two"], 4, None),
+            (["join", "--strangers", at / "mixed", at / "one", at / "other"], 4, None), (["diff", at / "one", at / "two"], 4, None),
+            (["diff", at / "one", at / "other"], 1, f"lab: {at}/other: {said}compared.\n"), (["diff", "--strangers", at / "one", at / "other"], 4, None),
+            (["follow", "--archive", at / "kept", at / "one"], 0, ""), (["follow", "--archive", at / "kept", at / "two"], 0, ""),
+            (["follow", "--archive", at / "kept", at / "other"], 1, f"lab: {at}/kept: is of unit 17, and {at}/other of unit 18. Nothing was written.\n"),
+            (["join", at / "again", at / "kept"], 4, None), (["join", at / "last", at / "other", at / "kept"], 1, None)):
+        _, message, found = run(TOP / "lab", words)
+        rows.same(f"{' '.join(map(str, words))}", (found, message if wanted is not None else None), (status, wanted))
+    names = sorted(path.name for path in at.iterdir() if path.name.endswith(".identity"))
+    rows.same("files of identities", names, [f"{name}.identity" for name in ("again", "kept", "one", "other", "same", "two")])
+
+
 def strangers(rows, room):
     """Blocks of two units in one image: it is made, and what doesn't follow is reported."""
     by_number, other = journal(), {block["number"]: block for block in blocks_of([("unknown", (*STARTED, "clock 5", "move 7 3")), *TWO, *TWO], 3)}
@@ -318,6 +340,7 @@ def main(words):
         put_back(rows, room)
         contradictions(rows, room)
         strangers(rows, room)
+        identities(rows, room)
         gates(rows, room)
         syncs(rows, room)
         many_contradictions(rows, room)

@@ -83,10 +83,21 @@ def honest(rows, room):
     """A journal in which nothing is odd has status 0 everywhere."""
     image = room / "honest"
     image.write_bytes(dict(examples())["example trip"])
+    whose = "unit: 17\nvehicle: 402 001\n"
+    (room / "honest.identity").write_text(whose)
     for words, out in ((["timeline"], "h.jsonl"), (["capture"], "h.pcap"), (["report"], "h.html"), (["database"], "h.db"), (["seal"], "h.bag"), (["table"], "h.xlsx")):
         _, said, status = run(*words, image, room / out)
         rows.same(f"{words[0]} of an honest journal", (status, said), (0, ""))
     rows.unless("Implausible" not in (room / "h.html").read_text(), "the report finds something")
+    for page in ("h.html", "h.bag/data/report.html"):
+        rows.unless("unit 17, vehicle 402 001, by the file next to the image" in (room / page).read_text(), f"{page} doesn't say whose it is")
+    for name in ("h.db", "h.bag/data/journal.db"):
+        with sqlite3.connect(room / name) as connection:
+            rows.same(f"{name}: whose it is", connection.execute("SELECT unit, vehicle, software FROM image").fetchall(), [("17", "402 001", None)])
+    rows.same("the identity in the bag", (room / "h.bag/data/image.identity").read_text(), whose)
+    rows.same("verify", run("verify", room / "h.bag")[2], 0)
+    (room / "h.bag/data/image.identity").write_text("unit: 18\n")
+    rows.same("verify an altered identity", run("verify", room / "h.bag")[2], 4)
     import openpyxl
     notes = [row[0] for row in openpyxl.load_workbook(room / "h.xlsx")["notes"].iter_rows(values_only=True)]
     rows.unless(f"read by {program.reader()}" in notes, f"the workbook doesn't say by what it was read: {notes}")

@@ -166,6 +166,7 @@ JSON = option("--json", "print JSON")
 JSON_LINES = option("--json", "print one JSON object per line")
 TIMES = [option("--times", "marks of the time of day (default: IMAGE.times, if it exists)", "FILE", PATH),
          option("--drift", "maximum clock drift in ppm (default: 100)", "PPM", int)]
+STRANGERS = option("--strangers", "go on where IMAGE.identity names another unit or vehicle")
 WITHIN = Setting("--answer-within", "time limit for each answer of the other unit", "SECONDS", float, "units.other_unit:WITHIN_S")
 JOURNAL = [
     Command("table", "journal", "cli.journal_commands:write_table", "Print one row per journal record as CSV, or write a workbook",
@@ -222,11 +223,11 @@ EVIDENCE = [
             option("--authority", "certificates of time stamp authorities; one of them must have stamped it", "FILE", PATH)),
     Command("diff", "evidence", "cli.evidence_commands:show_difference", "Compare two images of one unit",
             "Status 0: both hold the same journal, or B continues A, and `lab check` finds nothing in them. Status 4: anything else.", "diff monday friday",
-            Argument("a", "A", "the image that was read first"), Argument("b", "B", "the image that was read later"), JSON),
+            Argument("a", "A", "the image that was read first"), Argument("b", "B", "the image that was read later"), STRANGERS, JSON),
     Command("join", "evidence", "cli.evidence_commands:join_images", "Join images and archives of one unit into one larger image",
             "Where a block differs between sources, the first source wins. Status 4: a block differs or is missing, or `lab check` finds something in OUT.", "join joined image archive",
             Argument("out", "OUT", "the image to make"),
-            Argument("sources", "IMAGE|ARCHIVE...", "images, and archives of `lab follow --archive`", nargs=-1, required=True), JSON),
+            Argument("sources", "IMAGE|ARCHIVE...", "images, and archives of `lab follow --archive`", nargs=-1, required=True), STRANGERS, JSON),
     Command("follow", "evidence", "cli.evidence_commands:follow_image", "Print the records of an image while a unit writes them",
             "Takes no lock and never delays the unit. Ends when the unit ends.", "follow image --wait",
             IMAGE, option("--json", "print JSON, as `etcs_lab events` does"), option("--archive", "also append each block to this archive", "FILE", PATH),

@@ -37,7 +37,7 @@ def verify_bag(given: SimpleNamespace, progress: Progress) -> int:
 def show_difference(given: SimpleNamespace, progress: Progress) -> int:
     """Runs `lab diff`."""
     from ..evidence import diff
-    found = diff.compare(given.a, given.b)
+    found = diff.compare(given.a, given.b, given.strangers)
     sys.stdout.write(json.dumps(diff.as_json(found), ensure_ascii=False) + "\n" if given.json else diff.text(found))
     sys.stdout.flush()
     return max(0 if found.verdict in diff.FINE else NOT_WHOLE, *(say_verdict(one.path, one.judged) for one in (found.a, found.b)))
@@ -46,7 +46,7 @@ def show_difference(given: SimpleNamespace, progress: Progress) -> int:
 def join_images(given: SimpleNamespace, progress: Progress) -> int:
     """Runs `lab join`."""
     from ..evidence import archive
-    found = archive.join(given.out, given.sources)
+    found = archive.join(given.out, given.sources, given.strangers)
     sys.stdout.write("".join(json.dumps(line) + "\n" for line in archive.as_json(found)) if given.json else archive.text(found))
     sys.stdout.flush()
     return max(0 if found.is_whole else NOT_WHOLE, say_verdict(given.out, found.judged))

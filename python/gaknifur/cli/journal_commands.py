@@ -34,8 +34,9 @@ def note(journal: Journal) -> int:
 
 
 def take_times(journal: Journal, given: SimpleNamespace) -> None:
-    """Reads the marks of the time of day: the file that is named, or the one next to the image."""
-    from ..evidence import times
+    """Reads the marks of the time of day: the file that is named, or the one next to the image; and the identity next to it."""
+    from ..evidence import identity, times
+    journal.identity = identity.of(journal.path)
     path = times.marks_of(journal.path, given.times)
     if path is not None:
         journal.times = times.Times.of(journal, path, times.DRIFT_PPM if given.drift is None else given.drift)

@@ -23,6 +23,7 @@ from ..journal import layout, verdict
 from ..journal.reading import Json, examine, read
 from ..journal.verdict import Verdict
 from ..program import DEVICE, REFUSED, Failed
+from . import identity
 
 
 AT_ONCE = 4_096
@@ -293,8 +294,12 @@ def choose_all(found: Joined) -> None:
         choose(found, number, of, can_be_read)
 
 
-def join(out: Path, paths: list[Path]) -> Joined:
-    """Joins images and archives of one unit into one image."""
+def join(out: Path, paths: list[Path], strangers: bool = False) -> Joined:
+    """Joins images and archives of one unit into one image, and copies their identity. Refuses strangers, unless they are wanted."""
+    if not strangers:
+        identity.check(paths, "Nothing was written.")
+        if any(identity.of(path) for path in paths) and identity.path_of(out).exists():
+            raise Failed(f"{identity.path_of(out)}: exists. Nothing was written.", REFUSED)
     found = Joined([source(path) for path in paths])
     choose_all(found)
     if not found.chosen:
@@ -309,6 +314,8 @@ def join(out: Path, paths: list[Path]) -> Joined:
             file.seek(layout.slot_at(number % slots))
             file.write(place.read())
     judge(found, out)
+    for path in [] if strangers else paths:
+        identity.keep(path, out)
     return found
 
 

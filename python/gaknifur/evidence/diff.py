@@ -15,6 +15,7 @@ from ..journal import layout, verdict
 from ..journal.reading import Json, objects, read
 from ..journal.verdict import Verdict
 from ..program import DEVICE, NOT_WHOLE, WHOLE, Failed
+from . import identity
 
 VERDICTS = {
     "same": "both hold the same journal",
@@ -179,8 +180,10 @@ def relation(a: Side, b: Side, differ: Iterable[int]) -> str:
     return "lost" if a.lost() or b.lost() else "same" if a.newest == b.newest else "continues"
 
 
-def compare(one: Path, other: Path) -> Difference:
-    """Compares two images."""
+def compare(one: Path, other: Path, strangers: bool = False) -> Difference:
+    """Compares two images. Refuses strangers, unless they are wanted."""
+    if not strangers:
+        identity.check([one, other], "Nothing was compared.")
     a, b = side(one), side(other)
     found = differing(a, b)
     result = Difference(a, b, relation(a, b, found), differences_of(a, b, found), list(found))

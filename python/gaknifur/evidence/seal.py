@@ -22,15 +22,16 @@ from ..journal import layout, verdict
 from ..journal.reading import Json, Progress, parsed, read, silent
 from ..journal.verdict import Verdict
 from ..program import DEVICE, NOT_WHOLE, REFUSED, WHOLE, Failed, Run
-from . import bag, formats, signing
+from . import bag, formats, identity, signing
 from .formats import Unfit
 from .times import DRIFT_PPM, Times
 
 IMAGE, SEAL, PARTS, TIMES = "image", "seal.json", "digests.csv", "image.times"
+IDENTITY = IMAGE + identity.ENDING
 WORDS = {"examine.json": ["examine", "--json"], "events.jsonl": ["events", "--all"], "replay.jsonl": ["replay", "--json"],
          "why.jsonl": ["why", "--json"]}
 """The files with the output of `etcs_lab` about the image, and its arguments."""
-FILES = (IMAGE, TIMES, SEAL, PARTS, *WORDS, "table.csv", "journal.db", "report.html")
+FILES = (IMAGE, IDENTITY, TIMES, SEAL, PARTS, *WORDS, "table.csv", "journal.db", "report.html")
 """The files that the payload of a bag may have."""
 BAG = (*(f"{bag.PAYLOAD}/{name}" for name in FILES), bag.DECLARATION, bag.INFO, *map(bag.MANIFEST.format, bag.ALGORITHMS),
        *map(bag.TAG_MANIFEST.format, bag.ALGORITHMS), signing.REQUEST, *signing.LOOSE)
@@ -140,6 +141,7 @@ def draw(data: Path, name: str, drift_ppm: int, progress: Progress) -> Verdict:
     journal = read(data / IMAGE, replay=True, why=True, progress=progress, strays=True)
     if times.is_file():
         journal.times = Times.of(journal, times, drift_ppm)
+    journal.identity = identity.of(data / IMAGE)
     journal.path = Path(name)
     from ..journal import database, report, tables
     table = tables.frame(journal)
@@ -176,6 +178,7 @@ def seal(image: Path, folder: Path, how: Sealing, progress: Progress = silent) -
         digests = copy_image(source, image, data / IMAGE)
         if how.times is not None:
             (data / TIMES).write_bytes(files.bytes_of(how.times))
+        identity.keep(image, data / IMAGE)
         name = shown(image.name)
         runs = write_outputs(data)
         is_image = runs["examine.json"]["status"] in (WHOLE, NOT_WHOLE)

@@ -5,6 +5,7 @@ An image is added whole or not at all. One that the database already contains, b
 import json
 import sqlite3
 from collections.abc import Iterable, Iterator, Sequence
+from dataclasses import asdict
 from pathlib import Path
 from typing import Any
 
@@ -127,7 +128,7 @@ def add_image(connection: sqlite3.Connection, journal: Journal) -> int:
     """Adds the row of the image; returns its number."""
     image, extent, power_up = journal.image, journal.examination["journal"] or {}, journal.examination["power_up"]
     row = {
-        "name": journal.name, "sha256": journal.sha256, "bytes": image["bytes"], "sectors": image["sectors"],
+        "name": journal.name, **(asdict(journal.identity) if journal.identity else {}), "sha256": journal.sha256, "bytes": image["bytes"], "sectors": image["sectors"],
         "slots": image["slots"], "power_up_opens": power_up["opens"], "power_up_refusal": power_up["refusal"],
         "verdict": "\n".join(verdict.of(journal).sentences), "is_whole": journal.is_whole, "events_refusal": journal.refusal,
         "reader": program.reader(), "reader_is_proved": program.reader_is_proved()}

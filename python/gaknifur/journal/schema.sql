@@ -3,6 +3,9 @@
 CREATE TABLE image (
     image INTEGER PRIMARY KEY,
     name TEXT NOT NULL,
+    unit TEXT,
+    vehicle TEXT,
+    software TEXT,
     sha256 TEXT NOT NULL UNIQUE CHECK (length(sha256) = 64),
     bytes INTEGER NOT NULL,
     sectors INTEGER NOT NULL,

@@ -94,6 +94,9 @@ def honest(rows, room):
     for name in ("h.db", "h.bag/data/journal.db"):
         with sqlite3.connect(room / name) as connection:
             rows.same(f"{name}: whose it is", connection.execute("SELECT unit, vehicle, software FROM image").fetchall(), [("17", "402 001", None)])
+            # 15 km/h, and 27 m from 300 m to 327 m; 0.7 m/s2 stops it in 12.41 m
+            rows.same(f"{name}: braking", connection.execute("SELECT first_event, brake, answer, until, way_least_cm, way_most_cm, promised_cm, way FROM braking").fetchall(),
+                      [(0, "emergency", "standing", "released", None, None, None, None), (8, "emergency", "stopped", "standstill", 2_700, 2_700, 1_241, "broken")])
     rows.same("the identity in the bag", (room / "h.bag/data/image.identity").read_text(), whose)
     rows.same("verify", run("verify", room / "h.bag")[2], 0)
     (room / "h.bag/data/image.identity").write_text("unit: 18\n")

@@ -96,6 +96,20 @@ class Movement(unittest.TestCase):
             records = drive([20_000, 20_000, to, to], 500)  # 3 m/s2 for two cycles of 500 ms are 10.8 km/h
             self.assertEqual("jump" in words(records), is_one, to)
 
+    def test_a_sum_of_small_jumps(self) -> None:
+        # Each half second 12.5 km/h more: in a second, to the end of the later reading, 10.8 and 5 km/h are possible. Two steps are 25 km/h
+        # in 1.5 s, for which 16.2 and 5 are possible.
+        for speeds, is_one in (([0, 0, 12_500, 12_500, 12_500], False), ([0, 0, *range(0, 100_001, 12_500), 100_000], True), ([25_000, 25_000, 12_500, 0, 0], True)):
+            self.assertEqual("jump" in words(drive(speeds, 500)), is_one, speeds)
+
+    def test_a_train_that_turns_round_at_once(self) -> None:
+        records = drive([36_000] * 12, 1_000)
+        for one in records[14:]:
+            if one["kind"] == "odometer":
+                one["movement_cm"] = -one["movement_cm"]
+        found = [one for one in judge(records).findings if one["implausible"] == "jump"]
+        self.assertEqual([(one["from_m_per_h"], one["to_m_per_h"]) for one in found], [(36_000, -36_000)])
+
     def test_no_moments(self) -> None:
         records = [record(0, "powerup"), *(record(at, "odometer", movement_cm=10_000, speed_m_per_h=90_000) for at in range(1, 50))]
         found = judge(records)

@@ -10,7 +10,7 @@ from pathlib import Path
 import pandas as pd
 
 import gaknifur.journal.tables as tables
-from gaknifur.journal import charts, database, follow, report, summary, wording
+from gaknifur.journal import charts, database, follow, report, summary, verdict, wording
 from gaknifur.journal.causes import CAUSES
 from gaknifur.journal.extent import Extent, bound
 from gaknifur.journal.reading import Journal, Json
@@ -121,7 +121,7 @@ class Briefs(unittest.TestCase):
         self.assertEqual((found.last["life"], found.first_event, found.last["event"], found.last["brake"]), (2, 4, 5, "emergency"))
         self.assertEqual((found.intervention["first_event"], found.intervention["last_event"]), (2, 3))
         self.assertEqual([(trip["life"], trip["event"], trip["why"]) for trip in found.trips], [(1, 2, STAFF)])
-        self.assertEqual(found.faults, [])
+        self.assertEqual(found.verdict.sentences, [])
 
     def test_of_nothing(self) -> None:
         found = self.brief(journal())
@@ -193,7 +193,7 @@ class Briefs(unittest.TestCase):
         for replay, members, wanted in rows:
             one = journal(*RUN, **members)
             one.replay = replay
-            self.assertEqual(summary.faults(one), wanted)
+            self.assertEqual(verdict.faults(one), wanted)
 
 
 class Forms(unittest.TestCase):
@@ -206,8 +206,9 @@ class Forms(unittest.TestCase):
                            report.page(sample()))
         self.assertEqual(len(found), report.page(sample()).count("<svg "))
         self.assertEqual([(one[0], one[1]) for one in found], [(one[2], one[4]) for one in found])
-        self.assertEqual(found[0][3], "Life 1: speed over distance")
-        self.assertEqual(found[0][5], "Events 0 to 4; modes SB, FS; speed at most 55.0 km/h; 0 of 5 events command the service brake, "
+        self.assertEqual(found[0][3], "Event 3: emergency brake, the train stops")
+        self.assertEqual(found[1][3], "Life 1: speed over distance")
+        self.assertEqual(found[1][5], "Events 0 to 4; modes SB, FS; speed at most 55.0 km/h; 0 of 5 events command the service brake, "
                                       "2 the emergency brake.")
 
     def test_no_link_of_a_chart_is_a_stop_of_the_keyboard(self) -> None:

@@ -207,6 +207,10 @@ class Names(unittest.TestCase):
             self.assertFalse(out.exists())
 
 
+CHECKED = "\n".join(map(json.dumps, (journal().examination, {"end": "nothing_differs"}, {"check": {"whole": True, "replay": "nothing_differs"}})))
+"""The output of `etcs_lab check --json`."""
+
+
 class Checks(unittest.TestCase):
     """`lab check` by a stand-in of etcs_lab."""
 
@@ -215,7 +219,8 @@ class Checks(unittest.TestCase):
         with tempfile.TemporaryDirectory() as room:
             program, image, listing = (Path(room) / name for name in ("etcs_lab", "image", "events"))
             listing.write_text("".join(json.dumps(one) + "\n" for one in events))
-            program.write_text(f"#!/bin/sh\n[ $1 != events ] || exec cat {listing}\nprintf '%s' \"{printed}\"\n"
+            program.write_text(f"#!/bin/sh\n[ $1 != events ] || exec cat {listing}\n[ $2 != --json ] || exec printf '%s\\n' {shlex.quote(CHECKED)}\n"
+                               f"printf '%s' \"{printed}\"\n"
                                + (f"echo \"{message}\" 1>&2\n" if message else "") + f"exit {status}\n")
             program.chmod(0o755)
             out, errors = io.StringIO(), io.StringIO()
@@ -227,15 +232,16 @@ class Checks(unittest.TestCase):
         for status, printed in ((0, "one\ntwo\n"), (4, "the image is not whole\n")):
             found, text, errors = self.check(status, printed, "")
             self.assertEqual((found, text[:len(printed + nothing)], errors), (status, printed + nothing, ""))
-        self.assertTrue(self.check(0, "$*\n", "", "--json")[1].startswith("check --json -- /"))
+        self.assertTrue(self.check(0, "", "", "--json")[1].startswith(CHECKED))
 
     def test_what_is_implausible_has_a_status(self) -> None:
         standing = [record(0, "powerup"), *(record(at, "odometer", movement_cm=1_000, speed_m_per_h=0) for at in range(1, 5))]
         status, text, _ = self.check(0, "whole\n", "", events=standing)
         self.assertEqual((status, text.splitlines()[:2]), (4, ["whole", "implausible: life 1, events 2 to 4: moved 30 m, and the speeds are 0"]))
         self.assertEqual(self.check(0, "whole\n", "", "--path-cm", "3000", events=standing)[0], 0)
-        found = [json.loads(line) for line in self.check(0, "", "", "--json", "--path-cm=9", events=standing)[1].splitlines()]
+        found = [json.loads(line) for line in self.check(0, "", "", "--json", "--path-cm=9", events=standing)[1].splitlines()[3:]]
         self.assertEqual((found[0]["implausible"], found[1]["plausibility"]["thresholds"]["path_cm"]), ("standing", 9))
+        self.assertEqual(found[2], {"verdict": {"status": 4, "says": ["implausible: life 1, events 2 to 4: moved 30 m, and the speeds are 0"]}})
         self.assertEqual(self.check(1, "no image\n", "", events=standing)[:2], (1, "no image\n"))
 
     def test_what_is_said(self) -> None:

@@ -201,7 +201,7 @@ def in_words(pairs, upto):
     for path, image in zip(pairs.paths, (upto[6], patched(upto[6], SECTOR + SLOT, bytes(SLOT)))):
         path.write_bytes(image)
     text, said, status = run(lab, ["diff", *pairs.paths])
-    pairs.same("a block that was erased", (text.splitlines()[1], text.splitlines()[-1].split(":")[0], said, status), ("B b slots 4 blocks 3..4 6, lost 5", "lost", "", 4))
+    pairs.same("a block that was erased", (text.splitlines()[1], text.splitlines()[-1].split(":")[0], said, status), ("B b slots 4 blocks 3..4 6, lost 5", "lost", f"lab: {pairs.paths[1]}: something is lost, damaged or contradicts\n", 4))
     pairs.paths[1].write_bytes(b"text")
     text, said, status = run(lab, ["diff", *pairs.paths])
     pairs.same("no image", (text, said, status), ("", "lab: " + str(pairs.paths[1]) + ": is not a formatted image\n", 1))

@@ -99,7 +99,7 @@ def late(rows, room):
     found = archive.join(room / "late-joined", [path])
     rows.same("joined late", (found.missing, found.is_whole), (list(range(7, 17)), False))
     text, said, status = run(TOP / "lab", ["join", room / "late-out", path, image])
-    rows.same("in words", (text.splitlines()[-2:], said, status), (["missing 7..16", "joined blocks 3..6 17..23 in 21 slots"], "", 4))
+    rows.same("in words", (text.splitlines()[-2:], said, status), (["missing 7..16", "joined blocks 3..6 17..23 in 21 slots"], verdict(room / "late-out"), 4))
     with Ring(image) as ring_of:
         rows.same("all blocks after one", [number for number, _ in ring_of.blocks(2)], [20, 21, 22, 23])
     write(image, 4, by_number, 23, shut=20)
@@ -162,9 +162,37 @@ def contradictions(rows, room):
     found = archive.join(room / "mended-2", [one, bad])
     rows.same("and the source that can't be read", (found.chosen[7].path, sorted(found.mended), found.is_whole), (one, [7], False))
     text, said, status = run(TOP / "lab", ["join", room / "mended-3", bad, one])
-    rows.same("in words", ("block 7 can't be read in bad: it is taken from another source" in text.splitlines(), said, status), (True, "", 4))
+    rows.same("in words", ("block 7 can't be read in bad: it is taken from another source" in text.splitlines(), said, status),
+              (True, verdict(room / "mended-3"), 4))
     found = archive.join(room / "unreadable", [bad])
     rows.same("what can't be read stays so", (found.unreadable, found.is_whole), ([7], False))
+
+
+def verdict(path):
+    """What `lab check` says of an image."""
+    return run(TOP / "lab", ["check", path])[1]
+
+
+def identities(rows, room):
+    """What the files next to images and archives say: join and diff refuse strangers, and joined images and archives get the identity."""
+    by_number, at = journal(), room / "identities"
+    at.mkdir()
+    for name in ("one", "two", "other"):
+        write(at / name, 16, by_number, 9)
+        (at / f"{name}.identity").write_text(f"unit: {'18' if name == 'other' else '17'}\n")
+    # (4: the movements of these lives are implausible)
+    said = f"is of unit 18, and {at}/one of unit 17; --strangers goes on. Nothing was "
+    for words, status, wanted in (
+            (["join", at / "out", at / "one", at / "other"], 1, f"lab: {at}/other: {said}written.\n"), (["join", at / "same", at / "one", at / "two"], 4, None),
+            (["join", "--strangers", at / "mixed", at / "one", at / "other"], 4, None), (["diff", at / "one", at / "two"], 4, None),
+            (["diff", at / "one", at / "other"], 1, f"lab: {at}/other: {said}compared.\n"), (["diff", "--strangers", at / "one", at / "other"], 4, None),
+            (["follow", "--archive", at / "kept", at / "one"], 0, ""), (["follow", "--archive", at / "kept", at / "two"], 0, ""),
+            (["follow", "--archive", at / "kept", at / "other"], 1, f"lab: {at}/kept: is of unit 17, and {at}/other of unit 18. Nothing was written.\n"),
+            (["join", at / "again", at / "kept"], 4, None), (["join", at / "last", at / "other", at / "kept"], 1, None)):
+        _, message, found = run(TOP / "lab", words)
+        rows.same(f"{' '.join(map(str, words))}", (found, message if wanted is not None else None), (status, wanted))
+    names = sorted(path.name for path in at.iterdir() if path.name.endswith(".identity"))
+    rows.same("files of identities", names, [f"{name}.identity" for name in ("again", "kept", "one", "other", "same", "two")])
 
 
 def strangers(rows, room):
@@ -179,7 +207,8 @@ def strangers(rows, room):
         found = archive.join(room / f"strangers-{name}", sources)
         rows.same(name, (found.contradictions, bool(found.breaks or found.differences), found.is_whole), ({}, True, False))
     text, said, status = run(TOP / "lab", ["join", room / "strangers", one, two])
-    rows.unless("the sources are of different units, or one was altered" in text and not said and status == 4, f"of two units: {text} {said} {status}")
+    rows.same("of two units", ("the sources are of different units, or one was altered" in text, said, status), (True, verdict(room / "strangers"), 4))
+    rows.unless("something is lost, damaged or contradicts" in said, f"of two units: {said}")
 
 
 def gates(rows, room):
@@ -311,6 +340,7 @@ def main(words):
         put_back(rows, room)
         contradictions(rows, room)
         strangers(rows, room)
+        identities(rows, room)
         gates(rows, room)
         syncs(rows, room)
         many_contradictions(rows, room)

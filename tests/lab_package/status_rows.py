@@ -115,6 +115,9 @@ ROWS = """\
 4 lab report altered t.html
 4 lab seal altered t.bag
 4 lab capture altered t.pcap
+4 lab braking image
+4 lab diff altered altered
+4 lab join joined3 altered
 4 lab verify broken
 4 tools/verify sealed
 4 lab diff image altered

@@ -1,13 +1,16 @@
 #!/usr/bin/env python3
 """What each command of ./lab says of a journal whose replay differs, and of one that is implausible: status 4, a sentence, and a sign in
-what it writes.
+what it writes. And of images with one altered byte of a record or a head (tests/lab/altered_fields.md): the commands take them in turn, and
+each says the sentence that follows from the plain replay, with status 4.
 
-    tests/lab_package/verdict_rows.py ETCS_LAB
+    tests/lab_package/verdict_rows.py ETCS_LAB [COUNT]
 """
 import contextlib
 import io
 import json
+import itertools
 import os
+import re
 import sqlite3
 import sys
 import tempfile
@@ -20,7 +23,8 @@ from compared import Compared  # noqa: E402
 from gaknifur import program  # noqa: E402
 from gaknifur.__main__ import main as lab  # noqa: E402
 from image_cases import image_of, patched, ring  # noqa: E402
-from replay_rows import STARTED, blocks_of, examples  # noqa: E402
+from replay import replayed  # noqa: E402
+from replay_rows import STARTED, altered as altered_fields, blocks_of, examples  # noqa: E402
 
 BRAKE_OF_7 = 512 + 2 * 3072 + 1024 + 6 * 256 + 2
 """The byte of the example trip in which event 7, the seventh record of block 2, has its brake."""
@@ -71,21 +75,75 @@ def implausible(rows, room):
             rows.same(f"{path.name}: reader", connection.execute("SELECT reader, reader_is_proved FROM image").fetchone(),
                       (program.reader(), None if proved is None else int(proved)))
     text, said, status = run("verify", room / "i.bag")
-    rows.same("verify", (status, said, f"sealed by lab {program.version()}" in text, program.PROOF[program.reader_is_proved()] in text or "with a proved etcs_lab" in text),
-              (0, "", True, True))
+    rows.same("verify", (status, said.strip(), f"sealed by lab {program.version()}" in text, program.PROOF[program.reader_is_proved()] in text or "with a proved etcs_lab" in text),
+              (4, f"lab: {room}/i.bag/data/image: {sentence}", True, True))
 
 
 def honest(rows, room):
     """A journal in which nothing is odd has status 0 everywhere."""
     image = room / "honest"
     image.write_bytes(dict(examples())["example trip"])
+    whose = "unit: 17\nvehicle: 402 001\n"
+    (room / "honest.identity").write_text(whose)
     for words, out in ((["timeline"], "h.jsonl"), (["capture"], "h.pcap"), (["report"], "h.html"), (["database"], "h.db"), (["seal"], "h.bag"), (["table"], "h.xlsx")):
         _, said, status = run(*words, image, room / out)
         rows.same(f"{words[0]} of an honest journal", (status, said), (0, ""))
     rows.unless("Implausible" not in (room / "h.html").read_text(), "the report finds something")
+    for page in ("h.html", "h.bag/data/report.html"):
+        rows.unless("unit 17, vehicle 402 001, by the file next to the image" in (room / page).read_text(), f"{page} doesn't say whose it is")
+    for name in ("h.db", "h.bag/data/journal.db"):
+        with sqlite3.connect(room / name) as connection:
+            rows.same(f"{name}: whose it is", connection.execute("SELECT unit, vehicle, software FROM image").fetchall(), [("17", "402 001", None)])
+            # 15 km/h, and 27 m from 300 m to 327 m; 0.7 m/s2 stops it in 12.41 m
+            rows.same(f"{name}: braking", connection.execute("SELECT first_event, brake, answer, until, way_least_cm, way_most_cm, promised_cm, way FROM braking").fetchall(),
+                      [(0, "emergency", "standing", "released", None, None, None, None), (8, "emergency", "stopped", "standstill", 2_700, 2_700, 1_241, "broken")])
+    rows.same("the identity in the bag", (room / "h.bag/data/image.identity").read_text(), whose)
+    rows.same("verify", run("verify", room / "h.bag")[2], 0)
+    (room / "h.bag/data/image.identity").write_text("unit: 18\n")
+    rows.same("verify an altered identity", run("verify", room / "h.bag")[2], 4)
     import openpyxl
     notes = [row[0] for row in openpyxl.load_workbook(room / "h.xlsx")["notes"].iter_rows(values_only=True)]
     rows.unless(f"read by {program.reader()}" in notes, f"the workbook doesn't say by what it was read: {notes}")
+
+
+COMMANDS = ("check image", "table image out.csv", "timeline image out.jsonl", "database image out.db", "braking image", "capture image out.pcap",
+            "diff image image", "join out image", "report image out.html", "seal image out", "verify out")
+"""The commands that take altered images in turn; the last two take the same one."""
+COUNT, LEAST = 44, 10
+"""The number of altered images, and how many of them a replay finds at the least."""
+LOST = "something is lost, damaged or contradicts"
+
+
+def wanted(data):
+    """The sentence about faults of an image, by the plain replay."""
+    text = replayed(data)[1]
+    found = re.findall(r"^life (\d+) (?:block \d+ (event \d+)|(head of block \d+)) differs in (\w+)$", text, re.MULTILINE)
+    is_lost = any("can't be read" in line or line.startswith("lost") for line in text.splitlines())
+    more = f", and {len(found) - 1} more" if len(found) > 1 else ""
+    differs = [f"the replay differs: life {life}, {event or f'the {head}'}, in {field}{more}" for life, event, head, field in found[:1]]
+    return "; ".join([LOST] * is_lost + differs), bool(differs)
+
+
+def every_command(rows, room, count):
+    """An image with one altered byte for each command in turn, over and over."""
+    images = [data for part, _, _, data in altered_fields() if part]
+    some, turns, differ = images[::max(len(images) // count, 1)][:count], itertools.cycle(COMMANDS), 0
+    for number, data in enumerate(some):
+        sentence, is_difference = wanted(data)
+        differ += is_difference
+        if not sentence:
+            continue
+        at = room / f"altered-{number}"
+        at.mkdir()
+        (at / "image").write_bytes(data)
+        words = [next(turns).split()]
+        words += [next(turns).split()] if words[0][0] == "seal" else []
+        for name, *files in words:
+            _, said, status = run(name, *(at / file for file in files))
+            if name == "capture" and "the journal has no telegram" in said:
+                continue  # (the altered byte took the only one)
+            rows.same(f"{name} of altered image {number}", (status, sentence in said), (4, True))
+    rows.unless(differ >= min(LEAST, count // 8), f"a replay finds only {differ} of {len(some)} altered images")
 
 
 def main(words):
@@ -96,6 +154,7 @@ def main(words):
         altered(rows, room)
         implausible(rows, room)
         honest(rows, room)
+        every_command(rows, room, int(words[1]) if len(words) > 1 else COUNT)
     return rows.end(f"verdicts of a journal: {rows.count} comparisons")
 
 

@@ -182,6 +182,7 @@ JSON = option("--json", "print JSON")
 JSON_LINES = option("--json", "print one JSON object per line")
 TIMES = [option("--times", "marks of the time of day (default: IMAGE.times, if it exists)", "FILE", PATH),
          option("--drift", "maximum clock drift in ppm (default: 100)", "PPM", int)]
+STRANGERS = option("--strangers", "go on where IMAGE.identity names another unit or vehicle")
 WITHIN = Setting("--answer-within", "time limit for each answer of the other unit", "SECONDS", float, "units.other_unit:WITHIN_S")
 JOURNAL = [
     Command("table", "journal", "cli.journal_commands:write_table", "Print one row per journal record as CSV, or write a workbook",
@@ -205,13 +206,18 @@ JOURNAL = [
             FORCE, *TIMES, option("--newest-first", "list the lives from the last to the first")),
     Command("check", "journal", "cli.journal_commands:check_image", "Examine and replay an image, and list what is implausible",
             "Prints what `etcs_lab check` prints, and then implausible values, such as a movement that the recorded speeds don't explain. Status 4: "
-            "something is lost, damaged, contradictory, different or implausible.", "check image",
+            "something is lost, damaged, contradictory, different or implausible, as all commands about the image report it.", "check image",
             IMAGE, JSON, *(Setting(f"--{name.replace('_', '-')}", help, unit, int, f"journal.plausibility:Thresholds.{name}") for name, unit, help in (
                 ("path_cm", "CM", "tolerated error of a movement in cm"), ("path_percent", "N", "plus this percentage"),
+                ("safe_m_per_h", "M/H", "how much the speed given to the unit may be above the true one, in m/h"),
                 ("acceleration_cm_per_s2", "CM/S2", "greatest plausible change of speed in cm/s²"),
                 ("jump_m_per_h", "M/H", "plus this step of speed in m/h"),
+                ("maximum_percent", "N", "how much a speed may be above the train's maximum, as a percentage"),
                 ("place_cm", "CM", "tolerated error of a balise group's place in cm"),
                 ("place_percent", "N", "plus this percentage of the distance")))),
+    Command("braking", "journal", "cli.journal_commands:measure_braking", "Measure whether the train braked after each brake command",
+            "Compares it with the train data that were entered; docs/reference/lab.md defines each figure. Status 4: it took longer or "
+            "farther than they promise, or `lab check` finds something.", "braking image", IMAGE, JSON_LINES),
     Command("dissector", "journal", "cli.journal_commands:write_dissector", "Write a Wireshark dissector for telegrams, in Lua",
             "Captures have the link type USER0 (147).", "dissector telegrams.lua",
             Argument("out", "[OUT.lua]", "output file (default: standard output)", required=False), FORCE),
@@ -226,18 +232,18 @@ EVIDENCE = [
             option("--ssh-key", "sign with this OpenSSH key (ssh-keygen -Y sign)", "FILE"), option("--gpg-key", "sign with this OpenPGP key (gpg)", "NAME"),
             *TIMES),
     Command("verify", "evidence", "cli.evidence_commands:verify_bag", "Verify a folder of evidence, and print what it shows and what was altered",
-            "Status 4: a file was altered or is missing, or a signature isn't valid.", "verify evidence",
+            "Status 4: a file was altered or is missing, a signature isn't valid, or the verdict of the image has a sentence.", "verify evidence",
             Argument("folder", "FOLDER", "a folder that `lab seal` made"),
             option("--signers", "allowed OpenSSH signers (see ssh-keygen(1)); one of them must have signed", "FILE", PATH),
             option("--keyring", "OpenPGP public keys, not armored; one of them must have signed", "FILE", PATH),
             option("--authority", "certificates of time stamp authorities; one of them must have stamped it", "FILE", PATH)),
     Command("diff", "evidence", "cli.evidence_commands:show_difference", "Compare two images of one unit",
-            "Status 0: both hold the same journal, or B continues A. Status 4: anything else.", "diff monday friday",
-            Argument("a", "A", "the image that was read first"), Argument("b", "B", "the image that was read later"), JSON),
+            "Status 0: both hold the same journal, or B continues A, and `lab check` finds nothing in them. Status 4: anything else.", "diff monday friday",
+            Argument("a", "A", "the image that was read first"), Argument("b", "B", "the image that was read later"), STRANGERS, JSON),
     Command("join", "evidence", "cli.evidence_commands:join_images", "Join images and archives of one unit into one larger image",
-            "Where a block differs between sources, the first source wins. Status 4: a block differs or is missing.", "join joined image archive",
+            "Where a block differs between sources, the first source wins. Status 4: a block differs or is missing, or `lab check` finds something in OUT.", "join joined image archive",
             Argument("out", "OUT", "the image to make"),
-            Argument("sources", "IMAGE|ARCHIVE...", "images, and archives of `lab follow --archive`", nargs=-1, required=True), JSON),
+            Argument("sources", "IMAGE|ARCHIVE...", "images, and archives of `lab follow --archive`", nargs=-1, required=True), STRANGERS, JSON),
     Command("follow", "evidence", "cli.evidence_commands:follow_image", "Print the records of an image while a unit writes them",
             "Takes no lock and never delays the unit. Ends when the unit ends.", "follow image --wait",
             IMAGE, option("--json", "print JSON, as `etcs_lab events` does"), option("--archive", "also append each block to this archive", "FILE", PATH),

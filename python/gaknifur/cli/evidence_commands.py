@@ -3,10 +3,10 @@ import json
 import sys
 from types import SimpleNamespace
 
-from ..errors import say
 from ..escaping import shown
 from ..journal.reading import Json, Progress
 from ..program import FOUND, NOT_WHOLE
+from .journal_commands import say_verdict
 
 
 def seal_image(given: SimpleNamespace, progress: Progress) -> int:
@@ -14,41 +14,42 @@ def seal_image(given: SimpleNamespace, progress: Progress) -> int:
     from ..evidence import seal, signing, times
     keys = [signing.Key(kind, name) for kind, name in (("ssh", given.ssh_key), ("openpgp", given.gpg_key)) if name]
     how = seal.Sealing(given.by, given.medium, times.marks_of(given.image, given.times), times.DRIFT_PPM if given.drift is None else given.drift, keys)
-    found, faults = seal.seal(given.image, given.folder, how, progress)
+    found, judged = seal.seal(given.image, given.folder, how, progress)
     sys.stdout.write(f"sealed {shown(found['image']['name'])}, {found['image']['bytes']} bytes, by {shown(found['by'])}\n"
                      f"sha256 {found['image']['sha256']}\n")
     sys.stdout.flush()
-    for fault in faults:
-        say(f"{given.image}: {fault}")
-    return NOT_WHOLE if faults else 0
+    return say_verdict(given.image, judged)
 
 
 def verify_bag(given: SimpleNamespace, progress: Progress) -> int:
     """Runs `lab verify`."""
-    from ..evidence import seal, signing
+    from ..evidence import bag, seal, signing
     found = seal.verify(given.folder, signing.Trust(given.signers, given.keyring, given.authority))
     for word, lines in (("altered", found.faults), ("unsigned", found.unsigned), ("shown", found.shown), ("not shown", found.not_shown)):
         sys.stdout.writelines(f"{shown(f'{word}: {line}')}\n" for line in lines)
-    verdict = ("the bag is not as it was sealed" if found.faults else
-               "whether the bag is as it was sealed isn't shown" if found.unsigned else "the bag is as it was sealed")
-    sys.stdout.write(f"{verdict}\n")
-    return FOUND if found.faults or found.unsigned else 0
+    text = ("the bag is not as it was sealed" if found.faults else
+            "whether the bag is as it was sealed isn't shown" if found.unsigned else "the bag is as it was sealed")
+    sys.stdout.write(f"{text}\n")
+    sys.stdout.flush()
+    return max(say_verdict(given.folder / bag.PAYLOAD / seal.IMAGE, found.image), FOUND if found.faults or found.unsigned else 0)
 
 
 def show_difference(given: SimpleNamespace, progress: Progress) -> int:
     """Runs `lab diff`."""
     from ..evidence import diff
-    found = diff.compare(given.a, given.b)
+    found = diff.compare(given.a, given.b, given.strangers)
     sys.stdout.write(json.dumps(diff.as_json(found), ensure_ascii=False) + "\n" if given.json else diff.text(found))
-    return 0 if found.verdict in diff.FINE else NOT_WHOLE
+    sys.stdout.flush()
+    return max(0 if found.verdict in diff.FINE else NOT_WHOLE, *(say_verdict(one.path, one.judged) for one in (found.a, found.b)))
 
 
 def join_images(given: SimpleNamespace, progress: Progress) -> int:
     """Runs `lab join`."""
     from ..evidence import archive
-    found = archive.join(given.out, given.sources)
+    found = archive.join(given.out, given.sources, given.strangers)
     sys.stdout.write("".join(json.dumps(line) + "\n" for line in archive.as_json(found)) if given.json else archive.text(found))
-    return 0 if found.is_whole else NOT_WHOLE
+    sys.stdout.flush()
+    return max(0 if found.is_whole else NOT_WHOLE, say_verdict(given.out, found.judged))
 
 
 def follow_image(given: SimpleNamespace, progress: Progress) -> None:

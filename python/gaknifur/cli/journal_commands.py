@@ -1,4 +1,4 @@
-"""The commands about a journal: `table`, `timeline`, `database`, `report`, `check`, `dissector` and `capture`.
+"""The commands about a journal: `table`, `timeline`, `database`, `report`, `check`, `braking`, `dissector` and `capture`.
 
 What takes long to load, such as pandas and matplotlib, is loaded by the command that needs it.
 """
@@ -12,28 +12,31 @@ from types import SimpleNamespace
 
 from .. import files, program
 from ..errors import say
-from ..journal import plausibility
-from ..journal.reading import Journal, Json, Progress, objects, read
+from ..journal import braking, plausibility, verdict
+from ..journal.reading import Journal, Json, Progress, check, objects, read
+from ..journal.verdict import Verdict
 from ..program import DEVICE, NOT_WHOLE, REFUSED, WHOLE, WRONG_WORDS, Failed, Run
 
 
-def note(journal: Journal, is_judged: bool = False) -> int:
-    """Reports damage of an image, a replay that differs and, where asked for, implausible values; returns the status."""
-    from ..journal import summary
-    found, odd = summary.faults(journal), summary.implausible(summary.findings(journal)) if is_judged else []
+def say_verdict(path: Path, found: Verdict) -> int:
+    """Prints the verdict of an image on standard error; returns the status."""
+    for sentence in found.sentences:
+        say(f"{path}: {sentence}")
+    return found.status
+
+
+def note(journal: Journal) -> int:
+    """Reports marks of the time of day that aren't used, and the verdict of an image; returns the status."""
     if journal.times is not None:
         for fault in journal.times.faults():
             say(f"{journal.times.path}: {fault}")
-    for finding in odd:
-        say(f"{journal.path}: {finding}")
-    if found:
-        say(f"{journal.path}: {'; '.join(found)}")
-    return NOT_WHOLE if found or odd else 0
+    return say_verdict(journal.path, verdict.of(journal))
 
 
 def take_times(journal: Journal, given: SimpleNamespace) -> None:
-    """Reads the marks of the time of day: the file that is named, or the one next to the image."""
-    from ..evidence import times
+    """Reads the marks of the time of day: the file that is named, or the one next to the image; and the identity next to it."""
+    from ..evidence import identity, times
+    journal.identity = identity.of(journal.path)
     path = times.marks_of(journal.path, given.times)
     if path is not None:
         journal.times = times.Times.of(journal, path, times.DRIFT_PPM if given.drift is None else given.drift)
@@ -107,7 +110,7 @@ def write_database(given: SimpleNamespace, progress: Progress) -> int:
             progress("database", 0, 0)
             if not database.add(connection, journal, tables.frame(journal)):
                 say(f"{image}: is in the database already")
-            status = max(status, note(journal, is_judged=True))
+            status = max(status, note(journal))
     finally:
         connection.close()
     return status
@@ -122,19 +125,22 @@ def write_report(given: SimpleNamespace, progress: Progress) -> int:
     take_times(journal, given)
     from ..journal import report
     write(out, report.page(journal, extent, progress, given.newest_first), given.image)
-    return note(journal, is_judged=True)
+    return note(journal)
 
 
-def judge(given: SimpleNamespace) -> int:
-    """Prints implausible values; returns the status."""
-    records: list[Json] = []
+def judge(given: SimpleNamespace, progress: Progress) -> int:
+    """Prints implausible values and the verdict; returns the status."""
     limits = plausibility.Thresholds(**{one.name: getattr(given, one.name) for one in fields(plausibility.Thresholds)})
-    objects(["events"], given.image, lambda line: records.append(line) if "event" in line else None)
-    found = plausibility.judge(records, limits)
-    lines = [*map(json.dumps, found.findings), json.dumps(plausibility.as_json(found, limits))] if given.json else \
+    records = plausibility.Judge(limits)
+    examination, replay = check(given.image, progress)
+    journal = Journal(given.image, examination, replay=replay)
+    objects(["events"], given.image, lambda line: records.add(line) if "event" in line else None)
+    found = records.end()
+    judged = Verdict(verdict.faults(journal), found.findings)
+    lines = [*map(json.dumps, found.findings), json.dumps(plausibility.as_json(found, limits)), json.dumps(judged.as_json())] if given.json else \
         [*map(plausibility.text, found.findings), plausibility.summary(found, limits)]
     sys.stdout.writelines(f"{line}\n" for line in lines)
-    return NOT_WHOLE if found.findings else WHOLE
+    return say_verdict(given.image, judged)
 
 
 def check_image(given: SimpleNamespace, progress: Progress) -> int:
@@ -147,7 +153,18 @@ def check_image(given: SimpleNamespace, progress: Progress) -> int:
         raise run.failed(given.image)
     if run.status not in (WHOLE, NOT_WHOLE):
         return run.status
-    return max(run.status, judge(given))
+    return max(run.status, judge(given, progress))
+
+
+def measure_braking(given: SimpleNamespace, progress: Progress) -> int:
+    """Runs `lab braking`."""
+    journal = read(given.image, replay=True, progress=progress)
+    found = list(braking.rows(journal.records))
+    if not found:
+        raise Failed(f"{given.image}: no record commands a brake", REFUSED)
+    sys.stdout.writelines((json.dumps(one) if given.json else braking.text(one)) + "\n" for one in found)
+    sys.stdout.flush()
+    return max(note(journal), NOT_WHOLE if any(map(braking.is_broken, found)) else WHOLE)
 
 
 def write_dissector(given: SimpleNamespace, progress: Progress) -> None:

@@ -19,9 +19,11 @@ from typing import Self
 
 from .. import files
 from ..escaping import shown
-from ..journal import layout
-from ..journal.reading import Json, check, examine, silent
+from ..journal import layout, verdict
+from ..journal.reading import Json, examine, read
+from ..journal.verdict import Verdict
 from ..program import DEVICE, REFUSED, Failed
+from . import identity
 
 
 AT_ONCE = 4_096
@@ -186,6 +188,8 @@ class Joined:
     """Blocks of the joined image that don't follow those before them, from its examination."""
     differences: list[Json] = field(default_factory=list)
     """The differences between the joined image's journal and its replay."""
+    judged: Verdict = field(default_factory=Verdict)
+    """The verdict of the joined image."""
 
     @property
     def slots(self) -> int:
@@ -290,8 +294,12 @@ def choose_all(found: Joined) -> None:
         choose(found, number, of, can_be_read)
 
 
-def join(out: Path, paths: list[Path]) -> Joined:
-    """Joins images and archives of one unit into one image."""
+def join(out: Path, paths: list[Path], strangers: bool = False) -> Joined:
+    """Joins images and archives of one unit into one image, and copies their identity. Refuses strangers, unless they are wanted."""
+    if not strangers:
+        identity.check(paths, "Nothing was written.")
+        if any(identity.of(path) for path in paths) and identity.path_of(out).exists():
+            raise Failed(f"{identity.path_of(out)}: exists. Nothing was written.", REFUSED)
     found = Joined([source(path) for path in paths])
     choose_all(found)
     if not found.chosen:
@@ -306,15 +314,16 @@ def join(out: Path, paths: list[Path]) -> Joined:
             file.seek(layout.slot_at(number % slots))
             file.write(place.read())
     judge(found, out)
+    for path in [] if strangers else paths:
+        identity.keep(path, out)
     return found
 
 
 def judge(found: Joined, out: Path) -> None:
     """Examines and replays the joined image: blocks of different units don't follow one another, or differ from the replay."""
-    examination, replay = check(out, silent)
-    found.unreadable = [slot["block"] for slot in examination["slots"] if slot["state"] == "unreadable"]
-    found.breaks = [one for one in examination["between"] if one["what"] != "lost"]
-    found.differences = [line for line in replay if line.get("replay") in ("record_differs", "head_differs")]
+    journal = read(out, replay=True, is_own=True)
+    found.unreadable = [slot["block"] for slot in journal.slots if slot["state"] == "unreadable"]
+    found.breaks, found.differences, found.judged = journal.contradictions, journal.differences, verdict.of(journal)
 
 
 def as_json(found: Joined) -> list[Json]:
@@ -326,7 +335,8 @@ def as_json(found: Joined) -> list[Json]:
     lines += [{"mended": number, "unreadable_in": shown(place.path.name)} for number, place in found.mended.items()]
     lines += [{"breaks": one["block"], "what": one["what"]} for one in found.breaks]
     lines += [{"differs": one["block"], "life": one["life"], "event": one.get("event"), "field": one["field"]} for one in found.differences]
-    return [*lines, {"joined": runs(found.chosen), "slots": found.slots, "missing": runs(found.missing), "unreadable": runs(found.unreadable)}]
+    return [*lines, {"joined": runs(found.chosen), "slots": found.slots, "missing": runs(found.missing), "unreadable": runs(found.unreadable),
+                     **found.judged.as_json()}]
 
 
 def place_of(line: Json) -> str:

@@ -11,9 +11,11 @@ from typing import Any
 
 from ..digests import digest
 from ..escaping import shown
-from ..journal import layout
-from ..journal.reading import Json, examine, objects
+from ..journal import layout, verdict
+from ..journal.reading import Json, objects, read
+from ..journal.verdict import Verdict
 from ..program import DEVICE, NOT_WHOLE, WHOLE, Failed
+from . import identity
 
 VERDICTS = {
     "same": "both hold the same journal",
@@ -37,6 +39,7 @@ class Side:
 
     path: Path
     examination: Json
+    judged: Verdict
     blocks: dict[int, Json] = field(default_factory=dict)
 
     @property
@@ -60,7 +63,7 @@ class Side:
         """The image as JSON."""
         image = self.examination["image"]
         return {"name": shown(self.path.name), "sha256": image["sha256"], "slots": image["slots"], "blocks": runs(self.blocks),
-                "unreadable": runs(self.unreadable()), "lost": runs(self.lost())}
+                "unreadable": runs(self.unreadable()), "lost": runs(self.lost()), **self.judged.as_json()}
 
 
 @dataclass
@@ -94,7 +97,8 @@ def runs(numbers: Iterable[int]) -> list[list[int]]:
 
 def side(path: Path) -> Side:
     """An image and its blocks."""
-    found = Side(path, examine(path))
+    journal = read(path, replay=True)
+    found = Side(path, journal.examination, verdict.of(journal))
     found.blocks = {slot["block"]: slot for slot in found.examination["slots"] if slot["state"] == "block"}
     return found
 
@@ -159,7 +163,7 @@ def differences_of(a: Side, b: Side, found: dict[int, int]) -> list[Json]:
     return differences
 
 
-def verdict(a: Side, b: Side, differ: Iterable[int]) -> str:
+def relation(a: Side, b: Side, differ: Iterable[int]) -> str:
     """The verdict on two images, some of whose blocks differ."""
     if not a.blocks or not b.blocks:
         return "empty"
@@ -176,11 +180,13 @@ def verdict(a: Side, b: Side, differ: Iterable[int]) -> str:
     return "lost" if a.lost() or b.lost() else "same" if a.newest == b.newest else "continues"
 
 
-def compare(one: Path, other: Path) -> Difference:
-    """Compares two images."""
+def compare(one: Path, other: Path, strangers: bool = False) -> Difference:
+    """Compares two images. Refuses strangers, unless they are wanted."""
+    if not strangers:
+        identity.check([one, other], "Nothing was compared.")
     a, b = side(one), side(other)
     found = differing(a, b)
-    result = Difference(a, b, verdict(a, b, found), differences_of(a, b, found), list(found))
+    result = Difference(a, b, relation(a, b, found), differences_of(a, b, found), list(found))
     for at in (a, b):
         if digest(at.path) != at.examination["image"]["sha256"]:
             raise Failed(f"{at.path}: the file changed while it was read", DEVICE)

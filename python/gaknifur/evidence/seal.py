@@ -18,24 +18,27 @@ from typing import BinaryIO
 
 from .. import files, program
 from ..escaping import shown
-from ..journal import layout
+from ..journal import layout, verdict
 from ..journal.reading import Json, Progress, parsed, read, silent
+from ..journal.verdict import Verdict
 from ..program import DEVICE, NOT_WHOLE, REFUSED, WHOLE, Failed, Run
-from . import bag, formats, signing
+from . import bag, formats, identity, signing
 from .formats import Unfit
 from .times import DRIFT_PPM, Times
 
 IMAGE, SEAL, PARTS, TIMES = "image", "seal.json", "digests.csv", "image.times"
+IDENTITY = IMAGE + identity.ENDING
 WORDS = {"examine.json": ["examine", "--json"], "events.jsonl": ["events", "--all"], "replay.jsonl": ["replay", "--json"],
          "why.jsonl": ["why", "--json"]}
 """The files with the output of `etcs_lab` about the image, and its arguments."""
-FILES = (IMAGE, TIMES, SEAL, PARTS, *WORDS, "table.csv", "journal.db", "report.html")
+FILES = (IMAGE, IDENTITY, TIMES, SEAL, PARTS, *WORDS, "table.csv", "journal.db", "report.html")
 """The files that the payload of a bag may have."""
 BAG = (*(f"{bag.PAYLOAD}/{name}" for name in FILES), bag.DECLARATION, bag.INFO, *map(bag.MANIFEST.format, bag.ALGORITHMS),
        *map(bag.TAG_MANIFEST.format, bag.ALGORITHMS), signing.REQUEST, *signing.LOOSE)
 """All files that a bag may have."""
 VERSION = 1
 """The version of `seal.json`."""
+NO_IMAGE = Verdict(["is not a formatted image, so it has no table, database and report"])
 RECORD_BYTES = {1: 128, 2: 256, 3: 256}
 """The bytes of a record, by the format of its block (docs/reference/format.md)."""
 
@@ -132,15 +135,15 @@ def parts_text(data: Path) -> str:
     return out.getvalue()
 
 
-def draw(data: Path, name: str, drift_ppm: int, progress: Progress) -> list[str]:
-    """Makes table, database and report of a bag's image, under the image's original name; returns what isn't whole, differs or is
-    implausible."""
+def draw(data: Path, name: str, drift_ppm: int, progress: Progress) -> Verdict:
+    """Makes table, database and report of a bag's image, under the image's original name; returns its verdict."""
     times = data / TIMES
     journal = read(data / IMAGE, replay=True, why=True, progress=progress, strays=True)
     if times.is_file():
         journal.times = Times.of(journal, times, drift_ppm)
+    journal.identity = identity.of(data / IMAGE)
     journal.path = Path(name)
-    from ..journal import database, report, summary, tables
+    from ..journal import database, report, tables
     table = tables.frame(journal)
     (data / "table.csv").write_text(tables.csv_text(table), encoding="utf-8")
     connection = database.open_database(data / "journal.db")
@@ -149,7 +152,7 @@ def draw(data: Path, name: str, drift_ppm: int, progress: Progress) -> list[str]
     finally:
         connection.close()
     (data / "report.html").write_text(report.page(journal, progress=progress), encoding="utf-8")
-    return summary.faults(journal) + summary.implausible(summary.findings(journal))
+    return verdict.of(journal)
 
 
 def tools() -> Json:
@@ -165,8 +168,8 @@ def info_of(seal: Json) -> list[tuple[str, str]]:
             ("External-Description", f"journal {seal['image']['name']}; medium: {seal['medium'] or 'not given'}")]
 
 
-def seal(image: Path, folder: Path, how: Sealing, progress: Progress = silent) -> tuple[Json, list[str]]:
-    """Makes a bag of an image; returns the content of `seal.json` and the faults of the image. An image that isn't formatted is sealed
+def seal(image: Path, folder: Path, how: Sealing, progress: Progress = silent) -> tuple[Json, Verdict]:
+    """Makes a bag of an image; returns the content of `seal.json` and the verdict of the image. An image that isn't formatted is sealed
     too, without table, database and report."""
     with files.open_to_read(image) as source, files.new_folder(folder, BAG) as new:
         data = new / bag.PAYLOAD
@@ -175,10 +178,11 @@ def seal(image: Path, folder: Path, how: Sealing, progress: Progress = silent) -
         digests = copy_image(source, image, data / IMAGE)
         if how.times is not None:
             (data / TIMES).write_bytes(files.bytes_of(how.times))
+        identity.keep(image, data / IMAGE)
         name = shown(image.name)
         runs = write_outputs(data)
         is_image = runs["examine.json"]["status"] in (WHOLE, NOT_WHOLE)
-        faults = draw(data, name, how.drift_ppm, progress) if is_image else ["is not a formatted image, so it has no table, database and report"]
+        judged = draw(data, name, how.drift_ppm, progress) if is_image else NO_IMAGE
         found = {"version": VERSION, "sealed_at": now(), "by": shown(how.by or who()), "medium": how.medium and shown(how.medium),
                  "image": {"name": name, "bytes": (data / IMAGE).stat().st_size, **digests}, "etcs_lab": runs, "tools": tools(),
                  "times": {"file": TIMES, "drift_ppm": how.drift_ppm} if how.times else None,
@@ -191,7 +195,7 @@ def seal(image: Path, folder: Path, how: Sealing, progress: Progress = silent) -
         bag.close_tags(new)
         for key in how.keys:
             key.sign(new / bag.SIGNED)
-    return found, faults
+    return found, judged
 
 
 def check_seal(found: Json) -> None:
@@ -230,6 +234,8 @@ class Verification:
     faults: list[str] = field(default_factory=list)
     unsigned: list[str] = field(default_factory=list)
     """That no named signer signed it: this is no alteration."""
+    image: Verdict = field(default_factory=Verdict)
+    """The verdict of the image, once the bag is known to be as it was sealed."""
 
 
 def seal_of(folder: Path, found: Verification) -> Json | None:
@@ -294,6 +300,12 @@ def check_contents(data: Path, seal: Json, found: Verification) -> None:
     else:
         found.not_shown.append(f"that {', '.join(differ)} are about this image: this etcs_lab is another one than it was sealed "
                                "by, and prints something else")
+
+
+def judge(data: Path, seal: Json) -> Verdict:
+    """The verdict of a bag's image."""
+    is_image = seal["etcs_lab"]["examine.json"]["status"] in (WHOLE, NOT_WHOLE)
+    return verdict.of(read(data / IMAGE, replay=True, is_own=True)) if is_image else NO_IMAGE
 
 
 def check_tools(seal: Json, found: Verification) -> None:
@@ -373,6 +385,7 @@ def look_inside(folder: Path, signatures: dict[str, signing.Signature], found: V
     check_signed_by(seal, signatures, found)
     try:
         check_contents(folder / bag.PAYLOAD, seal, found)
+        found.image = judge(folder / bag.PAYLOAD, seal)
     except Unfit as unfit:
         found.faults.append(f"{bag.PAYLOAD}: a file changed while it was read: {unfit}")
     check_tools(seal, found)

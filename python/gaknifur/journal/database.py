@@ -5,6 +5,7 @@ An image is added whole or not at all. One that the database already contains, b
 import json
 import sqlite3
 from collections.abc import Iterable, Iterator, Sequence
+from dataclasses import asdict
 from pathlib import Path
 from typing import Any
 
@@ -14,10 +15,10 @@ import pandas as pd
 from .. import files, program
 from ..evidence import times
 from ..program import DEVICE, REFUSED, Failed
-from . import causes, plausibility, summary, tables
+from . import braking, causes, plausibility, tables, verdict
 from .reading import Journal, Json
 
-VERSION = 6
+VERSION = 7
 """The `user_version` of the schema."""
 GREATEST = 2**62
 EVENT = (
@@ -113,10 +114,12 @@ def add_all(connection: sqlite3.Connection, journal: Journal, table: pd.DataFram
            ([image, one["block"], one["what"]] for one in journal.contradictions))
     insert(connection, "implausible", ["image", "finding", "what", "life", "first_event", "last_event", "says"],
            ([image, number, one["implausible"], one["life"], one["first_event"], one["last_event"], plausibility.text(one)]
-            for number, one in enumerate(summary.findings(journal))))
+            for number, one in enumerate(verdict.of(journal).implausible)))
     insert(connection, "replay", ["image", "line", "verdict", *REPLAY[1:], "journal", "kernel"],
            ([image, number, *row] for number, row in enumerate(replay_rows(journal.replay))))
     add_events(connection, image, table)
+    for row in map(braking.flat, braking.rows(journal.records)):
+        insert(connection, "braking", ["image", *row], [[image, *row.values()]])
     add_marks(connection, image, journal)
     add_causes(connection, image, table)
 
@@ -125,9 +128,9 @@ def add_image(connection: sqlite3.Connection, journal: Journal) -> int:
     """Adds the row of the image; returns its number."""
     image, extent, power_up = journal.image, journal.examination["journal"] or {}, journal.examination["power_up"]
     row = {
-        "name": journal.name, "sha256": journal.sha256, "bytes": image["bytes"], "sectors": image["sectors"],
+        "name": journal.name, **(asdict(journal.identity) if journal.identity else {}), "sha256": journal.sha256, "bytes": image["bytes"], "sectors": image["sectors"],
         "slots": image["slots"], "power_up_opens": power_up["opens"], "power_up_refusal": power_up["refusal"],
-        "is_whole": journal.is_whole, "events_refusal": journal.refusal,
+        "verdict": "\n".join(verdict.of(journal).sentences), "is_whole": journal.is_whole, "events_refusal": journal.refusal,
         "reader": program.reader(), "reader_is_proved": program.reader_is_proved()}
     row |= {name: extent.get(name) for name in ("first_block", "newest_block", "first_event", "last_event", "lives")}
     insert(connection, "image", list(row), [list(row.values())])

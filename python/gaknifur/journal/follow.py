@@ -7,6 +7,7 @@ import time
 from collections.abc import Callable
 from pathlib import Path
 
+from ..evidence import identity
 from ..evidence.archive import Archive, Ring, image_of
 from ..program import NOT_WHOLE, WHOLE
 from . import layout
@@ -90,6 +91,8 @@ def follow(image: Path, step: Callable[[Json], None], archive: Path | None = Non
     `seconds` have passed. Also appends each block to an archive, if one is named."""
     with contextlib.ExitStack() as stack:
         ring = stack.enter_context(Ring(image))
+        if archive is not None:
+            identity.keep(image, archive)
         kept = stack.enter_context(Archive(archive)) if archive is not None else None
         end, last = None if seconds is None else time.monotonic() + seconds, 0
         while True:

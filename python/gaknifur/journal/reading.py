@@ -15,7 +15,9 @@ from ..escaping import shown
 from ..program import DEVICE, NOT_WHOLE, REFUSED, WHOLE, Failed, Run
 
 if TYPE_CHECKING:
+    from ..evidence.identity import Identity
     from ..evidence.times import Times
+    from .verdict import Verdict
 
 Json = dict[str, Any]
 Progress = Callable[[str, int, int], None]
@@ -98,6 +100,10 @@ class Journal:
     strays: list[Json] = field(default_factory=list)
     """Records of damaged blocks and of blocks in a wrong slot, if requested. They are in no other list: an event may occur
     twice here, and the life of a damaged block isn't known."""
+    verdict: "Verdict | None" = None
+    """The verdict, once it is computed (module `verdict`)."""
+    identity: "Identity | None" = None
+    """Whose the image is, by the file next to it."""
     times: "Times | None" = None
     """The marks of the time of day next to the image, if there are any. They belong neither to the journal nor to the output of `etcs_lab`."""
 

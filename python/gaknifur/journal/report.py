@@ -10,7 +10,7 @@ import pandas as pd
 
 from .. import program
 from ..program import REFUSED, Failed
-from . import causes, charts, plausibility, summary, tables, wording
+from . import braking, braking_charts, causes, charts, plausibility, summary, tables, wording
 from .charts import Picture
 from .extent import Extent
 from .reading import Journal, Json, Progress, silent
@@ -221,6 +221,18 @@ def pictures_of(table: pd.DataFrame, drawn: list[Life], chosen: pd.DataFrame, ro
     return pictures, anchors
 
 
+def braking_of(journal: Journal, table: pd.DataFrame) -> Json:
+    """Whether the train braked after each command that begins in a part of a journal, with charts."""
+    events = set(table["event"])
+    measured = [one for one in braking.measures(journal.records) if one.command.first_event in events]
+    rows = [braking.row(one) for one in measured]
+    drawn = braking_charts.chosen(rows)
+    return {"rows": [row for row in rows if braking_charts.is_seen(row)][:MOST_LISTED], "all": len(rows),
+            "seen": sum(map(braking_charts.is_seen, rows)),
+            "pictures": [braking_charts.draw(one, f"Event {row['first_event']}: {row['brake']} brake, {braking.ANSWERS[row['answer']]}")
+                         for one, row in zip(measured, rows) if row["first_event"] in drawn]}
+
+
 def extent_of(records: pd.DataFrame) -> str:
     """The events and lives of some records, as text."""
     if records.empty:
@@ -257,7 +269,7 @@ def page(journal: Journal, extent: Extent = Extent(), progress: Progress = silen
         undrawn=len(lives) - len(drawn), found=most.to_dict("records"), more_found=len(found) - len(most),
         usual=usual.head(MOST_LISTED).to_dict("records"), usual_count=len(usual),
         first_listed=FIRST_LISTED, windows=pictures, all_windows=len(found[found["kind"] != "powerup"]),
-        rows=event_rows(journal, table, shown), row_set=rows, anchors=anchors,
+        braking=braking, braked=braking_of(journal, table), rows=event_rows(journal, table, shown), row_set=rows, anchors=anchors,
         quiet=int((~notable).sum()), left_out=int(notable.sum()) - len(shown),
         fastest=fastest, over=over if over and over["value"] > 0 else None,
         strays=stray_rows(journal), more_strays=max(len(journal.strays) - MOST_STRAYS, 0),

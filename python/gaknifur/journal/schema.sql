@@ -1,8 +1,11 @@
 -- The content of journal images. Names end in their units: cm, ms, m_per_h (1 km/h is 1,000 m_per_h), kmh. NULL is an
--- unknown value. `user_version` is the version of this schema.
+-- unknown value. `verdict` has the sentences of `lab check`, and is empty if nothing was found. `user_version` is the version of this schema.
 CREATE TABLE image (
     image INTEGER PRIMARY KEY,
     name TEXT NOT NULL,
+    unit TEXT,
+    vehicle TEXT,
+    software TEXT,
     sha256 TEXT NOT NULL UNIQUE CHECK (length(sha256) = 64),
     bytes INTEGER NOT NULL,
     sectors INTEGER NOT NULL,
@@ -14,6 +17,7 @@ CREATE TABLE image (
     lives INTEGER,
     power_up_opens INTEGER NOT NULL CHECK (power_up_opens IN (0, 1)),
     power_up_refusal TEXT,
+    verdict TEXT NOT NULL,
     is_whole INTEGER NOT NULL CHECK (is_whole IN (0, 1)),
     events_refusal TEXT,
     reader TEXT NOT NULL,
@@ -68,6 +72,36 @@ CREATE TABLE implausible (
     last_event INTEGER NOT NULL,
     says TEXT NOT NULL,
     PRIMARY KEY (image, finding)
+) STRICT, WITHOUT ROWID;
+
+-- Whether the train braked after each brake command, as `lab braking` prints it. `most` is NULL where it is unbounded.
+CREATE TABLE braking (
+    image INTEGER NOT NULL REFERENCES image ON DELETE CASCADE,
+    life INTEGER NOT NULL,
+    first_event INTEGER NOT NULL,
+    last_event INTEGER NOT NULL,
+    brake TEXT NOT NULL,
+    trip_event INTEGER,
+    answer TEXT NOT NULL,
+    until TEXT NOT NULL,
+    speed_m_per_h INTEGER,
+    begins_least_ms INTEGER,
+    begins_most_ms INTEGER,
+    begins_least_cm INTEGER,
+    begins_most_cm INTEGER,
+    rate_least_cm_per_s2 INTEGER,
+    rate_most_cm_per_s2 INTEGER,
+    ends_least_ms INTEGER,
+    ends_most_ms INTEGER,
+    way_least_cm INTEGER,
+    way_most_cm INTEGER,
+    deceleration_cm_per_s2 INTEGER,
+    reaction_ms INTEGER,
+    promised_cm INTEGER,
+    reaction TEXT,
+    rate TEXT,
+    way TEXT,
+    PRIMARY KEY (image, first_event)
 ) STRICT, WITHOUT ROWID;
 
 -- the lines of a replay, in their order
@@ -371,4 +405,4 @@ FROM extent
 JOIN step AS first ON (first.image, first.block, first.event) = (extent.image, extent.first_block, extent.first_event)
 JOIN step AS last ON (last.image, last.block, last.event) = (extent.image, extent.last_block, extent.last_event);
 
-PRAGMA user_version = 6;
+PRAGMA user_version = 7;

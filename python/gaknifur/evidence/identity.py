@@ -1,0 +1,83 @@
+"""Read whose an image or an archive is: a text file next to it, with a line each for `unit`, `vehicle` and `software`, such as
+`unit: 17`. The unit's host writes it. It is outside the journal and outside the proof, and no power-up reads it.
+"""
+from collections.abc import Iterable
+from dataclasses import asdict, dataclass
+from pathlib import Path
+from typing import Self
+
+from .. import files
+from ..escaping import shown
+from ..program import REFUSED, Failed
+from . import formats
+
+ENDING = ".identity"
+MOST = 4_096
+
+
+@dataclass(frozen=True)
+class Identity:
+    """Whose an image is; None if the file doesn't say it."""
+
+    unit: str | None = None
+    vehicle: str | None = None
+    software: str | None = None
+
+    @classmethod
+    def parsed(cls, text: str) -> Self:
+        """The identity in a text. ValueError says what is wrong with it."""
+        found: dict[str, str] = {}
+        for number, line in enumerate(text.splitlines(), 1):
+            name, colon, value = (part.strip() for part in line.partition(":"))
+            if not line.strip():
+                continue
+            if not colon or not value or name not in cls.__dataclass_fields__ or name in found:
+                raise ValueError(f"line {number} isn't unit, vehicle or software with a value, each once")
+            found[name] = shown(value)
+        return cls(**found)
+
+    def is_stranger(self, other: "Identity") -> bool:
+        """Whether another image is of another unit or vehicle. Software may change."""
+        return any(one is not None and two is not None and one != two
+                   for one, two in ((self.unit, other.unit), (self.vehicle, other.vehicle)))
+
+    def text(self) -> str:
+        """It as text."""
+        return ", ".join(f"{name} {value}" for name, value in asdict(self).items() if value is not None) or "nothing is known"
+
+
+def path_of(image: Path) -> Path:
+    """The file next to an image or an archive."""
+    return image.with_name(image.name + ENDING)
+
+
+def of(image: Path) -> Identity | None:
+    """Whose an image or an archive is; None if there is no file."""
+    path = path_of(image)
+    if not formats.is_there(path):
+        return None
+    try:
+        return Identity.parsed(formats.text_of(path, MOST))
+    except (formats.Unfit, ValueError) as error:
+        raise Failed(f"{path}: {error}", REFUSED) from error
+
+
+def check(paths: Iterable[Path], left: str) -> None:
+    """Refuses images and archives of which two are of different units or vehicles."""
+    known = [(path, one) for path in paths if (one := of(path)) is not None]
+    for at, (path, one) in enumerate(known):
+        for other_path, other in known[:at]:
+            if one.is_stranger(other):
+                raise Failed(f"{path}: is of {one.text()}, and {other_path} of {other.text()}; --strangers goes on. {left}", REFUSED)
+
+
+def keep(image: Path, copy: Path) -> None:
+    """Copies the identity of an image to a copy or an archive of it, which may have it already. Refuses another one."""
+    own = of(image)
+    if own is None:
+        return
+    other = of(copy)
+    if other is None:
+        files.write_new(path_of(copy), files.bytes_of(path_of(image)))
+    elif own.is_stranger(other):
+        raise Failed(f"{copy}: is of {other.text()}, and {image} of {own.text()}. Nothing was written.", REFUSED)

@@ -139,10 +139,10 @@ PAGES = (  # for tools/docs --check
     ),
     (
         "a source that isn't there",
-        "docs/project/contributing.md",
+        "crates/events/README.md",
         "`python/tests/test_words.py`",
         "`python/tests/test_word.py`",
-        "docs/project/contributing.md: there is no python/tests/test_word.py",
+        "crates/events/README.md: there is no python/tests/test_word.py",
     ),
     (
         "a page for nobody",

@@ -98,8 +98,8 @@ class Book:
     explained: list[Explained]
     trip: str
     """A telegram that trips a train in Staff Responsible."""
-    decoded: dict[str, Json]
-    """Each telegram as `etcs_lab events` prints it, by its digits."""
+    telegrams: dict[str, Json]
+    """What `etcs_lab events` prints of each telegram, by its digits: `decoded` and `unused`."""
 
     @property
     def length_cm(self) -> int:
@@ -179,7 +179,8 @@ def decode(telegrams: Iterable[str], book: Path) -> dict[str, Json]:
                 raise Failed(f"{book}: the telegrams can't be read in one life: {result}", REFUSED)
             path = Path(folder) / "telegrams"
             path.write_bytes(image)
-            return {one["telegram"].upper(): one["decoded"] for one in read_journal(path, is_own=True).records if one["kind"] == "telegram"}
+            return {one["telegram"].upper(): {name: one[name] for name in ("decoded", "unused")}
+                    for one in read_journal(path, is_own=True).records if one["kind"] == "telegram"}
     raise Failed(f"{book}: etcs_lab play printed nothing", REFUSED)
 
 
@@ -188,12 +189,13 @@ def country_of(digits: str) -> int:
     return int(f"{int(digits, 16):0{4 * len(digits)}b}"[25:35] or "0", 2)
 
 
-def identified(groups: list[Group], decoded: dict[str, Json]) -> list[Group]:
+def identified(groups: list[Group], read_as: dict[str, Json]) -> list[Group]:
     """The groups with their identities, each once."""
     found: dict[Identity, Group] = {}
     named = []
     for group in groups:
-        headers = [decoded[one]["header"] for one in group.balises if "refused" not in decoded[one]]
+        decoded = [read_as[one]["decoded"] for one in group.balises]
+        headers = [one["header"] for one in decoded if "refused" not in one]
         identity = (headers[0]["NID_C"], headers[0]["NID_BG"]) if headers else None
         one = Group(group.at, group.place_cm, group.spacing_cm, group.balises, group.aspects, identity)
         if identity in found:
@@ -218,9 +220,9 @@ def read(path: Path) -> Book:
     before = telegrams_of(members["before"], shared) if "before" in members else []
     sent = [*before, *(one for group in groups for some in (group.balises, *group.aspects.values()) for one in some)]
     trip = telegram(f"NID_C {country_of(sent[0])}, NID_BG 16382, Q_LINK 0; 12: V_MAIN 0, L_ENDSECTION 0").digits
-    decoded = decode([*sent, trip], path)
-    if any("refused" in decoded[one] for one in before):
+    read_as = decode([*sent, trip], path)
+    if any("refused" in read_as[one]["decoded"] for one in before):
         raise members["before"].fault("the unit refuses one of these telegrams")
     return Book(at, members["line"].text(), modes_of(members["modes"]) if "modes" in members else list(USUAL_MODES),
-                identified(groups, decoded), trains, before,
-                [explained_of(one) for one in members["explained"].elements()] if "explained" in members else [], trip, decoded)
+                identified(groups, read_as), trains, before,
+                [explained_of(one) for one in members["explained"].elements()] if "explained" in members else [], trip, read_as)

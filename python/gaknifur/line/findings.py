@@ -115,7 +115,8 @@ def finding(life: Life, events: list[Event], item: str, pointer: str, text: str,
 
 def of_safety(life: Life, walked: Walked) -> Iterator[Found]:
     """The findings of the checks of docs/explain/safety.md."""
-    for one in track_checks.findings(Judged(walked, life.train.drive(life.book.length_cm))):
+    has_guard = not any(map(track_checks.asks_guard, walked.events)) or lint.has_library()
+    for one in track_checks.findings(Judged(walked, life.train.drive(life.book.length_cm), has_guard)):
         found = finding(life, walked.events, str(one.safety), one.pointer, one.found, one.do)
         if found:
             yield found
@@ -141,7 +142,7 @@ def of_places(life: Life, walked: Walked) -> Iterator[Found]:
 
 def first_of(book: Book, group: Group) -> int:
     """The place of the balise of a group from which its distances count: the one with N_PIG 0, or the first one."""
-    numbers = [book.decoded[digits].get("header", {}).get("N_PIG") for digits in group.balises]
+    numbers = [book.telegrams[digits]["decoded"].get("header", {}).get("N_PIG") for digits in group.balises]
     return group.places[numbers.index(0) if 0 in numbers else 0]
 
 

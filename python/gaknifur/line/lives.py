@@ -189,5 +189,5 @@ def played(lives: Sequence[Life], what: str, progress: Progress) -> Iterator[tup
             records = played_image.records(image)[1:]
             for record in records:
                 if record["kind"] == "telegram":
-                    record["decoded"] = life.book.decoded[record["telegram"].upper()]
+                    record.update(life.book.telegrams[record["telegram"].upper()])
             yield life, [Event(pointer, place, record) for (pointer, place), record in zip(life.planned, records)]

@@ -8,7 +8,7 @@ from .picture import pictures
 
 def packets(book: Book, group: Group) -> list[int]:
     """The packets that a group sends."""
-    sent = [book.decoded[digits].get("packets", []) for digits in group.balises]
+    sent = [book.telegrams[digits]["decoded"].get("packets", []) for digits in group.balises]
     return sorted({packet["packet"] for some in sent for packet in some})
 
 

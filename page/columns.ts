@@ -2,8 +2,10 @@
 // Records are summed up by chunks beforehand, so a window of a million is read as quickly as one of some thousands.
 import {Axis, NOTHING, range, SEVERAL, Signals} from "./signals";
 
-/** How many records a chunk has; and how often a window is filled with what holds, where a train turns often. */
-const CHUNK = 64, MOST_FILLED = 64;
+/** How many records chunks have, each a multiple of the next one. */
+const SIZES = [512, 64, 8];
+/** How often a window is filled with what holds, where a train turns often. */
+const MOST_FILLED = 64;
 
 export interface Band {
     low: Float64Array;
@@ -26,10 +28,14 @@ export interface Columns extends Sums {
     count: number;
     matches: number
 }
-export interface Chunks extends Sums {
+/** The sums of chunks of one size. */
+interface Level extends Sums {
+    size: number;
     /** Where the records are on the axis. */
-    x: Band;
+    x: Band
 }
+/** The sums of chunks, the greatest first. */
+export type Chunks = Level[];
 
 function band(columns: number): Band {
     return { low: new Float64Array(columns).fill(Infinity), high: new Float64Array(columns).fill(-Infinity) };
@@ -83,16 +89,21 @@ function addChunk(to: Sums, column: number, from: Sums, chunk: number): void {
     for (const name of ["mode", "level"] as const) merge(to[name], column, from[name][chunk] ?? NOTHING);
 }
 
-/** The sums of each chunk. One that has records of several lives isn't used. */
+/** The sums of all chunks. One that has records of several lives isn't used. */
 export function chunksOf(signals: Signals, axis: Axis): Chunks {
-    const { length } = axis.x, count = Math.ceil(length / CHUNK), other = otherOf(signals, axis);
-    const all: Chunks = {...sums(count), x: band(count) };
-    for (let n = 0; n < length; n++) {
-        const chunk = Math.floor(n / CHUNK), x = axis.x[n] ?? NaN;
-        widen(all.x, chunk, x, x);
-        addRecord(all, chunk, signals, other, n);
+    const { length } = axis.x, other = otherOf(signals, axis), levels: Chunks = [];
+    for (const size of [...SIZES].reverse()) {
+        const count = Math.ceil(length / size), [below] = levels, part = below?.size ?? 1;
+        const level: Level = {...sums(count), size, x: band(count) };
+        for (let n = 0; n * part < length; n++) {
+            const chunk = Math.floor(n * part / size), x = axis.x[n] ?? NaN;
+            widen(level.x, chunk, below?.x.low[n] ?? x, below?.x.high[n] ?? x);
+            if (below) addChunk(level, chunk, below, n);
+            else addRecord(level, chunk, signals, other, n);
+        }
+        levels.unshift(level);
     }
-    return all;
+    return levels;
 }
 
 /**
@@ -123,25 +134,23 @@ export function columnsOf(signals: Signals, axis: Axis, chunks: Chunks, from: nu
         all.matches += matching;
         all.matching[column] = (all.matching[column] ?? 0) + matching;
     };
+    /** The greatest chunk that begins with a record and is within one column; null where there is none. */
+    const within = (n: number, last: number): Level|null => {
+        for (const level of chunks) {
+            const { size, x } = level, at = n / size;
+            if (n % size === 0 && n + size <= last && columnOf(x.low[at]) === columnOf(x.high[at])) return level;
+        }
+        return null;
+    };
     for (const span of axis.spans) {
         const [first, last] = range(axis, span, from, to);
         for (let n = first, end = first; n < last; n = end) {
-            const chunk = n / CHUNK, isChunk = n % CHUNK === 0 && n + CHUNK <= last;
-            const column = columnOf(isChunk ? chunks.x.low[chunk] : axis.x[n]);
-            if (isChunk && column === columnOf(chunks.x.high[chunk])) {
-                end = n + CHUNK;
-                if (!goTo(column, n, n === first)) continue;
-                addChunk(all, column, chunks, chunk);
-                add(column, n, end);
-                continue;
-            }
-            end = isChunk ? n + CHUNK : n + 1;
-            for (let one = n; one < end; one++) {
-                const at = columnOf(axis.x[one]);
-                if (!goTo(at, one, one === first)) continue;
-                addRecord(all, at, signals, other, one);
-                add(at, one, one + 1);
-            }
+            const level = within(n, last), column = columnOf(axis.x[n]);
+            end = n + (level?.size ?? 1);
+            if (!goTo(column, n, n === first)) continue;
+            if (level) addChunk(all, column, level, n / level.size);
+            else addRecord(all, column, signals, other, n);
+            add(column, n, end);
         }
     }
     return all;

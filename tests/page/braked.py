@@ -2,13 +2,17 @@
 import csv
 import io
 import json
+import random
 from pathlib import Path
 from typing import Any
 
-from asking import SECTOR, SLOT, example, image
+from asking import SECTOR, SLOT, altered, bases, example, image
 from browsing import Browser
+from gaknifur.journal import braking, reading
+from gaknifur.journal import verdict as faults
 from handing import CATCH, TEXT
 
+TRIED = 25
 ENTRIES: list[Any] = [{"driver": [1, "IC 704"]}, {"driver": [4, 1]}, {"driver": [3, 20000, 160000, 70, 2000, 15]}, {"driver": [6]}]
 STOPS = ((1000, 830, 30000), (2000, 1250, 52000), (3000, 1440, 52000), (4000, 1300, 44000), (5000, 1100, 35000), (6000, 850, 26000), (7000, 500, 12000),
          (8000, 150, 0))
@@ -75,11 +79,11 @@ def verdict(browser: Browser, _page: Path, folder: Path) -> int:
     """The sentences at the head of an image: whole, one brake altered, a block wiped, and no journal."""
     whole = image(folder, [example("trip")], 16)
     record = SECTOR * (1 + 6 * 2 + 2) + 256 * 4  # (of event 5, the fifth of block 2 in slot 2)
-    altered, both = bytearray(whole), bytearray(whole)
-    assert altered[record + 15] == 5 and altered[record + 2] == 0, altered[record:record + 16]
-    altered[record + 2] = both[record + 2] = 1
+    one, both = bytearray(whole), bytearray(whole)
+    assert one[record + 15] == 5 and one[record + 2] == 0, one[record:record + 16]
+    one[record + 2] = both[record + 2] = 1
     both[SECTOR + SLOT:SECTOR + 2 * SLOT] = bytes(SLOT)
-    wanted = {"whole": (whole, []), "altered": (bytes(altered), ["the replay differs: life 1, event 5, in brake"]),
+    wanted = {"whole": (whole, []), "altered": (bytes(one), ["the replay differs: life 1, event 5, in brake"]),
               "wiped": (whole[:SECTOR + SLOT] + bytes(SLOT) + whole[SECTOR + 2 * SLOT:], ["something is lost, damaged or contradicts"]),
               "both": (bytes(both), ["something is lost, damaged or contradicts"]),
               "cut": (whole[:-SLOT], ["no event can be listed: the size of the image isn't that of its slots, so no journal is read; its slots are shown"])}
@@ -93,4 +97,24 @@ def verdict(browser: Browser, _page: Path, folder: Path) -> int:
     return 2 * len(wanted)
 
 
-CHECKS = {"braked": (braked, 30), "verdict": (verdict, 4)}
+def agrees(browser: Browser, _page: Path, folder: Path) -> int:
+    """Of images, whole and altered: the rows and the verdict are those of the package, but for what is implausible."""
+    dice, rows, said = random.Random(17), 0, set()
+    made = [*bases(folder, dice), image(folder, [driven(STOPS, 9000), driven(RUNS, None)], 24)]
+    for number, data in enumerate([*made, *(altered(dice.choice(made), dice) for _ in range(TRIED))]):
+        path = folder / f"image{number}"
+        path.write_bytes(data)
+        found = browser.ask(path)
+        if not found["facts"] or found["status"] != 38:
+            continue
+        journal = reading.read(path, replay=True)
+        wanted = list(braking.rows(journal.records))
+        assert found["braking"] == wanted, (number, [pair for pair in zip(found["braking"], wanted) if pair[0] != pair[1]][:1])
+        assert found["verdict"] == faults.faults(journal), (number, found["verdict"])
+        rows += len(wanted)
+        said.update(one[:12] for one in found["verdict"])
+    assert len(said) >= 2, said
+    return rows
+
+
+CHECKS = {"agrees": (agrees, 60), "braked": (braked, 30), "verdict": (verdict, 4)}

@@ -160,7 +160,7 @@ static inline int etcs_nor_carry_out(void *nor, const etcs_unit_request_info *re
 }
 
 /** Closes the gate of the slot that the next flush takes, and erases its block, so that the flush doesn't wait for it. Call it
- * after a release, where there is time, as at the end of a cycle; not calling it is right too. Returns 1 where the block is
+ * after a release, where there is time, as at the end of an executive's `feed`; not calling it is right too. Returns 1 where the block is
  * erased, or there is none to erase; 0 where that failed: then the next flush tries again, and fails where it can't either. */
 static inline int etcs_nor_erase_ahead(etcs_nor *nor) {
     const uint64_t at = nor->next * nor->block_bytes;

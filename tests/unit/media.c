@@ -3,6 +3,7 @@
  * What is on the medium then is a beginning of the events that were taken, with each one whose output was released.
  *
  *     media [STEP]    loses power at each STEP-th byte (default: 1) of a life */
+#include "etcs_executive.h"
 #include "etcs_image.h"
 #include "etcs_nor.h"
 #include "medium.h"
@@ -270,6 +271,71 @@ static void at_each_byte(uint64_t step) {
     }
 }
 
+/* ---- the NOR flash as the medium of an executive, which erases ahead once a command is obeyed */
+
+static etcs_executive executive;
+static uint64_t now;
+
+static uint64_t now_us(void *of) {
+    (void)of;
+    return now;
+}
+
+static void wait_until_us(void *of, uint64_t moment_us) {
+    (void)of;
+    now = moment_us;
+}
+
+static uint32_t take_inputs(void *of, etcs_unit *unit) {
+    (void)of;
+    take(unit);
+    return ETCS_UNIT_OK;
+}
+
+static void obey(void *of, const etcs_unit_output *command) {
+    (void)of;
+    released = executive.released > 0 ? command->event : released;
+}
+
+static void feed(void *of) {
+    (void)of;
+    (void)etcs_nor_erase_ahead(&nor);
+}
+
+static void under_an_executive(void) {
+    static const etcs_equipment equipment = {NULL, &nor, SECTORS, 100000, 50000, NULL, 0, etcs_nor_read_sector, etcs_nor_carry_out, now_us, wait_until_us,
+                                             take_inputs, obey, feed, NULL};
+    for (uint32_t lives = 0; lives < LIVES / 4; lives++) {
+        left = draw(4) ? 1 + draw(60000) : UINT64_MAX;
+        nor.next = 0;
+        moments[next++ % MOST_EVENTS] = 0;
+        uint32_t fault = etcs_executive_begin(&executive, &equipment, ETCS_COLD_UNKNOWN);
+        for (uint32_t cycle = 0; cycle < 12 && fault == ETCS_UNIT_OK; cycle++)
+            fault = etcs_executive_cycle(&executive);
+        is("no other fault", fault == ETCS_UNIT_OK || (fault == ETCS_UNIT_FAILED && left == 0), 1);
+        cuts += left == 0 ? 1 : 0;
+        etcs_executive_end(&executive);
+        check();
+    }
+}
+
+/* Requests that no unit makes, and flashes that are too small: nothing is done. */
+static void refuses(void) {
+    static const etcs_unit_request_info requests[] = {{0, 2, ETCS_REQUEST_WRITE}, {1, 5, ETCS_REQUEST_WRITE}, {2, 1, ETCS_REQUEST_WRITE}, {3, 5, ETCS_REQUEST_WRITE},
+                                                      {2, 6, ETCS_REQUEST_WRITE}, {6, 1, ETCS_REQUEST_WRITE}, {SECTORS, 1, ETCS_REQUEST_WRITE}};
+    static uint8_t before[BYTES], bytes[ETCS_UNIT_REQUEST_BYTES];
+    etcs_nor small[2] = {nor, nor};
+    small[0].block_bytes = ETCS_NOR_BLOCK_BYTES - 1;
+    small[1].blocks = 0;
+    memcpy(before, cells, BYTES);
+    for (unsigned i = 0; i < sizeof requests / sizeof requests[0]; i++)
+        is("a request of no unit", (uint64_t)etcs_nor_carry_out(&nor, &requests[i], bytes), 0);
+    for (unsigned i = 0; i < 2; i++)
+        is("a sector of a small flash", (uint64_t)etcs_nor_read_sector(&small[i], 0, bytes), 0);
+    is("a sector after the last", (uint64_t)etcs_nor_read_sector(&nor, SECTORS, bytes), 0);
+    is("nothing is done", (uint64_t)memcmp(before, cells, BYTES), 0);
+}
+
 int main(int count, char **words) {
     static const kind kinds[] = {{"NOR", etcs_nor_read_sector, etcs_nor_carry_out, NULL, 1},
                                  {"FRAM", as_it_is_read, fram_carry_out, NULL, 0},
@@ -283,8 +349,15 @@ int main(int count, char **words) {
         is("a life", (uint64_t)lived(40, UINT64_MAX, 0), 1);
         is("a flush erases one block", on->is_nor && erasures != lists && erasures != lists + 1, 0);
         at_each_byte(step);
-        for (uint32_t lives = 0; lives < LIVES; lives++)
-            (void)lived(draw(12), draw(2) ? UINT64_MAX : 1 + draw(60000), draw(2) ? 0 : 1 + draw(80));
+        for (uint32_t lives = 0; lives < LIVES; lives++) {
+            const uint32_t flushes = draw(12);
+            const uint64_t bytes = draw(2) ? UINT64_MAX : 1 + draw(60000);
+            (void)lived(flushes, bytes, draw(2) ? 0 : 1 + draw(80));
+        }
+        if (on->is_nor) {
+            under_an_executive();
+            refuses();
+        }
         is("lives that lose power", cuts > LIVES / 8, 1);
         is("lives whose medium fails", refused > LIVES / 8, 1);
         printf("%s: power lost %llu times, %llu failures\n", on->name, (unsigned long long)cuts, (unsigned long long)refused);

@@ -10,7 +10,8 @@
  *     equipment.carry_out = etcs_nor_carry_out;
  *
  * Closing a gate programs zeros over it, and erases nothing. A flush erases the block of its slot, unless etcs_nor_erase_ahead
- * did so since the last flush. That costs a block of the ring: the oldest one is erased a flush earlier.
+ * did so since the last flush. Erasing ahead takes the oldest block from the ring a flush earlier; what it leaves is what a loss
+ * of power within the next flush may leave too.
  *
  * Format it as any medium, by etcs_unit_format_request and etcs_nor_carry_out; the flash may hold anything.
  *

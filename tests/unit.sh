@@ -1,7 +1,7 @@
 #!/bin/bash
 # Test the unit from C, C++, Python and Rust, all built from the folder that tools/library makes: each header by itself, the names that
 # the library exports, sizes and offsets, wrong calls, files, archives of blocks and marks next to the journal, starts of slots, two units at once, the
-# executive, inputs of the odometer, the examples, images compared with `etcs journal`, random lives compared with `etcs run`, instructions compared with kept counts and
+# executive, inputs of the odometer, media that lose power, the examples, images compared with `etcs journal`, random lives compared with `etcs run`, instructions compared with kept counts and
 # bounds, memory that is refused, and the commands of the pages for makers. Needs gcc, g++, valgrind, rustc and Debian's Python; clang
 # is used where it is installed.
 #
@@ -48,7 +48,7 @@ sanitizers=(-fsanitize=address,undefined -fno-sanitize-recover=all -static-libas
 
 printf '#include "etcs.h"\n#include "etcs_unit.h"\n#include "etcs_image.h"\n#include "etcs_guard.h"\n' >"$made/all.c"
 tried=0
-for header in etcs etcs_unit etcs_file etcs_image etcs_guard etcs_memory etcs_executive etcs_odometer; do
+for header in etcs etcs_unit etcs_file etcs_image etcs_guard etcs_memory etcs_executive etcs_odometer etcs_nor; do
     echo "#include \"$header.h\"" >"$made/alone"
     echo "typedef int something;" >>"$made/alone"
     for words in "c -std=c99" "c -std=c11" "c -std=c17" "c++ -std=c++17" "c++ -std=c++20"; do
@@ -59,7 +59,7 @@ for header in etcs etcs_unit etcs_file etcs_image etcs_guard etcs_memory etcs_ex
         done
     done
 done
-counted "headers alone" $tried 40
+counted "headers alone" $tried 45
 # a dropped answer that may mean the brake is a warning
 dropped=$top/tests/unit/dropped.c
 sed -n '/from here on/,/up to here/=' "$dropped" | sed '1d;$d' >"$made/drops"
@@ -71,7 +71,7 @@ for words in "gcc -x c -std=c99" "gcc -x c -std=c11" "g++ -x c++ -std=c++17" "g+
 done
 counted "answers that aren't dropped" "$(wc -l <"$made/drops")" 45
 # so do they for a machine of 32 bits, where a length of C has 32 too (etcs_file.h is for POSIX, and wants its headers)
-cat "$made/all.c" - <<<$'#include "etcs_executive.h"\n#include "etcs_odometer.h"' >"$made/narrow.c"
+cat "$made/all.c" - <<<$'#include "etcs_executive.h"\n#include "etcs_odometer.h"\n#include "etcs_nor.h"' >"$made/narrow.c"
 gcc -m32 -std=c99 -ffreestanding "${strict[@]}" -I "$include" -fsyntax-only "$made/narrow.c" || fails "the headers don't compile for a machine of 32 bits"
 
 # ---- the names that the library shows are those that the headers declare or define, as gcc reads them
@@ -116,13 +116,13 @@ build() {
 built=0
 link=("$archive")
 "$python" "$top/tests/unit/layout.py" --program >"$made/places.c" || fails "layout.py prints no program"
-for name in layout misuse sectors files kept two life reading starts listing again explained telegrams guard executive odometer; do
+for name in layout misuse sectors media files kept two life reading starts listing again explained telegrams guard executive odometer; do
     source=$top/tests/unit/$name.c
     [ "$name" != layout ] || source=$made/places.c
     for compiler in "${compilers[@]}"; do build "$name.$compiler" "$source" "$compiler" -x c -std=c99 -O2; done
     build "$name.cpp" "$source" g++ -x c++ -std=c++17 -O2 -Wno-missing-field-initializers
 done
-for name in misuse sectors files kept two life reading starts listing again explained telegrams guard executive odometer; do
+for name in misuse sectors media files kept two life reading starts listing again explained telegrams guard executive odometer; do
     build "$name.checked" "$top/tests/unit/$name.c" gcc -x c -std=c99 -O1 "${sanitizers[@]}"
 done
 for name in brake flash why; do
@@ -146,7 +146,7 @@ for name in brake guard; do
     rustc --edition 2021 -D warnings -O -L "$prefix/lib" -l static=etcs_unit "$top/examples/embedding/rust/$name.rs" -o "$made/$out" &&
         built=$((built + 1)) || fails "examples/embedding/rust/$name.rs doesn't compile"
 done
-counted "programs built" $built 62
+counted "programs built" $built 65
 
 # ---- what they answer
 
@@ -164,16 +164,18 @@ for program in "$made"/files.* "$made"/kept.*; do
     mkdir "$made/room"
     runs_well "$program" "$made/room"
 done
+runs_well "$made/media.gcc"
+for program in "$made"/media.*; do runs_well "$program" 37; done
 for program in "$made"/flash.*; do runs_well "$program"; done
 mv "$made/said" "$made/flash"
-for program in misuse.gcc sectors.gcc two.gcc reading.gcc starts.gcc telegrams.gcc guard.gcc executive.gcc "files.gcc $made/room" "kept.gcc $made/room" "brake.gcc $made/image.valgrind" flash.gcc "why.gcc $made/image.valgrind" \
+for program in misuse.gcc sectors.gcc "media.gcc 2003" two.gcc reading.gcc starts.gcc telegrams.gcc guard.gcc executive.gcc "files.gcc $made/room" "kept.gcc $made/room" "brake.gcc $made/image.valgrind" flash.gcc "why.gcc $made/image.valgrind" \
     "again.gcc $made/image.valgrind why 7"; do
     rm -rf "$made/room"
     mkdir "$made/room"
     # shellcheck disable=SC2086
     runs_well valgrind -q --error-exitcode=9 --leak-check=full --errors-for-leak-kinds=all --show-leak-kinds=all $(echo "$made/$program")
 done
-counted "runs of them, 14 of them under valgrind" $runs 50
+counted "runs of them, 15 of them under valgrind" $runs 55
 
 # ---- the examples: the same train in each language, over the same file
 

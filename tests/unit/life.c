@@ -1,7 +1,8 @@
 /* Runs one life on an image, and prints what `etcs run` prints of it: a line for each output that is released.
  *
- *     life copy|sectors IMAGE COLD [CUT]    reads inputs from standard input, one a line; with CUT it stops after so many requests; by sectors with
- *                                           -1 - CUT while it opens, after so many sectors
+ *     life [slow-]copy|sectors IMAGE COLD [CUT]    reads inputs from standard input, one a line; a slow medium takes one before each request of a
+ *                                           list; with CUT the medium fails after so many requests; by sectors with -1 - CUT it stops
+ *                                           while it opens, after so many sectors
  *     life format IMAGE SLOTS
  *
  * The inputs are those of inputs.h; a line may also be `flush`. */
@@ -16,6 +17,11 @@ enum { DONE = 0, REFUSED = 1, DEVICE = 3, WRONG_WORDS = 2 };
 
 /* How many requests may still be carried out; below 0 there is no end. */
 static long left = -1;
+
+/* Whether the medium is slow; the line that was read, if it wasn't taken yet; and what an input answered within a list. */
+static int is_slow, has_line;
+static char line[1024];
+static uint32_t taken = ETCS_UNIT_OK;
 
 static const char *name_of(uint32_t status) {
     switch (status) {
@@ -44,9 +50,26 @@ static void print(const etcs_unit_output *output) {
            output->brake < 3 ? brakes[output->brake] : "?", output->limit_m_per_h, (unsigned)output->indications);
 }
 
+static int reads_line(void) {
+    if (!has_line)
+        has_line = fgets(line, sizeof line, stdin) != NULL;
+    return has_line;
+}
+
+/* Takes the next line within a list, unless it is a flush, eight are pending, or one wasn't taken. */
+static void take_meanwhile(etcs_unit *unit) {
+    if (!is_slow || taken != ETCS_UNIT_OK || !reads_line() || strcmp(line, "flush\n") == 0)
+        return;
+    const uint32_t status = take(unit, line);
+    if (status == ETCS_UNIT_PENDING_FULL)
+        return;
+    has_line = 0;
+    taken = status;
+}
+
 /* Carries out the requests, up to the cut. */
 static uint32_t carry_out(etcs_file *file, etcs_unit *unit) {
-    if (left < 0)
+    if (left < 0 && !is_slow)
         return etcs_file_carry_out(file, unit);
     etcs_unit_state_info state;
     etcs_unit_request_info request;
@@ -54,8 +77,9 @@ static uint32_t carry_out(etcs_file *file, etcs_unit *unit) {
     if (etcs_unit_state(unit, &state) != ETCS_UNIT_OK)
         return ETCS_FILE_UNIT;
     for (uint32_t index = 0; index < state.requests; index++, left--) {
+        take_meanwhile(unit);
         if (left == 0)
-            return ETCS_FILE_CANT_WRITE;
+            return etcs_unit_fail(unit) == ETCS_UNIT_OK ? ETCS_FILE_CANT_WRITE : ETCS_FILE_UNIT;
         if (etcs_unit_request(unit, index, &request, bytes, sizeof bytes) != ETCS_UNIT_OK)
             return ETCS_FILE_UNIT;
         if (etcs_file_do_(file, &request, bytes) != ETCS_FILE_OK || etcs_unit_done(unit, index + 1) != ETCS_UNIT_OK)
@@ -64,34 +88,34 @@ static uint32_t carry_out(etcs_file *file, etcs_unit *unit) {
     return ETCS_FILE_OK;
 }
 
-/* Puts what is pending onto the file, and prints what is released. */
+/* Puts what is pending onto the file, and prints what is released. What an input answered meanwhile comes after that. */
 static uint32_t flush(etcs_file *file, etcs_unit *unit, int prepares) {
     etcs_unit_output outputs[ETCS_UNIT_OUTPUTS];
     uint32_t count = 0, status;
     if (prepares && etcs_file_prepare(file, unit) != ETCS_FILE_OK)
         return file->status;
-    if (carry_out(file, unit) != ETCS_FILE_OK)
+    const uint32_t answer = carry_out(file, unit);
+    if (answer != ETCS_FILE_OK && answer != ETCS_FILE_CANT_WRITE)
         return ETCS_UNIT_FAILED;
     status = etcs_unit_release(unit, outputs, ETCS_UNIT_OUTPUTS, &count);
     for (uint32_t i = 0; status == ETCS_UNIT_OK && i < count; i++)
         print(&outputs[i]);
-    return status;
+    return status == ETCS_UNIT_OK ? taken : status;
 }
 
 /* The whole life; a flush comes of itself before a ninth pending event, and at the end. */
 static uint32_t live(etcs_file *file, etcs_unit *unit) {
-    char line[1024];
     uint32_t status = flush(file, unit, 0);
-    while (status == ETCS_UNIT_OK && fgets(line, sizeof line, stdin)) {
+    while (status == ETCS_UNIT_OK && reads_line()) {
+        has_line = 0;
         if (strcmp(line, "flush\n") == 0) {
             status = flush(file, unit, 1);
             continue;
         }
         status = take(unit, line);
         if (status == ETCS_UNIT_PENDING_FULL) {
+            has_line = 1;
             status = flush(file, unit, 1);
-            if (status == ETCS_UNIT_OK)
-                status = take(unit, line);
         }
     }
     return status == ETCS_UNIT_OK ? flush(file, unit, 1) : status;
@@ -124,7 +148,8 @@ int main(int count, char **words) {
         return etcs_file_format(&file, words[2], (uint32_t)strtoul(words[3], NULL, 10)) == ETCS_FILE_OK ? DONE : DEVICE;
     if (count != 4 && count != 5)
         return WRONG_WORDS;
-    const int by_sectors = strcmp(words[1], "sectors") == 0;
+    is_slow = strncmp(words[1], "slow-", 5) == 0;
+    const int by_sectors = strcmp(words[1] + (is_slow ? 5 : 0), "sectors") == 0;
     const uint32_t cold = (uint32_t)strtoul(words[3], NULL, 10);
     left = count == 5 ? strtol(words[4], NULL, 10) : -1;
     if (count == 5 && left < 0) {

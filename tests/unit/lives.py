@@ -4,9 +4,9 @@
     tests/unit/lives.py LIFE [LIVES [SEED]]    LIFE is life.c with the library; 400 lives, seed 2026; $ETCS names another program than that of the full check
 
 Each life is lived over a copy of the file, and by sectors. All print the same and end with the same status. Their writes and syncs of the file are the
-same, in the same order and with the same bytes, so that power may be lost between any two of them and the file is the same. In every second life it is,
-between two requests: the life from C stops there, and has released just what `etcs run` had printed by then. Or it is while sectors are still wanted:
-then nothing was written. Then both go on from that file.
+same, in the same order and with the same bytes, so that power may be lost between any two of them and the file is the same. In every second life the
+medium fails between two requests: the life from C stops there, and has released just what `etcs run` had printed by then. Or it stops while sectors are
+still wanted: then nothing was written. Then both go on from that file. Every second life from C has a slow medium, and takes inputs within a list.
 """
 import json
 import os
@@ -111,7 +111,7 @@ class Pair:
     def __init__(self, life, folder, record, failures):
         self.life, self.record, self.failures = life, record, failures
         self.one, self.other, self.path = folder / "one", folder / "other", folder / "scenario"
-        self.calls = self.lines = self.cuts = self.within = self.stops = self.slots = 0
+        self.calls = self.lines = self.cuts = self.within = self.stops = self.slots = self.slow = 0
 
     def same(self, name):
         self.failures.unless(self.one.read_bytes() == self.other.read_bytes(), f"{name}: the files hold other bytes")
@@ -130,7 +130,9 @@ class Pair:
         text = "".join(word_of(asked) + "\n" for asked in inputs_of(scenario))
         status, printed, calls = recorded(self.record, self.one, [PROGRAM, "run", self.path, self.one])
         for kind in KINDS:
-            words = [self.life, kind, self.other, scenario.get("cold", 0)]
+            is_slow = numbers.randrange(2)
+            self.slow += is_slow
+            words = [self.life, "slow-" * is_slow + kind, self.other, scenario.get("cold", 0)]
             if numbers.randrange(2):
                 self.cut(f"{name}, {kind}", before, calls, words, text, numbers)
             if kind == "sectors" and numbers.randrange(4) == 0:
@@ -188,8 +190,9 @@ def main(words):
             pair.live(f"life {number}", scenario_of(numbers), numbers)
     failures.unless(pair.calls >= LEAST_CALLS * count and pair.lines >= LEAST_LINES * count, "the lives are too short")
     failures.unless(pair.cuts >= count and pair.within >= count // 2 and pair.stops >= count // 8, "too few lives are cut off")
+    failures.unless(pair.slow >= count // 2, "too few lives have a slow medium")
     return failures.end(f"lives from C: {count} over a copy and by sectors, with {pair.calls} requests and {pair.lines} lines each, and {pair.cuts} cut off, "
-                        f"{pair.within} of them after a write, and {pair.stops} while a sector was wanted")
+                        f"{pair.within} of them after a write, {pair.stops} while a sector was wanted; {pair.slow} were slow")
 
 
 if __name__ == "__main__":

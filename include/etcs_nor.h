@@ -1,0 +1,182 @@
+/**
+ * @file
+ * A journal on a NOR flash whose erase blocks are larger than a sector, for C99 and C++, without memory of its own. Each slot
+ * has an erase block, and the first sector has one before them. There is nothing to link but the library of etcs_unit.h.
+ *
+ *     static etcs_nor nor = {NULL, 4096, 1 + SLOTS, read_flash, program_flash, erase_flash, 0};
+ *     equipment.medium = &nor;
+ *     equipment.sectors = 1 + 6 * SLOTS;
+ *     equipment.read_sector = etcs_nor_read_sector;
+ *     equipment.carry_out = etcs_nor_carry_out;
+ *
+ * Closing a gate programs zeros over it, and erases nothing. A flush erases the block of its slot, unless etcs_nor_erase_ahead
+ * did so since the last flush. Erasing ahead takes the oldest block from the ring a flush earlier; what it leaves is what a loss
+ * of power within the next flush may leave too.
+ *
+ * Format it as any medium, by etcs_unit_format_request and etcs_nor_carry_out; the flash may hold anything.
+ *
+ * A block holds the sectors of its slot, gate first, and then ETCS_NOR_READY where it is erased and unused. A loss of power
+ * may leave any bytes where the flash was programmed or erased. So a gate counts as open only where at most
+ * ETCS_NOR_WRONG_BITS bits of its mark are wrong, and is read as zeros otherwise; and a block counts as erased only where
+ * ETCS_NOR_READY is whole, which is programmed after the erasure and taken away before anything else is programmed.
+ *
+ * The caller owes: words may be programmed to zeros after they were programmed (a flash that keeps check bits of its own for each
+ * word often forbids it), and a loss of power leaves bytes that are read the same each time.
+ */
+#ifndef ETCS_NOR_H
+#define ETCS_NOR_H
+
+#include "etcs_unit.h"
+
+#ifdef __cplusplus
+extern "C" {
+#endif
+
+/** The bytes of an erase block, at least: six sectors and ETCS_NOR_READY. */
+#define ETCS_NOR_BLOCK_BYTES 3080
+
+/** How many of the 64 bits of a gate's mark may be wrong in an open gate. */
+#define ETCS_NOR_WRONG_BITS 8
+
+/** The bytes after the sectors of a block that is erased and unused. */
+#define ETCS_NOR_READY "ETCSREDY"
+
+/* The mark of a gate, and the bytes of a slot. */
+#define ETCS_NOR_GATE_ "ETCSGATE"
+#define ETCS_NOR_SECTORS_ (UINT64_C(6) * ETCS_UNIT_SECTOR)
+
+/** A NOR flash. Calls that answer an int answer 1, or 0 where they failed. */
+typedef struct {
+    void *of;             /**< handed to each function */
+    uint64_t block_bytes; /**< the bytes of an erase block, at least ETCS_NOR_BLOCK_BYTES */
+    uint64_t blocks;      /**< how many there are: one, and one for each slot */
+
+    /** Reads so many bytes from this place on. */
+    int (*read)(void *of, uint64_t at, uint8_t *bytes, size_t len);
+    /** Programs so many bytes from this place on: bits go from 1 to 0. Answers 1 only where the flash then has these bytes. */
+    int (*program)(void *of, uint64_t at, const uint8_t *bytes, size_t len);
+    /** Erases the block at this place: each byte is 0xFF then. Answers 1 only once it is whole. */
+    int (*erase)(void *of, uint64_t at);
+
+    uint64_t next; /**< the block to be erased ahead: that after the newest gate; 0 at first, and within a flush */
+} etcs_nor;
+
+/* Whether these eight bytes are the mark, but for so many bits. */
+static inline int etcs_nor_is_(const uint8_t *bytes, const char *mark, unsigned most_wrong) {
+    unsigned wrong = 0;
+    for (unsigned bit = 0; bit < 64u; bit++) {
+        wrong += (((unsigned)bytes[bit / 8u] ^ (unsigned)(uint8_t)mark[bit / 8u]) >> (bit % 8u)) & 1u;
+    }
+    return wrong <= most_wrong;
+}
+
+/* The place of a sector: 0 has the first block, the next six the second one. */
+static inline uint64_t etcs_nor_at_(const etcs_nor *nor, uint64_t sector) {
+    return (sector == 0u) ? 0u : (((((sector - 1u) / 6u) + 1u) * nor->block_bytes) + (((sector - 1u) % 6u) * ETCS_UNIT_SECTOR));
+}
+
+static inline int etcs_nor_has_(const etcs_nor *nor, uint64_t sector, uint64_t sectors) {
+    return (nor->block_bytes >= (uint64_t)ETCS_NOR_BLOCK_BYTES) && (nor->blocks > 1u) && (sectors <= 5u)
+           && (sector < ((6u * nor->blocks) - 5u));
+}
+
+/* Programs zeros over a mark. */
+static inline int etcs_nor_zero_(const etcs_nor *nor, uint64_t at) {
+    static const uint8_t zeros[8] = {0, 0, 0, 0, 0, 0, 0, 0};
+    return nor->program(nor->of, at, zeros, sizeof zeros);
+}
+
+/* Erases the block at this place. Its gate's mark is zeros before: a part of an erasure never makes a mark of zeros. */
+static inline int etcs_nor_erase_(const etcs_nor *nor, uint64_t at) {
+    return etcs_nor_zero_(nor, at) && nor->erase(nor->of, at);
+}
+
+/* Whether the block at this place is erased and unused goes to `is_ready`. */
+static inline int etcs_nor_ready_(const etcs_nor *nor, uint64_t at, int *is_ready) {
+    uint8_t mark[8];
+    const int is_read = nor->read(nor->of, at + ETCS_NOR_SECTORS_, mark, sizeof mark);
+    *is_ready = (is_read != 0) && etcs_nor_is_(mark, ETCS_NOR_READY, 0);
+    return is_read;
+}
+
+/* Closes the gate of the block at this place; that of a ready block is closed. */
+static inline int etcs_nor_close_(const etcs_nor *nor, uint64_t at) {
+    int is_ready;
+    return etcs_nor_ready_(nor, at, &is_ready) && ((is_ready != 0) || etcs_nor_zero_(nor, at));
+}
+
+/* Programs the five sectors after a gate; the block is erased before, unless it is ready. */
+static inline int etcs_nor_fill_(const etcs_nor *nor, uint64_t at, const uint8_t *bytes) {
+    int is_ready;
+    return etcs_nor_ready_(nor, at, &is_ready) && ((is_ready != 0) ? etcs_nor_zero_(nor, at + ETCS_NOR_SECTORS_) : etcs_nor_erase_(nor, at))
+           && nor->program(nor->of, at + ETCS_UNIT_SECTOR, bytes, (size_t)5 * ETCS_UNIT_SECTOR);
+}
+
+/* Programs a gate, its mark last. */
+static inline int etcs_nor_open_(const etcs_nor *nor, uint64_t at, const uint8_t *bytes) {
+    return nor->program(nor->of, at + 8u, &bytes[8], (size_t)ETCS_UNIT_SECTOR - 8u) && nor->program(nor->of, at, bytes, 8);
+}
+
+/** Reads a sector, ETCS_UNIT_SECTOR bytes, of the journal on `nor`, an etcs_nor: read_sector of etcs_equipment. Returns 1, or 0
+ * where that failed. */
+static inline int etcs_nor_read_sector(void *nor, uint64_t sector, uint8_t *bytes) {
+    const etcs_nor *const on = (const etcs_nor *)nor;
+    if (!etcs_nor_has_(on, sector, 1) || !on->read(on->of, etcs_nor_at_(on, sector), bytes, ETCS_UNIT_SECTOR)) {
+        return 0;
+    }
+    if ((sector % 6u) == 1u) {
+        const int is_open = etcs_nor_is_(bytes, ETCS_NOR_GATE_, ETCS_NOR_WRONG_BITS);
+        for (size_t i = 0; i < (size_t)ETCS_UNIT_SECTOR; i++) {
+            bytes[i] = (is_open == 0) ? 0u : ((i < 8u) ? (uint8_t)ETCS_NOR_GATE_[i] : bytes[i]);
+        }
+    }
+    return 1;
+}
+
+/** Carries out a request of a unit, or of a formatting, on `nor`, an etcs_nor: carry_out of etcs_equipment. Returns 1, or 0
+ * where that failed, or the request is none of theirs. */
+static inline int etcs_nor_carry_out(void *nor, const etcs_unit_request_info *request, const uint8_t *bytes) {
+    etcs_nor *const on = (etcs_nor *)nor;
+    const uint64_t sector = request->sector, at = etcs_nor_at_(on, sector);
+    int is_done = 0;
+    if (request->kind == (uint64_t)ETCS_REQUEST_SYNC) {
+        is_done = 1;
+    } else if (!etcs_nor_has_(on, sector, request->sectors)) {
+        is_done = 0;
+    } else if ((sector == 0u) && (request->sectors == 1u)) {
+        is_done = on->erase(on->of, at) && on->program(on->of, at, bytes, ETCS_UNIT_SECTOR);
+    } else if (((sector % 6u) == 2u) && (request->sectors == 5u)) {
+        on->next = 0;
+        is_done = etcs_nor_fill_(on, at - ETCS_UNIT_SECTOR, bytes);
+    } else if (((sector % 6u) == 1u) && (request->sectors == 1u)) {
+        if (bytes[0] == 0u) {
+            is_done = etcs_nor_close_(on, at);
+        } else {
+            const uint64_t after = ((sector - 1u) / 6u) + 2u;
+            is_done = etcs_nor_open_(on, at, bytes);
+            on->next = (after < on->blocks) ? after : 1u;
+        }
+    }
+    return is_done;
+}
+
+/** Closes the gate of the slot that the next flush takes, and erases its block, so that the flush doesn't wait for it. Call it
+ * after a release, where there is time, as at the end of an executive's `feed`; not calling it is right too. Returns 1 where the block is
+ * erased, or there is none to erase; 0 where that failed: then the next flush tries again, and fails where it can't either. */
+static inline int etcs_nor_erase_ahead(etcs_nor *nor) {
+    const uint64_t at = nor->next * nor->block_bytes;
+    int is_ready = 1, is_done = 1;
+    if (nor->next > 0u) {
+        is_done = etcs_nor_ready_(nor, at, &is_ready);
+    }
+    if ((is_done != 0) && (is_ready == 0)) {
+        is_done = etcs_nor_erase_(nor, at) && nor->program(nor->of, at + ETCS_NOR_SECTORS_, (const uint8_t *)ETCS_NOR_READY, 8);
+    }
+    return is_done;
+}
+
+#ifdef __cplusplus
+}
+#endif
+
+#endif

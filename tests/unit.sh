@@ -96,9 +96,20 @@ twice=$(LC_ALL=C comm -12 "$made/types" "$made/names" | tr '\n' ' ')
 [ -z "$twice" ] || fails "a type and a call have one name: $twice"
 asked=$(nm -u "$static" | sed -n 's/^ *U //p' | LC_ALL=C sort -u | tr '\n' ' ')
 [ "$asked" = "memcpy memmove memset " ] || fails "the library without malloc asks for $asked"
-counted "names of the library" "$(wc -l <"$made/shown")" 118
+counted "names of the library" "$(wc -l <"$made/shown")" 122
 "$python" "$top/tests/unit/symbols.py" "$shared" $(cat "$made/shown") || fails "the calls as symbols"
 "$python" "$top/tests/unit/names.py" "$shared" $(cat "$made/shown") || fails "names of numbers"
+
+# ---- what a build says of itself; over a named archive that no build left it is unknown whether that is proved
+
+case $(sed -n 's/^Description: .*, for C\(.*\)$/\1/p' "$prefix/lib/pkgconfig/etcs_unit.pc") in '') proof=proved ;; ', unproved') proof=unproved ;; *) proof=unknown ;; esac
+"$python" "$top/tests/unit/build.py" "$prefix" "$proof" || status=1
+raw=${ETCS_UNIT_ARCHIVE:-$top/crates/etcs_unit/out/libetcs_unit.a} raw_telegrams=${ETCS_C_ARCHIVE:-$top/crates/etcs_c/out/libetcs_c.a}
+cp "$raw" "$made/named.a"
+ETCS_UNIT_ARCHIVE=$made/named.a ETCS_C_ARCHIVE=$raw_telegrams "$top/tools/library" "$made/named" >"$made/said" 2>&1 && grep -q '^installed etcs_unit .*, proof unknown, interface' "$made/said" ||
+    { cat "$made/said"; fails "a library over an archive that nobody knows passes as proved"; }
+"$python" "$top/tests/unit/build.py" "$made/named" unknown unknown || status=1
+
 needed=$(objdump -p "$shared" | sed -n 's/^ *NEEDED *//p' | tr '\n' ' ')
 soname=$(objdump -p "$shared" | sed -n 's/^ *SONAME *//p')
 [ "$needed" = "libc.so.6 " ] || fails "the shared library needs $needed"
@@ -266,7 +277,6 @@ link=("$archive")
 build sized.malloc "$top/tests/unit/sized.c" gcc -x c -std=c99 -O2
 "$python" "$top/tests/unit/sized.py" "$made/sized.malloc" "$made/sized.buffer" || status=1
 # (the archive as the toolchain built it, which asks for memory by three names)
-raw=${ETCS_UNIT_ARCHIVE:-$top/crates/etcs_unit/out/libetcs_unit.a}
 link=("$raw" -Wl,--wrap=rattle_alloc,--wrap=rattle_realloc,--wrap=rattle_dealloc)
 build refused.pieces "$top/tests/unit/refused.c" gcc -x c -std=c99 -O2 -DOVER_PIECES -I "$top/platform" "$top/platform/pieces.c" "$top/platform/heap_of_pieces.c"
 
@@ -279,7 +289,7 @@ for program in "$made"/refused.*; do "$python" "$top/tests/unit/refused_lives.py
 (cd "$top/python" && "$python" -m unittest -q tests.test_unit tests.test_guard) >"$made/said" 2>&1 && grep -q '^Ran 32 tests' "$made/said" && ! grep -q skipped "$made/said" ||
     { cat "$made/said"; fails "python/tests/test_{unit,guard}.py: failures, or other than 32 tests"; }
 "$python" "$top/tests/unit/integration.py" || status=1
-ETCS_LAB=$lab ETCS_UNIT_ARCHIVE=$raw ETCS_C_ARCHIVE=${ETCS_C_ARCHIVE:-$top/crates/etcs_c/out/libetcs_c.a} "$python" "$top/tests/documents.py" start/c howto/c-loop howto/c-flash \
+ETCS_LAB=$lab ETCS_UNIT_ARCHIVE=$raw ETCS_C_ARCHIVE=$raw_telegrams "$python" "$top/tests/documents.py" start/c howto/c-loop howto/c-flash \
     howto/c-static-memory howto/c-display howto/c-guard howto/c-installed-tracks howto/c-journal howto/cpp howto/python howto/rust || status=1
 echo "the unit: $([ $status -eq 0 ] && echo "no failures" || echo "failures, see above")"
 exit $status

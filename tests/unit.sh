@@ -2,7 +2,7 @@
 # Test the unit from C, C++, Python and Rust, all built from the folder that tools/library makes: each header by itself, the names that
 # the library exports, sizes and offsets, wrong calls, files, archives of blocks and marks next to the journal, starts of slots, two units at once, the
 # executive, inputs of the odometer, the examples, images compared with `etcs journal`, random lives compared with `etcs run`, instructions compared with kept counts and
-# bounds, memory that is refused, and the commands of the pages for makers. Needs gcc, g++, valgrind, rustc and Debian's Python; clang
+# bounds, memory that is refused, and the commands of the pages for makers. Needs gcc, g++, valgrind, cargo and Debian's Python; clang
 # is used where it is installed.
 #
 #     tests/unit.sh [PREFIX [LIVES]]    test the library below PREFIX (default: build and install it first) with LIVES lives (default: 400);
@@ -152,11 +152,9 @@ build refused.gcc "$top/tests/unit/refused.c" gcc -x c -std=c99 -O2
 build refused.checked "$top/tests/unit/refused.c" gcc -x c -std=c99 -O1 "${sanitizers[@]}"
 link=(-L "$prefix/lib" -letcs_unit)
 for name in misuse two reading starts; do build "$name.shared" "$top/tests/unit/$name.c" gcc -x c -std=c99 -O2; done
-for name in brake guard; do
-    out=${name/guard/stops}.rs
-    rustc --edition 2021 -D warnings -O -L "$prefix/lib" -l static=etcs_unit "$top/examples/embedding/rust/$name.rs" -o "$made/$out" &&
-        built=$((built + 1)) || fails "examples/embedding/rust/$name.rs doesn't compile"
-done
+ETCS_UNIT_LIB=$prefix/lib RUSTFLAGS='-D warnings' cargo build --quiet --offline --locked --manifest-path "$top/examples/embedding/rust/Cargo.toml" --target-dir "$made/rust" ||
+    fails "examples/embedding/rust doesn't compile"
+for name in brake guard; do cp "$made/rust/debug/$name" "$made/${name/guard/stops}.rs" && built=$((built + 1)); done
 counted "programs built" $built 62
 
 # ---- what they answer

@@ -1,8 +1,8 @@
 #!/bin/bash
-# Test the unit from C, C++, Python and Rust, all built from the folder that tools/library makes: each header by itself, the names that
+# Test the unit from C, C++, Python, Rust and Ada, all built from the folder that tools/library makes: each header by itself, the names that
 # the library exports, sizes and offsets, wrong calls, files, archives of blocks and marks next to the journal, starts of slots, two units at once, the
 # executive, inputs of the odometer, the examples, images compared with `etcs journal`, random lives compared with `etcs run`, instructions compared with kept counts and
-# bounds, memory that is refused, and the commands of the pages for makers. Needs gcc, g++, valgrind, cargo and Debian's Python; clang
+# bounds, memory that is refused, and the commands of the pages for makers. Needs gcc, g++, valgrind, cargo, gnat and Debian's Python; clang
 # is used where it is installed.
 #
 #     tests/unit.sh [PREFIX [LIVES]]    test the library below PREFIX (default: build and install it first) with LIVES lives (default: 400);
@@ -154,8 +154,14 @@ link=(-L "$prefix/lib" -letcs_unit)
 for name in misuse two reading starts; do build "$name.shared" "$top/tests/unit/$name.c" gcc -x c -std=c99 -O2; done
 ETCS_UNIT_LIB=$prefix/lib RUSTFLAGS='-D warnings' cargo build --quiet --offline --locked --manifest-path "$top/examples/embedding/rust/Cargo.toml" --target-dir "$made/rust" ||
     fails "examples/embedding/rust doesn't compile"
+mkdir "$made/ada"
+for one in "$top/examples/embedding/ada/brake.adb" "$top/tests/unit/limits.adb"; do
+    name=$(basename "${one%b}a")
+    gnatmake -q -gnat2012 -gnata -gnatwa -gnatwe -I"$top/bindings/ada" -I"$top/examples/embedding/ada" -D "$made/ada" "$one" -o "$made/$name" -largs "$archive" && built=$((built + 1)) ||
+        fails "$(basename "$one") doesn't compile"
+done
 for name in brake guard; do cp "$made/rust/debug/$name" "$made/${name/guard/stops}.rs" && built=$((built + 1)); done
-counted "programs built" $built 62
+counted "programs built" $built 64
 
 # ---- what they answer
 
@@ -173,6 +179,8 @@ for program in "$made"/files.* "$made"/kept.*; do
     mkdir "$made/room"
     runs_well "$program" "$made/room"
 done
+runs_well "$made/limits.ada" 1
+grep -q '^Ada: 18 tried, 0 of them wrong$' "$made/said" || { cat "$made/said"; fails "of what Ada refuses there are 18 to be tried"; }
 for program in "$made"/flash.*; do runs_well "$program"; done
 mv "$made/said" "$made/flash"
 for program in misuse.gcc sectors.gcc two.gcc reading.gcc starts.gcc telegrams.gcc guard.gcc executive.gcc "files.gcc $made/room" "kept.gcc $made/room" "brake.gcc $made/image.valgrind" flash.gcc "why.gcc $made/image.valgrind" \
@@ -197,7 +205,7 @@ for lines in "$made"/lines.*; do
     trains=$((trains + 1))
 done
 for image in "$made"/image.*; do cmp "$image" "$made/image.brake.gcc" || fails "the journals of the examples differ"; done
-counted "trains that brake" $trains 5
+counted "trains that brake" $trains 6
 
 # ---- the guard of the examples: by packet 137 it stops in Staff Responsible, and in no other mode (SUBSET-026, 4.6.3)
 

@@ -36,6 +36,7 @@ def main(proof, sources=None):
     for name, what in (("etcs_unit", ""), ("etcs_unit_static", ", without malloc")):
         described = re.search(r"^Description: .*, for C(.*)$", (PREFIX / f"lib/pkgconfig/{name}.pc").read_text(), re.MULTILINE)
         rows.same(f"{name}.pc", described and described[1], what + MARKS[proof])
+        rows.same(f"proof of {name}.pc", re.findall(r"^proof=(.*)$", (PREFIX / f"lib/pkgconfig/{name}.pc").read_text(), re.MULTILINE), [proof])
     is_proved = re.findall(r"^set\(etcs_unit_PROVED (\w+)\)", (PREFIX / "lib/cmake/etcs_unit/etcs_unit-config.cmake").read_text(), re.MULTILINE)
     rows.same("CMake", is_proved, ["TRUE" if proof == "proved" else "FALSE"])
     return rows.end(f"what a build says of itself ({proof}): {rows.count} comparisons")

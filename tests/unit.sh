@@ -154,6 +154,8 @@ link=(-L "$prefix/lib" -letcs_unit)
 for name in misuse two reading starts; do build "$name.shared" "$top/tests/unit/$name.c" gcc -x c -std=c99 -O2; done
 ETCS_UNIT_LIB=$prefix/lib RUSTFLAGS='-D warnings' cargo build --quiet --offline --locked --manifest-path "$top/examples/embedding/rust/Cargo.toml" --target-dir "$made/rust" ||
     fails "examples/embedding/rust doesn't compile"
+ETCS_UNIT_LIB=$prefix/lib RUSTFLAGS='-D warnings' cargo test --quiet --offline --locked --manifest-path "$top/bindings/rust/etcs-unit/Cargo.toml" --target-dir "$made/rust" --test refusals \
+    >"$made/said" 2>&1 && grep -q '^test result: ok. 4 passed' "$made/said" || { cat "$made/said"; fails "the tests of bindings/rust/etcs-unit: failures, or other than 4"; }
 mkdir "$made/ada"
 for one in "$top/examples/embedding/ada/brake.adb" "$top/tests/unit/limits.adb"; do
     name=$(basename "${one%b}a")

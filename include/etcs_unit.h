@@ -112,6 +112,9 @@ extern "C" {
 /** The bytes of the version, at most. */
 #define ETCS_VERSION_BYTES 32
 
+/** The bytes of the description of a build, at most. */
+#define ETCS_BUILD_INFO_BYTES 160
+
 /** The bytes of a sector. */
 #define ETCS_UNIT_SECTOR 512
 
@@ -120,6 +123,13 @@ extern "C" {
 
 /** The bytes that one request writes, at most. */
 #define ETCS_UNIT_REQUEST_BYTES 8192
+
+/** Whether the code of a library was proved. */
+enum etcs_proof {
+    ETCS_PROOF_UNKNOWN = 0,  /**< nobody knows: it was built over an archive that no build of its sources left */
+    ETCS_PROOF_UNPROVED = 1, /**< it was compiled without the proof */
+    ETCS_PROOF_PROVED = 2    /**< its sources were proved */
+};
 
 /** What calls answer. docs/reference/refusals.md says more of each.
  *
@@ -466,6 +476,7 @@ ETCS_UNIT_ASSERT(sizeof(etcs_packet_unused) == 24u && offsetof(etcs_packet_unuse
 /* ---- the library's own names; the calls below test pointers first, and then call these. Lengths have 64 bits in each library */
 
 uint32_t etcs_version_(uint8_t *out, uint64_t room, uint32_t *len);
+uint32_t etcs_build_info_(uint8_t *out, uint64_t room, uint32_t *len);
 uint32_t etcs_unit_open_(etcs_unit *unit, const uint8_t *image, uint64_t len, uint32_t cold, uint32_t abi);
 uint32_t etcs_unit_telegram_(etcs_unit *unit, const uint8_t *bytes, uint64_t len);
 uint32_t etcs_unit_odometer_(etcs_unit *unit, int64_t movement_cm, uint32_t speed_m_per_h);
@@ -505,11 +516,28 @@ static inline uint32_t etcs_version(uint8_t *out, size_t room, uint32_t *len) {
     return ((out != NULL) && (len != NULL)) ? etcs_version_(out, room, len) : (uint32_t)ETCS_UNIT_NULL_POINTER;
 }
 
+/** Writes which build the library is, as "Gaknifur 0.1.0, commit 1a2b3c4d, sources DIGEST, proved", without a zero at its end, and to `len`
+ * how many bytes it has. DIGEST is the SHA-256 of what the proof reads (tools/source_digest). Returns OK, or NO_ROOM; then nothing is
+ * written. ETCS_BUILD_INFO_BYTES are always enough. The library's file contains the same text. Compare it with that of the library
+ * that you validated. This call and the next one are C code outside of the proof. */
+static inline uint32_t etcs_build_info(uint8_t *out, size_t room, uint32_t *len) {
+    return ((out != NULL) && (len != NULL)) ? etcs_build_info_(out, room, len) : (uint32_t)ETCS_UNIT_NULL_POINTER;
+}
+
+/** Returns whether the library was proved (enum etcs_proof), as whoever built it knew. A train needs ETCS_PROOF_PROVED. */
+uint32_t etcs_build_proof(void);
+
 /* ---- names of numbers, as etcs_lab prints them (docs/reference/json.md): each text is the program's own, and never ends */
 
 /* The text of a number; "unknown" where the table has none. */
 static inline const char *etcs_name_(const char *const *names, uint32_t count, uint32_t number) {
     return ((number < count) && (names[number] != NULL)) ? names[number] : "unknown";
+}
+
+/** Returns the name of a number of enum etcs_proof; "unknown" for other numbers. */
+static inline const char *etcs_proof_name(uint32_t number) {
+    static const char *const names[] = {NULL, "unproved", "proved"};
+    return etcs_name_(names, (uint32_t)(sizeof names / sizeof names[0]), number);
 }
 
 /** Returns the name of a number of enum etcs_mode, in two letters; "unknown" for other numbers. */

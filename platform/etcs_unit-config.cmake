@@ -5,7 +5,7 @@
 #     etcs_unit::static       the static library without malloc, over memory of the maker's own (etcs_memory.h)
 get_filename_component(etcs_unit_prefix "${CMAKE_CURRENT_LIST_DIR}/../../.." ABSOLUTE)
 set(etcs_unit_VERSION "@VERSION@")
-set(etcs_unit_PROVED @PROVED@) # FALSE: made by tools/library --unproved, for a first try only
+set(etcs_unit_PROVED @PROVED@) # FALSE: unproved, or nobody knows: for a first try only
 
 foreach(kind etcs_unit static)
     if(kind STREQUAL "static")

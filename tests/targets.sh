@@ -2,12 +2,12 @@
 # Test the library on each machine that tools/library supports: built and installed for it, it has to answer as here. A driver executes
 # a script of lives with losses of power, of calls in any order with random numbers, and of telegrams (tests/targets/scripts.py) on
 # x86-64, on aarch64 under Linux (by qemu-user), on a bare board of aarch64 (by qemu-system), and in WebAssembly (by node); each answer,
-# output and byte of the medium has to be the same. Then the tests of the unit from C, and the examples, on aarch64; and find_package
-# and pkg-config.
+# output and byte of the medium has to be the same. Then the tests of the unit from C, and the examples, on aarch64; and find_package,
+# pkg-config and Meson.
 #
 #     tests/targets.sh [LIVES CALLS TELEGRAMS]    (default: 40 2000 300; the long form is 400 20000 20000)
 #
-# Needs gcc, gcc-aarch64-linux-gnu, qemu-user, qemu-system-arm, nodejs, cmake, pkg-config and valgrind. $TARGETS names a folder that has
+# Needs gcc, gcc-aarch64-linux-gnu, qemu-user, qemu-system-arm, nodejs, cmake, meson, pkg-config and valgrind. $TARGETS names a folder that has
 # the libraries already, one folder for each target.
 export PYTHONDONTWRITEBYTECODE=1
 top=$(cd "$(dirname "$(readlink -f -- "$0")")/.." && pwd) || exit 1
@@ -108,7 +108,7 @@ grep -qx '1 cycles, event 2: brake 2; LATE; fed 1 times' "$made/said" ||
     { cat "$made/said"; fails "a cycle that is late doesn't brake"; }
 valgrind -q --tool=drd --error-exitcode=9 "$made/cyclic" "$made/image.drd" 10 5 600000 >/dev/null 2>"$made/said" || { cat "$made/said"; fails "the unit isn't handed from task to task in order"; }
 
-# ---- find_package and pkg-config
+# ---- find_package, pkg-config and Meson
 
 mkdir "$made/project"
 cp "$top/examples/embedding/why.c" "$made/project/why.c"
@@ -139,8 +139,13 @@ for name in etcs_unit etcs_unit_static; do
     # shellcheck disable=SC2046
     gcc "$made/project/why.c" $(PKG_CONFIG_PATH=$here_prefix/lib/pkgconfig pkg-config --cflags --libs "$name") -o "$made/by_$name" && packages=$((packages + 1))
 done
-echo "programs by find_package and pkg-config: $packages"
-[ "$packages" -eq 8 ] || fails "there are 8 programs to be made by find_package and pkg-config"
+export PKG_CONFIG_PATH=$here_prefix/lib/pkgconfig
+{ meson setup "$made/meson" "$top/examples/embedding" && meson compile -C "$made/meson"; } >"$made/said" 2>&1 || cat "$made/said"
+packages=$((packages + $(find "$made/meson" -maxdepth 1 -type f -perm -u+x | wc -l)))
+proof=$(pkg-config --variable=proof etcs_unit)
+[ "$proof" = proved ] || grep -q "this library is for no train: its proof is $proof" "$made/said" || fails "Meson doesn't warn of a library that isn't proved"
+echo "programs by find_package, pkg-config and Meson: $packages"
+[ "$packages" -eq 14 ] || fails "there are 14 programs to be made by find_package, pkg-config and Meson"
 times >"$made/times"
 echo "targets: processor time in programs and in the system $(tail -n 1 "$made/times")"
 echo "targets: $([ $status -eq 0 ] && echo "no failures" || echo "failures, see above")"

@@ -1,8 +1,8 @@
 #!/bin/bash
-# Test the unit from C, C++, Python and Rust, all built from the folder that tools/library makes: each header by itself, the names that
+# Test the unit from C, C++, Python, Rust and Ada, all built from the folder that tools/library makes: each header by itself, the names that
 # the library exports, sizes and offsets, wrong calls, files, archives of blocks and marks next to the journal, starts of slots, two units at once, the
-# executive, inputs of the odometer, media that lose power, the examples, images compared with `etcs journal`, random lives compared with `etcs run`, instructions compared with kept counts and
-# bounds, memory that is refused, and the commands of the pages for makers. Needs gcc, g++, valgrind, rustc and Debian's Python; clang
+# executive, inputs of the odometer, media that lose power, the examples, images compared with `etcs journal`, random lives compared with `etcs run`, instructions
+# compared with kept counts and bounds, memory that is refused, and the commands of the pages for makers. Needs gcc, g++, valgrind, cargo, gnat and Debian's Python; clang
 # is used where it is installed.
 #
 #     tests/unit.sh [PREFIX [LIVES]]    test the library below PREFIX (default: build and install it first) with LIVES lives (default: 400);
@@ -96,9 +96,20 @@ twice=$(LC_ALL=C comm -12 "$made/types" "$made/names" | tr '\n' ' ')
 [ -z "$twice" ] || fails "a type and a call have one name: $twice"
 asked=$(nm -u "$static" | sed -n 's/^ *U //p' | LC_ALL=C sort -u | tr '\n' ' ')
 [ "$asked" = "memcpy memmove memset " ] || fails "the library without malloc asks for $asked"
-counted "names of the library" "$(wc -l <"$made/shown")" 118
+counted "names of the library" "$(wc -l <"$made/shown")" 122
 "$python" "$top/tests/unit/symbols.py" "$shared" $(cat "$made/shown") || fails "the calls as symbols"
 "$python" "$top/tests/unit/names.py" "$shared" $(cat "$made/shown") || fails "names of numbers"
+
+# ---- what a build says of itself; over a named archive that no build left it is unknown whether that is proved
+
+case $(sed -n 's/^Description: .*, for C\(.*\)$/\1/p' "$prefix/lib/pkgconfig/etcs_unit.pc") in '') proof=proved ;; ', unproved') proof=unproved ;; *) proof=unknown ;; esac
+"$python" "$top/tests/unit/build.py" "$prefix" "$proof" || status=1
+raw=${ETCS_UNIT_ARCHIVE:-$top/crates/etcs_unit/out/libetcs_unit.a} raw_telegrams=${ETCS_C_ARCHIVE:-$top/crates/etcs_c/out/libetcs_c.a}
+cp "$raw" "$made/named.a"
+ETCS_UNIT_ARCHIVE=$made/named.a ETCS_C_ARCHIVE=$raw_telegrams "$top/tools/library" "$made/named" >"$made/said" 2>&1 && grep -q '^installed etcs_unit .*, proof unknown, interface' "$made/said" ||
+    { cat "$made/said"; fails "a library over an archive that nobody knows passes as proved"; }
+"$python" "$top/tests/unit/build.py" "$made/named" unknown unknown || status=1
+
 needed=$(objdump -p "$shared" | sed -n 's/^ *NEEDED *//p' | tr '\n' ' ')
 soname=$(objdump -p "$shared" | sed -n 's/^ *SONAME *//p')
 [ "$needed" = "libc.so.6 " ] || fails "the shared library needs $needed"
@@ -141,12 +152,18 @@ build refused.gcc "$top/tests/unit/refused.c" gcc -x c -std=c99 -O2
 build refused.checked "$top/tests/unit/refused.c" gcc -x c -std=c99 -O1 "${sanitizers[@]}"
 link=(-L "$prefix/lib" -letcs_unit)
 for name in misuse two reading starts; do build "$name.shared" "$top/tests/unit/$name.c" gcc -x c -std=c99 -O2; done
-for name in brake guard; do
-    out=${name/guard/stops}.rs
-    rustc --edition 2021 -D warnings -O -L "$prefix/lib" -l static=etcs_unit "$top/examples/embedding/rust/$name.rs" -o "$made/$out" &&
-        built=$((built + 1)) || fails "examples/embedding/rust/$name.rs doesn't compile"
+ETCS_UNIT_LIB=$prefix/lib RUSTFLAGS='-D warnings' cargo build --quiet --offline --locked --manifest-path "$top/examples/embedding/rust/Cargo.toml" --target-dir "$made/rust" ||
+    fails "examples/embedding/rust doesn't compile"
+ETCS_UNIT_LIB=$prefix/lib RUSTFLAGS='-D warnings' cargo test --quiet --offline --locked --manifest-path "$top/bindings/rust/etcs-unit/Cargo.toml" --target-dir "$made/rust" --test refusals \
+    >"$made/said" 2>&1 && grep -q '^test result: ok. 4 passed' "$made/said" || { cat "$made/said"; fails "the tests of bindings/rust/etcs-unit: failures, or other than 4"; }
+mkdir "$made/ada"
+for one in "$top/examples/embedding/ada/brake.adb" "$top/tests/unit/limits.adb"; do
+    name=$(basename "${one%b}a")
+    gnatmake -q -gnat2012 -gnata -gnatwa -gnatwe -I"$top/bindings/ada" -I"$top/examples/embedding/ada" -D "$made/ada" "$one" -o "$made/$name" -largs "$archive" && built=$((built + 1)) ||
+        fails "$(basename "$one") doesn't compile"
 done
-counted "programs built" $built 65
+for name in brake guard; do cp "$made/rust/debug/$name" "$made/${name/guard/stops}.rs" && built=$((built + 1)); done
+counted "programs built" $built 67
 
 # ---- what they answer
 
@@ -166,6 +183,8 @@ for program in "$made"/files.* "$made"/kept.*; do
 done
 runs_well "$made/media.gcc"
 for program in "$made"/media.*; do runs_well "$program" 37; done
+runs_well "$made/limits.ada" 1
+grep -q '^Ada: 18 tried, 0 of them wrong$' "$made/said" || { cat "$made/said"; fails "of what Ada refuses there are 18 to be tried"; }
 for program in "$made"/flash.*; do runs_well "$program"; done
 mv "$made/said" "$made/flash"
 for program in misuse.gcc sectors.gcc "media.gcc 2003" two.gcc reading.gcc starts.gcc telegrams.gcc guard.gcc executive.gcc "files.gcc $made/room" "kept.gcc $made/room" "brake.gcc $made/image.valgrind" flash.gcc "why.gcc $made/image.valgrind" \
@@ -190,7 +209,7 @@ for lines in "$made"/lines.*; do
     trains=$((trains + 1))
 done
 for image in "$made"/image.*; do cmp "$image" "$made/image.brake.gcc" || fails "the journals of the examples differ"; done
-counted "trains that brake" $trains 5
+counted "trains that brake" $trains 6
 
 # ---- the guard of the examples: by packet 137 it stops in Staff Responsible, and in no other mode (SUBSET-026, 4.6.3)
 
@@ -268,7 +287,6 @@ link=("$archive")
 build sized.malloc "$top/tests/unit/sized.c" gcc -x c -std=c99 -O2
 "$python" "$top/tests/unit/sized.py" "$made/sized.malloc" "$made/sized.buffer" || status=1
 # (the archive as the toolchain built it, which asks for memory by three names)
-raw=${ETCS_UNIT_ARCHIVE:-$top/crates/etcs_unit/out/libetcs_unit.a}
 link=("$raw" -Wl,--wrap=rattle_alloc,--wrap=rattle_realloc,--wrap=rattle_dealloc)
 build refused.pieces "$top/tests/unit/refused.c" gcc -x c -std=c99 -O2 -DOVER_PIECES -I "$top/platform" "$top/platform/pieces.c" "$top/platform/heap_of_pieces.c"
 
@@ -281,7 +299,7 @@ for program in "$made"/refused.*; do "$python" "$top/tests/unit/refused_lives.py
 (cd "$top/python" && "$python" -m unittest -q tests.test_unit tests.test_guard) >"$made/said" 2>&1 && grep -q '^Ran 32 tests' "$made/said" && ! grep -q skipped "$made/said" ||
     { cat "$made/said"; fails "python/tests/test_{unit,guard}.py: failures, or other than 32 tests"; }
 "$python" "$top/tests/unit/integration.py" || status=1
-ETCS_LAB=$lab ETCS_UNIT_ARCHIVE=$raw ETCS_C_ARCHIVE=${ETCS_C_ARCHIVE:-$top/crates/etcs_c/out/libetcs_c.a} "$python" "$top/tests/documents.py" start/c howto/c-loop howto/c-flash \
+ETCS_LAB=$lab ETCS_UNIT_ARCHIVE=$raw ETCS_C_ARCHIVE=$raw_telegrams "$python" "$top/tests/documents.py" start/c howto/c-loop howto/c-flash \
     howto/c-static-memory howto/c-display howto/c-guard howto/c-installed-tracks howto/c-journal howto/cpp howto/python howto/rust || status=1
 echo "the unit: $([ $status -eq 0 ] && echo "no failures" || echo "failures, see above")"
 exit $status

@@ -103,12 +103,22 @@ static uint32_t open_file(etcs_file *file, const char *path, uint64_t *sectors) 
     return answer;
 }
 
+static void print_build(void) {
+    uint8_t text[ETCS_BUILD_INFO_BYTES];
+    uint32_t len = 0;
+    if (etcs_build_info(text, sizeof text, &len) == ETCS_UNIT_OK)
+        fprintf(stderr, "%.*s\n", (int)len, (const char *)text);
+    if (etcs_build_proof() != ETCS_PROOF_PROVED)
+        fputs("this library is for no train\n", stderr);
+}
+
 int main(int count, char **words) {
     pthread_t task;
     etcs_memory_info info = {0, 0, 0, 0, 0};
     etcs_file file = {0};
     if (count < 2 || etcs_memory_use(memory, sizeof memory) != ETCS_UNIT_OK)
         return 2;
+    print_build();
     most_cycles = count > 2 ? strtoull(words[2], NULL, 10) : most_cycles;
     cycle_ms = count > 3 ? strtoull(words[3], NULL, 10) : cycle_ms;
     const uint64_t late_ms = count > 4 ? strtoull(words[4], NULL, 10) : LATE_MS;

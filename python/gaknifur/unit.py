@@ -31,15 +31,16 @@ from typing import Protocol, Self
 from .locks import lock
 from .program import TOP
 from .units import _header
-from .units._header import (ABI, OUTPUTS, REQUEST_BYTES, SECTOR, TELEGRAM_BYTES, VERSION_BYTES, Acknowledgement, Action, Adaptation,
-                            Brake, BrakeCause, Cold, Direction, DroppedVariable, Indication, Kind, Level, LimitCause, Mode, RequestKind,
-                            SlotState, Status, UnusedReason)
+from .units._header import (ABI, BUILD_INFO_BYTES, OUTPUTS, REQUEST_BYTES, SECTOR, TELEGRAM_BYTES, VERSION_BYTES, Acknowledgement,
+                            Action, Adaptation, Brake, BrakeCause, Cold, Direction, DroppedVariable, Indication, Kind, Level,
+                            LimitCause, Mode, Proof, RequestKind, SlotState, Status, UnusedReason)
 
 __all__ = ["ABI", "OUTPUTS", "REQUEST_BYTES", "SECTOR", "VERSION_BYTES", "Acknowledgement", "Action", "AnyUnit", "Brake",
            "BrakeCause", "Cold", "Facts", "FileMedium", "Indication", "Kind", "Level", "LimitCause", "Medium", "MemoryMedium",
-           "Mode", "Opening", "Output", "OverrideLeft", "Record", "Refused", "SectorMedium", "SectorUnit", "Slot", "SlotState",
-           "State", "Status", "Target", "TrainData", "Unit", "UnitWhy", "Waiting", "Writable", "decode", "facts", "first_request",
-           "format_medium", "journal", "library", "records", "slots", "version"]
+           "Mode", "Opening", "Output", "OverrideLeft", "Proof", "Record", "Refused", "SectorMedium", "SectorUnit", "Slot",
+           "SlotState", "State", "Status", "Target", "TrainData", "Unit", "UnitWhy", "Waiting", "Writable", "build_info",
+           "build_proof", "decode", "facts", "first_request", "format_medium", "journal", "library", "records", "slots",
+           "version"]
 
 @dataclass(frozen=True, slots=True)
 class Output:
@@ -420,11 +421,25 @@ def format_medium(medium: Writable, slots: int) -> None:
         raise Refused(status)
 
 
+def _text(call: str, most: int) -> str:
+    buffer, count = ctypes.create_string_buffer(most), ctypes.c_uint32()
+    _check(_called(call, buffer, most, ctypes.byref(count)))
+    return buffer.raw[:count.value].decode()
+
+
 def version() -> str:
     """The version of the library."""
-    buffer, count = ctypes.create_string_buffer(VERSION_BYTES), ctypes.c_uint32()
-    _check(_called("etcs_version_", buffer, VERSION_BYTES, ctypes.byref(count)))
-    return buffer.raw[:count.value].decode()
+    return _text("etcs_version_", VERSION_BYTES)
+
+
+def build_info() -> str:
+    """Which build the library is: version, commit, digest of the sources, and whether it is proved."""
+    return _text("etcs_build_info_", BUILD_INFO_BYTES)
+
+
+def build_proof() -> Proof:
+    """Whether the library was proved, as whoever built it knew."""
+    return Proof(_called("etcs_build_proof"))
 
 
 def decode(digits: str) -> tuple[int, int]:

@@ -10,7 +10,7 @@
  *     dies COLD REQUESTS BYTES     the same of a power-up
  *     stops COLD SECTORS           an opening to which so many sectors are handed in; then power is lost
  *     telegram HEX, odometer CM SPEED, clock MS, action N, identity HEX, number N, train LENGTH MAXIMUM DECELERATION REACTION CATEGORY
- *     prepare, request INDEX ROOM, done COUNT, fail, release ROOM, state, version ROOM, format SLOTS INDEX ROOM
+ *     prepare, request INDEX ROOM, done COUNT, fail, release ROOM, state, version ROOM, build ROOM, format SLOTS INDEX ROOM
  *     wants, hands SECTOR SIZE FROM  which sector the unit wants; hands in bytes of the medium from there on
  *     begin SECTORS COLD, begins COLD, wanted, provide SECTOR SIZE FROM, give_up  the calls of an opening; begins has the medium's sectors
  *     goes MOST                    goes on, and hands in what is wanted, at most so many sectors
@@ -352,6 +352,11 @@ static int about_media(uint32_t *status) {
         *status = etcs_version(bytes, room < sizeof bytes ? (size_t)room : sizeof bytes, &length);
         if (*status == ETCS_UNIT_OK)
             add(bytes, length);
+    } else if (word("build")) {
+        const uint64_t room = number();
+        *status = etcs_build_info(bytes, room < sizeof bytes ? (size_t)room : sizeof bytes, &length);
+        if (*status == ETCS_UNIT_OK)
+            add(bytes, length);
     } else {
         return 0;
     }
@@ -478,6 +483,7 @@ static uint32_t nulls(void) {
     uint32_t length = 0;
     const uint32_t found[] = {
         etcs_version(NULL, 32, &length), etcs_version(bytes, 32, NULL),
+        etcs_build_info(NULL, 160, &length), etcs_build_info(bytes, 160, NULL), etcs_build_proof(),
         etcs_unit_open(NULL, media[on], lengths[on], 0), etcs_unit_open(&none, NULL, 512, 0),
         etcs_unit_telegram(NULL, bytes, 1), etcs_unit_telegram(&none, NULL, 1),
         etcs_unit_odometer(NULL, 0, 0), etcs_unit_clock(NULL, 0), etcs_unit_action(NULL, 1),

@@ -132,6 +132,7 @@ const nulls = () => {
     const m = media[on], b = bytes, n = none, z = 0n;
     return [
         x.etcs_version(z, 32n, count), x.etcs_version(b, 32n, z),
+        x.etcs_build_info(z, 160n, count), x.etcs_build_info(b, 160n, z), x.etcs_build_proof(),
         x.etcs_unit_open(z, m, 512n, 0), x.etcs_unit_open(n, z, 512n, 0), x.etcs_unit_telegram(z, b, 1n), x.etcs_unit_telegram(n, z, 1n),
         x.etcs_unit_odometer(z, 0n, 0), x.etcs_unit_clock(z, 0n), x.etcs_unit_action(z, 1), x.etcs_unit_identity(z, b, 1n), x.etcs_unit_identity(n, z, 1n),
         x.etcs_unit_running_number(z, 1), x.etcs_unit_train_data(z, train), x.etcs_unit_train_data(n, z), x.etcs_unit_prepare(z),
@@ -203,6 +204,10 @@ const CALLS = {
     format: () => { const slots = small(), index = small(); return digestedRequest(x.etcs_unit_format_request(slots, index, request, bytes, limited(number(), SECTOR))); },
     version: () => {
         const status = x.etcs_version(bytes, limited(number(), SECTOR), count);
+        return status === OK ? digested(status, bytes, new DataView(x.memory.buffer).getUint32(Number(count), true)) : status;
+    },
+    build: () => {
+        const status = x.etcs_build_info(bytes, limited(number(), SECTOR), count);
         return status === OK ? digested(status, bytes, new DataView(x.memory.buffer).getUint32(Number(count), true)) : status;
     },
     decode: () => {

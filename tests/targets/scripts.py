@@ -81,7 +81,7 @@ def call(r):
                          f"telegram {r.randbytes(r.choice((0, 1, 104, 105, 250))).hex()}"))
     if kind < 24:
         return r.choice((f"request {r.randrange(5)} {r.choice((0, 511, 512, 8_192))}", f"request {wild(r)} {wild(r)}", f"done {wild(r)}", f"release {wild(r)}",
-                         "state", "explain", f"version {wild(r)}", f"format {wild(r)} {wild(r)} {wild(r)}", f"unit {r.randrange(2)}", f"medium {r.randrange(2)}"))
+                         "state", "explain", f"version {wild(r)}", f"build {wild(r)}", f"format {wild(r)} {wild(r)} {wild(r)}", f"unit {r.randrange(2)}", f"medium {r.randrange(2)}"))
     if kind < 28:
         return r.choice((f"begins {r.randrange(3)}", f"begins {r.randrange(3)}", "goes 0", f"goes {r.randrange(40)}", f"goes {1 << 10}", f"goes {1 << 10}", "wanted",
                          f"kind {r.randrange(2)}", f"open {r.randrange(3)}", "wants"))
@@ -109,7 +109,7 @@ def installed(r):
 
 
 def script(lives, calls, telegrams, seed=2026):
-    r, lines = random.Random(seed), ["null", "version 32"]
+    r, lines = random.Random(seed), ["null", "version 32", "build 160"]
     for number in range(lives):
         if number % LIVES == 0:
             lines.append(f"slots {slots_of(r)}")

@@ -128,6 +128,28 @@ static void version(void) {
     is("its length", len, 5);
 }
 
+/* So is the description of the build. */
+static void build(void) {
+    const uint32_t wanted = ETCS_UNIT_NULL_POINTER;
+    uint8_t out[ETCS_BUILD_INFO_BYTES];
+    uint32_t len = 77;
+    memset(out, 0xAA, sizeof out);
+    is("build, nowhere to write", etcs_build_info(NULL, sizeof out, &len), wanted);
+    is("build, nowhere to count", etcs_build_info(out, sizeof out, NULL), wanted);
+    is("build, no room", etcs_build_info(out, 15, &len), ETCS_UNIT_NO_ROOM);
+    is("a refusal writes nothing", out[0] == 0xAA && out[14] == 0xAA && len == 77, 1);
+    is("build", etcs_build_info(out, sizeof out, &len), ETCS_UNIT_OK);
+    is("what it begins with", memcmp(out, "Gaknifur 0.1.0, ", 16) == 0 && len > 16 && len <= sizeof out, 1);
+    is("nothing after it", len == sizeof out || out[len] == 0xAA, 1);
+    const uint32_t exact = len;
+    len = 77;
+    memset(out, 0xAA, sizeof out);
+    is("build, room for one less", etcs_build_info(out, exact - 1, &len), ETCS_UNIT_NO_ROOM);
+    is("a refusal writes nothing", out[0] == 0xAA && len == 77, 1);
+    is("build, just its room", etcs_build_info(out, exact, &len), ETCS_UNIT_OK);
+    is("its length", len, exact);
+}
+
 /* An opening that is refused leaves the unit as it was. */
 static void refused(const char *what, uint32_t found, uint32_t wanted, const etcs_unit *unit) {
     is(what, found, wanted);
@@ -581,6 +603,7 @@ int main(void) {
     kinds();
     null_pointers(&on);
     version();
+    build();
     etcs_unit unit = {0};
     not_open(&unit);
     opening(&on);

@@ -43,11 +43,11 @@ ENUMS = {
     "fault": ({"OK": "OK"}, ("A fault", "name"), ("OK",)),
     "unused_reason": ({"IN_MODE": "not_in_mode"}, None, ()),
     "direction": ({}, ("Balise group", "direction"), ("not_known",)),
-    "acknowledgement": ({}, None, ()), "action": ({}, None, ()), "status_kind": ({}, None, ()), "request_kind": ({}, None, ()), "adaptation": ({}, None, ()),
+    "acknowledgement": ({}, None, ()), "action": ({}, None, ()), "status_kind": ({}, None, ()), "request_kind": ({}, None, ()), "adaptation": ({}, None, ()), "proof": ({}, None, ()),
     "guard_policy": ({}, None, ()), "demanded": ({}, None, ()), "finding": ({}, None, ()), "sureness": ({}, None, ()),
 }
 FIELDS = ("record_field", "kept_field")
-LEAST = 28
+LEAST = 29
 
 
 def words_of(page, section, member):

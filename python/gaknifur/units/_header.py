@@ -5,6 +5,7 @@ from ctypes import POINTER, Structure, c_char_p, c_int64, c_uint8, c_uint16, c_u
 TELEGRAM_BYTES = 104
 ABI = 5
 VERSION_BYTES = 32
+BUILD_INFO_BYTES = 160
 SECTOR = 512
 OUTPUTS = 8
 REQUEST_BYTES = 8192
@@ -28,6 +29,14 @@ class Fault(enum.IntEnum):
     NOT_BALISE = 7
     NO_END = 8
     TOO_LONG = 9
+
+
+class Proof(enum.IntEnum):
+    """Whether the code of a library was proved."""
+
+    UNKNOWN = 0
+    UNPROVED = 1
+    PROVED = 2
 
 
 class Status(enum.IntEnum):
@@ -508,6 +517,7 @@ CALLS: dict[str, tuple[object, ...]] = {
     "etcs_decode": (c_char_p, c_uint64),
     "etcs_packet_count": (c_char_p, c_uint64),
     "etcs_version_": (c_char_p, c_uint64, POINTER(c_uint32)),
+    "etcs_build_info_": (c_char_p, c_uint64, POINTER(c_uint32)),
     "etcs_unit_open_": (POINTER(etcs_unit), c_char_p, c_uint64, c_uint32, c_uint32),
     "etcs_unit_telegram_": (POINTER(etcs_unit), c_char_p, c_uint64),
     "etcs_unit_odometer_": (POINTER(etcs_unit), c_int64, c_uint32),
@@ -536,6 +546,7 @@ CALLS: dict[str, tuple[object, ...]] = {
     "etcs_telegram_dropped_": (c_char_p, c_uint64, c_uint32, POINTER(etcs_value_dropped)),
     "etcs_telegram_unused_": (c_char_p, c_uint64, c_uint32, c_uint32, c_uint32, POINTER(etcs_packet_unused)),
     "etcs_abi": (),
+    "etcs_build_proof": (),
     "etcs_image_facts_": (c_char_p, c_uint64, c_uint32, POINTER(etcs_image)),
     "etcs_image_slot_": (c_char_p, c_uint64, c_uint32, c_uint64, c_uint64, POINTER(etcs_slot)),
     "etcs_image_slot_start_": (c_char_p, c_uint64, c_uint32, c_uint64, c_uint64, POINTER(etcs_slot_start)),

@@ -1,0 +1,297 @@
+//! The onboard unit of ETCS level 1 from Rust, over a medium of your own. A program that calls this crate needs no `unsafe`.
+//!
+//! Any [`Error`] means the emergency brake until the unit was dropped and opened again. Only [`Unit::open`] and [`Unit::flush`] return
+//! outputs, and only after all of them are on the medium. Obey the [`command`] of them until the next one. What else the program
+//! has to guarantee is in include/etcs_unit.h and docs/explain/integration.md.
+mod guard;
+mod journal;
+mod numbers;
+
+use std::ffi::CStr;
+use std::fmt;
+use std::os::raw::c_char;
+
+use etcs_unit_sys as sys;
+
+pub use guard::{Demand, Guard, Situation};
+pub use journal::{Journal, Record};
+pub use numbers::*;
+pub use sys::etcs_train_data as TrainData;
+pub use sys::etcs_unit_state_info as State;
+pub use sys::etcs_unit_why_info as Why;
+
+/// The bytes of a sector.
+pub const SECTOR: usize = sys::ETCS_UNIT_SECTOR as usize;
+const OUTPUTS: usize = sys::ETCS_UNIT_OUTPUTS as usize;
+const REQUEST_BYTES: usize = sys::ETCS_UNIT_REQUEST_BYTES as usize;
+
+/// The text that a call for a name returns: it is the library's, and never ends.
+fn text(name: *const c_char) -> &'static str {
+    // SAFETY: these calls return texts of ASCII that end with a zero.
+    unsafe { CStr::from_ptr(name) }.to_str().unwrap_or("unknown")
+}
+
+/// Why a call failed.
+#[derive(Debug)]
+pub enum Error<E> {
+    /// The unit answered this.
+    Refused(Status),
+    /// The medium failed.
+    Medium(E),
+    /// The unit answered a number that this crate doesn't know.
+    Unknown(u32),
+}
+
+impl<E: fmt::Display> fmt::Display for Error<E> {
+    fn fmt(&self, to: &mut fmt::Formatter<'_>) -> fmt::Result {
+        match self {
+            Error::Refused(status) => write!(to, "the unit answered {}", status.name()),
+            Error::Medium(why) => write!(to, "the medium failed: {why}"),
+            Error::Unknown(number) => write!(to, "the unit answered {number}, which is unknown"),
+        }
+    }
+}
+
+impl<E: fmt::Debug + fmt::Display> std::error::Error for Error<E> {}
+
+/// An error without a medium.
+pub type Refused = Error<std::convert::Infallible>;
+
+fn check<E>(status: u32) -> Result<(), Error<E>> {
+    match Status::of(status) {
+        Some(Status::Ok) => Ok(()),
+        Some(status) => Err(Error::Refused(status)),
+        None => Err(Error::Unknown(status)),
+    }
+}
+
+/// Version, commit and digest of the sources of the library, and whether it is proved.
+pub fn build_info() -> String {
+    let (mut bytes, mut len) = ([0; sys::ETCS_BUILD_INFO_BYTES as usize], 0);
+    // SAFETY: there is room for the whole text.
+    let status = unsafe { sys::etcs_build_info_(bytes.as_mut_ptr(), bytes.len() as u64, &mut len) };
+    String::from_utf8_lossy(if status == 0 { &bytes[..len as usize] } else { b"unknown" }).into_owned()
+}
+
+/// Whether the library was proved, as whoever built it knew.
+pub fn build_proof() -> Proof {
+    // SAFETY: it takes nothing.
+    Proof::of(unsafe { sys::etcs_build_proof() }).unwrap_or(Proof::Unknown)
+}
+
+/// An output that may reach the train.
+#[derive(Clone, Copy, Debug, Eq, PartialEq)]
+pub struct Output {
+    pub event: u64,
+    pub mode: Mode,
+    pub level: Level,
+    pub brake: Brake,
+    pub limit_m_per_h: u32,
+    /// A bit for each of `enum etcs_indication`.
+    pub indications: u8,
+}
+
+impl Output {
+    /// An output, or the number of it that is unknown.
+    fn of(raw: &sys::etcs_unit_output) -> Result<Output, u8> {
+        Ok(Output {
+            event: raw.event,
+            mode: Mode::of(raw.mode.into()).ok_or(raw.mode)?,
+            level: Level::of(raw.level.into()).ok_or(raw.level)?,
+            brake: Brake::of(raw.brake.into()).ok_or(raw.brake)?,
+            limit_m_per_h: raw.limit_m_per_h,
+            indications: raw.indications,
+        })
+    }
+}
+
+/// What is obeyed until the next release: the newest output, with the most restrictive brake of all; none where there is no output.
+pub fn command(outputs: &[Output]) -> Option<Output> {
+    let brake = outputs.iter().map(|output| output.brake).max()?;
+    outputs.last().map(|newest| Output { brake, ..*newest })
+}
+
+/// A medium of sectors. Each call returns only when it is done; a sync also when the medium lost no earlier write.
+pub trait Medium {
+    type Error;
+    /// How many sectors it has: 1 and 6 for each slot.
+    fn sectors(&self) -> u64;
+    fn read(&mut self, sector: u64, bytes: &mut [u8; SECTOR]) -> Result<(), Self::Error>;
+    /// Writes whole sectors.
+    fn write(&mut self, sector: u64, bytes: &[u8]) -> Result<(), Self::Error>;
+    fn sync(&mut self) -> Result<(), Self::Error>;
+}
+
+fn carry_out<M: Medium>(medium: &mut M, request: &sys::etcs_unit_request_info, bytes: &[u8]) -> Result<(), Error<M::Error>> {
+    let done = if request.kind == u64::from(sys::ETCS_REQUEST_WRITE) {
+        medium.write(request.sector, &bytes[..SECTOR * request.sectors as usize])
+    } else {
+        medium.sync()
+    };
+    done.map_err(Error::Medium)
+}
+
+/// Makes an empty journal of so many slots on a medium of 1 + 6 * slots sectors.
+pub fn format<M: Medium>(medium: &mut M, slots: u32) -> Result<(), Error<M::Error>> {
+    let (mut request, mut bytes) = (sys::etcs_unit_request_info::default(), [0; SECTOR]);
+    for index in 0.. {
+        // SAFETY: both places are good for what they point to.
+        match unsafe { sys::etcs_unit_format_request_(slots, index, &mut request, bytes.as_mut_ptr(), bytes.len() as u64) } {
+            sys::ETCS_UNIT_NO_SUCH_REQUEST => break,
+            status => check(status)?,
+        }
+        carry_out(medium, &request, &bytes)?;
+    }
+    Ok(())
+}
+
+/// A unit over a medium, of which it holds 16 sectors. It stays in its thread: a raw pointer is not `Send`.
+pub struct Unit<M: Medium> {
+    handle: Box<sys::etcs_unit>,
+    medium: M,
+}
+
+impl<M: Medium> Unit<M> {
+    /// Powers up, and returns the outputs of what the last life left. In doubt a train may have been moved: `Cold::Unknown`.
+    pub fn open(medium: M, cold: Cold) -> Result<(Unit<M>, Vec<Output>), Error<M::Error>> {
+        let mut unit = Unit { handle: Box::default(), medium };
+        let mut opening = Box::<sys::etcs_opening>::default();
+        // SAFETY: both handles are all zeros, and stay where they are.
+        let opened = check(unsafe { sys::etcs_opening_begin_(&mut *opening, unit.medium.sectors(), cold as u32, sys::ETCS_UNIT_ABI) })
+            .and_then(|()| unit.power_up(&mut opening));
+        // SAFETY: as above; an opening that is done or never began may be closed.
+        unsafe { sys::etcs_opening_close_(&mut *opening) };
+        opened?;
+        let outputs = unit.release()?;
+        Ok((unit, outputs))
+    }
+
+    fn power_up(&mut self, opening: &mut sys::etcs_opening) -> Result<(), Error<M::Error>> {
+        let (mut sector, mut bytes) = (0, [0; SECTOR]);
+        loop {
+            // SAFETY: the handles hold what the library left there.
+            match unsafe { sys::etcs_opening_go_on_(opening, &mut *self.handle) } {
+                sys::ETCS_UNIT_SECTOR_WANTED => {
+                    // SAFETY: as above.
+                    check(unsafe { sys::etcs_opening_wanted_(opening, &mut sector) })?;
+                    self.medium.read(sector, &mut bytes).map_err(Error::Medium)?;
+                    // SAFETY: as above; the bytes are a sector.
+                    check(unsafe { sys::etcs_opening_provide_(opening, sector, bytes.as_ptr(), SECTOR as u64) })?;
+                }
+                status => return check(status),
+            }
+        }
+    }
+
+    pub fn medium(&self) -> &M {
+        &self.medium
+    }
+
+    pub fn telegram(&mut self, bytes: &[u8]) -> Result<(), Error<M::Error>> {
+        // SAFETY: the handle holds what the library left there, and the bytes are good for their length.
+        check(unsafe { sys::etcs_unit_telegram_(&mut *self.handle, bytes.as_ptr(), bytes.len() as u64) })
+    }
+
+    pub fn odometer(&mut self, movement_cm: i64, speed_m_per_h: u32) -> Result<(), Error<M::Error>> {
+        // SAFETY: as above.
+        check(unsafe { sys::etcs_unit_odometer_(&mut *self.handle, movement_cm, speed_m_per_h) })
+    }
+
+    pub fn clock(&mut self, moment_ms: u64) -> Result<(), Error<M::Error>> {
+        // SAFETY: as above.
+        check(unsafe { sys::etcs_unit_clock_(&mut *self.handle, moment_ms) })
+    }
+
+    pub fn action(&mut self, action: Action) -> Result<(), Error<M::Error>> {
+        // SAFETY: as above.
+        check(unsafe { sys::etcs_unit_action_(&mut *self.handle, action as u32) })
+    }
+
+    pub fn identity(&mut self, identity: &str) -> Result<(), Error<M::Error>> {
+        // SAFETY: as above.
+        check(unsafe { sys::etcs_unit_identity_(&mut *self.handle, identity.as_ptr(), identity.len() as u64) })
+    }
+
+    pub fn running_number(&mut self, number: u32) -> Result<(), Error<M::Error>> {
+        // SAFETY: as above.
+        check(unsafe { sys::etcs_unit_running_number_(&mut *self.handle, number) })
+    }
+
+    pub fn train_data(&mut self, data: &TrainData) -> Result<(), Error<M::Error>> {
+        // SAFETY: as above.
+        check(unsafe { sys::etcs_unit_train_data_(&mut *self.handle, data) })
+    }
+
+    /// Writes the pending events to the medium, and returns what may reach the train.
+    pub fn flush(&mut self) -> Result<Vec<Output>, Error<M::Error>> {
+        let (mut sector, mut bytes) = (0, [0; SECTOR]);
+        loop {
+            // SAFETY: as above.
+            match unsafe { sys::etcs_unit_prepare_(&mut *self.handle) } {
+                sys::ETCS_UNIT_SECTOR_WANTED => {
+                    // SAFETY: as above.
+                    check(unsafe { sys::etcs_unit_wanted_(&mut *self.handle, &mut sector) })?;
+                    self.medium.read(sector, &mut bytes).map_err(Error::Medium)?;
+                    // SAFETY: as above; the bytes are a sector.
+                    check(unsafe { sys::etcs_unit_provide_(&mut *self.handle, sector, bytes.as_ptr(), SECTOR as u64) })?;
+                }
+                status => {
+                    check(status)?;
+                    return self.release();
+                }
+            }
+        }
+    }
+
+    /// A request that fails makes the unit fail: it releases nothing more.
+    fn release(&mut self) -> Result<Vec<Output>, Error<M::Error>> {
+        let carried_out = self.carry_out_requests();
+        if carried_out.is_err() {
+            // SAFETY: as above.
+            unsafe { sys::etcs_unit_fail_(&mut *self.handle) };
+        }
+        let done = carried_out?;
+        // SAFETY: as above; so many requests are carried out.
+        check(unsafe { sys::etcs_unit_done_(&mut *self.handle, done) })?;
+        let (mut outputs, mut count) = ([sys::etcs_unit_output::default(); OUTPUTS], 0);
+        // SAFETY: as above; there is room for all outputs.
+        check(unsafe { sys::etcs_unit_release_(&mut *self.handle, outputs.as_mut_ptr(), OUTPUTS as u64, &mut count) })?;
+        outputs[..count as usize].iter().map(|raw| Output::of(raw).map_err(|number| Error::Unknown(number.into()))).collect()
+    }
+
+    fn carry_out_requests(&mut self) -> Result<u32, Error<M::Error>> {
+        let (mut request, mut bytes) = (sys::etcs_unit_request_info::default(), [0; REQUEST_BYTES]);
+        for done in 0.. {
+            // SAFETY: as above; there is room for the bytes of each request.
+            match unsafe { sys::etcs_unit_request_(&mut *self.handle, done, &mut request, bytes.as_mut_ptr(), bytes.len() as u64) } {
+                sys::ETCS_UNIT_NO_SUCH_REQUEST => return Ok(done),
+                status => check(status)?,
+            }
+            carry_out(&mut self.medium, &request, &bytes)?;
+        }
+        Err(Error::Refused(Status::NoSuchRequest))
+    }
+
+    /// The state of the unit.
+    pub fn state(&mut self) -> Result<State, Error<M::Error>> {
+        let mut state = State::default();
+        // SAFETY: as above.
+        check(unsafe { sys::etcs_unit_state_(&mut *self.handle, &mut state) })?;
+        Ok(state)
+    }
+
+    /// Why the newest released output is what it is, and what a display shows.
+    pub fn why(&mut self) -> Result<Why, Error<M::Error>> {
+        let mut why = Why::default();
+        // SAFETY: as above.
+        check(unsafe { sys::etcs_unit_why_(&mut *self.handle, &mut why) })?;
+        Ok(why)
+    }
+}
+
+impl<M: Medium> Drop for Unit<M> {
+    fn drop(&mut self) {
+        // SAFETY: as above; a unit that isn't open may be closed.
+        unsafe { sys::etcs_unit_close_(&mut *self.handle) };
+    }
+}

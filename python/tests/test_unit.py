@@ -18,7 +18,7 @@ from gaknifur import lives, unit as units
 from gaknifur.lives import BrakeCause, Datum, KeptField, LimitCause, RecordField, TripCause, Verdict
 from gaknifur.unit import (Acknowledgement, Action, AnyUnit, Brake, Cold, FileMedium, Indication, Kind, Level, MemoryMedium, Mode,
                            Opening, Output, Record, Refused, SectorUnit, SlotState, Status, TrainData, Unit, UnitWhy, Waiting)
-from gaknifur.units._header import Adaptation, Direction, DroppedVariable, Fault, RequestKind, Source, StatusKind, UnusedReason
+from gaknifur.units._header import Adaptation, Direction, DroppedVariable, Fault, Proof, RequestKind, Source, StatusKind, UnusedReason
 
 INCLUDE = Path(__file__).resolve().parents[2] / "include"
 HEADER = INCLUDE / "etcs_unit.h"
@@ -32,7 +32,7 @@ class Names(unittest.TestCase):
 
     def test_enums(self) -> None:
         enums: list[type[enum.IntEnum | enum.IntFlag]] = [
-            Fault, Status, StatusKind, Source, Cold, Action, Mode, Level, Brake, Indication, RequestKind, BrakeCause, LimitCause,
+            Fault, Proof, Status, StatusKind, Source, Cold, Action, Mode, Level, Brake, Indication, RequestKind, BrakeCause, LimitCause,
             Acknowledgement, Adaptation, DroppedVariable, Direction, UnusedReason, SlotState, Kind, Datum, Verdict, RecordField, KeptField,
             TripCause]
         text = "".join((INCLUDE / name).read_text() for name in ("etcs.h", "etcs_unit.h", "etcs_image.h"))

@@ -23,7 +23,7 @@ from program import inputs_of  # noqa: E402
 from random_inputs import headed, mutated  # noqa: E402
 
 PENDING, MOST_SLOTS = 8, 64
-CUT_KINDS, LEAST_STATUSES, NULL_CALLS, WANTED = 21, 24, 60, 24
+CUT_KINDS, LEAST_STATUSES, NULL_CALLS, WANTED = 21, 24, 62, 24
 EDGES = (0, 1, 2, 7, 8, 9, 104, 105, 255, 256, 511, 512, 8_191, 8_192, 10_000, 10_001, 600_000, 600_001, 99_999_999, 100_000_000, (1 << 31) - 1, 1 << 31,
          (1 << 32) - 1, 1 << 32, (1 << 40) - 1, 1 << 40, (1 << 63) - 1, 1 << 63, (1 << 64) - 1)
 

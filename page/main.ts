@@ -30,7 +30,8 @@ function showBuild(version: string): void {
     const { build, commit } = given, isOne = build.startsWith(`${version},`) && build.startsWith(commit);
     const says = isOne ? build : `unit ${version} of ${build}; page ${commit}`;
     say("version", says);
-    at("unproved").hidden = !build.endsWith("unproved");
+    at("unproved").hidden = build.endsWith("compiled from proved sources");
+    at("unproved").textContent = build.endsWith("unproved") ? "unproved" : "proof unknown";
     addEventListener("beforeprint", () => say("printed", SAY.printed(says, new Date().toISOString())));
 }
 

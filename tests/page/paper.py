@@ -13,7 +13,8 @@ from desks import TOP
 NAME = b"\x08gaknifur"
 BUILDS = (("0.1.0, commit 0badcafe, unproved", "0.1.0, commit 0badcafe, unproved", True),
           ("0.1.0, commit 0badcafe, proved", "0.1.0, commit 0badcafe, compiled from proved sources", False),
-          ("", "a module that doesn't say whether it is proved", False))
+          ("0.1.0, commit 0badcafe, proof unknown", "0.1.0, commit 0badcafe, proof unknown", True),
+          ("", "a module that doesn't say whether it is proved", True))
 """What a module says at its end, what the page says of it, and whether that is marked."""
 SEEN = "return arguments[0].map(id => document.getElementById(id).checkVisibility())"
 

@@ -86,4 +86,4 @@ def within(browser: Browser, width: int) -> None:
     assert len(boxes) >= 4 and all(0 <= left < right <= width for left, right in boxes), boxes
 
 
-CHECKS = {"on_sheets": (on_sheets, 5), "builds": (builds, 12)}
+CHECKS = {"on_sheets": (on_sheets, 5), "builds": (builds, 16)}

@@ -62,6 +62,7 @@ ROWS = """\
 0 lab verify sealed
 0 lab diff image image
 0 lab test good
+0 lab case image --event 8
 0 lab join joined image
 0 tools/settle image
 0 tools/verify release
@@ -75,6 +76,7 @@ ROWS = """\
 1 lab report --life 9 image out.html
 1 lab test --section 3.99 good
 1 lab test hollow
+1 lab case image --event 99
 1 lab coverage hollow
 1 lab lint hollow
 1 lab campaign hollow hollow.db
@@ -115,6 +117,7 @@ ROWS = """\
 4 lab report altered t.html
 4 lab seal altered t.bag
 4 lab capture altered t.pcap
+4 lab case altered --event 5
 4 lab braking image
 4 lab diff altered altered
 4 lab join joined3 altered

@@ -60,6 +60,8 @@ ROWS = """\
 0 etcs_lab lint plain.json
 0 lab check image
 0 lab verify sealed
+0 lab redact sealed copy
+0 lab verify copy
 0 lab diff image image
 0 lab test good
 0 lab case image --event 8
@@ -76,6 +78,7 @@ ROWS = """\
 1 lab report --life 9 image out.html
 1 lab test --section 3.99 good
 1 lab test hollow
+1 lab redact hollow copy2
 1 lab case image --event 99
 1 lab coverage hollow
 1 lab lint hollow
@@ -86,6 +89,7 @@ ROWS = """\
 2 etcs_lab nosuch
 2 lab nosuch
 2 lab report image
+2 lab verify sealed --key sealed
 2 lab lint --without nosuch plain.json
 2 lab search --examples 0 search.yaml
 2 lab hazards --depth 0
@@ -117,6 +121,7 @@ ROWS = """\
 4 lab report altered t.html
 4 lab seal altered t.bag
 4 lab capture altered t.pcap
+4 lab redact altered copy3
 4 lab case altered --event 5
 4 lab braking image
 4 lab diff altered altered

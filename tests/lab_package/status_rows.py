@@ -78,6 +78,7 @@ ROWS = """\
 1 lab report --life 9 image out.html
 1 lab test --section 3.99 good
 1 lab test hollow
+1 lab results plain.json out.html
 1 lab redact hollow copy2
 1 lab case image --event 99
 1 lab coverage hollow
@@ -130,7 +131,8 @@ ROWS = """\
 4 tools/verify sealed
 4 lab diff image altered
 4 lab join joined2 image altered
-4 lab test fails
+4 lab test fails --junitxml=fails.xml
+4 lab results fails.xml results.html
 4 lab sweep sweep.yaml
 4 lab campaign fails fails.db
 4 lab coverage good

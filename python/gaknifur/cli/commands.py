@@ -276,6 +276,10 @@ TESTING: list[Command | Commands] = [
             FORCE, option("--keep", "keep the image and report of each failed case in this new folder", "FOLDER"),
             option("--against", "also run another unit: a command that speaks the protocol of docs/howto/oracle.md. Its answers are checked and compared",
                    "COMMAND"), WITHIN, context_settings={"ignore_unknown_options": True}),
+    Command("results", "testing", "cli.testing_commands:write_results", "Write results of `lab test --junitxml` as one HTML page",
+            "Failures come first, then what changed between the runs, sections of SUBSET-026 and slow cases. The page has no script and loads nothing from the "
+            "network. Status 4: a result of the newest run failed.", "results monday.xml friday.xml results.html",
+            Argument("paths", "RESULTS.xml...", "results, one file for each run", nargs=-1, required=True), Argument("out", "OUT.html", "the page to make"), FORCE),
     Command("coverage", "testing", "cli.testing_commands:show_coverage", "List the sections and transitions that the cases of a folder cover",
             "Status 4: a section or transition of the product has neither a case nor a reason why not.", "coverage suites --measured",
             Argument("folder", "FOLDER", "a folder or a file with test cases"),

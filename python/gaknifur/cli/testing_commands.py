@@ -1,4 +1,4 @@
-"""The commands about test cases: `build`, `case`, `test`, `coverage`, `sweep` and `sequence`."""
+"""The commands about test cases: `build`, `case`, `test`, `results`, `coverage`, `sweep` and `sequence`."""
 import contextlib
 import difflib
 import hashlib
@@ -125,6 +125,16 @@ def run_tests(given: SimpleNamespace, progress: Progress) -> None:
         raise Failed(f"{given.folder}: a test failed", FOUND)
     if status != pytest.ExitCode.OK:
         raise Failed(f"{given.folder}: not all tests could be run, as the lines above say", REFUSED)
+
+
+def write_results(given: SimpleNamespace, progress: Progress) -> int:
+    """Runs `lab results`."""
+    from ..testing import results_page
+    out = files.Out(given.out, files.REPORT, given.force)
+    files.check_all([out], given.paths)
+    text, failed = results_page.page(given.paths)
+    files.write(out, text, given.paths)
+    return FOUND if failed else 0
 
 
 def check_measured(given: SimpleNamespace) -> None:

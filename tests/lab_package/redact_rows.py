@@ -106,6 +106,8 @@ def verified(rows, room, copy, original, other):
     for what, one, by in (("another image", other, key), ("another key", original, room / "wrong.key")):
         status, said = run("verify", copy, "--original", one, "--key", by)
         rows.unless(status == 4 and "is of another image or bag" in said and said.endswith("the copy is not as it was made\n"), f"{what}: {said}")
+    status, said = run("verify", copy, "--signers", room / "wrong.key")
+    rows.unless(status == 4 and "unsigned: " in said and said.endswith("whether the copy is as it was made isn't shown\n"), f"a signer is asked for: {said}")
     rows.same("a key without an original", run("verify", copy, "--key", key)[0], 2)
     for path in sorted(copy.iterdir()):
         data = path.read_bytes()

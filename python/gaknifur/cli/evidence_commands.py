@@ -29,12 +29,14 @@ def verify_bag(given: SimpleNamespace, progress: Progress) -> int:
         raise Failed("--original and --key belong together, and to a redacted copy", WRONG_WORDS)
     if is_copy:
         found = redaction.verify(given.folder, given.original, given.key)
+        if given.signers or given.keyring or given.authority:
+            found.unsigned.append("a redacted copy has no signature, so nothing is shown about who made it")
     else:
         found = seal.verify(given.folder, signing.Trust(given.signers, given.keyring, given.authority))
     for word, lines in (("altered", found.faults), ("unsigned", found.unsigned), ("shown", found.shown), ("not shown", found.not_shown)):
         sys.stdout.writelines(f"{shown(f'{word}: {line}')}\n" for line in lines)
     what = "the copy is{} as it was made" if is_copy else "the bag is{} as it was sealed"
-    unsure = "whether the bag is as it was sealed isn't shown"
+    unsure = f"whether {what.format('')} isn't shown"
     sys.stdout.write((unsure if found.unsigned and not found.faults else what.format(" not" if found.faults else "")) + "\n")
     sys.stdout.flush()
     return max(say_verdict(given.folder / bag.PAYLOAD / seal.IMAGE, found.image), FOUND if found.faults or found.unsigned else 0)

@@ -1,7 +1,7 @@
 #!/bin/bash
 # Tests the package python/gaknifur and its script ./lab on the programs that the full check built: types, the package's own tests,
-# exit statuses, the page of all commands, tables and database compared with plain readers, reports, sealed copies, releases,
-# differences of images, archives of blocks, and lab follow.
+# exit statuses, the page of all commands, tables and database compared with plain readers, reports, sealed and redacted copies, releases,
+# differences of images, archives of blocks, cases of journals, and lab follow.
 #
 #     tests/lab_package.sh [ETCS_LAB ETCS [IMAGES [SEED]]]    on other programs, with more or other images
 . "$(dirname "$(readlink -f -- "$0")")/both_programs" || exit 1
@@ -15,7 +15,9 @@ status=0
 "$python" tests/lab_package/table_rows.py "$lab" "${@:3}" || status=1
 "$python" tests/lab_package/report_rows.py "$etcs" "$lab" || status=1
 "$python" tests/lab_package/seal_rows.py "$lab" || status=1
+"$python" tests/lab_package/redact_rows.py "$etcs" "$lab" || status=1
 "$python" tests/lab_package/verdict_rows.py "$lab" || status=1
+"$python" tests/lab_package/case_rows.py "$etcs" "$lab" || status=1
 "$python" tests/lab_package/status_rows.py "$etcs" "$lab" || status=1
 tools/commands --check "$lab" || status=1
 "$python" tests/lab_package/release_rows.py || status=1

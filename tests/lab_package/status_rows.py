@@ -60,8 +60,11 @@ ROWS = """\
 0 etcs_lab lint plain.json
 0 lab check image
 0 lab verify sealed
+0 lab redact sealed copy
+0 lab verify copy
 0 lab diff image image
 0 lab test good
+0 lab case image --event 8
 0 lab join joined image
 0 tools/settle image
 0 tools/verify release
@@ -75,6 +78,9 @@ ROWS = """\
 1 lab report --life 9 image out.html
 1 lab test --section 3.99 good
 1 lab test hollow
+1 lab results plain.json out.html
+1 lab redact hollow copy2
+1 lab case image --event 99
 1 lab coverage hollow
 1 lab lint hollow
 1 lab campaign hollow hollow.db
@@ -84,6 +90,7 @@ ROWS = """\
 2 etcs_lab nosuch
 2 lab nosuch
 2 lab report image
+2 lab verify sealed --key sealed
 2 lab lint --without nosuch plain.json
 2 lab search --examples 0 search.yaml
 2 lab hazards --depth 0
@@ -115,6 +122,8 @@ ROWS = """\
 4 lab report altered t.html
 4 lab seal altered t.bag
 4 lab capture altered t.pcap
+4 lab redact altered copy3
+4 lab case altered --event 5
 4 lab braking image
 4 lab diff altered altered
 4 lab join joined3 altered
@@ -122,7 +131,8 @@ ROWS = """\
 4 tools/verify sealed
 4 lab diff image altered
 4 lab join joined2 image altered
-4 lab test fails
+4 lab test fails --junitxml=fails.xml
+4 lab results fails.xml results.html
 4 lab sweep sweep.yaml
 4 lab campaign fails fails.db
 4 lab coverage good

@@ -1,4 +1,5 @@
-"""The commands about test cases: `build`, `test`, `coverage`, `sweep` and `sequence`."""
+"""The commands about test cases: `build`, `case`, `test`, `results`, `coverage`, `sweep` and `sequence`."""
+import contextlib
 import difflib
 import hashlib
 import os
@@ -11,10 +12,10 @@ from typing import TYPE_CHECKING
 
 from .. import files, program
 from ..errors import say
-from ..journal.reading import Progress
+from ..journal.reading import Progress, read
 from ..program import DEVICE, FOUND, NOT_WHOLE, REFUSED, WRONG_WORDS, Failed
 from .commands import lab
-from .journal_commands import out_of, write
+from .journal_commands import note, out_of, write
 
 if TYPE_CHECKING:
     from ..testing import sweeps
@@ -25,6 +26,21 @@ def write_scenario(given: SimpleNamespace, progress: Progress) -> None:
     from ..testing import scenarios
     out = out_of(given, scenarios.FILE, given.yaml)
     write(out, scenarios.read(given.yaml).text(), given.yaml)
+
+
+def write_case(given: SimpleNamespace, progress: Progress) -> int:
+    """Runs `lab case`."""
+    from ..testing import case_files, journal_case
+    if given.out is not None and not case_files.is_case_file(given.out.name):
+        raise Failed(f"{given.out}: the name has to end in .case.yaml", WRONG_WORDS)
+    with files.new_file(given.out) if given.out is not None else contextlib.nullcontext() as file:
+        journal = read(given.image, replay=True, progress=progress)
+        text = journal_case.made(journal, given.event)
+        if file is None:
+            sys.stdout.write(text)
+        else:
+            file.write(text.encode())
+    return note(journal)
 
 
 WITHOUT_PYTHON = ("-c", os.devnull, "--noconftest", *(word for name in ("python", "unittest", "nose", "doctest")
@@ -109,6 +125,16 @@ def run_tests(given: SimpleNamespace, progress: Progress) -> None:
         raise Failed(f"{given.folder}: a test failed", FOUND)
     if status != pytest.ExitCode.OK:
         raise Failed(f"{given.folder}: not all tests could be run, as the lines above say", REFUSED)
+
+
+def write_results(given: SimpleNamespace, progress: Progress) -> int:
+    """Runs `lab results`."""
+    from ..testing import results_page
+    out = files.Out(given.out, files.REPORT, given.force)
+    files.check_all([out], given.paths)
+    text, failed = results_page.page(given.paths)
+    files.write(out, text, given.paths)
+    return FOUND if failed else 0
 
 
 def check_measured(given: SimpleNamespace) -> None:

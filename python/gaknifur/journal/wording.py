@@ -30,13 +30,18 @@ def exact(value: int, unit: int) -> str:
     return f"{Decimal(value) / unit:f}"
 
 
+LEFT_OUT = "[left out]"
+"""What a redacted copy has in place of what is left out."""
+
+
 def action_text(record: Json) -> str:
     """An action of the driver as text."""
     action = record["action"]
     if action == "enter_identity":
         return f"enters the identity \"{record['identity']}\""
     if action == "enter_running_number":
-        return f"enters the running number {record['running_number']}"
+        number = record["running_number"]
+        return f"enters the running number {LEFT_OUT if number is None else number}"
     if action == "enter_train_data":
         return f"enters train data: {train_text(record)}"
     if action == "choose_level":

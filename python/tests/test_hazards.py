@@ -1,12 +1,16 @@
 """The definitions of hazards: each holds at a moment, and not at the one next to it. Numbers are worked out by hand."""
+import tempfile
 import unittest
+from pathlib import Path
 from typing import Any
 
+from gaknifur.cli import hazard_commands
+from gaknifur.program import REFUSED, Failed
 from gaknifur.testing import hazard_search, hazard_tracks, hazards
 from gaknifur.testing.branching import Answer, Step
 from gaknifur.testing.hazards import EMERGENCY, FS, NONE, PT, SH, SR, TR, UN, HAZARDS, Moment
 from gaknifur.testing.sent_track import Restriction, Track
-from gaknifur.unit import Mode
+from gaknifur.unit import Brake, Mode
 
 PLACE_READ = 1_000
 
@@ -23,6 +27,26 @@ def moment(mode: int = FS, brake: int = NONE, limit: int = 40_000, names: tuple[
     """A moment of the first life of a train of 200 m."""
     values: dict[str, Any] = {"life": 1, "length": 20_000, "maximum": 160_000, **more}
     return Moment(Answer(mode, brake, limit, b""), track(*names), **values)
+
+
+class Kept(unittest.TestCase):
+    """The files of a drive that was found."""
+
+    def test_a_file_that_came_during_the_search_stays(self) -> None:
+        kind: hazard_search.Kind = ("H1", Mode.FULL_SUPERVISION, "")
+        steps: list[Step] = [{"cold": 0}, {"clock": 5}]
+        with tempfile.TemporaryDirectory() as room:
+            hazard_commands.keep(Path(room) / "new", kind, steps, Brake.NONE)
+            names = sorted(one.name for one in (Path(room) / "new").iterdir())
+            self.assertEqual(names, ["h1_fs_unexplained.1.json", "h1_fs_unexplained.case.yaml"])
+            for name in names:
+                folder = Path(room) / f"with-{name}"
+                folder.mkdir()
+                (folder / name).write_text("a letter")
+                with self.assertRaises(Failed) as found:
+                    hazard_commands.keep(folder, kind, steps, Brake.NONE)
+                self.assertEqual((str(found.exception), found.exception.status), (f"{folder / name}: already exists; name a new file", REFUSED))
+                self.assertEqual((folder / name).read_text(), "a letter")
 
 
 class Places(unittest.TestCase):

@@ -4,6 +4,7 @@ import time
 from pathlib import Path
 from types import SimpleNamespace
 
+from .. import files
 from ..program import FOUND, REFUSED, WRONG_WORDS, Failed
 from ..simulation import closed_loop
 from ..simulation.driving import MODES
@@ -54,12 +55,14 @@ def report_depths(search: Search, parts: list[hazard_search.Work]) -> None:
 
 
 def keep(folder: Path, kind: Kind, steps: list[Step], brake: Brake) -> None:
-    """Writes a drive as a test case, and the scenario of each life."""
+    """Writes a drive as a test case, and the scenario of each life, into files that aren't there yet."""
     folder.mkdir(parents=True, exist_ok=True)
     name = "_".join([kind[0], MODES[kind[1]], kind[2] or "unexplained"]).lower().replace(" ", "_").replace(".", "_")
-    for number, life in enumerate(hazard_search.lives_of(steps), 1):
-        (folder / f"{name}.{number}.json").write_text(Scenario(life["cold"], [], life["steps"]).text(), encoding="utf-8")
-    (folder / f"{name}.case.yaml").write_text(hazard_search.case_text(kind, steps, name, brake), encoding="utf-8", newline="\n")
+    texts = {f"{name}.{number}.json": Scenario(life["cold"], [], life["steps"]).text() for number, life in enumerate(hazard_search.lives_of(steps), 1)}
+    texts[f"{name}.case.yaml"] = hazard_search.case_text(kind, steps, name, brake)
+    for file, text in texts.items():
+        with files.new_file(folder / file) as out:
+            out.write(text.encode())
 
 
 def report(given: SimpleNamespace, search: Search) -> int:

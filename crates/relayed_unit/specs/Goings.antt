@@ -1,4 +1,6 @@
 -- What came of going on with a power-up (this project's profile).
+use Rattle.std.specs.Prelude.{Result, Ok, Err}
+use Rattle.unit_start.specs.declared.errors.OpenError.{OpenError}
 use Rattle.relayed_unit.specs.Relayed.{Relayed}
 use Rattle.relayed_unit.specs.Openings.{Opening}
 use Rattle.relayed_unit.specs.declared.powering_up.Going.{Going}
@@ -13,3 +15,9 @@ OnWants (a_going.Open u) P = Unit {0}
 abbrev pub OnOpen : Going → (Relayed → Type 0) → Type 0
 OnOpen (a_going.Wants o) P = Unit {0}
 OnOpen (a_going.Open u) P = P u
+
+-- where it ended the power-up, P is so of what that answers
+abbrev pub OnAnswer : Result Going OpenError → (Result Relayed OpenError → Type 0) → Type 0
+OnAnswer (Ok (a_going.Wants o)) P = Unit {0}
+OnAnswer (Ok (a_going.Open u)) P = P (Ok u)
+OnAnswer (Err e) P = P (Err e)

@@ -1,20 +1,19 @@
 -- What contracts see of a unit that hands out its requests (this project's profile). Requests are counted from the
 -- first of the list.
-use Rattle.std.specs.Prelude.{◌≡◌, ℕ, ◌+◌, ◌%◌, ◌≤◌, Bool, true, false, not, ◌&&◌, ◌||◌, nat_lt, if◌then◌else◌, List, [], ◌∷◌, length, Option, Some, None, option_map, Result, Ok, Err}
+use Rattle.std.specs.Prelude.{◌≡◌, ℕ, ◌+◌, ◌%◌, ◌≤◌, Bool, true, false, not, ◌&&◌, ◌||◌, nat_lt, if◌then◌else◌, List, [], length, Option, Some, None, option_map, Result, Ok, Err}
 use Rattle.arrayvec.specs.ArrayVec.{ArrayVec}
-use Rattle.disk.specs.State.{contents_of}
+use Rattle.disk.specs.State.{State, contents_of}
 use Rattle.disk.specs.declared.record.Call.{Call}
 use Rattle.events.specs.declared.input.Event.{Event}
-use Rattle.events.specs.declared.input.Event.TheVariants.{PowerUp}
 use Rattle.mode_table.specs.declared.statuses.Cold.{Cold}
 use Rattle.request_disk.specs.Requests.{ends_in_sync}
 use Rattle.request_disk.specs.Requesting.{request_state, knows}
 use Rattle.onboard.specs.Answers.{flush_refusal, puts_block}
 use Rattle.onboard.specs.Flushes.{releases_in, without_disk, Flushes}
-use Rattle.unit_start.specs.Events.{record_of, IsAhead}
-use Rattle.unit_start.specs.Lives.{IsRecordedCold}
+use Rattle.unit_start.specs.PowersUp.{Continues, PowersUp}
 use Rattle.unit_start.specs.Releases.{Release}
-use Rattle.unit_start.specs.Written.{HasNewest}
+use Rattle.unit_start.specs.UnitState.{PartsState}
+use Rattle.unit_start.specs.declared.errors.OpenError.{OpenError}
 use Rattle.onboard.specs.declared.errors.FlushError.{FlushError}
 use Rattle.onboard.specs.declared.errors.FlushError.TheVariants as a_flush
 use Rattle.relayed_unit.specs.declared.errors.PrepareError.{PrepareError}
@@ -69,17 +68,17 @@ abbrev pub IsFlushed : List Release → Moored → Moored → Type 0
 IsFlushed outputs current next = (let answer : Result (ArrayVec Release) FlushError = Ok (record { items = outputs }) in
     Flushes releases_in (request_state current.reading.disk) (request_state next.reading.disk) (without_disk current.unit) (without_disk next.unit) answer)
 
--- ---- what a power-up puts on the disk
+-- ---- what a power-up leaves
 
--- It was powered up with this cold movement value after what an image of so many sectors has: the newest block of its disk is of format 3,
--- and has just the power-up's record and what is kept after it. The value that is recorded is the one that
--- the image leaves.
-abbrev pub HasPowerUp : ℕ → (ℕ → List ℕ) → Cold → Moored → Type 0
-HasPowerUp sectors image cold current = (found : List Event) × (power_up_cold : Cold)
-    × IsAhead (PowerUp power_up_cold ∷ found) (PowerUp power_up_cold ∷ found) current.unit.life
-    × HasNewest current.reading.disk.sectors (record_of found (PowerUp power_up_cold) ∷ []) (PowerUp power_up_cold ∷ found)
-    (contents_of (request_state current.reading.disk))
-    × IsRecordedCold sectors image cold power_up_cold
+-- it was powered up with this cold movement value over a disk that was so before
+abbrev pub PoweredUp : State → Cold → Moored → Type 0
+PoweredUp before cold current = (let answer : Result PartsState OpenError = Ok (without_disk current.unit) in
+    PowersUp cold before (request_state current.reading.disk) answer)
+
+-- it goes on from that disk, which was ready for these lists
+abbrev pub Continued : ℕ → List Event → List Event → Cold → State → Moored → Type 0
+Continued whole_from durable accepted cold before current = (let answer : Result PartsState OpenError = Ok (without_disk current.unit) in
+    Continues whole_from durable accepted cold before (request_state current.reading.disk) answer)
 
 -- ---- the gate that a flush has to know
 

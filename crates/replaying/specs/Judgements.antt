@@ -38,10 +38,10 @@ abbrev pub GoesOn : Format → BlockRecord → Judged → Judged → Option Foun
 GoesOn format r (is.Agrees old) judged found = IsRun (λ at. StandsAfter at old) format r judged found
 GoesOn format r old judged found = (judged ≡ old) × (found ≡ None)
 
--- a power-up, after any story after which this is kept
-abbrev pub PowersUp : Event → Format → Kept → BlockRecord → Judged → Judged → Option Found → Type 0
-PowersUp (PowerUp cold) format kept r old judged found = IsRun (λ at. IsAfter kept cold at) format r judged found
-PowersUp (Input input) format kept r old judged found = GoesOn format r old judged found
+-- a power-up begins after any story after which this is kept; an input goes on
+abbrev pub BeginsOrGoesOn : Event → Format → Kept → BlockRecord → Judged → Judged → Option Found → Type 0
+BeginsOrGoesOn (PowerUp cold) format kept r old judged found = IsRun (λ at. IsAfter kept cold at) format r judged found
+BeginsOrGoesOn (Input input) format kept r old judged found = GoesOn format r old judged found
 
 -- within a block a life goes on from what the kernel keeps of the one before, where that is replayed
 abbrev pub within_block : Judged → Judged
@@ -55,7 +55,7 @@ unknown_after unknown judged = is.Unknown unknown
 
 -- the power-up of a life, after what was kept before it, or where nobody knows that
 abbrev pub Begins : Result Kept Unknown → Format → BlockRecord → Judged → Judged → Option Found → Type 0
-Begins (Ok kept) format r old judged found = PowersUp r.event format kept r old judged found
+Begins (Ok kept) format r old judged found = BeginsOrGoesOn r.event format kept r old judged found
 Begins (Err unknown) format r old judged found = GoesOn format r (unknown_after unknown old) judged found
 
 -- ---- heads

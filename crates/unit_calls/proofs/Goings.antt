@@ -1,15 +1,11 @@
 -- What came of going on, as the call says it.
-use Rattle.std.proofs.Common.{◌≡◌, ℕ, ◌∷◌, [], List, false, Option, Some, None, Result, Ok, Err, IfOk, IfSome, IsSome, is_some, sym, subst}
+use Rattle.std.proofs.Common.{◌≡◌, ℕ, [], List, false, Option, Some, None, Result, Ok, Err, IfOk, IfSome, IsSome, is_some, sym, subst}
 use Rattle.events.specs.declared.input.Event.{Event}
-use Rattle.events.specs.declared.input.Event.TheVariants.{PowerUp}
-use Rattle.journal.specs.Journals.{IsOpen}
-use Rattle.mode_table.specs.declared.statuses.Cold.{Cold}
-use Rattle.unit_start.specs.Events.{account_of, IsAhead}
-use Rattle.unit_start.specs.Lives.{IsReady, Opens}
+use Rattle.unit_start.specs.Lives.{IsReady}
 use Rattle.unit_start.specs.declared.errors.OpenError.{OpenError}
-use Rattle.request_disk.specs.Requesting.{request_state}
 use Rattle.relayed_unit.specs.Goings.{OnOpen}
 use Rattle.relayed_unit.specs.Openings.{Opening, medium_state, IsGoing}
+use Rattle.relayed_unit.specs.Relayed.{Continued}
 use Rattle.relayed_unit.specs.declared.powering_up.Going.{Going}
 use Rattle.relayed_unit.specs.declared.powering_up.Going.TheVariants as a_going
 use Rattle.unit_calls.specs.PowerUps.{before_any, IsUp}
@@ -24,10 +20,7 @@ pub ups : (before : Opening) (reported : Result Going OpenError)
     → IfOk reported (λ g. OnOpen g (λ u. IfSome u.moored (λ current. current.reading.disk.sectors ≡ before.disk.sectors)))
     → ((medium : List ℕ) (whole_from : ℕ) (durable accepted : List Event) → IsGoing medium before →
     IsReady whole_from durable accepted (medium_state medium before.disk.sectors) →
-    IfOk reported (λ g. OnOpen g (λ u. IfSome u.moored (λ current. (found : List Event) × (power_up_cold : Cold)
-    × Opens whole_from durable accepted found before.cold power_up_cold (medium_state medium before.disk.sectors) (request_state current.reading.disk)
-    × IsOpen current.unit.journal (account_of whole_from (PowerUp power_up_cold ∷ found)) (request_state current.reading.disk)
-    × IsAhead (PowerUp power_up_cold ∷ found) (PowerUp power_up_cold ∷ found) current.unit.life))))
+    IfOk reported (λ g. OnOpen g (λ u. IfSome u.moored (Continued whole_from durable accepted before.cold (medium_state medium before.disk.sectors)))))
     → (medium : List ℕ) → IsGoing medium before → IfOk reported (λ g. OnOpen g (IsUp (before_any medium before.disk.sectors) before.cold))
 ups before (Err e) fresh there sectors up medium going = tt
 ups before (Ok (a_going.Wants current)) fresh there sectors up medium going = tt

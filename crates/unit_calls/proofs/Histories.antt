@@ -1,6 +1,7 @@
 -- What stays so, whatever happens.
 use Rattle.std.proofs.Common.{◌≡◌, ◌⊎◌, inl, inr, ℕ, ◌+◌, ◌≤◌, false, List, [], ◌∷◌, ◌++◌, length, map, take, Option, Some, None, Result, Ok, Err, refl, sym, ◌∙◌, ap, subst, arith}
 use Rattle.std.specs.Prelude.{◌==◌, ◌*◌, ◌/◌, IsSome, MatchOption}
+use Rattle.std.proofs.lemmas.Option.{IfSome_then}
 use Rattle.std.proofs.lemmas.Bool.{false≢true}
 use Rattle.std.proofs.lemmas.List.{append-nil}
 use Rattle.disk.specs.State.{State, Platter, contents_of, IsImage}
@@ -10,17 +11,15 @@ use Rattle.events.specs.declared.input.Event.{Event}
 use Rattle.events.specs.declared.input.Event.TheVariants.{PowerUp}
 use Rattle.events.specs.declared.input.Input.{Input}
 use Rattle.c_numbers.specs.Numbers.{this_abi}
-use Rattle.journal.specs.Journals.{IsOpen}
-use Rattle.request_disk.specs.Requesting.{request_state}
+use Rattle.request_disk.specs.Requesting.{copy_of, request_state}
 use Rattle.mode_table.specs.declared.statuses.Cold.{Cold}
-use Rattle.unit_start.specs.Events.{account_of, IsAhead}
-use Rattle.unit_start.specs.Lives.{Describes, DescribesEither, IsReady, Opens, IsOfOpening}
+use Rattle.unit_start.specs.Lives.{Describes, DescribesEither, IsReady, IsOfOpening}
 use Rattle.unit_start.specs.Releases.{Release}
 use Rattle.unit_start.specs.declared.errors.OpenError.{OpenError}
 use Rattle.unit_start.proofs.Opening.{ready_after}
-use Rattle.relayed_unit.specs.Relayed.{Relayed, list_of, written_of, sectors_in}
+use Rattle.relayed_unit.specs.Relayed.{Relayed, list_of, written_of, sectors_in, PoweredUp, Continued}
 use Rattle.relayed_unit.specs.declared.moored.Moored.{Moored}
-use Rattle.unit_calls.specs.Handles.{OnHandle, OnHandleInto, Takes, Prepares, Says, Fails, Handing, Releases, IsPoweredUp, IsLeft, PowersUp, OpensFrom}
+use Rattle.unit_calls.specs.Handles.{OnHandle, OnHandleInto, Takes, Prepares, Says, Fails, Handing, Releases, IsPoweredUp, IsLeft, PowersUpInto, OpensFrom}
 use Rattle.unit_calls.specs.Histories.{Scene, Happening, Opening, Finishing, Taking, Preparing, Providing, Carrying, Saying, Failing, Releasing, Asking, Closing, Cutting, Happens, AllHappen, IsPartOf, outputs_of, HasAll, AreOnMedium, HandedOutIsOnMedium}
 use Rattle.unit_calls.specs.Mediums.{at_rest, carried_out, IsReadFrom}
 use Rattle.unit_calls.specs.Outputs.{description_of}
@@ -58,9 +57,7 @@ module _ (whole_from sectors : ℕ) (handed : List EtcsOutput) (medium : Platter
       ready_after whole_from sectors held_list.0 begin size (λ s. refl) (subst C same held_list.3)
 
   abbrev Stands : Moored → Type 0
-  Stands current = (found : List Event) × (power_up_cold : Cold) × Opens whole_from held_list.0 held_list.0 found cold power_up_cold begin (request_state current.reading.disk)
-      × IsOpen current.unit.journal (account_of whole_from (PowerUp power_up_cold ∷ found)) (request_state current.reading.disk)
-      × IsAhead (PowerUp power_up_cold ∷ found) (PowerUp power_up_cold ∷ found) current.unit.life
+  Stands current = Continued whole_from held_list.0 held_list.0 cold begin current
 
   found_all : (found : List Event) → (found ≡ held_list.0) ⊎ (found ≡ held_list.0) → found ≡ held_list.0
   found_all found (inl is) = is
@@ -74,9 +71,11 @@ module _ (whole_from sectors : ℕ) (handed : List EtcsOutput) (medium : Platter
 
   floats_up : (current : Moored) (outputs : List Release) (done carried : ℕ) → current.reading.disk.sectors ≡ n → outputs ≡ [] → done ≡ 0 → carried ≡ 0 → Stands current
       → Floats whole_from sectors handed medium carried current.reading.disk current.unit.journal current.unit.life outputs done
-  floats_up current outputs done carried its_size none undone begins (found, recorded_cold, opens, standing, ahead) =
-      let is : found ≡ held_list.0 = found_all found opens.found_is in
-      let each = opens.at_each_moment in
+  floats_up current outputs done carried its_size none undone begins up =
+      let found : List Event = up.found in
+      let recorded_cold : Cold = up.power_up_cold in
+      let is : found ≡ held_list.0 = found_all found up.opens.found_is in
+      let each = up.opens.at_each_moment in
       let P : ℕ → (ℕ → List ℕ) → Type 0 = λ n c. IsOfOpening whole_from n held_list.0 held_list.0 found recorded_cold c in
       let back : held_list.0 ≡ found = sym is in
       let G : List Event → Type 0 = λ l. IsPartOf handed (outputs_of l) in
@@ -92,8 +91,8 @@ module _ (whole_from sectors : ℕ) (handed : List EtcsOutput) (medium : Platter
         accepted = PowerUp recorded_cold ∷ found;
         more = PowerUp recorded_cold ∷ [];
         begins = refl;
-        opened = standing;
-        ahead = ahead;
+        opened = up.opened;
+        ahead = up.ahead;
         given = given;
         held = subst H (sym none) (subst N (sym (append-nil handed)) (part_longer handed found (PowerUp recorded_cold ∷ found) (PowerUp recorded_cold ∷ []) refl given));
         moments = λ k most c image_is. of_opening found recorded_cold c is (subst (λ (m : ℕ). P m c) size (each.each k (omega arith) most c image_is));
@@ -122,8 +121,16 @@ module _ (whole_from sectors : ℕ) (handed : List EtcsOutput) (medium : Platter
   left_on : (reported : Result Relayed OpenError) (after : Option Opened) (carried : ℕ) (status : Status) → carried ≡ 0 → IsPoweredUp image cold reported → IsLeft reported after status
       → Kept whole_from sectors after handed medium carried
   left_on (Ok u) after carried status begins its left =
+      let copy : State = request_state (copy_of image) in
+      let Up : Moored → Type 0 = λ current. PoweredUp copy cold current in
       stands_on whole_from sectors handed medium (take (512 * (length image / 512)) image) (length image / 512) cold read.size read.contents read.synced on u after carried status begins
-      (record { fresh = its.fresh; there = its.there; sectors = its.sectors; up = its.up }) left
+      (record {
+        fresh = its.fresh;
+        there = its.there;
+        sectors = IfSome_then u.moored {P = Up} {Q = λ current. current.reading.disk.sectors ≡ length image / 512} its.powers_up (λ current up. up.counted.sectors);
+        up = λ from durable accepted ready. IfSome_then u.moored {P = Up} {Q = λ current. Continued from durable accepted cold copy current} its.powers_up (λ current up. up.up from durable accepted refl ready);
+      })
+      left
   left_on (Err e) None carried status begins its left = on
   left_on (Err e) (Some opened) carried status begins its left = absurd left
 
@@ -131,7 +138,7 @@ module _ (whole_from sectors : ℕ) (handed : List EtcsOutput) (medium : Platter
   closed_on : (after : Option Opened) (carried : ℕ) → after ≡ None → Kept whole_from sectors after handed medium carried
   closed_on after carried is = let K : Option Opened → Type 0 = λ o. Kept whole_from sectors o handed medium carried in subst K (sym is) on
 
-  powers_on : (cold : Option Cold) (after : Option Opened) (carried : ℕ) (status : Status) → carried ≡ 0 → PowersUp image cold after status → Kept whole_from sectors after handed medium carried
+  powers_on : (cold : Option Cold) (after : Option Opened) (carried : ℕ) (status : Status) → carried ≡ 0 → PowersUpInto image cold after status → Kept whole_from sectors after handed medium carried
   powers_on None after carried status begins its = closed_on after carried its.1
   powers_on (Some cold) after carried status begins (reported, up, left) = left_on whole_from sectors handed medium image cold read on reported after carried status begins up left
 
@@ -195,7 +202,7 @@ released_in whole_from sectors handed handed' medium carried carried' h (Some be
 opened_in : (whole_from sectors : ℕ) (handed : List EtcsOutput) (medium : Platter) (carried carried' : ℕ) (image : List ℕ) (cold abi : ℕ) (old new : Option Opened) (status : Status)
     → OpensFrom image cold abi old new status → (old ≡ None → IsReadFrom sectors image medium) → MatchOption old (carried' ≡ 0) (λ opened. carried' ≡ carried)
     → Kept whole_from sectors old handed medium carried → Kept whole_from sectors new handed medium carried'
-opened_in whole_from sectors handed medium carried carried' image cold abi None new status its read begins kept = either_way (abi == this_abi) (PowersUp image (cold_by cold) new status) ((status ≡ a_status.OtherAbi) × (new ≡ None)) (Kept whole_from sectors new handed medium carried')
+opened_in whole_from sectors handed medium carried carried' image cold abi None new status its read begins kept = either_way (abi == this_abi) (PowersUpInto image (cold_by cold) new status) ((status ≡ a_status.OtherAbi) × (new ≡ None)) (Kept whole_from sectors new handed medium carried')
     (λ up. powers_on whole_from sectors handed medium image (read refl) kept (cold_by cold) new carried' status begins up)
     (λ other. closed_on whole_from sectors handed medium image (read refl) kept new carried' other.1)
     its

@@ -1,14 +1,14 @@
 -- What going on with a power-up leaves in its handle and in that of the unit (this project's profile).
-use Rattle.std.specs.Prelude.{◌≡◌, ◌⊎◌, ℕ, ◌<◌, ◌≤◌, List, [], Option, Some, None, Result, Ok, Err, IfOk, IfErr, IfSome, MatchResult, false}
+use Rattle.std.specs.Prelude.{◌≡◌, ℕ, ◌<◌, ◌≤◌, List, Option, Some, None, Result, Ok, Err, IfOk, IfErr, IfSome, false}
 use Rattle.disk.specs.State.{contents_of}
-use Rattle.events.specs.declared.input.Event.{Event}
+use Rattle.onboard.specs.Flushes.{without_disk}
 use Rattle.unit_start.specs.Answers.{is_device}
-use Rattle.unit_start.specs.Lives.{IsReady, IsOpenRefusal, HasNoCause}
+use Rattle.unit_start.specs.PowersUp.{IsFresh, IsAnswerTo}
 use Rattle.unit_start.specs.declared.errors.OpenError.{OpenError}
 use Rattle.unit_start.specs.declared.errors.OpenError.TheVariants as an_open
-use Rattle.relayed_unit.specs.Goings.{OnWants, OnOpen}
+use Rattle.relayed_unit.specs.Goings.{OnWants, OnOpen, OnAnswer}
 use Rattle.relayed_unit.specs.Openings.{Opening, medium_state, still_needed, IsGoing, IsWanted, IsFurther}
-use Rattle.relayed_unit.specs.Relayed.{HasPowerUp, WantsNothing}
+use Rattle.relayed_unit.specs.Relayed.{WantsNothing}
 use Rattle.relayed_unit.specs.declared.powering_up.Going.{Going}
 use Rattle.relayed_unit.specs.declared.powering_up.Going.TheVariants as a_going
 use Rattle.unit_calls.specs.Handles.{IsLeft}
@@ -29,34 +29,19 @@ pub record IsGoneOn (before : Opening) (reported : Result Going OpenError) : Typ
   -- what was found of the slots is never given up
   pub further : IfOk reported (λ g. OnWants g (λ current. IsFurther before.scan current.scan))
   -- nothing is pending, there is no moment yet, and no flush failed
-  pub fresh_unit : IfOk reported (λ g. OnOpen g (λ u. IfSome u.moored (λ current. (current.unit.life.records ≡ [])
-      × (current.unit.life.pairs ≡ []) × (current.unit.life.moment ≡ 0) × (current.unit.journal.failed ≡ false))))
+  pub fresh_unit : IfOk reported (λ g. OnOpen g (λ u. IfSome u.moored (λ current. IsFresh (without_disk current.unit))))
   -- a unit that came of it wants no sector
   pub wants_nothing : IfOk reported (λ g. OnOpen g (λ u. IfSome u.moored WantsNothing))
   -- the unit was powered up over a disk that holds what the medium held
   pub up : (medium : List ℕ) → IsGoing medium before →
       IfOk reported (λ g. OnOpen g (IsUp (before_any medium before.disk.sectors) before.cold))
-  -- the newest block is then that of the power-up's record and of what is kept after it
-  pub last : (medium : List ℕ) (whole_from : ℕ) (durable accepted : List Event) → IsGoing medium before →
-      IsReady whole_from durable accepted (medium_state medium before.disk.sectors) →
-      IfOk reported (λ g. OnOpen g (λ u. IfSome u.moored (HasPowerUp before.disk.sectors
-      (contents_of (medium_state medium before.disk.sectors)) before.cold)))
   -- no fault of the device comes of it
   pub no_device : IfErr reported (λ e. is_device e ≡ false)
-  -- each refusal but NoMemory has its cause
-  pub refused : (medium : List ℕ) → IsGoing medium before → IfErr reported (λ e. (e ≡ an_open.NoMemory)
-      ⊎ IsOpenRefusal before.disk.sectors (contents_of (medium_state medium before.disk.sectors)) e)
-  -- where it led to a unit there was no cause but a fault of the device
-  pub no_cause : (medium : List ℕ) → IsGoing medium before → IfOk reported (λ g. OnOpen g (λ u.
-      HasNoCause before.disk.sectors (contents_of (medium_state medium before.disk.sectors))))
+  -- each refusal has its cause on the medium, and each cause its refusal
+  pub answers : (medium : List ℕ) → IsGoing medium before →
+      OnAnswer reported (IsAnswerTo before.disk.sectors (contents_of (medium_state medium before.disk.sectors)))
   -- a medium of no sector isn't formatted
   pub none : before.disk.sectors ≡ 0 → reported ≡ Err an_open.NotFormatted
-  -- where a refusal has a cause, and there is a sector, no unit comes of it, and no other refusal but NoMemory and a fault
-  -- of the device
-  pub exact : (medium : List ℕ) → IsGoing medium before → 0 < before.disk.sectors → (e : OpenError) →
-      IsOpenRefusal before.disk.sectors (contents_of (medium_state medium before.disk.sectors)) e →
-      (e ≡ an_open.DeviceFault) ⊎ MatchResult reported (λ g. OnOpen g (λ u. ⊥))
-      (λ back. (back ≡ an_open.NoMemory) ⊎ ((back ≡ e) ⊎ (back ≡ an_open.DeviceFault)))
 
 -- it goes on in its handle and says so; else that has none, and the unit is in its own, or there was no memory for it
 -- there, or it was refused

@@ -1,10 +1,10 @@
 -- What the calls do to what a handle holds (this project's profile): None where no unit is open. `reported` is what the
 -- call of `RelayedUnit` answered, the status its number.
-use Rattle.std.specs.Prelude.{◌≡◌, ◌↔◌, ◌⊎◌, ℕ, ◌/◌, ◌<◌, ◌≤◌, ◌==◌, ◌∷◌, ◌||◌, nat_lt, Bool, true, false, if◌then◌else◌, List, [], length, Option, Some, None, IsSome, IfSome, Result, Ok, Err, IsOk, IfOk, IfErr, OnOk, OnErr, MatchOption, MatchResult, ⊤}
+use Rattle.std.specs.Prelude.{◌≡◌, ◌↔◌, ℕ, ◌/◌, ◌<◌, ◌≤◌, ◌==◌, ◌∷◌, ◌||◌, nat_lt, Bool, true, false, if◌then◌else◌, List, [], length, Option, Some, None, IsSome, IfSome, Result, Ok, Err, IsOk, IfOk, IfErr, OnOk, OnErr, MatchOption, ⊤}
 use Rattle.disk.specs.State.{contents_of, IsSynced}
 use Rattle.events.specs.Limits.{most_pending}
 use Rattle.events.specs.declared.input.Event.{Event}
-use Rattle.events.specs.declared.input.Event.TheVariants.{PowerUp, Input as an_input}
+use Rattle.events.specs.declared.input.Event.TheVariants.{Input as an_input}
 use Rattle.events.specs.declared.input.Input.{Input}
 use Rattle.events.specs.declared.step.Step.TheVariants.{Accept}
 use Rattle.c_numbers.specs.Numbers.{this_abi}
@@ -13,8 +13,8 @@ use Rattle.request_disk.specs.Requesting.{copy_of, request_state}
 use Rattle.mode_table.specs.declared.statuses.Cold.{Cold}
 use Rattle.unit_start.specs.Answers.{is_device}
 use Rattle.onboard.specs.Answers.{refusal_of, HasSpace}
-use Rattle.unit_start.specs.Events.{account_of, IsAhead}
-use Rattle.unit_start.specs.Lives.{IsReady, Opens, IsOpenRefusal, HasNoCause}
+use Rattle.unit_start.specs.Events.{IsAhead}
+use Rattle.unit_start.specs.PowersUp.{IsAnswerTo}
 use Rattle.unit_start.specs.Releases.{nothing_released}
 use Rattle.onboard.specs.Progress.{progress_of, go_on}
 use Rattle.onboard.specs.declared.errors.AcceptError.{AcceptError}
@@ -22,7 +22,7 @@ use Rattle.onboard.specs.declared.errors.AcceptError.TheVariants as an_accept
 use Rattle.unit_start.specs.declared.errors.OpenError.{OpenError}
 use Rattle.unit_start.specs.declared.errors.OpenError.TheVariants as an_open
 use Rattle.relayed_unit.specs.LifeNow.{DescribesLife}
-use Rattle.relayed_unit.specs.Relayed.{Relayed, Turns, list_of, requests_of, release_refusal, prepare_refusal, prepare_failed, wants_gate, IsFlushed, IsLeftBy, HasPowerUp, WantsNothing}
+use Rattle.relayed_unit.specs.Relayed.{Relayed, Turns, list_of, requests_of, release_refusal, prepare_refusal, prepare_failed, wants_gate, IsFlushed, IsLeftBy, PoweredUp, WantsNothing}
 use Rattle.relayed_unit.specs.declared.errors.PrepareError.{PrepareError}
 use Rattle.relayed_unit.specs.declared.life_now.LifeNow.{LifeNow}
 use Rattle.ring.specs.Account.{Account}
@@ -200,35 +200,16 @@ pub record IsPoweredUp (image : List ℕ) (cold : Cold) (reported : Result Relay
   pub fresh : IfOk reported (λ u. (u.outputs ≡ []) × (u.done ≡ 0) × (u.failed ≡ false))
   -- there is a unit
   pub there : IfOk reported (λ u. IsSome u.moored)
-  -- nothing is pending, there is no moment yet, and no flush failed
-  pub fresh_unit : IfOk reported (λ u. IfSome u.moored (λ current. (current.unit.life.records ≡ []) × (current.unit.life.pairs ≡ [])
-      × (current.unit.life.moment ≡ 0) × (current.unit.journal.failed ≡ false)))
-  -- the copy has the whole sectors of the bytes
-  pub sectors : IfOk reported (λ u. IfSome u.moored (λ current. current.reading.disk.sectors ≡ length image / 512))
-  -- and holds all of them
+  -- it is powered up over the copy, which has the whole sectors of the bytes
+  pub powers_up : IfOk reported (λ u. IfSome u.moored (PoweredUp (request_state (copy_of image)) cold))
+  -- the copy holds all of them
   pub whole : IfOk reported (λ u. IfSome u.moored (λ current. current.reading.disk.known ≡ None))
   -- no sector is wanted
   pub wants_nothing : IfOk reported (λ u. IfSome u.moored WantsNothing)
-  -- each refusal but NoMemory has its cause
-  pub refused : IfErr reported (λ e. (e ≡ an_open.NoMemory)
-      ⊎ IsOpenRefusal (length image / 512) (contents_of (request_state (copy_of image))) e)
+  -- each refusal has its cause, and each cause its refusal
+  pub answers : IsAnswerTo (length image / 512) (contents_of (request_state (copy_of image))) reported
   -- the copy never runs out of memory
   pub space : IfErr reported (λ e. is_device e ≡ false)
-  -- where it is opened no refusal had one
-  pub no_cause : OnOk reported (HasNoCause (length image / 512) (contents_of (request_state (copy_of image))))
-  -- where a refusal has one, and there is a sector, it comes, unless memory was refused
-  pub exact : 0 < length image / 512 → (e : OpenError) →
-      IsOpenRefusal (length image / 512) (contents_of (request_state (copy_of image))) e →
-      (e ≡ an_open.DeviceFault) ⊎ MatchResult reported (λ current. ⊥) (λ back. (back ≡ e) ⊎ (back ≡ an_open.NoMemory))
-  -- after each number of requests each image is one that a power-up may leave of these bytes
-  pub up : (whole_from : ℕ) (durable accepted : List Event) → IsReady whole_from durable accepted (request_state (copy_of image)) →
-      IfOk reported (λ u. IfSome u.moored (λ current. (found : List Event) × (power_up_cold : Cold)
-      × Opens whole_from durable accepted found cold power_up_cold (request_state (copy_of image)) (request_state current.reading.disk)
-      × IsOpen current.unit.journal (account_of whole_from (PowerUp power_up_cold ∷ found)) (request_state current.reading.disk)
-      × IsAhead (PowerUp power_up_cold ∷ found) (PowerUp power_up_cold ∷ found) current.unit.life))
-  -- the newest block is then that of the power-up's record and of what is kept after it
-  pub last : (whole_from : ℕ) (durable accepted : List Event) → IsReady whole_from durable accepted (request_state (copy_of image)) →
-      IfOk reported (λ u. IfSome u.moored (HasPowerUp (length image / 512) (contents_of (request_state (copy_of image))) cold))
 
 -- the unit is in the handle, or there was no memory for it there; a refusal leaves none
 abbrev pub IsLeft : Result Relayed OpenError → Option Opened → Status → Type 0
@@ -238,15 +219,15 @@ IsLeft (Err e) None status = status ≡ of_open e
 IsLeft (Err e) (Some opened) status = ⊥
 
 -- a power-up with this cold movement value, where there is one, into a handle that has no unit
-abbrev pub PowersUp : List ℕ → Option Cold → Option Opened → Status → Type 0
-PowersUp image None after status = (status ≡ a_status.OutOfRange) × (after ≡ None)
-PowersUp image (Some cold) after status = (reported : Result Relayed OpenError) × IsPoweredUp image cold reported × IsLeft reported after status
+abbrev pub PowersUpInto : List ℕ → Option Cold → Option Opened → Status → Type 0
+PowersUpInto image None after status = (status ≡ a_status.OutOfRange) × (after ≡ None)
+PowersUpInto image (Some cold) after status = (reported : Result Relayed OpenError) × IsPoweredUp image cold reported × IsLeft reported after status
 
 -- the same into any handle: one that is open stays as it is
 abbrev pub OpensFrom : List ℕ → ℕ → ℕ → Option Opened → Option Opened → Status → Type 0
 OpensFrom image cold abi (Some before) after status = (status ≡ a_status.IsOpen) × (after ≡ Some before)
 OpensFrom image cold abi None after status =
-    IfElse (abi == this_abi) (PowersUp image (cold_by cold) after status) ((status ≡ a_status.OtherAbi) × (after ≡ None))
+    IfElse (abi == this_abi) (PowersUpInto image (cold_by cold) after status) ((status ≡ a_status.OtherAbi) × (after ≡ None))
 
 -- what closing answers
 abbrev pub closing : Option Opened → Status

@@ -1,15 +1,11 @@
 -- A unit that was powered up, in whatever way (this project's profile).
-use Rattle.std.specs.Prelude.{◌≡◌, ℕ, List, [], ◌∷◌, false, IsSome, IfSome}
+use Rattle.std.specs.Prelude.{◌≡◌, ℕ, List, [], false, IsSome, IfSome}
 use Rattle.disk.specs.State.{State}
 use Rattle.disk.specs.Record.{state_of}
 use Rattle.events.specs.declared.input.Event.{Event}
-use Rattle.events.specs.declared.input.Event.TheVariants.{PowerUp}
-use Rattle.journal.specs.Journals.{IsOpen}
 use Rattle.mode_table.specs.declared.statuses.Cold.{Cold}
-use Rattle.unit_start.specs.Events.{account_of, IsAhead}
-use Rattle.unit_start.specs.Lives.{IsReady, Opens}
-use Rattle.relayed_unit.specs.Relayed.{Relayed}
-use Rattle.request_disk.specs.Requesting.{request_state}
+use Rattle.unit_start.specs.Lives.{IsReady}
+use Rattle.relayed_unit.specs.Relayed.{Relayed, Continued}
 
 -- a disk of so many sectors on a medium of these bytes, before any call
 abbrev pub before_any : List ℕ → ℕ → State
@@ -24,8 +20,5 @@ pub record IsUp (begin : State) (cold : Cold) (u : Relayed) : Type 0 where
   -- its disk has as many sectors
   pub sectors : IfSome u.moored (λ current. current.reading.disk.sectors ≡ begin.sectors)
   -- after each number of requests each image is one that a power-up may leave of what the disk held
-  pub up : (whole_from : ℕ) (durable accepted : List Event) → IsReady whole_from durable accepted begin → IfSome u.moored (λ current.
-      (found : List Event) × (power_up_cold : Cold)
-      × Opens whole_from durable accepted found cold power_up_cold begin (request_state current.reading.disk)
-      × IsOpen current.unit.journal (account_of whole_from (PowerUp power_up_cold ∷ found)) (request_state current.reading.disk)
-      × IsAhead (PowerUp power_up_cold ∷ found) (PowerUp power_up_cold ∷ found) current.unit.life)
+  pub up : (whole_from : ℕ) (durable accepted : List Event) → IsReady whole_from durable accepted begin
+      → IfSome u.moored (Continued whole_from durable accepted cold begin)

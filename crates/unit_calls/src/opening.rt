@@ -1,6 +1,6 @@
 //! Opening and closing.
 ghost use Rattle.std.specs.Prelude.{◌≡◌, None};
-ghost use Rattle.unit_calls.specs.Handles.{IsLeft, OpensFrom, PowersUp, closing};
+ghost use Rattle.unit_calls.specs.Handles.{IsLeft, OpensFrom, PowersUpInto, closing};
 
 use crate::call_values::cold_of_number;
 use crate::handle::{EtcsUnit, Opened, handle_of, taken};
@@ -38,7 +38,7 @@ pub fn put_unit(
 // Powers up into a handle that has no unit.
 fn power_up(alloc: Global, handle: &mut EtcsUnit, image: &[u8], cold: Option<Cold>) -> Status
     requires { handle.old.raw.value ≡ None }
-    ensures { PowersUp image.now cold handle.new.raw.value result }
+    ensures { PowersUpInto image.now cold handle.new.raw.value result }
 {
     let Some(cold) = cold else {
         return Status::OutOfRange;

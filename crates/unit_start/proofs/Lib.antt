@@ -6,3 +6,4 @@ pub mod Lists
 pub mod Meeting
 pub mod NewestBlock
 pub mod Opening
+pub mod PoweringUp

@@ -18,11 +18,8 @@ returns c =
       fresh_unit = e.fresh_unit;
       wants_nothing = e.wants_nothing;
       up = ups c.in-Some.unfinished c.go_on-reported.result e.fresh e.there e.sectors e.up;
-      last = e.last;
       no_device = e.no_device;
-      refused = e.refused;
-      no_cause = e.no_cause;
+      answers = e.answers;
       none = e.none;
-      exact = e.exact;
     })
     c.leave.ensures

@@ -1,11 +1,14 @@
 use Rattle.std.proofs.Common.{◌≡◌, ◌∷◌, false, inl, inr, [], List, refl, sym, subst, ap, IsTrue}
-use Rattle.disk.specs.State.{State}
+use Rattle.disk.specs.State.{State, contents_of, Counted}
 use Rattle.events.specs.declared.input.Event.{Event}
 use Rattle.events.specs.declared.input.Event.TheVariants.{PowerUp}
 use Rattle.mode_table.specs.declared.statuses.Cold.{Cold}
 use Rattle.unit_start.specs.Answers.{is_device, wants_memory}
 use Rattle.unit_start.specs.Events.{record_of}
 use Rattle.unit_start.specs.declared.errors.OpenError.{OpenError}
+use Rattle.unit_start.proofs.InParts.{cause_of}
+use Rattle.unit_start.proofs.PoweringUp.{counted_on}
+use Rattle.whole_lives.specs.Answers.{live_failed}
 use Rattle.whole_lives.specs.Runs.{IsOfLife, Lives}
 use Rattle.whole_lives.specs.Written.{LeavesLast}
 use Rattle.onboard.specs.Progress.{Progress}
@@ -17,42 +20,54 @@ use Rattle.whole_lives.proofs.living.live_into.Goals as goal
 
 pub returns-in-Ok-clause-life : goal.returns-in-Ok-clause-life
 returns-in-Ok-clause-life g c = λ whole_from d a honest ready.
-    let up = c.in-Ok.ensures.up whole_from d a honest ready in
-    let still : IsTrue (g.D.WriteDisk.state c.in-Ok.unit.disk).honest = subst IsTrue (sym c.in-Ok.ensures.counted.honest) honest in
-    let ran = c.run_into-result.ensures.ran whole_from (PowerUp up.1 ∷ up.0) still up.3 up.4 in
-    let lived = lives_ran whole_from d a up.0 c.args.cold up.1 c.args.steps.now (g.D.WriteDisk.state c.args.disk) (g.D.WriteDisk.state c.in-Ok.unit.disk) up.2 (g.D.WriteDisk.state c.run_into-result.new.unit.disk) [] ran.0 up.5 c.in-Ok.ensures.counted.sectors ran.2 in
-    let U : Type 0 = OnlyOpens whole_from d a up.0 up.1 (g.D.WriteDisk.state c.args.disk) (g.D.WriteDisk.state c.run_into-result.new.unit.disk) in
+    let up = c.in-Ok.ensures.powers_up.up whole_from d a honest ready in
+    let still : IsTrue (g.D.WriteDisk.state c.in-Ok.unit.disk).honest = subst IsTrue (sym c.in-Ok.ensures.powers_up.counted.honest) honest in
+    let ran = c.run_into-result.ensures.ran whole_from (PowerUp up.power_up_cold ∷ up.found) still up.opened up.ahead in
+    let lived = lives_ran whole_from d a up.found c.args.cold up.power_up_cold c.args.steps.now (g.D.WriteDisk.state c.args.disk) (g.D.WriteDisk.state c.in-Ok.unit.disk) up.opens (g.D.WriteDisk.state c.run_into-result.new.unit.disk) [] ran.0 up.recorded c.in-Ok.ensures.powers_up.counted.sectors ran.2 in
+    let U : Type 0 = OnlyOpens whole_from d a up.found up.power_up_cold (g.D.WriteDisk.state c.args.disk) (g.D.WriteDisk.state c.run_into-result.new.unit.disk) in
     let T : State → Type 0 = λ s. (x : List Event) × (w : Cold) × (given : List Released) × g.S.ReleaseSink.Gave c.args.sink.now given c.run_into-result.new.sink
     × (x' : Lives whole_from d a x c.args.cold w c.args.steps.now (g.D.WriteDisk.state c.args.disk) s [] given) × IsDone (PowerUp w ∷ x) c.args.steps.now (OnlyOpens whole_from d a x w (g.D.WriteDisk.state c.args.disk) s) c.run_into-result.result x'.steps_taken x'.durable_at_end x'.accepted_at_end x'.released
     × IsUnflushed whole_from (IsOfLife whole_from (g.D.WriteDisk.state c.args.disk).sectors d a x w) c.args.steps.now c.run_into-result.result x'.durable_at_end (g.D.WriteDisk.state c.args.disk) s
     × LeavesLast x w c.args.steps.now c.run_into-result.result s in
-    let I = IsOfLife whole_from (g.D.WriteDisk.state c.args.disk).sectors d a up.0 up.1 in
+    let I = IsOfLife whole_from (g.D.WriteDisk.state c.args.disk).sectors d a up.found up.power_up_cold in
     subst T (sym (ap g.D.WriteDisk.state c.close.ensures)) (
-      up.0,
-      up.1,
+      up.found,
+      up.power_up_cold,
       ran.0,
       ran.1,
       lived.0,
-      same_done (PowerUp up.1 ∷ up.0) c.args.steps.now U c.run_into-result.result _ _ _ _ _ _ _ _ lived.1 lived.2 lived.3 lived.4 (done_opened (PowerUp up.1 ∷ up.0) c.args.steps.now U c.run_into-result.result _ _ _ _ ran.3),
+      same_done (PowerUp up.power_up_cold ∷ up.found) c.args.steps.now U c.run_into-result.result _ _ _ _ _ _ _ _ lived.1 lived.2 lived.3 lived.4 (done_opened (PowerUp up.power_up_cold ∷ up.found) c.args.steps.now U c.run_into-result.result _ _ _ _ ran.3),
       same_unflushed whole_from I c.args.steps.now c.run_into-result.result ran.2.durable_at_end lived.0.durable_at_end (g.D.WriteDisk.state c.args.disk) (g.D.WriteDisk.state c.run_into-result.new.unit.disk) lived.2
-          (unflushed_on whole_from d a up.0 c.args.cold up.1 c.args.steps.now (g.D.WriteDisk.state c.args.disk) (g.D.WriteDisk.state c.in-Ok.unit.disk) up.2 (g.D.WriteDisk.state c.run_into-result.new.unit.disk) c.run_into-result.result ran.2.durable_at_end c.in-Ok.ensures.counted.sectors ran.4),
-      c.run_into-result.ensures.last whole_from up.0 (PowerUp up.1 ∷ up.0) still up.3 up.4 (record_of up.0 (PowerUp up.1) ∷ [], refl, up.6),
+          (unflushed_on whole_from d a up.found c.args.cold up.power_up_cold c.args.steps.now (g.D.WriteDisk.state c.args.disk) (g.D.WriteDisk.state c.in-Ok.unit.disk) up.opens (g.D.WriteDisk.state c.run_into-result.new.unit.disk) c.run_into-result.result ran.2.durable_at_end c.in-Ok.ensures.powers_up.counted.sectors ran.4),
+      c.run_into-result.ensures.last whole_from up.found (PowerUp up.power_up_cold ∷ up.found) still up.opened up.ahead (record_of up.found (PowerUp up.power_up_cold) ∷ [], refl, up.last),
     )
 
 pub returns-in-Err-clause-life : goal.returns-in-Err-clause-life
 returns-in-Err-clause-life g c = λ whole_from d a honest ready.
-    let back = c.in-Err.ensures.handed_back whole_from d a honest ready in
-    let lived = lives_refused whole_from d a back.0 c.args.cold back.1 c.args.steps.now (g.D.WriteDisk.state c.args.disk) (g.D.WriteDisk.state c.in-Err.disk) back.2 [] in
-    (back.0, back.1, [], g.met.S.ReleaseSink.none c.args.sink.now, lived.0, (lived.1, back.2.at_each_moment), (λ full. absurd cc), tt)
+    let back = c.in-Err.ensures.powers_up.up whole_from d a honest ready in
+    let lived = lives_refused whole_from d a back.found c.args.cold back.power_up_cold c.args.steps.now (g.D.WriteDisk.state c.args.disk) (g.D.WriteDisk.state c.in-Err.disk) back.opens [] in
+    (back.found, back.power_up_cold, [], g.met.S.ReleaseSink.none c.args.sink.now, lived.0, (lived.1, back.opens.at_each_moment), (λ full. absurd cc), tt)
+
+pub returns-in-Ok-clause-counted : goal.returns-in-Ok-clause-counted
+returns-in-Ok-clause-counted g c =
+    let old : State = g.D.WriteDisk.state c.args.disk in
+    let C : State → Type 0 = λ s. Counted (live_failed c.run_into-result.result) old s in
+    subst C (sym (ap g.D.WriteDisk.state c.close.ensures))
+    (counted_on (live_failed c.run_into-result.result) old (g.D.WriteDisk.state c.in-Ok.unit.disk) (g.D.WriteDisk.state c.run_into-result.new.unit.disk) c.in-Ok.ensures.powers_up.counted c.run_into-result.ensures.counted)
+
+pub returns-in-Err-clause-counted : goal.returns-in-Err-clause-counted
+returns-in-Err-clause-counted g c = c.in-Err.ensures.powers_up.counted
 
 pub returns-in-Ok-clause-stopped : goal.returns-in-Ok-clause-stopped
 returns-in-Ok-clause-stopped g c =
     let E : Progress → Type 0 = λ p. StepsEnd p c.args.steps.now c.run_into-result.result in
-    let fresh = c.in-Ok.ensures.fresh in
-    inr (c.in-Ok.unit.journal.newest, c.in-Ok.ensures.next, subst E (begins c.in-Ok.unit.journal c.in-Ok.unit.life fresh.0 fresh.2 fresh.3) c.run_into-result.ensures.stopped)
+    let fresh = c.in-Ok.ensures.powers_up.fresh in
+    inr (c.in-Ok.unit.journal.newest, c.in-Ok.ensures.powers_up.next, subst E (begins c.in-Ok.unit.journal c.in-Ok.unit.life fresh.0 fresh.2 fresh.3) c.run_into-result.ensures.stopped)
 
 pub returns-in-Err-clause-stopped : goal.returns-in-Err-clause-stopped
-returns-in-Err-clause-stopped g c = inl (c.in-Err.error, refl, c.in-Err.ensures.refused)
+returns-in-Err-clause-stopped g c =
+    let old : State = g.D.WriteDisk.state c.args.disk in
+    inl (c.in-Err.error, refl, λ honest. cause_of old.sectors (contents_of old) c.in-Err.error c.in-Err.ensures.memory (c.in-Err.ensures.powers_up.answers honest).refused)
 
 pub returns-in-Ok-clause-unopened : goal.returns-in-Ok-clause-unopened
 returns-in-Ok-clause-unopened g c = λ e is. absurd (not_opening c.run_into-result.result e c.run_into-result.ensures.named is)
@@ -70,10 +85,10 @@ pub returns-in-Err-clause-nothing_added : goal.returns-in-Err-clause-nothing_add
 returns-in-Err-clause-nothing_added g c = λ honest e is none.
     let same : c.in-Err.error ≡ e = cc is in
     let N : OpenError → Type 0 = λ x. is_device x ≡ false in
-    c.in-Err.ensures.nothing_added honest (subst N (sym same) none)
+    c.in-Err.ensures.powers_up.nothing_added honest (subst N (sym same) none)
 
 pub returns-in-Ok-clause-no_cause : goal.returns-in-Ok-clause-no_cause
-returns-in-Ok-clause-no_cause g c = λ honest extends. c.in-Ok.ensures.no_cause honest
+returns-in-Ok-clause-no_cause g c = λ honest extends. (c.in-Ok.ensures.powers_up.answers honest).no_cause
 
 pub returns-in-Err-clause-no_cause : goal.returns-in-Err-clause-no_cause
 returns-in-Err-clause-no_cause g c = λ honest extends. absurd (extends c.in-Err.error refl)

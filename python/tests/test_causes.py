@@ -22,13 +22,6 @@ def replayed(*lines: dict[str, object], **more: object) -> Journal:
 class Runs(unittest.TestCase):
     """The causes of an intervention."""
 
-    def test_speeds_in_one_unit(self) -> None:
-        """The columns of a report are in km/h, and so are its causes: 10,000 m/h are 10 km/h."""
-        self.assertEqual([Held(cause, 1, 1).says for cause in ("far_too_fast", "too_fast")],
-                         ["the speed was above the limit by more than 10 km/h, and the train has not stood since",
-                          "the speed was above the limit by more than 5 km/h, and not within it since"])
-        self.assertFalse([cause for cause in causes.CAUSES if "m/h" in Held(cause, 1, 1).says.replace("km/h", "")])
-
     def test_in_the_order_in_which_they_began(self) -> None:
         found = causes.of_run([3, 4, 6], [{"far_too_fast": 3}, None, {"in_trip": 5, "far_too_fast": 3}])
         self.assertEqual(found, [Held("far_too_fast", 3, 6), Held("in_trip", 5, 6)])

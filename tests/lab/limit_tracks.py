@@ -43,65 +43,65 @@ def danger_point(metres, release):
 # By hand. The train brakes with 70 cm/s^2 and without delay on level track: for a stop d cm ahead of its maximum safe front it may run v with
 # v^2 <= 2592 * 70 * d, for a speed u with v^2 <= u^2 + 2592 * 70 * d. The front is 500 cm ahead of the estimate, and 5 % of the way more.
 BY_HAND = (
-    ("no_speed", (), "; no train may run in this mode: 0 m/h (4.4)\n"),
-    ("national_staff_responsible", DRIVER, "; the limit is the national value V_NVSTFF: 40000 m/h (3.11.7, 3.18.2)\n"),
+    ("no_speed", (), "\n  no train may run in this mode: 0 km/h (4.4)\n"),
+    ("national_staff_responsible", DRIVER, "\n  the limit is the national value V_NVSTFF: 40 km/h (3.11.7, 3.18.2)\n"),
     ("national_override", (*DRIVER, "override"),
-     "; an override is active, and the limit is the national value V_NVSUPOVTRP: 30000 m/h (3.11.7, 3.18.2)\n"),
-    ("national_shunting", (*ENTERED, "choose-shunting"), "; the limit is the national value V_NVSHUNT: 30000 m/h (3.11.7, 3.18.2)\n"),
+     "\n  an override is active, and the limit is the national value V_NVSUPOVTRP: 30 km/h (3.11.7, 3.18.2)\n"),
+    ("national_shunting", (*ENTERED, "choose-shunting"), "\n  the limit is the national value V_NVSHUNT: 30 km/h (3.11.7, 3.18.2)\n"),
     ("national_unfitted", ("enter-identity A 1", "choose-level 0", TRAIN, "start"),
-     "; the limit is the national value V_NVUNFIT: 100000 m/h (3.11.7, 3.18.2)\n"),
+     "\n  the limit is the national value V_NVUNFIT: 100 km/h (3.11.7, 3.18.2)\n"),
     ("train_maximum", (*ENTERED, "enter-train-data 20000 25000 70 0 15", "start"),
-     "; the limit is the greatest speed of the train: 25000 m/h (3.11.8)\n"),
+     "\n  the limit is the greatest speed of the train: 25 km/h (3.11.8)\n"),
     # V_MAIN 6 is 30 km/h.
-    ("main_speed", (heard(authority(3_000, main=6), LEVEL, FAST), *DRIVER), "; the limit is V_MAIN of the authority: 30000 m/h (3.11.6)\n"),
+    ("main_speed", (heard(authority(3_000, main=6), LEVEL, FAST), *DRIVER), "\n  the limit is V_MAIN of the authority: 30 km/h (3.11.6)\n"),
     # At 29,000 the front is at 29,000 + 500 + 1,450, beyond the end at 30,000.
     ("end_speed", (heard(authority(300, end_speed=6), LEVEL, FAST), *DRIVER, *["move 10000 20000"] * 2, "move 9000 20000"),
-     "; the limit is V_LOA, the end of authority being reached: 30000 m/h (3.8)\n"),
+     "\n  the limit is V_LOA, the end of authority being reached: 30 km/h (3.8)\n"),
     ("static_speed", (heard(authority(3_000), LEVEL, statics((0, 12))), *DRIVER),
-     "; the limit is the static speed over the train: 60000 m/h at 0 cm (3.11.3)\n"),
+     "\n  the limit is the static speed over the train: 60 km/h at 0 m (3.11.3)\n"),
     # From 10 m beyond the group on for 500 m; at 2,000 the front is at 2,600.
     ("restriction", (heard("65: NID_TSR 9, D_TSR 10, L_TSR 500, Q_FRONT 1, V_TSR 4", authority(3_000), LEVEL, FAST), *DRIVER,
                      "move 2000 10000"),
-     "; the limit is that of a temporary speed restriction over the train: 20000 m/h at 1000 cm, number 9 (3.11.5)\n"),
+     "\n  the limit is that of a temporary speed restriction over the train: 20 km/h at 10 m, number 9 (3.11.5)\n"),
     ("restriction, in Staff Responsible", (*DRIVER, heard("65: NID_TSR 9, D_TSR 0, L_TSR 500, Q_FRONT 1, V_TSR 4")),
-     "; the limit is that of a temporary speed restriction over the train: 20000 m/h at 0 cm, number 9 (3.11.5); group 1 2 in mode SR, "
-     "direction not known: accepted, linking not being in use (3.4.4), packet 65 Temporary Speed Restriction\n"),
+     "\n  the limit is that of a temporary speed restriction over the train: 20 km/h at 0 m, number 9 (3.11.5)\n  group 1 2 in mode SR, "
+     "direction not known: accepted, linking not being in use (3.4.4)\n    packet 65 Temporary Speed Restriction\n"),
     # An On Sight area of 30 km/h from 10 m on.
     ("mode_area", (heard(authority(3_000), LEVEL, FAST, "80: D_MAMODE 10, M_MAMODE 0, V_MAMODE 6, L_MAMODE 500, L_ACKMAMODE 0, N_ITER 0"),
                    *DRIVER, "move 2000 10000"),
-     "; the limit is that of a mode area over the train: 30000 m/h at 1000 cm (3.12.4)\n"),
+     "\n  the limit is that of a mode area over the train: 30 km/h at 10 m (3.12.4)\n"),
     # 30,000^2 + 181,440 * 19,500 = 4,438,080,000, the square of 66,618.9.
     ("static_speed_ahead", (heard(authority(3_000), LEVEL, statics((0, 24), (200, 6))), *DRIVER),
-     "event 5: brake none, limit 66618 m/h, speed 0 m/h, rolled backward 0 cm of 200 cm; the limit is that of a static speed ahead: 30000 m/h "
+     "event 5: brake none, limit 66.618 km/h, speed 0 km/h\n  the limit is that of a static speed ahead: 30 km/h "
      "at 20000 cm (3.11.3, 3.13)\n"),
     # 181,440 * 19,500 = 3,538,080,000, the square of 59,481.7. A later packet 27 leaves the track unknown from 200 m on.
     ("unknown_speed_ahead", (heard(authority(3_000), LEVEL, FAST), *DRIVER, heard(statics((0, 24), (200, 127)), group=3)),
-     "event 6: brake none, limit 59481 m/h, speed 0 m/h, rolled backward 0 cm of 200 cm; the limit is that of a stop where no static speed is "
-     "known: 0 m/h at 20000 cm (3.11.3, 3.13); group 1 3 in mode FS, direction not known: accepted, linking "
-     "not being in use (3.4.4), packet 27 International Static Speed Profile\n"),
+     "event 6: brake none, limit 59.481 km/h, speed 0 km/h\n  the limit is that of a stop where no static speed is "
+     "known: 0 km/h at 200 m (3.11.3, 3.13)\n  group 1 3 in mode FS, direction not known: accepted, linking "
+     "not being in use (3.4.4)\n    packet 27 International Static Speed Profile\n"),
     ("restriction_ahead", (heard("65: NID_TSR 9, D_TSR 200, L_TSR 50, Q_FRONT 1, V_TSR 6", authority(3_000), LEVEL, FAST), *DRIVER),
-     "event 5: brake none, limit 66618 m/h, speed 0 m/h, rolled backward 0 cm of 200 cm; the limit is that of a temporary speed restriction "
-     "ahead: 30000 m/h at 20000 cm, number 9 (3.11.5, 3.13)\n"),
+     "event 5: brake none, limit 66.618 km/h, speed 0 km/h\n  the limit is that of a temporary speed restriction "
+     "ahead: 30 km/h at 200 m, number 9 (3.11.5, 3.13)\n"),
     ("mode_area_ahead", (heard(authority(3_000), LEVEL, FAST, "80: D_MAMODE 200, M_MAMODE 0, V_MAMODE 6, L_MAMODE 50, L_ACKMAMODE 0, N_ITER 0"),
                          *DRIVER),
-     "event 5: brake none, limit 66618 m/h, speed 0 m/h, rolled backward 0 cm of 200 cm; the limit is that of a mode area ahead: 30000 m/h at "
+     "event 5: brake none, limit 66.618 km/h, speed 0 km/h\n  the limit is that of a mode area ahead: 30 km/h at "
      "20000 cm (3.12.4, 3.13)\n"),
     # 181,440 * 29,500 = 5,352,480,000, the square of 73,160.6.
     ("end_of_authority", (heard(authority(300), LEVEL, FAST), *DRIVER),
-     "event 5: brake none, limit 73160 m/h, speed 0 m/h, rolled backward 0 cm of 200 cm; the limit is that of the end of authority: 0 m/h at "
+     "event 5: brake none, limit 73.16 km/h, speed 0 km/h\n  the limit is that of the end of authority: 0 km/h at "
      "30000 cm (3.8, 3.13)\n"),
     # A danger point at 32,000 with 100 km/h: 181,440 * 31,500 = 5,715,360,000, the square of 75,600.
     ("supervised_location", (heard(authority(300, beyond=danger_point(20, 20)), LEVEL, FAST), *DRIVER),
-     "event 5: brake none, limit 75600 m/h, speed 0 m/h, rolled backward 0 cm of 200 cm; the limit is that of the supervised location: 0 m/h at "
+     "event 5: brake none, limit 75.6 km/h, speed 0 km/h\n  the limit is that of the supervised location: 0 km/h at "
      "32000 cm (3.8, 3.13)\n"),
     # At 27,000 the front is at 27,000 + 500 + 1,350: for the end 14,444 m/h, for the danger point 23,906; 20 km/h to release.
     ("release_speed", (heard(authority(300, beyond=danger_point(20, 4)), LEVEL, FAST), *DRIVER, *["move 9000 10000"] * 3),
-     "event 8: brake none, limit 20000 m/h, speed 10000 m/h, rolled backward 0 cm of 200 cm; the limit is the release speed of the authority: "
-     "20000 m/h (3.8, 3.13)\n"),
+     "event 8: brake none, limit 20 km/h, speed 10 km/h\n  the limit is the release speed of the authority: "
+     "20 km/h (3.8, 3.13)\n"),
     # .. for a danger point at 40,000 it is 44,978, and V_NVREL is 40 km/h.
     ("national_release_speed", (heard(authority(300, beyond=danger_point(100, 127)), LEVEL, FAST), *DRIVER, *["move 9000 10000"] * 3),
-     "event 8: brake none, limit 40000 m/h, speed 10000 m/h, rolled backward 0 cm of 200 cm; the limit is the national release speed V_NVREL: "
-     "40000 m/h (3.8, 3.13)\n"),
+     "event 8: brake none, limit 40 km/h, speed 10 km/h\n  the limit is the national release speed V_NVREL: "
+     "40 km/h (3.8, 3.13)\n"),
 )
 
 # ---- pseudo-random tracks

@@ -38,14 +38,14 @@ SR = ("enter-identity A 1", "choose-level 1", "enter-train-data 20000 160000 70 
 BY_HAND = (
     ("not revalidated", (), 0, "the driver has not revalidated since the power-up (since event 0, ends when the driver has revalidated)"),
     ("far too fast", (*SR, "move 100 50001", "move 100 45000"), 6,
-     "the speed was above the limit by more than 10000 m/h, and the train has not stood since (since event 5, ends when the train stands)"),
+     "the speed was above the limit by more than 10 km/h, and the train has not stood since (since event 5, ends when the train stands)"),
     ("too fast", (*SR, "move 100 45001", "move 100 40001"), 6,
-     "the speed was above the limit by more than 5000 m/h, and not within it since (since event 5, ends when the speed is within the limit)"),
+     "the speed was above the limit by more than 5 km/h, and not within it since (since event 5, ends when the speed is within the limit)"),
     ("within the limit again", (*SR, "move 100 45001", "move 100 40000"), 6,
-     "event 6: brake none, limit 40000 m/h, speed 40000 m/h, rolled backward 0 cm of 200 cm; the limit is the national value "
-     "V_NVSTFF: 40000 m/h (3.11.7, 3.18.2)\n"),
+     "event 6: brake none, limit 40 km/h, speed 40 km/h\n  the limit is the national value "
+     "V_NVSTFF: 40 km/h (3.11.7, 3.18.2)\n"),
     ("rolled backward", (*SR, "move -150 1000", "move 20 1000", "move -51 1000"), 7,
-     "rolled backward 201 cm of 200 cm; the train rolled backward too far since it stood (since event 7, ends when the train stands, or a "
+     "rolled backward 2.01 m (2 m allowed)\n  because the train rolled backward too far since it stood (since event 7, ends when the train stands, or a "
      "greater D_NVROLL comes into force)"),
     ("moves in Stand By", ("move 5 1",), 1,
      "the train moves where it must stand (since event 1, ends when the train stands, or in another mode)"),
@@ -59,44 +59,44 @@ TRIPS_BY_HAND = (
     # Group 3 is announced 10 m ahead, to 5 m, with the reaction "trip". At 3,000 the minimum safe front is at 3,000 - 500 - 150.
     ("a group is missed", (heard("5: D_LINK 10, Q_NEWCOUNTRY 0, NID_BG 3, Q_LINKORIENTATION 1, Q_LINKREACTION 0, Q_LOCACC 5, N_ITER 0",
                                  authority(3_000), LEVEL, FAST), *SR, "move 3000 20000"), 6,
-     "; the train was tripped: linking or a balise group asked for it (event 6, 3.4.4, 3.16.2); no train may run in this mode: 0 m/h (4.4)\n"),
+     "\n  the train was tripped: linking or a balise group asked for it (event 6, 3.4.4, 3.16.2)\n  no train may run in this mode: 0 km/h (4.4)\n"),
     ("V_MAIN 0", (*SUPERVISED, heard(authority(3_000, main=0), group=3)), 6,
-     "; the train was tripped: an authority with V_MAIN 0 was used (event 6, 3.11.6); no train may run in this mode: 0 m/h (4.4); group 1 3 in "
-     "mode FS, direction not known: accepted, linking not being in use (3.4.4), packet 12 Level 1 Movement Authority\n"),
+     "\n  the train was tripped: an authority with V_MAIN 0 was used (event 6, 3.11.6)\n  no train may run in this mode: 0 km/h (4.4)\n  group 1 3 in "
+     "mode FS, direction not known: accepted, linking not being in use (3.4.4)\n    packet 12 Level 1 Movement Authority\n"),
     # D_NVSTFF is 40 m: a path of 4,000 cm isn't above it, one of 4,001 cm is.
     ("too far in Staff Responsible", (*SR, heard(NATIONAL, group=9), "move 4000 10000", "move 1 10000"), 7,
-     "; the train was tripped: the path in Staff Responsible was above D_NVSTFF (event 7, 4.4); no train may run in this mode: 0 m/h (4.4)\n"),
+     "\n  the train was tripped: the path in Staff Responsible was above D_NVSTFF (event 7, 4.4)\n  no train may run in this mode: 0 km/h (4.4)\n"),
     ("just as far in Staff Responsible", (*SR, heard(NATIONAL, group=9), "move 4000 10000", "move 1 10000"), 6,
-     "event 6: brake none, limit 40000 m/h, speed 10000 m/h, rolled backward 0 cm of 200 cm; the limit is the national value V_NVSTFF: "
-     "40000 m/h (3.11.7, 3.18.2)\n"),
+     "event 6: brake none, limit 40 km/h, speed 10 km/h\n  the limit is the national value V_NVSTFF: "
+     "40 km/h (3.11.7, 3.18.2)\n"),
     ("level 1 in Unfitted", ("enter-identity A 1", "choose-level 0", TRAIN, "start",
                              heard("41: D_LEVELTR 32767, M_LEVELTR 2, L_ACKLEVELTR 0, N_ITER 0")), 5,
-     "; the train was tripped: the level was 1, and the authority or the track ahead was not known (event 5, 5.10); no train may run in this "
-     "mode: 0 m/h (4.4); group 1 2 in mode UN, direction not known: accepted, linking not being in use (3.4.4), packet 41 Level Transition "
+     "\n  the train was tripped: the level was 1, and the authority or the track ahead was not known (event 5, 5.10)\n  no train may run in this "
+     "mode: 0 km/h (4.4)\n  group 1 2 in mode UN, direction not known: accepted, linking not being in use (3.4.4)\n    packet 41 Level Transition "
      "Order\n"),
     # It stays listed while the trip is owed.
     ("the event after a trip", (*SUPERVISED, heard(authority(3_000, main=0), group=3), "move 10 0"), 7,
-     "; the train was tripped: an authority with V_MAIN 0 was used (event 6, 3.11.6); no train may run in this mode: 0 m/h (4.4)\n"),
+     "\n  the train was tripped: an authority with V_MAIN 0 was used (event 6, 3.11.6)\n  no train may run in this mode: 0 km/h (4.4)\n"),
 )
 # .. and of the examples: in "trip" the minimum safe front is past the end of authority at event 10, which the driver acknowledges at event 13;
 # in "linking_fault" a group that was announced with the service brake is missed at event 11; in "on_sight" the acknowledgement that a
 # transition asked for at event 11 is owed for 5 s at event 12.
 IN_EXAMPLES = (
-    ("trip", 8, "event 8: brake emergency, limit 0 m/h, speed 15000 m/h, rolled backward 0 cm of 200 cm; the speed was above the limit by more "
-     "than 10000 m/h, and the train has not stood since (since event 8, ends when the train stands)"),
-    ("trip", 10, "; the mode is Trip (since event 10, ends when the driver acknowledges the trip at standstill); a trip is not acknowledged "
-     "(since event 10, ends when the driver acknowledges the trip at standstill); the speed was above the limit by more than 10000 m/h, and the "
-     "train has not stood since (since event 8, ends when the train stands); the speed was above the limit by more than 5000 m/h, and not within "
-     "it since (since event 8, ends when the speed is within the limit); the train was tripped: the minimum safe front was past the end of "
-     "authority (event 10, 4.6.3); no train may run in this mode: 0 m/h (4.4)\n"),
-    ("trip", 11, "rolled backward 0 cm of 200 cm; the mode is Trip (since event 10, ends when the driver acknowledges the trip at standstill); a "
-     "trip is not acknowledged (since event 10, ends when the driver acknowledges the trip at standstill); the train was tripped: the minimum "
-     "safe front was past the end of authority (event 10, 4.6.3); no train may run in this mode: 0 m/h (4.4)\n"),
-    ("trip", 13, "event 13: brake none, limit 0 m/h, speed 0 m/h, rolled backward 0 cm of 200 cm; no train may run in this mode: 0 m/h (4.4)\n"),
-    ("linking_fault", 11, "; linking or a balise group asked for the service brake, and the train has not stood since (since event 11, ends when "
-     "the train stands); the limit is the static speed over the train: 120000 m/h at 42250 cm (3.11.3)\n"),
-    ("on_sight", 12, "; an acknowledgement has been owed for 5000 ms or longer (since event 12, ends when the driver acknowledges, a mode "
-     "deletes it, or a further transition begins it anew); the limit is that of a mode area over the train: 30000 m/h at 40000 cm (3.12.4)\n"),
+    ("trip", 8, "event 8: brake emergency, limit 0 km/h, speed 15 km/h\n  because the speed was above the limit by more "
+     "than 10 km/h, and the train has not stood since (since event 8, ends when the train stands)"),
+    ("trip", 10, "\n  because the mode is Trip (since event 10, ends when the driver acknowledges the trip at standstill)\n  because a trip is not acknowledged "
+     "(since event 10, ends when the driver acknowledges the trip at standstill)\n  because the speed was above the limit by more than 10 km/h, and the "
+     "train has not stood since (since event 8, ends when the train stands)\n  because the speed was above the limit by more than 5 km/h, and not within "
+     "it since (since event 8, ends when the speed is within the limit)\n  the train was tripped: the minimum safe front was past the end of "
+     "authority (event 10, 4.6.3)\n  no train may run in this mode: 0 km/h (4.4)\n"),
+    ("trip", 11, "limit 0 km/h, speed 0 km/h\n  because the mode is Trip (since event 10, ends when the driver acknowledges the trip at standstill)\n  because a "
+     "trip is not acknowledged (since event 10, ends when the driver acknowledges the trip at standstill)\n  the train was tripped: the minimum "
+     "safe front was past the end of authority (event 10, 4.6.3)\n  no train may run in this mode: 0 km/h (4.4)\n"),
+    ("trip", 13, "event 13: brake none, limit 0 km/h, speed 0 km/h\n  no train may run in this mode: 0 km/h (4.4)\n"),
+    ("linking_fault", 11, "\n  because linking or a balise group asked for the service brake, and the train has not stood since (since event 11, ends when "
+     "the train stands)\n  the limit is the static speed over the train: 120 km/h at 422.5 m (3.11.3)\n"),
+    ("on_sight", 12, "\n  because an acknowledgement has been owed for 5 s or longer (since event 12, ends when the driver acknowledges, a mode "
+     "deletes it, or a further transition begins it anew)\n  the limit is that of a mode area over the train: 30 km/h at 400 m (3.12.4)\n"),
 )
 
 
@@ -152,7 +152,7 @@ class WhyRows(Compared):
     def by_hand(self):
         for name, data, asked, says in by_hand():
             self.met.update(word for word, sentence, _ in WORDS.values() if sentence in says)
-            self.met.update(kind for kind, (sentence, _) in KINDS.items() if f"; {sentence}: " in says)
+            self.met.update(kind for kind, (sentence, _) in KINDS.items() if f"\n  {sentence}: " in says)
             self.met.update(f"trip {why}" for why, (sentence, _) in TRIPS.items() if f"tripped: {sentence} (" in says)
             status, text = self.run(data, "@", str(asked))
             self.unless(status == 0 and says in text, f"by hand: {name}: status {status}, {text}--- wanted in it\n{says}")
@@ -160,7 +160,7 @@ class WhyRows(Compared):
     def groups_by_hand(self):
         for name, data, asked, says in groups_by_hand():
             status, text = self.run(data, "@", str(asked))
-            found = "".join(text.partition("; group")[1:])
+            found = "".join(text.partition("\n  group")[1:])
             self.unless(status == 0 and found == says + "\n" * bool(says), f"groups by hand: {name}: status {status}, {text}--- wanted in it\n{says}")
             self.met.update(f"group {kind}" for kind, (sentence, _) in GROUP_KINDS.items() if f": {sentence}" in says)
         _, data, asked, _ = next(groups_by_hand())

@@ -85,6 +85,6 @@ def line(closed, verdict, mode):
     group = members(closed, verdict, mode)
     announced = "" if group["announcement"] is None else f", announcement {group['announcement']}"
     asks = {"trip": ", asks for a trip", "service": ", asks for the service brake", None: ""}[group["reaction"]]
-    packets = "".join(f", packet {p['packet']} {p['name'] or 'without a name'}{SAID[p['why']]}" for p in group["packets"])
-    return (f"; group {group['country']} {group['group']} in mode {mode}, direction {group['direction'] or 'not known'}: {KINDS[group['outcome']][0]}"
+    packets = "".join(f"\n    packet {p['packet']} {p['name'] or 'without a name'}{SAID[p['why']]}" for p in group["packets"])
+    return (f"\n  group {group['country']} {group['group']} in mode {mode}, direction {group['direction'] or 'not known'}: {KINDS[group['outcome']][0]}"
             f"{announced}{asks} ({group['section']}){packets}")

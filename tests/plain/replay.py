@@ -86,9 +86,22 @@ def json_lines(objects):
 
 # ---- for people
 
-UNITS = {"_cm_per_s2": lambda number: f"{number // 100}.{number % 100:02} m/s2",
-         "_m_per_h": lambda number: f"{number // 1000}.{number % 1000:03} km/h", "_ms": lambda number: f"{number // 1000}.{number % 1000:03} s",
-         "_cm": lambda number: f"{'-' if number < 0 else ''}{abs(number) // 100}.{abs(number) % 100:02} m"}
+def decimal(number, parts):
+    """So many hundredths or thousandths, without zeros at the end."""
+    whole, part = divmod(abs(number), parts)
+    return f"{'-' if number < 0 else ''}{whole}.{part:0{len(str(parts)) - 1}}".rstrip("0").rstrip(".")
+
+
+def metres(number):
+    return f"{decimal(number, 100)} m"
+
+
+def km_per_h(number):
+    return f"{decimal(number, 1_000)} km/h"
+
+
+UNITS = {"_cm_per_s2": lambda number: f"{decimal(number, 100)} m/s2", "_m_per_h": km_per_h, "_ms": lambda number: f"{decimal(number, 1_000)} s",
+         "_cm": metres}
 
 
 def member_text(name, value):

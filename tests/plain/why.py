@@ -11,7 +11,7 @@ from pathlib import Path
 import output
 import group_words
 from limit_reasons import KINDS, limit_cause
-from replay import Walk, forms_of, json_lines
+from replay import Walk, forms_of, json_lines, km_per_h, metres
 
 WHOLE, REFUSED, LOST = 0, 1, 4
 
@@ -22,17 +22,17 @@ WORDS = {
     "mode SF": ("in_system_failure", "the mode is System Failure", "ends at a power-up alone"),
     "trip outstanding": ("owes_trip", "a trip is not acknowledged", "ends when the driver acknowledges the trip at standstill"),
     "above the limit by 10000": (
-        "far_too_fast", "the speed was above the limit by more than 10000 m/h, and the train has not stood since", "ends when the train stands"),
+        "far_too_fast", "the speed was above the limit by more than 10 km/h, and the train has not stood since", "ends when the train stands"),
     "rolled back too far": (
         "rolled_too_far", "the train rolled backward too far since it stood", "ends when the train stands, or a greater D_NVROLL comes into force"),
     "service asked for": (
         "service_brake_requested", "linking or a balise group asked for the service brake, and the train has not stood since",
         "ends when the train stands"),
     "above the limit by 5000": (
-        "too_fast", "the speed was above the limit by more than 5000 m/h, and not within it since", "ends when the speed is within the limit"),
+        "too_fast", "the speed was above the limit by more than 5 km/h, and not within it since", "ends when the speed is within the limit"),
     "moves in standstill": ("must_stand", "the train moves where it must stand", "ends when the train stands, or in another mode"),
     "owed too long": (
-        "owes_too_long", "an acknowledgement has been owed for 5000 ms or longer",
+        "owes_too_long", "an acknowledgement has been owed for 5 s or longer",
         "ends when the driver acknowledges, a mode deletes it, or a further transition begins it anew"),
 }
 
@@ -89,16 +89,17 @@ class Reasons:
 
     def line(self, number):
         (answer, speed, backward, allowed), decides = self.numbers(), self.decides
-        causes = [f"; {why} (since event {self.since[wanted]}, {ends})" for wanted, (_, why, ends) in WORDS.items() if wanted in self.since]
+        causes = [f"\n  because {why} (since event {self.since[wanted]}, {ends})" for wanted, (_, why, ends) in WORDS.items() if wanted in self.since]
         if self.trip:
             why, sections = TRIPS[self.trip[0]]
-            causes.append(f"; the train was tripped: {why} (event {self.trip[1]}, {sections})")
+            causes.append(f"\n  the train was tripped: {why} (event {self.trip[1]}, {sections})")
         says, sections = KINDS[decides.kind]
-        place = "" if decides.place is None else f" at {decides.place} cm"
+        place = "" if decides.place is None else f" at {metres(decides.place)}"
         groups = "".join(group_words.line(*group) for group in self.life.now.groups)
         named = "" if decides.number is None else f", number {decides.number}"
-        return (f"event {number}: brake {answer.brake}, limit {answer.limit} m/h, speed {speed} m/h, rolled backward {backward} cm of "
-                f"{allowed} cm" + "".join(causes) + f"; {says}: {decides.speed} m/h{place}{named} ({sections})" + groups)
+        rolled = f", rolled backward {metres(backward)} ({metres(allowed)} allowed)" if backward else ""
+        return (f"event {number}: brake {answer.brake}, limit {km_per_h(answer.limit)}, speed {km_per_h(speed)}{rolled}" + "".join(causes)
+                + f"\n  {says}: {km_per_h(decides.speed)}{place}{named} ({sections})" + groups)
 
 
 class Why(Walk):

@@ -2,6 +2,7 @@
 use crate::group::{GroupLine, PacketLine, Unused};
 use crate::line::{Answer, Causes, EventLine, WhyLine};
 use kernel::BrakeCause;
+use line_sinks::{LengthText, PlaceText, SpeedText};
 use reasons::{
     ending, group_section, group_sentence, limit_section, limit_sentence, sentence, trip_section,
     trip_sentence,
@@ -14,12 +15,19 @@ use vars::{LinkOrientation, LinkReaction};
 impl fmt::Display for Answer {
     fn fmt<W: fmt::Write>(&self, f: &mut fmt::Formatter<W>) -> fmt::Result {
         let (event, brake) = (self.event, brake_name(self.brake));
-        let (limit, speed) = (self.limit_m_per_h, self.speed_m_per_h);
-        let (backward, allowed) = (self.backward_cm, self.allowed_backward_cm);
+        let (limit, speed) = (SpeedText(self.limit_m_per_h), SpeedText(self.speed_m_per_h));
         write!(
             f,
-            "event {event}: brake {brake}, limit {limit} m/h, speed {speed} m/h, rolled backward {backward} cm of {allowed} cm"
-        )
+            "event {event}: brake {brake}, limit {limit}, speed {speed}"
+        )?;
+        if self.backward_cm == 0 {
+            return Ok(());
+        }
+        let (backward, allowed) = (
+            LengthText(self.backward_cm),
+            LengthText(self.allowed_backward_cm),
+        );
+        write!(f, ", rolled backward {backward} ({allowed} allowed)")
     }
 }
 
@@ -49,23 +57,24 @@ impl fmt::Display for Causes {
         for (cause, first) in self.of_brake() {
             if let Some(first) = first {
                 let (what, end) = (sentence(cause), ending(cause));
-                write!(f, "; {what} (since event {first}, {end})")?;
+                write!(f, "\n  because {what} (since event {first}, {end})")?;
             }
         }
         if let (Some(cause), Some(event)) = (self.trip_cause, self.trip_cause_event) {
             let (why, section) = (trip_sentence(cause), trip_section(cause));
             write!(
                 f,
-                "; the train was tripped: {why} (event {event}, {section})"
+                "\n  the train was tripped: {why} (event {event}, {section})"
             )?;
         }
         let (what, speed) = (
             limit_sentence(self.limit_cause),
-            self.limit_cause_speed_m_per_h,
+            SpeedText(self.limit_cause_speed_m_per_h),
         );
-        write!(f, "; {what}: {speed} m/h")?;
+        write!(f, "\n  {what}: {speed}")?;
         if let Some(place) = self.limit_cause_place_cm {
-            write!(f, " at {place} cm")?;
+            let place = PlaceText(place);
+            write!(f, " at {place}")?;
         }
         if let Some(number) = self.limit_cause_number {
             write!(f, ", number {number}")?;
@@ -126,7 +135,7 @@ impl fmt::Display for GroupLine {
         let (reaction, section) = (reaction_text(self.reaction), group_section(self.section));
         write!(f, "{reaction} ({section})")?;
         for packet in self.packets.as_slice() {
-            write!(f, ", {packet}")?;
+            write!(f, "\n    {packet}")?;
         }
         Ok(())
     }
@@ -137,7 +146,7 @@ impl fmt::Display for EventLine {
         let (answer, causes) = (&self.answer, &self.causes);
         write!(f, "{answer}{causes}")?;
         for group in self.groups.as_slice() {
-            write!(f, "; {group}")?;
+            write!(f, "\n  {group}")?;
         }
         Ok(())
     }

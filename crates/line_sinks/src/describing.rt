@@ -12,22 +12,88 @@ enum Unit {
     MetresPerHour,
 }
 
-// A number in seconds, metres, metres per square second or kilometres per hour: its thousandths or hundredths come after
-// the point.
+// A number with its thousandths after the point, without zeros at the end: 300, 0.5, 39.271.
+fn write_decimal<W: fmt::Write>(
+    whole: u64,
+    thousandths: u64,
+    f: &mut fmt::Formatter<W>,
+) -> fmt::Result {
+    write!(f, "{whole}")?;
+    let (tenths, hundredths) = (thousandths / 100, thousandths / 10);
+    if thousandths == 0 {
+        Ok(())
+    } else if thousandths % 100 == 0 {
+        write!(f, ".{tenths}")
+    } else if thousandths % 10 == 0 {
+        write!(f, ".{hundredths:02}")
+    } else {
+        write!(f, ".{thousandths:03}")
+    }
+}
+
+fn write_thousandths<W: fmt::Write>(
+    number: u64,
+    unit: &str,
+    f: &mut fmt::Formatter<W>,
+) -> fmt::Result {
+    write_decimal(number / 1000, number % 1000, f)?;
+    write!(f, " {unit}")
+}
+
+fn write_hundredths<W: fmt::Write>(
+    number: u64,
+    unit: &str,
+    f: &mut fmt::Formatter<W>,
+) -> fmt::Result {
+    write_decimal(number / 100, number % 100 * 10, f)?;
+    write!(f, " {unit}")
+}
+
+// A number in seconds, metres, metres per square second or kilometres per hour.
 fn write_number<W: fmt::Write>(
     sign: &str,
     number: u64,
     unit: Unit,
     f: &mut fmt::Formatter<W>,
 ) -> fmt::Result {
-    let (whole, thousandths) = (number / 1000, number % 1000);
-    let (metres, hundredths) = (number / 100, number % 100);
+    f.write_str(sign)?;
     match unit {
-        Unit::None => write!(f, "{sign}{number}"),
-        Unit::Milliseconds => write!(f, "{sign}{whole}.{thousandths:03} s"),
-        Unit::Centimetres => write!(f, "{sign}{metres}.{hundredths:02} m"),
-        Unit::CentimetresPerSquareSecond => write!(f, "{sign}{metres}.{hundredths:02} m/s2"),
-        Unit::MetresPerHour => write!(f, "{sign}{whole}.{thousandths:03} km/h"),
+        Unit::None => write!(f, "{number}"),
+        Unit::Milliseconds => write_thousandths(number, "s", f),
+        Unit::Centimetres => write_hundredths(number, "m", f),
+        Unit::CentimetresPerSquareSecond => write_hundredths(number, "m/s2", f),
+        Unit::MetresPerHour => write_thousandths(number, "km/h", f),
+    }
+}
+
+/// Prints metres per hour in kilometres per hour, as `39.271 km/h`.
+#[derive(Clone, Copy)]
+pub struct SpeedText(pub u32);
+
+impl fmt::Display for SpeedText {
+    fn fmt<W: fmt::Write>(&self, f: &mut fmt::Formatter<W>) -> fmt::Result {
+        write_number("", u64::from(self.0), Unit::MetresPerHour, f)
+    }
+}
+
+/// Prints centimetres in metres, as `1.5 m`.
+#[derive(Clone, Copy)]
+pub struct LengthText(pub u64);
+
+impl fmt::Display for LengthText {
+    fn fmt<W: fmt::Write>(&self, f: &mut fmt::Formatter<W>) -> fmt::Result {
+        write_number("", self.0, Unit::Centimetres, f)
+    }
+}
+
+/// Prints a place in centimetres in metres, as `-1.5 m`.
+#[derive(Clone, Copy)]
+pub struct PlaceText(pub i64);
+
+impl fmt::Display for PlaceText {
+    fn fmt<W: fmt::Write>(&self, f: &mut fmt::Formatter<W>) -> fmt::Result {
+        let sign = if self.0 < 0 { "-" } else { "" };
+        write_number(sign, self.0.unsigned_abs(), Unit::Centimetres, f)
     }
 }
 

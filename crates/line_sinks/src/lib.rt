@@ -7,7 +7,7 @@ mod kept;
 mod sink;
 mod values;
 
-pub use describing::{describe_lines, describe_value};
+pub use describing::{LengthText, PlaceText, SpeedText, describe_lines, describe_value};
 pub use items::Items;
 pub use kept::{
     KeptValues, LevelObject, NationalObject, PositionObject, Status, TrainObject, write_ascii,

@@ -22,13 +22,13 @@ sentence_of cause.InTrip = codes "the mode is Trip"
 sentence_of cause.InSystemFailure = codes "the mode is System Failure"
 sentence_of cause.OwesTrip = codes "a trip is not acknowledged"
 sentence_of cause.FarTooFast =
-    codes "the speed was above the limit by more than 10000 m/h, and the train has not stood since"
+    codes "the speed was above the limit by more than 10 km/h, and the train has not stood since"
 sentence_of cause.RolledTooFar = codes "the train rolled backward too far since it stood"
 sentence_of cause.ServiceBrakeRequested =
     codes "linking or a balise group asked for the service brake, and the train has not stood since"
-sentence_of cause.TooFast = codes "the speed was above the limit by more than 5000 m/h, and not within it since"
+sentence_of cause.TooFast = codes "the speed was above the limit by more than 5 km/h, and not within it since"
 sentence_of cause.MustStand = codes "the train moves where it must stand"
-sentence_of cause.OwesTooLong = codes "an acknowledgement has been owed for 5000 ms or longer"
+sentence_of cause.OwesTooLong = codes "an acknowledgement has been owed for 5 s or longer"
 
 abbrev pub ending_of : BrakeCause → List ℕ
 ending_of cause.NotRevalidated = codes "ends when the driver has revalidated"

@@ -32,14 +32,14 @@ pub fn sentence(cause: BrakeCause) -> &'static str
         BrakeCause::InSystemFailure => "the mode is System Failure",
         BrakeCause::OwesTrip => "a trip is not acknowledged",
         BrakeCause::FarTooFast =>
-            "the speed was above the limit by more than 10000 m/h, and the train has not stood since",
+            "the speed was above the limit by more than 10 km/h, and the train has not stood since",
         BrakeCause::RolledTooFar => "the train rolled backward too far since it stood",
         BrakeCause::ServiceBrakeRequested =>
             "linking or a balise group asked for the service brake, and the train has not stood since",
         BrakeCause::TooFast =>
-            "the speed was above the limit by more than 5000 m/h, and not within it since",
+            "the speed was above the limit by more than 5 km/h, and not within it since",
         BrakeCause::MustStand => "the train moves where it must stand",
-        BrakeCause::OwesTooLong => "an acknowledgement has been owed for 5000 ms or longer",
+        BrakeCause::OwesTooLong => "an acknowledgement has been owed for 5 s or longer",
     }
 }
 

@@ -6,7 +6,6 @@ its life, so the causes of a line hold up to the next one. They are those of the
 replay agrees with the journal; elsewhere the causes aren't known, and the reason is given.
 """
 import bisect
-import re
 from collections.abc import Iterable, Iterator
 from dataclasses import dataclass
 
@@ -17,16 +16,16 @@ CAUSES = {
     "in_trip": ("the mode is Trip", "ends when the driver acknowledges the trip at standstill"),
     "in_system_failure": ("the mode is System Failure", "ends at a power-up alone"),
     "owes_trip": ("a trip is not acknowledged", "ends when the driver acknowledges the trip at standstill"),
-    "far_too_fast": ("the speed was above the limit by more than 10000 m/h, and the train has not stood since",
+    "far_too_fast": ("the speed was above the limit by more than 10 km/h, and the train has not stood since",
                      "ends when the train stands"),
     "rolled_too_far": ("the train rolled backward too far since it stood",
                        "ends when the train stands, or a greater D_NVROLL comes into force"),
     "service_brake_requested": ("linking or a balise group asked for the service brake, and the train has not stood since",
                           "ends when the train stands"),
-    "too_fast": ("the speed was above the limit by more than 5000 m/h, and not within it since",
+    "too_fast": ("the speed was above the limit by more than 5 km/h, and not within it since",
                  "ends when the speed is within the limit"),
     "must_stand": ("the train moves where it must stand", "ends when the train stands, or in another mode"),
-    "owes_too_long": ("an acknowledgement has been owed for 5000 ms or longer",
+    "owes_too_long": ("an acknowledgement has been owed for 5 s or longer",
                       "ends when the driver acknowledges, a mode deletes it, or a further transition begins it anew")}
 """The meaning of each cause and how it ends, in the order of the brake table and the wording of `etcs_lab why`."""
 TRIP_CAUSES = {
@@ -157,8 +156,8 @@ class Held:
 
     @property
     def says(self) -> str:
-        """Its meaning, with speeds in km/h as in the columns of a report."""
-        return re.sub(r"\b(\d+) m/h", lambda found: f"{int(found[1]) / 1000:g} km/h", CAUSES[self.cause][0])
+        """Its meaning."""
+        return CAUSES[self.cause][0]
 
     @property
     def ends(self) -> str:

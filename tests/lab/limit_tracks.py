@@ -73,7 +73,7 @@ BY_HAND = (
     # 30,000^2 + 181,440 * 19,500 = 4,438,080,000, the square of 66,618.9.
     ("static_speed_ahead", (heard(authority(3_000), LEVEL, statics((0, 24), (200, 6))), *DRIVER),
      "event 5: brake none, limit 66.618 km/h, speed 0 km/h\n  the limit is that of a static speed ahead: 30 km/h "
-     "at 20000 cm (3.11.3, 3.13)\n"),
+     "at 200 m (3.11.3, 3.13)\n"),
     # 181,440 * 19,500 = 3,538,080,000, the square of 59,481.7. A later packet 27 leaves the track unknown from 200 m on.
     ("unknown_speed_ahead", (heard(authority(3_000), LEVEL, FAST), *DRIVER, heard(statics((0, 24), (200, 127)), group=3)),
      "event 6: brake none, limit 59.481 km/h, speed 0 km/h\n  the limit is that of a stop where no static speed is "
@@ -85,15 +85,15 @@ BY_HAND = (
     ("mode_area_ahead", (heard(authority(3_000), LEVEL, FAST, "80: D_MAMODE 200, M_MAMODE 0, V_MAMODE 6, L_MAMODE 50, L_ACKMAMODE 0, N_ITER 0"),
                          *DRIVER),
      "event 5: brake none, limit 66.618 km/h, speed 0 km/h\n  the limit is that of a mode area ahead: 30 km/h at "
-     "20000 cm (3.12.4, 3.13)\n"),
+     "200 m (3.12.4, 3.13)\n"),
     # 181,440 * 29,500 = 5,352,480,000, the square of 73,160.6.
     ("end_of_authority", (heard(authority(300), LEVEL, FAST), *DRIVER),
      "event 5: brake none, limit 73.16 km/h, speed 0 km/h\n  the limit is that of the end of authority: 0 km/h at "
-     "30000 cm (3.8, 3.13)\n"),
+     "300 m (3.8, 3.13)\n"),
     # A danger point at 32,000 with 100 km/h: 181,440 * 31,500 = 5,715,360,000, the square of 75,600.
     ("supervised_location", (heard(authority(300, beyond=danger_point(20, 20)), LEVEL, FAST), *DRIVER),
      "event 5: brake none, limit 75.6 km/h, speed 0 km/h\n  the limit is that of the supervised location: 0 km/h at "
-     "32000 cm (3.8, 3.13)\n"),
+     "320 m (3.8, 3.13)\n"),
     # At 27,000 the front is at 27,000 + 500 + 1,350: for the end 14,444 m/h, for the danger point 23,906; 20 km/h to release.
     ("release_speed", (heard(authority(300, beyond=danger_point(20, 4)), LEVEL, FAST), *DRIVER, *["move 9000 10000"] * 3),
      "event 8: brake none, limit 20 km/h, speed 10 km/h\n  the limit is the release speed of the authority: "

@@ -143,6 +143,9 @@ grep -q 'generator" content="gaknifur lab"' "$room/work/report.html" || fails "l
 tried=$((tried + 1))
 inside lab test "$root/usr/share/gaknifur/suites" -k trip >"$room/printed" 2>&1 && grep -qE '^[1-9][0-9]* passed' "$room/printed" ||
     { fails "lab test:"; tail -n 5 "$room/printed"; }
+for one in ada/etcs_c.ads rust/etcs-unit-sys/src/declared.rs rust/etcs-unit/src/numbers.rs; do
+    [ -s "$root/usr/share/gaknifur/bindings/$one" ] || fails "there is no bindings/$one"
+done
 grep -q 'etcs_unit_release' "$root/usr/share/doc/gaknifur/html/c/etcs__unit_8h.html" || fails "there are no pages of the headers"
 wants "import gaknifur" "agrees" inside "$python" -c 'import gaknifur; print(*{one.verdict.name.lower() for one in gaknifur.replay("image")})'
 refuses "etcs --prove" "its repository proves" inside etcs --prove

@@ -157,6 +157,7 @@ ETCS_UNIT_LIB=$prefix/lib RUSTFLAGS='-D warnings' cargo build --quiet --offline 
 ETCS_UNIT_LIB=$prefix/lib RUSTFLAGS='-D warnings' cargo test --quiet --offline --locked --manifest-path "$top/bindings/rust/etcs-unit/Cargo.toml" --target-dir "$made/rust" --test refusals \
     >"$made/said" 2>&1 && grep -q '^test result: ok. 4 passed' "$made/said" || { cat "$made/said"; fails "the tests of bindings/rust/etcs-unit: failures, or other than 4"; }
 mkdir "$made/ada"
+"$top/tools/bindings" || fails "tools/bindings fails"
 for one in "$top/examples/embedding/ada/brake.adb" "$top/tests/unit/limits.adb"; do
     name=$(basename "${one%b}a")
     gnatmake -q -gnat2012 -gnata -gnatwa -gnatwe -I"$top/bindings/ada" -I"$top/examples/embedding/ada" -D "$made/ada" "$one" -o "$made/$name" -largs "$archive" && built=$((built + 1)) ||

@@ -91,4 +91,4 @@ def enums_module(enums, declared):
 
 def paths(top: Path):
     """Where the two texts belong."""
-    return top / "bindings/rust/etcs-unit-sys/src/lib.rs", top / "bindings/rust/etcs-unit/src/numbers.rs"
+    return top / "bindings/rust/etcs-unit-sys/src/declared.rs", top / "bindings/rust/etcs-unit/src/numbers.rs"

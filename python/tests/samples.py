@@ -1,4 +1,6 @@
-"""A journal as `etcs_lab` might say it, made without any program."""
+"""A journal as `etcs_lab` might say it, made without any program, and tests in a folder of their own."""
+import tempfile
+import unittest
 from pathlib import Path
 from typing import Any
 
@@ -11,6 +13,13 @@ AUTHORITY: Json = {
     "packets": [{"packet": 12, "fields": [["NID_PACKET", 12], ["Q_DIR", 2], ["L_PACKET", 73], ["Q_SCALE", 1],
                                           ["L_SECTION", 200], ["L_ENDSECTION", 100]]}],
     "bits": 243}
+
+
+class InFolder(unittest.TestCase):
+    """Tests in a folder of their own."""
+
+    def setUp(self) -> None:
+        self.room = Path(self.enterContext(tempfile.TemporaryDirectory()))
 
 
 def record(event: int, kind: str = "clock", **more: Any) -> Json:

@@ -5,7 +5,6 @@ import os
 import pickle
 import random
 import re
-import shutil
 import sys
 import tempfile
 import types
@@ -27,7 +26,7 @@ from gaknifur.simulation import campaign, campaign_jobs, campaign_table, dask_sc
 from gaknifur.simulation.campaign import MOST_AT_ONCE, Batches, Job, Row
 from gaknifur.testing import soundness
 
-from .samples import AUTHORITY, journal, record
+from .samples import AUTHORITY, InFolder, journal, record
 
 LOST = ("12", "13", "14", "16")
 
@@ -83,13 +82,12 @@ class Handed(unittest.TestCase):
         self.assertEqual(self.handed([], 1.0), [])
 
 
-class Folders(unittest.TestCase):
+class Folders(InFolder):
     """The scenarios of a folder."""
 
     def setUp(self) -> None:
-        room = tempfile.TemporaryDirectory()
-        self.addCleanup(room.cleanup)
-        self.folder, self.out = Path(room.name, "folder"), Path(room.name, "out.db")
+        super().setUp()
+        self.folder, self.out = Path(self.room, "folder"), Path(self.room, "out.db")
         self.names = ["0/b.json", "0 c.json", "0/a/c.json", "1\u202e.json", "d.json", "a b.json"]
         for name in [*self.names, "no scenario.txt", ".json", "case.json/none"]:
             path = self.folder / name

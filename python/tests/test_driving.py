@@ -24,7 +24,7 @@ from gaknifur.unit import Brake, Indication, Level, Mode, Output
 from gaknifur.yaml_files import document
 
 from .plain_unit import PlainUnit
-from .samples import record
+from .samples import InFolder, record
 
 # An authority of 300 m. At a place of x cm the maximum safe front is at 1.05 * x + 500, so the limit is 0 from 28,095 cm on.
 DRIVE = """\
@@ -175,13 +175,12 @@ class Drivers(unittest.TestCase):
         self.assertEqual(Driving(Driver("nothing", 4_000)).decide(99_000, 0, 500), (1.0, 0.0))
 
 
-class Loops(unittest.TestCase):
+class Loops(InFolder):
     """Drives over the plain kernel."""
 
     def setUp(self) -> None:
-        folder = tempfile.TemporaryDirectory()
-        self.addCleanup(folder.cleanup)
-        self.folder = Path(folder.name)
+        super().setUp()
+        self.folder = self.room
         decodes = patch("gaknifur.program.decode", plain_lines)
         decodes.start()
         self.addCleanup(decodes.stop)

@@ -6,7 +6,6 @@ import os
 import socket
 import sqlite3
 import subprocess
-import tempfile
 import unittest
 from collections.abc import Callable
 from pathlib import Path
@@ -25,7 +24,7 @@ from gaknifur.testing import scenarios
 from gaknifur.testing.scenarios import Scenario
 from gaknifur.unit import Medium, MemoryMedium
 
-from .samples import journal, record
+from .samples import InFolder, journal, record
 
 TOP = Path(__file__).resolve().parents[2]
 IMAGE = files.IMAGE_MARK + bytes(504)
@@ -33,13 +32,8 @@ TABLE = b"block,event,life,stretch,kind,time_ms,mode,level\n"
 NAMES = ("a#b", "a?b", "a%41", "a b\n", "a'b\"", os.fsdecode(b"a\xff"), "\u202ea")
 
 
-class Room(unittest.TestCase):
+class Room(InFolder):
     """A folder of its own."""
-
-    def setUp(self) -> None:
-        folder = tempfile.TemporaryDirectory()
-        self.addCleanup(folder.cleanup)
-        self.room = Path(folder.name)
 
     def file(self, name: str, data: bytes) -> Path:
         """A file that is there."""

@@ -1,8 +1,5 @@
 """Line books: the lives over a line, findings of several lives, explanations, and tables of balises (docs/howto/line.md)."""
-import tempfile
-import unittest
 from dataclasses import replace
-from pathlib import Path
 
 from gaknifur.line import book, findings, lives, tables
 from gaknifur.line.book import Book, Explained, Group
@@ -11,6 +8,8 @@ from gaknifur.line.lives import Life, Unread
 from gaknifur.program import Failed
 from gaknifur.testing import sequences
 from gaknifur.yaml_files import Value, document
+
+from .samples import InFolder
 
 TRAIN = """\
 enter_train_data: {length: 60 m, maximum: 100 km/h, deceleration: 0.9 m/s2}
@@ -27,13 +26,8 @@ telegram:
 """
 
 
-class InAFolder(unittest.TestCase):
+class InAFolder(InFolder):
     """A test with a folder of its own."""
-
-    def setUp(self) -> None:
-        folder = tempfile.TemporaryDirectory()
-        self.addCleanup(folder.cleanup)
-        self.room = Path(folder.name)
 
     def value(self, text: str) -> Value:
         """A YAML file."""

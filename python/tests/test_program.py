@@ -16,7 +16,7 @@ from gaknifur.journal.reading import Journal, Records, read
 from gaknifur.program import Failed, Ran, etcs, find, proof
 from gaknifur.simulation import campaign_table
 
-from .samples import journal, line, record
+from .samples import InFolder, journal, line, record
 
 TOP = Path(__file__).resolve().parents[2]
 STAND_IN = """#!/bin/sh
@@ -26,16 +26,15 @@ exit "$(cat "$0.$1.status" 2>/dev/null || echo 0)"
 """
 
 
-class Reading(unittest.TestCase):
+class Reading(InFolder):
     """What comes of lines and statuses."""
 
     def setUp(self) -> None:
-        folder = tempfile.TemporaryDirectory()
-        self.addCleanup(folder.cleanup)
-        self.program = Path(folder.name) / "etcs_lab"
+        super().setUp()
+        self.program = self.room / "etcs_lab"
         self.program.write_text(STAND_IN)
         self.program.chmod(0o755)
-        self.image = Path(folder.name) / "image"
+        self.image = self.room / "image"
         self.image.write_bytes(b"image")
         before = os.environ.get("GAKNIFUR_ETCS_LAB")
         os.environ["GAKNIFUR_ETCS_LAB"] = str(self.program)
@@ -126,13 +125,12 @@ class Reading(unittest.TestCase):
             self.assertRaisesRegex(Failed, message, self.read)
 
 
-class Whole(unittest.TestCase):
+class Whole(InFolder):
     """A program that is run to its end, and reported all at once."""
 
     def setUp(self) -> None:
-        folder = tempfile.TemporaryDirectory()
-        self.addCleanup(folder.cleanup)
-        self.path = Path(folder.name) / "program"
+        super().setUp()
+        self.path = self.room / "program"
 
     def ran(self, text: str) -> Ran:
         """What a shell's text comes to."""

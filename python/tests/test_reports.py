@@ -3,7 +3,6 @@ import csv
 import io
 import re
 import sqlite3
-import tempfile
 import unittest
 from pathlib import Path
 
@@ -16,7 +15,7 @@ from gaknifur.journal.extent import Extent, bound
 from gaknifur.journal.reading import Journal, Json
 from gaknifur.program import Failed
 
-from .samples import AUTHORITY, action, journal, line, reading, record
+from .samples import AUTHORITY, InFolder, action, journal, line, reading, record
 
 RUN = (record(0, "powerup", mode="SB", brake="emergency"), record(1, "telegram", telegram="90", decoded=AUTHORITY),
        reading(2, 30_000), reading(3, 55_000, brake="emergency", indications=["overspeed"]), reading(4, 0, brake="none"))
@@ -283,13 +282,12 @@ class Parts(unittest.TestCase):
         self.assertEqual(len(Extent(life=2).take(table)), 0)
 
 
-class Databases(unittest.TestCase):
+class Databases(InFolder):
     """The database."""
 
     def setUp(self) -> None:
-        folder = tempfile.TemporaryDirectory()
-        self.addCleanup(folder.cleanup)
-        self.path = Path(folder.name) / "out.db"
+        super().setUp()
+        self.path = self.room / "out.db"
         self.connection = database.open_database(self.path)
         self.addCleanup(self.connection.close)
 

@@ -2,12 +2,12 @@
 import contextlib
 import io
 import re
-import tempfile
 import unittest
-from pathlib import Path
 
 from gaknifur.__main__ import main
 from gaknifur.testing import results_page
+
+from .samples import InFolder
 
 HEAD = '<?xml version="1.0"?><testsuites><testsuite name="pytest" timestamp="{}T10:00:00.5">{}</testsuite></testsuites>'
 FAILED = "<failure message='m'>expected: brake none\nfound:    &lt;b&gt;</failure>"
@@ -25,13 +25,11 @@ FRIDAY = HEAD.format("2031-01-10", test("one", "n", "3.10 7.4.2/12", "0.5", FAIL
                      + test("two", "m", "3.9", "2.5", "<skipped/>") + '<testcase name="other" time="1"><error message="broken"/></testcase>')
 
 
-class Results(unittest.TestCase):
+class Results(InFolder):
     """`lab results`."""
 
     def setUp(self) -> None:
-        folder = tempfile.TemporaryDirectory()
-        self.addCleanup(folder.cleanup)
-        self.room = Path(folder.name)
+        super().setUp()
         for name, text in (("monday", MONDAY), ("tuesday", TUESDAY), ("friday", FRIDAY)):
             (self.room / f"{name}.xml").write_text(text)
 

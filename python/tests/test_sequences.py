@@ -1,6 +1,5 @@
 """Tables of steps as test cases (docs/howto/sequences.md), and the dissector for Wireshark (docs/howto/wireshark.md)."""
 import struct
-import tempfile
 import unittest
 from collections.abc import Callable
 from pathlib import Path
@@ -14,7 +13,7 @@ from gaknifur.program import Failed
 from gaknifur.testing import sequences
 from gaknifur.wireshark import dissector
 
-from .samples import record
+from .samples import InFolder, record
 
 MAPPING = """\
 columns: {step: "No", interface: I/F, action: Action, expected: Expected}
@@ -27,13 +26,8 @@ expected:
 """
 
 
-class Tables(unittest.TestCase):
+class Tables(InFolder):
     """What becomes of a table."""
-
-    def setUp(self) -> None:
-        folder = tempfile.TemporaryDirectory()
-        self.addCleanup(folder.cleanup)
-        self.room = Path(folder.name)
 
     def made(self, table: str, mapping: str = MAPPING) -> sequences.Made:
         """The cases of a table."""
@@ -87,13 +81,12 @@ class Tables(unittest.TestCase):
             self.assertIn(message, str(found.exception))
 
 
-class Workbooks(unittest.TestCase):
+class Workbooks(InFolder):
     """Tables of a workbook, as openpyxl writes it and as LibreOffice keeps what formulas came to."""
 
     def setUp(self) -> None:
-        folder = tempfile.TemporaryDirectory()
-        self.addCleanup(folder.cleanup)
-        self.path = Path(folder.name) / "table.xlsx"
+        super().setUp()
+        self.path = self.room / "table.xlsx"
 
     def save(self, rows: list[list[Any]], change: Callable[[str], str] = str) -> None:
         """A workbook whose first sheet has these rows, and whose second one has others; `change` is made in the sheet's XML."""

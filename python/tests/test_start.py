@@ -4,7 +4,6 @@ import os
 import shutil
 import subprocess
 import sys
-import tempfile
 import unittest
 from collections.abc import Mapping
 from pathlib import Path
@@ -14,6 +13,8 @@ from gaknifur import errors, locks
 from gaknifur.escaping import shown
 from gaknifur.program import DEVICE, Failed
 from gaknifur.simulation import campaign_table
+
+from .samples import InFolder
 
 TOP = Path(__file__).resolve().parents[2]
 MODULES = ("pandas", "numpy", "yaml", "jinja2", "importlib", "click", "rich", "sitecustomize", "usercustomize", "pytest", "gaknifur", "plugged",
@@ -30,13 +31,11 @@ expected: [{note: e, at: end, expect: {mode: FS}}]
 TESTS = ("conftest.py", "test_a.py", "__init__.py", "setup.py")
 
 
-class Room(unittest.TestCase):
+class Room(InFolder):
     """A folder whose Python reports, by a file, that it was run."""
 
     def setUp(self) -> None:
-        folder = tempfile.TemporaryDirectory()
-        self.addCleanup(folder.cleanup)
-        self.room = Path(folder.name)
+        super().setUp()
         self.work = self.room / "work"
         self.work.mkdir()
 

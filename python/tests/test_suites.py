@@ -1,7 +1,6 @@
 """Scenarios and test cases in YAML: how they are expanded, and the errors for their faults."""
 import json
 import re
-import tempfile
 import time
 import unittest
 from pathlib import Path
@@ -15,7 +14,7 @@ from gaknifur.testing.cases import derived
 from gaknifur.testing.mode_table import page, table_rows
 from gaknifur.yaml_files import document
 
-from .samples import reading, record
+from .samples import InFolder, reading, record
 
 CASE = """\
 test_case: a
@@ -47,13 +46,12 @@ def digits_of(bits: str) -> str:
     return f"{int(digits, 2):0{len(digits) // 4}X}"
 
 
-class InFiles(unittest.TestCase):
+class InFiles(InFolder):
     """Files of YAML in a folder."""
 
     def setUp(self) -> None:
-        folder = tempfile.TemporaryDirectory()
-        self.addCleanup(folder.cleanup)
-        self.path = Path(folder.name) / "x.case.yaml"
+        super().setUp()
+        self.path = self.room / "x.case.yaml"
 
     def write(self, text: str) -> Path:
         self.path.write_text(text, encoding="utf-8")

@@ -1,9 +1,7 @@
 """Sweeps: parameters and what stands in their places, what is reported of a point, tables and maps."""
-import tempfile
 import unittest
 from collections.abc import Callable
 from decimal import Decimal
-from pathlib import Path
 from unittest.mock import patch
 
 from gaknifur import files, program
@@ -13,7 +11,7 @@ from gaknifur.testing.case_runner import Missed, Played, with_speeds
 from gaknifur.testing.cases import Case
 from gaknifur.testing.sweeps import PointResult
 
-from .samples import reading, record
+from .samples import InFolder, reading, record
 
 SWEEP = """\
 sweep: a
@@ -54,13 +52,12 @@ def played(case: Case, keep: object = None, why: bool = False, replay: bool = Tr
     return Played(records, {"there": 3})
 
 
-class Sweeps(unittest.TestCase):
+class Sweeps(InFolder):
     """`lab sweep`."""
 
     def setUp(self) -> None:
-        folder = tempfile.TemporaryDirectory()
-        self.addCleanup(folder.cleanup)
-        self.path = Path(folder.name) / "a.yaml"
+        super().setUp()
+        self.path = self.room / "a.yaml"
         self.enterContext(patch.object(cases_together, "line_of", lambda case: None))
 
     def read(self, text: str = SWEEP) -> sweeps.Sweep:

@@ -2,9 +2,7 @@
 import csv
 import io
 import json
-import tempfile
 import unittest
-from pathlib import Path
 
 import openpyxl
 import pandas as pd
@@ -17,18 +15,13 @@ from gaknifur.journal import tables
 from gaknifur.journal.reading import Journal
 from gaknifur.program import Failed
 
-from .samples import action, journal, reading, record
+from .samples import InFolder, action, journal, reading, record
 
 BAD = ('=cmd|"/C calc"!A0', "+1", "-1", "@SUM(A1)", "\ta", "a,b\"c")
 
 
-class Room(unittest.TestCase):
+class Room(InFolder):
     """A folder of its own."""
-
-    def setUp(self) -> None:
-        folder = tempfile.TemporaryDirectory()
-        self.addCleanup(folder.cleanup)
-        self.room = Path(folder.name)
 
     def sample(self) -> Journal:
         """A journal of two lives, of which one has a mark."""

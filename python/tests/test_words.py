@@ -31,7 +31,7 @@ from gaknifur.testing.cases import Case
 from gaknifur.unit import BrakeCause, Indication
 from gaknifur.units.other_unit import WITHIN_S
 
-from .samples import journal, record
+from .samples import InFolder, journal, record
 
 SUITE = """\
 test_case: {}
@@ -257,13 +257,11 @@ def plays(case: Case, keep: Keep | None = None, why: bool = False, replay: bool 
     return Played(with_speeds([power_up]), {}, journal(power_up) if why else None)
 
 
-class Suites(unittest.TestCase):
+class Suites(InFolder):
     """`lab test` on a suite whose cases are played by a stand-in."""
 
     def setUp(self) -> None:
-        folder = tempfile.TemporaryDirectory()
-        self.addCleanup(folder.cleanup)
-        self.room = Path(folder.name)
+        super().setUp()
         (self.room / "suite").mkdir()
         for name in ("one", "two of a/kind"):
             (self.room / "suite" / f"{name[:3]}.case.yaml").write_text(SUITE.format(name))

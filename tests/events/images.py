@@ -2,8 +2,8 @@
 pseudo-random blocks in all three formats, which the plain writer of docs/reference/format.md makes.
 """
 import json
-import re
 import struct
+import sys
 
 import blocks
 import decoded
@@ -11,6 +11,9 @@ import format_rows
 from journal import first_sector
 from program_rows import TOP, read
 from random_lists import Numbers
+
+sys.path.append(str(TOP / "tests/rows"))
+from asking import rows_of  # noqa: E402
 
 SECTOR = 512
 MODES = (0, 1, 2, 3, 4, 6, 7, 8, 9)
@@ -42,8 +45,8 @@ def known_telegrams():
             found |= set(telegrams_in(path.read_text()))
         except (KeyError, TypeError, ValueError):
             continue
-    rows = (TOP / "tests/rows/test_decode.row").read_text().splitlines()
-    for word in re.split("[ {},]+", " ".join(line.removesuffix(":") for line in rows if not line.startswith(("  ", "|")))):
+    rows = rows_of((TOP / "tests/rows/test_decode.row").read_text())
+    for word in (word for _, question, _ in rows for word in question.split()):
         try:
             found.add(bytes.fromhex(word))
         except ValueError:

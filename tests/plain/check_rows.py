@@ -1,6 +1,6 @@
 #!/usr/bin/env python3
-"""Works out each answer of the kernel's rows by the plain program, and prints each that differs from the row's. A telegram in a row has
-its name after its bytes; its fields are listed with the name at the head of the part, and have to encode to those bytes.
+"""Works out each answer of the kernel's rows by the plain program, and prints each that differs from the row's. A row has to hear a telegram
+by its name.
 
     tests/plain/check_rows.py [FILE ..]
 
@@ -15,14 +15,11 @@ from pathlib import Path
 
 import rows
 import telegrams
-from named import written
 
 ROWS = Path(os.environ.get("ROWS") or Path(__file__).resolve().parents[1] / "rows") / "test_kernel.row"
 
 GENERATED = "\n# ==== Pseudo-random lists"
-# The name of a telegram and its bytes, and below them its fields.
-NAMED = re.compile(r"^#     (\S.*): ([0-9A-F]+)\n((?:#       .*\n)+)", re.M)
-HEARD = re.compile(r"^hear ([0-9A-F]+)(?: -> [^#\n]*?)?(?: *# (.+))?$", re.M)
+HEARD = re.compile(r"^hear ((?:[0-9A-F]{2})+)\b", re.M)
 
 
 def differences(row):
@@ -31,25 +28,19 @@ def differences(row):
             yield f"{row.name}, line {line.number}: wanted {line.wanted}, found {found} by the plain program"
 
 
-def misnamed(text):
-    """The telegrams whose fields spell other bytes, and those that a row hears under a name which isn't theirs, or under none.
-    Bytes that carry no telegram need no name; nor do those of the pseudo-random lists, which are made of fields."""
-    for part in text.partition(GENERATED)[0].split("\n# ====")[1:]:
-        bytes_of = {}
-        for name, data, fields in NAMED.findall(part):
-            bytes_of[name] = data
-            if written(fields.replace("#", " ")) != data:
-                yield f"{name}: its fields spell {written(fields.replace('#', ' '))}"
-        for data, name in HEARD.findall(part):
-            if bytes_of.get(name) != data and (name or telegrams.read(bytes.fromhex(data))):
-                yield f"hear {data}: {name or 'no name'}"
+def unnamed(text):
+    """The telegrams that a row hears by their bytes. Bytes that carry no telegram need no name; nor do those of the pseudo-random lists, which
+    are made of fields."""
+    for data in HEARD.findall(text.partition(GENERATED)[0]):
+        if telegrams.read(bytes.fromhex(data)):
+            yield f"hear {data}: no name"
 
 
 def main(paths):
     found, events, answers, count = 0, 0, 0, 0
     for path in paths or [ROWS]:
         text = Path(path).read_text()
-        for difference in misnamed(text):
+        for difference in unnamed(text):
             found += 1
             print(difference)
         for row in rows.read(text):

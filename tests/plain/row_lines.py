@@ -16,7 +16,8 @@ In the other files of rows:
     lines damaged by *            a name for the lines after `|` ..
     | patch *: done
     | open: 3 Damaged, calls 7
-    > damaged by 2 {28:09, 5:01}  .. which this line stands for, with these words in place of `*`, once for each of those in braces
+    > damaged by 2 {28:09, 5:01}  .. which this line stands for, with these words in place of `*`, once for each of those in braces;
+                                  `*1` is the first of these words
 """
 import re
 from math import prod
@@ -79,7 +80,8 @@ def written_out(lines):
         elif sign == ">":
             name = max((name for name in named if f"{rest} ".startswith(f"{name} ")), key=len)
             for words in braced(rest.removeprefix(name).strip()):
-                yield from ((number, one.replace("*", words)) for one in named[name])
+                each = words.split()
+                yield from ((number, re.sub(r"\*(\d*)", lambda at: each[int(at[1]) - 1] if at[1] else words, one)) for one in named[name])
         else:
             yield number, line
 

@@ -3,6 +3,7 @@ from collections import namedtuple
 
 from items import UNKNOWN, Kept
 from life import Life
+from named import written
 from row_lines import repeated, written_out
 
 Line = namedtuple("Line", "number word value wanted")
@@ -67,10 +68,32 @@ def kept_text(kept, name):
     raise ValueError(name)
 
 
+def with_bytes(lines):
+    """The lines with the bytes of each telegram that is heard by a name. `telegram NAME: ..` has its fields, for the rows up to the next
+    `# ====`; `packet NAME: ..` has those of a packet that telegrams name. A line that is indented goes on with the one before."""
+    packets, telegrams, fields = {}, {}, []
+    for line in lines:
+        kind, _, rest = line.partition(" ")
+        if line.startswith("# ===="):
+            telegrams = {}
+        if kind in ("telegram", "packet"):
+            name, _, begun = rest.partition(": ")
+            fields = (telegrams if kind == "telegram" else packets)[name] = [begun]
+        elif line.startswith("  "):
+            fields.append(line.strip())
+        name = rest.partition("->")[0].strip()
+        if kind == "hear" and name in telegrams:
+            parts = " ".join(telegrams[name]).split("; ")
+            line = f"hear {written('; '.join(' '.join(packets.get(part, [part])) for part in parts))}{rest[len(name):]}"
+        elif kind == "hear" and set(name) - set("0123456789ABCDEF"):
+            raise ValueError(f"no telegram of this part is called {name}")
+        yield "" if kind in ("telegram", "packet") or line.startswith("  ") else line
+
+
 def read(text):
     """The rows of a text."""
     rows = []
-    for number, line in written_out(text.splitlines()):
+    for number, line in written_out(with_bytes(text.splitlines())):
         said = line.partition("#")[0].strip()
         word, _, value = said.partition(" ")
         if word == "row":

@@ -8,6 +8,7 @@
     clock 4000 -> 40000              with the limit alone
     place -> 9047 953                what is asked for
     3 x move 10000 -> 40000          the same line three times
+    hear ahead -> 40000              a telegram, whose fields are at the head of the part
     > started                        lines that have this name (tests/plain/row_lines.py)
 
 Each line that gets another answer is printed: by `step` over stores that keep all that was announced, by `apply` in place

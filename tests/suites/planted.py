@@ -19,26 +19,13 @@ sys.path.insert(0, str(TOP / "python"))
 from gaknifur.etcs_run import BITS  # noqa: E402
 from gaknifur.testing import case_runner, cases, coverage  # noqa: E402
 from planted_definitions import DEFINITIONS  # noqa: E402
+from planted_tables import cells, packets, rows_but  # noqa: E402
 
 LEAST = 280  # changes
 PLANTED = [
     ("modes.py", "10  TR                       PT  trip_acknowledged", "10  TR                       SB  trip_acknowledged"),
-    ("modes.py", "11  PT                       SR  override_accepted\n", ""),
-    ("modes.py", "12  PT                       SH  shunting_chosen\n", ""),
     ("modes.py", "14  PT                       UN  started level_0", "14  PT                       SR  started level_0"),
-    ("modes.py", "16  SB                       FS  started level_1 full\n", ""),
-    ("modes.py", "18  SB                       UN  started level_0\n", ""),
-    ("modes.py", "27  OS                       UN  level_0\n", ""),
-    ("modes.py", "30  OS                       SH  shunting_area\n", ""),
     ("modes.py", "34  OS                       FS  full not_on_sight_area", "34  OS                       FS  full"),
-    ("modes.py", "train-data             I  I  I  I", "train-data             I  I  K  I"),
-    ("modes.py", "level                  I  K", "level                  I  I"),
-    ("modes.py", "linking                D  D  D  D  D", "linking                D  D  D  D  K"),
-    ("modes.py", "authority              D  D  D  D  D", "authority              D  D  D  D  K"),
-    ("modes.py", "acknowledgements       D  D  D", "acknowledgements       D  D  K"),
-    ("modes.py", '"PT": (3, 41, 65, 66)', '"PT": (3, 65, 66)'),
-    ("modes.py", '"SH": (3, 65, 66)', '"SH": (3, 41, 65, 66)'),
-    ("modes.py", '"TR": (3, 65, 66)', '"TR": (3, 66)'),
     ("acknowledgements.py", "BRAKES_AFTER_MS = 5000", "BRAKES_AFTER_MS = 5001"),
     ("acknowledgements.py", "entered       owed       owed       nothing  owed", "entered       owed       owed       owed     owed"),
     ("driver.py", 'return mode == "SH" and stands', 'return mode == "SH"'),
@@ -92,34 +79,6 @@ PLANTED = [
     ("history.py", "time_left <= 0)", "time_left < 0)"),
     ("history.py", "if live and sent[-1].packet.kind == 80 else []", "if live else []"),
     ("history.py", "for profile in (self.gradients(), self.speeds())", "for profile in (self.speeds(),)"),
-    ("modes.py", " 2  FS OS SR SH UN PT        SB  desk_closed\n", ""),
-    ("modes.py", " 3  FS                       TR  trip\n", ""),
-    ("modes.py", " 4  OS                       TR  trip\n", ""),
-    ("modes.py", " 5  SR                       TR  trip\n", ""),
-    ("modes.py", " 6  SR                       TR  beyond_staff_distance\n", ""),
-    ("modes.py", " 8  UN                       FS  level_1 full\n", ""),
-    ("modes.py", " 9  UN                       TR  level_1\n", ""),
-    ("modes.py", "13  PT                       SR  started level_1\n", ""),
-    ("modes.py", "15  SB                       SH  shunting_chosen\n", ""),
-    ("modes.py", "17  SB                       SR  started level_1\n", ""),
-    ("modes.py", "19  SH                       SB  shunting_left\n", ""),
-    ("modes.py", "20  FS                       SH  shunting_chosen\n", ""),
-    ("modes.py", "21  OS                       SH  shunting_chosen\n", ""),
-    ("modes.py", "22  SR                       SH  shunting_chosen\n", ""),
-    ("modes.py", "23  UN                       SH  shunting_chosen\n", ""),
-    ("modes.py", "24  FS                       SR  override_accepted\n", ""),
-    ("modes.py", "25  OS                       SR  override_accepted\n", ""),
-    ("modes.py", "26  FS                       UN  level_0\n", ""),
-    ("modes.py", "28  SR                       UN  level_0\n", ""),
-    ("modes.py", "29  FS                       SH  shunting_area\n", ""),
-    ("modes.py", "31  FS                       OS  on_sight_area\n", ""),
-    ("modes.py", "32  SR                       OS  full on_sight_area\n", ""),
-    ("modes.py", "33  SR                       FS  full\n", ""),
-    ("modes.py", "identity               I  I", "identity               K  I"),
-    ("modes.py", "restrictions           D  D  K", "restrictions           D  D  D"),
-    ("modes.py", "level-announcement     D  D  D", "level-announcement     D  D  K"),
-    ("modes.py", "profiles               D  D  D  D  D", "profiles               D  D  D  D  K"),
-    ("modes.py", "override               D  D  D  D  K", "override               D  D  D  D  D"),
     ("driver.py", 'return mode == "SB" and stands\n    if word == "confirm"', 'return mode == "SB"\n    if word == "confirm"'),
     ("driver.py", 'and stands and {"identity", "level"} <= valid', "and stands"),
     ("driver.py", '"SH", "UN", "PT") and stands', '"SH", "UN", "PT")'),
@@ -131,6 +90,10 @@ PLANTED = [
     ("output.py", "if entry.moved < 0)", ")"),
     ("groups.py", "if len(counters) > 1 or 254 in counters:", "if len(counters) > 1:"),
     ("groups.py", "self.last.path = path  #", "pass  #"),
+    *(plant for _, *plant in (
+        *rows_but(1, 7, 10, 14, 34), *packets("PT: 41; SH: 41; TR: 65"),
+        *cells("identity: P; train-data: SB; level: N; linking: SR; authority: SR; profiles: SR; restrictions: SB; level-announcement: SB; "
+               "acknowledgements: SB; override: SR"))),
 ]
 
 

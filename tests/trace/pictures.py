@@ -3,9 +3,9 @@ import sys
 import xml.etree.ElementTree as tree
 from pathlib import Path
 
-pictures = sorted([*Path("docs/pictures").glob("*.svg"), *Path("out/docs").glob("*.svg")])
+pictures = sorted(Path("out/docs").glob("*.svg"))
 if not pictures:
-    sys.exit("tests/trace/pictures.py: docs/pictures has no picture")
+    sys.exit("tests/trace/pictures.py: out/docs has no picture")
 status = 0
 for picture in pictures:
     try:

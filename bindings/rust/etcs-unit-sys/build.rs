@@ -1,8 +1,24 @@
-//! Links libetcs_unit.a: that in the folder `$ETCS_UNIT_LIB`, else the one that pkg-config finds.
+//! Writes the declarations, where the repository is around this crate, and links libetcs_unit.a: that in the folder `$ETCS_UNIT_LIB`,
+//! else the one that pkg-config finds.
 use std::env;
+use std::path::Path;
 use std::process::Command;
 
+/// Writes src/declared.rs and the numbers of etcs-unit by tools/bindings. A release has them, and no such tool.
+fn write_declarations() {
+    let top = Path::new(env!("CARGO_MANIFEST_DIR")).join("../../..");
+    let tool = top.join("tools/bindings");
+    if tool.exists() {
+        println!("cargo:rerun-if-changed={}\ncargo:rerun-if-changed={}", top.join("include").display(), top.join("tools").display());
+        match Command::new(tool).output() {
+            Ok(done) if done.status.success() => {}
+            done => panic!("tools/bindings failed: {done:?}"),
+        }
+    }
+}
+
 fn main() {
+    write_declarations();
     for name in ["ETCS_UNIT_LIB", "PKG_CONFIG_PATH"] {
         println!("cargo:rerun-if-env-changed={name}");
     }

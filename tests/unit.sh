@@ -154,16 +154,17 @@ link=(-L "$prefix/lib" -letcs_unit)
 for name in misuse two reading starts; do build "$name.shared" "$top/tests/unit/$name.c" gcc -x c -std=c99 -O2; done
 ETCS_UNIT_LIB=$prefix/lib RUSTFLAGS='-D warnings' cargo build --quiet --offline --locked --manifest-path "$top/examples/embedding/rust/Cargo.toml" --target-dir "$made/rust" ||
     fails "examples/embedding/rust doesn't compile"
-ETCS_UNIT_LIB=$prefix/lib RUSTFLAGS='-D warnings' cargo test --quiet --offline --locked --manifest-path "$top/bindings/rust/etcs-unit/Cargo.toml" --target-dir "$made/rust" --test refusals \
-    >"$made/said" 2>&1 && grep -q '^test result: ok. 4 passed' "$made/said" || { cat "$made/said"; fails "the tests of bindings/rust/etcs-unit: failures, or other than 4"; }
+ETCS_UNIT_LIB=$prefix/lib RUSTFLAGS='-D warnings' cargo test --quiet --offline --locked --manifest-path "$top/bindings/rust/etcs-unit/Cargo.toml" --target-dir "$made/rust" --test refusals --test images \
+    >"$made/said" 2>&1 && grep -q '^test result: ok. 4 passed' "$made/said" && grep -q '^test result: ok. 3 passed' "$made/said" ||
+    { cat "$made/said"; fails "the tests of bindings/rust/etcs-unit: failures, or other than 4 and 3"; }
 mkdir "$made/ada"
-for one in "$top/examples/embedding/ada/brake.adb" "$top/tests/unit/limits.adb"; do
+for one in "$top"/examples/embedding/ada/{brake,read_image}.adb "$top/tests/unit/limits.adb"; do
     name=$(basename "${one%b}a")
     gnatmake -q -gnat2012 -gnata -gnatwa -gnatwe -I"$top/bindings/ada" -I"$top/examples/embedding/ada" -D "$made/ada" "$one" -o "$made/$name" -largs "$archive" && built=$((built + 1)) ||
         fails "$(basename "$one") doesn't compile"
 done
-for name in brake guard; do cp "$made/rust/debug/$name" "$made/${name/guard/stops}.rs" && built=$((built + 1)); done
-counted "programs built" $built 67
+for name in brake guard read_image; do cp "$made/rust/debug/$name" "$made/${name/guard/stops}.rs" && built=$((built + 1)); done
+counted "programs built" $built 69
 
 # ---- what they answer
 
@@ -231,6 +232,10 @@ counted "guards of the examples" $guards 4
 
 "$python" "$top/tests/unit/images.py" "$made/listing.gcc" "$made/listing.checked" "$made"/image.* || status=1
 
+# ---- the same in Rust and Ada, with the causes of brake commands: compared with etcs_lab and the plain program
+
+"$python" "$top/tests/unit/bound_images.py" "$lab" "$made"/read_image.* || status=1
+
 # ---- lives that are run again: compared with the plain programs and etcs_lab; and memory that is refused
 
 gcc -std=gnu11 -O2 -fPIC -shared "$top/tests/hostile/refuse.c" -o "$made/refuse.so" || fails "tests/hostile/refuse.c doesn't compile"
@@ -275,6 +280,8 @@ runs_well "$made/pieces.checked"
 runs_well "$made/string_calls.gcc"
 runs_well "$made/string_calls.checked"
 link=("$static")
+build capped.gcc "$top/tests/unit/capped.c" gcc -x c -std=c99 -O2
+"$python" "$top/tests/unit/capped.py" "$made/capped.gcc" || status=1
 build bounded.gcc "$top/tests/unit/bounded.c" gcc -x c -std=c99 -O2
 "$python" "$top/tests/unit/bounded_lives.py" "$made/bounded.gcc" || status=1
 "$python" "$top/tests/unit/bounded_lives.py" "$made/bounded.gcc" hours 24 || status=1

@@ -158,13 +158,13 @@ ETCS_UNIT_LIB=$prefix/lib RUSTFLAGS='-D warnings' cargo test --quiet --offline -
     >"$made/said" 2>&1 && grep -q '^test result: ok. 4 passed' "$made/said" && grep -q '^test result: ok. 3 passed' "$made/said" ||
     { cat "$made/said"; fails "the tests of bindings/rust/etcs-unit: failures, or other than 4 and 3"; }
 mkdir "$made/ada"
-for one in "$top"/examples/embedding/ada/{brake,read_image}.adb "$top/tests/unit/limits.adb"; do
+for one in "$top"/examples/embedding/ada/{brake,read_image}.adb "$top"/tests/unit/{limits,image_limits}.adb; do
     name=$(basename "${one%b}a")
     gnatmake -q -gnat2012 -gnata -gnatwa -gnatwe -I"$top/bindings/ada" -I"$top/examples/embedding/ada" -D "$made/ada" "$one" -o "$made/$name" -largs "$archive" && built=$((built + 1)) ||
         fails "$(basename "$one") doesn't compile"
 done
 for name in brake guard read_image; do cp "$made/rust/debug/$name" "$made/${name/guard/stops}.rs" && built=$((built + 1)); done
-counted "programs built" $built 69
+counted "programs built" $built 70
 
 # ---- what they answer
 
@@ -186,6 +186,8 @@ runs_well "$made/media.gcc"
 for program in "$made"/media.*; do runs_well "$program" 37; done
 runs_well "$made/limits.ada" 1
 grep -q '^Ada: 18 tried, 0 of them wrong$' "$made/said" || { cat "$made/said"; fails "of what Ada refuses there are 18 to be tried"; }
+runs_well "$made/image_limits.ada"
+grep -q '^Ada, images: 21 tried, 0 of them wrong$' "$made/said" || { cat "$made/said"; fails "of images in Ada there are 21 to be tried"; }
 for program in "$made"/flash.*; do runs_well "$program"; done
 mv "$made/said" "$made/flash"
 for program in misuse.gcc sectors.gcc "media.gcc 2003" two.gcc reading.gcc starts.gcc telegrams.gcc guard.gcc executive.gcc "files.gcc $made/room" "kept.gcc $made/room" "brake.gcc $made/image.valgrind" flash.gcc "why.gcc $made/image.valgrind" \

@@ -24,10 +24,7 @@ static uint32_t draw(uint32_t below) {
 /* ---- the chip: bytes, how many more of them may be changed until power is lost, and which call fails */
 
 static uint8_t cells[BYTES];
-static uint64_t left, calls_left, erasures;
-
-/* What an erasure of the chip takes, and after how many bytes its places begin anew. */
-static uint64_t granule = SMALL, whole = BYTES;
+static uint64_t left, calls_left, erasures, granule = SMALL, whole = BYTES; /* (what an erasure takes; after how many bytes places begin anew) */
 
 /* How many of so many bytes are changed by this call; all, unless power is lost or the call fails. */
 static size_t changed(size_t len, int *is_done) {
@@ -336,9 +333,7 @@ static void refuses(void) {
     for (unsigned i = 0; i < sizeof requests / sizeof requests[0]; i++)
         is("a request of no unit", (uint64_t)etcs_nor_carry_out(&nor, &requests[i], bytes), 0);
     for (unsigned i = 0; i < sizeof sizes / sizeof sizes[0]; i++) {
-        etcs_nor other = nor;
-        other.block_bytes = sizes[i][0];
-        other.blocks = sizes[i][1];
+        etcs_nor other = {NULL, sizes[i][0], sizes[i][1], chip_read, nor_program, nor_erase, 0};
         is("a flash of a wrong size", etcs_nor_check_blocks(&other), ETCS_NOR_BAD_SIZE);
         is("a sector of a flash that is too small", i < 2 && etcs_nor_read_sector(&other, 0, bytes), 0);
     }
@@ -346,33 +341,26 @@ static void refuses(void) {
     is("nothing is done", (uint64_t)memcmp(before, cells, BYTES), 0);
 }
 
-/* Flashes whose blocks are as they are set up, and others; and each of the calls of a check fails. */
+/* Flashes set up with blocks of so many bytes, whose erasures take so many, and whose places begin anew after so many; and each of the calls of a
+ * check fails. */
 static void checks_blocks(void) {
-    static const struct {
-        uint64_t block_bytes, granule, whole;
-        uint32_t fault;
-    } flashes[] = {{SMALL, SMALL, BYTES, ETCS_NOR_OK}, {LARGE, LARGE, BYTES, ETCS_NOR_OK}, {SMALL, LARGE, BYTES, ETCS_NOR_ERASED_MORE},
-                   {SMALL, 4 * SMALL, BYTES, ETCS_NOR_ERASED_MORE}, {SMALL, SMALL / 2, BYTES, ETCS_NOR_ERASED_LESS}, {SMALL * 3 / 2, SMALL, BYTES, ETCS_NOR_ERASED_LESS},
-                   {LARGE, SMALL, BYTES, ETCS_NOR_ERASED_LESS}, {SMALL, SMALL, 2 * SMALL, ETCS_NOR_ERASED_MORE}, {LARGE, LARGE, 3 * LARGE, ETCS_NOR_ERASED_MORE}};
-    const etcs_nor as_it_is = nor;
+    static const uint64_t flashes[][4] = {
+        {SMALL, SMALL, BYTES, ETCS_NOR_OK}, {LARGE, LARGE, BYTES, ETCS_NOR_OK}, {SMALL, LARGE, BYTES, ETCS_NOR_ERASED_MORE},
+        {SMALL, 4 * SMALL, BYTES, ETCS_NOR_ERASED_MORE}, {SMALL, SMALL / 2, BYTES, ETCS_NOR_ERASED_LESS}, {SMALL * 3 / 2, SMALL, BYTES, ETCS_NOR_ERASED_LESS},
+        {LARGE, SMALL, BYTES, ETCS_NOR_ERASED_LESS}, {SMALL, SMALL, 2 * SMALL, ETCS_NOR_ERASED_MORE}, {LARGE, LARGE, 3 * LARGE, ETCS_NOR_ERASED_MORE}};
+    uint32_t fault = ETCS_NOR_FAILED, call;
     for (unsigned i = 0; i < sizeof flashes / sizeof flashes[0]; i++) {
         formats();
-        nor.block_bytes = flashes[i].block_bytes;
-        granule = flashes[i].granule;
-        whole = flashes[i].whole;
-        is("a flash is checked", etcs_nor_check_blocks(&nor), flashes[i].fault);
-        nor = as_it_is;
-        granule = on->block;
-        whole = BYTES;
+        nor.block_bytes = flashes[i][0], granule = flashes[i][1], whole = flashes[i][2];
+        is("a flash is checked", etcs_nor_check_blocks(&nor), flashes[i][3]);
+        granule = nor.block_bytes = on->block, whole = BYTES;
     }
-    uint32_t fault = ETCS_NOR_FAILED, call;
     for (call = 1; fault == ETCS_NOR_FAILED && call < 10000; call++) {
         calls_left = call;
         fault = etcs_nor_check_blocks(&nor);
     }
     is("a check whose calls fail", fault, ETCS_NOR_OK);
     is("calls of a check", call > (1 + SLOTS) * (7 + on->block / 64), 1);
-    calls_left = 0;
     is("a block that is checked isn't ready", memcmp(cells + nor.block_bytes + 6 * ETCS_UNIT_SECTOR, ETCS_NOR_READY, 8) == 0, 0);
     formats();
     is("a life on what was checked", (uint64_t)lived(10, UINT64_MAX, 0), 1);

@@ -16,6 +16,8 @@
  * Ripoll, A. Crespo and J. Real describe it in "TLSF: a new dynamic memory allocator for real-time systems" (16th
  * Euromicro Conference on Real-Time Systems, 2004).
  *
+ * The buffer is also the cap on what a track may announce (docs/explain/integration.md, "Memory").
+ *
  * A request that finds no piece is refused: opening answers OPEN_NO_MEMORY, an input, etcs_image_replay and
  * etcs_image_why NO_MEMORY, and nothing has changed. The buffer is one for all units of the program. So calls that take
  * or give memory (etcs_unit_open and _close, etcs_opening_begin, _go_on and _close, the inputs, etcs_image_replay and _why,

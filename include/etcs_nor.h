@@ -4,6 +4,9 @@
  * has an erase block, and the first sector has one before them. There is nothing to link but the library of etcs_unit.h.
  *
  *     static etcs_nor nor = {NULL, 4096, 1 + SLOTS, read_flash, program_flash, erase_flash, 0};
+ *     if (etcs_nor_check_blocks(&nor) != ETCS_NOR_OK)
+ *         refuse();
+ *
  *     equipment.medium = &nor;
  *     equipment.sectors = 1 + 6 * SLOTS;
  *     equipment.read_sector = etcs_nor_read_sector;
@@ -12,6 +15,11 @@
  * Closing a gate programs zeros over it, and erases nothing. A flush erases the block of its slot, unless etcs_nor_erase_ahead
  * did so since the last flush. Erasing ahead takes the oldest block from the ring a flush earlier; what it leaves is what a loss
  * of power within the next flush may leave too.
+ *
+ * However large an erase block is, one slot has it, and the rest of it is unused: several slots can't share one. A loss of power
+ * within a flush leaves a slot that can be written again only after an erasure, which would take the newest blocks with it. Where
+ * erase blocks are smaller than ETCS_NOR_BLOCK_BYTES, several in turn count as one, and `erase` erases all of them.
+ * etcs_nor_check_blocks refuses a flash whose blocks are others than `block_bytes` says.
  *
  * Format it as any medium, by etcs_unit_format_request and etcs_nor_carry_out; the flash may hold anything.
  *
@@ -60,6 +68,15 @@ typedef struct {
 
     uint64_t next; /**< the block to be erased ahead: that after the newest gate; 0 at first, and within a flush */
 } etcs_nor;
+
+/** What etcs_nor_check_blocks finds. */
+enum etcs_nor_fault {
+    ETCS_NOR_OK = 0,             /**< each block is erased by itself */
+    ETCS_NOR_BAD_SIZE = 321,     /**< blocks of fewer bytes than ETCS_NOR_BLOCK_BYTES, or other than 3 to 1,048,577 blocks */
+    ETCS_NOR_FAILED = 322,       /**< a read, a program or an erasure failed */
+    ETCS_NOR_ERASED_LESS = 323,  /**< an erasure left bytes of its block */
+    ETCS_NOR_ERASED_MORE = 324   /**< an erasure took bytes of another block, or two places are the same one */
+};
 
 /* Whether these eight bytes are the mark, but for so many bits. */
 static inline int etcs_nor_is_(const uint8_t *bytes, const char *mark, unsigned most_wrong) {
@@ -173,6 +190,82 @@ static inline int etcs_nor_erase_ahead(etcs_nor *nor) {
         is_done = etcs_nor_erase_(nor, at) && nor->program(nor->of, at + ETCS_NOR_SECTORS_, (const uint8_t *)ETCS_NOR_READY, 8);
     }
     return is_done;
+}
+
+/* ---- at set-up */
+
+/* The place of the last eight bytes of a block. */
+static inline uint64_t etcs_nor_end_(const etcs_nor *nor, uint64_t block) {
+    return ((block + 1u) * nor->block_bytes) - 8u;
+}
+
+/* Writes what etcs_nor_check_blocks leaves at both ends of a block: no gate's mark, and not ETCS_NOR_READY. */
+static inline void etcs_nor_trial_(uint64_t block, uint8_t *mark) {
+    for (unsigned byte = 0; byte < 8u; byte++) {
+        mark[byte] = (uint8_t)((byte < 4u) ? 0x5Au : (block >> (8u * (byte - 4u))));
+    }
+}
+
+/* Whether each byte of a block is 0xFF. */
+static inline uint32_t etcs_nor_is_erased_(const etcs_nor *nor, uint64_t block) {
+    uint8_t bytes[64];
+    uint32_t fault = (uint32_t)ETCS_NOR_OK;
+    for (uint64_t at = 0; (fault == (uint32_t)ETCS_NOR_OK) && (at < nor->block_bytes); at += sizeof bytes) {
+        const uint64_t rest = nor->block_bytes - at;
+        const size_t len = (rest < sizeof bytes) ? (size_t)rest : sizeof bytes;
+        fault = nor->read(nor->of, (block * nor->block_bytes) + at, bytes, len) ? (uint32_t)ETCS_NOR_OK : (uint32_t)ETCS_NOR_FAILED;
+        for (size_t i = 0; (fault == (uint32_t)ETCS_NOR_OK) && (i < len); i++) {
+            fault = (bytes[i] == 0xFFu) ? (uint32_t)ETCS_NOR_OK : (uint32_t)ETCS_NOR_ERASED_LESS;
+        }
+    }
+    return fault;
+}
+
+/* Programs zeros at both ends of a block, erases it, and programs its trial there. */
+static inline uint32_t etcs_nor_try_(const etcs_nor *nor, uint64_t block) {
+    const uint64_t first = block * nor->block_bytes, end = etcs_nor_end_(nor, block);
+    uint8_t mark[8];
+    uint32_t fault = (uint32_t)ETCS_NOR_FAILED;
+    etcs_nor_trial_(block, mark);
+    if (etcs_nor_zero_(nor, first) && etcs_nor_zero_(nor, end) && nor->erase(nor->of, first)) {
+        fault = etcs_nor_is_erased_(nor, block);
+    }
+    if ((fault == (uint32_t)ETCS_NOR_OK) && !(nor->program(nor->of, first, mark, sizeof mark) && nor->program(nor->of, end, mark, sizeof mark))) {
+        fault = (uint32_t)ETCS_NOR_FAILED;
+    }
+    return fault;
+}
+
+/* Whether both ends of a block still have its trial. */
+static inline uint32_t etcs_nor_is_tried_(const etcs_nor *nor, uint64_t block) {
+    uint8_t mark[8], first[8], end[8];
+    uint32_t fault = (uint32_t)ETCS_NOR_OK;
+    etcs_nor_trial_(block, mark);
+    if (!nor->read(nor->of, block * nor->block_bytes, first, sizeof first) || !nor->read(nor->of, etcs_nor_end_(nor, block), end, sizeof end)) {
+        fault = (uint32_t)ETCS_NOR_FAILED;
+    }
+    for (unsigned i = 0; (fault == (uint32_t)ETCS_NOR_OK) && (i < 8u); i++) {
+        fault = ((first[i] == mark[i]) && (end[i] == mark[i])) ? (uint32_t)ETCS_NOR_OK : (uint32_t)ETCS_NOR_ERASED_MORE;
+    }
+    return fault;
+}
+
+/** Checks that an erasure takes the block at its place, all of it and nothing else. Call it at set-up, before the formatting: IT
+ * ERASES EVERYTHING, each block once. Returns enum etcs_nor_fault; after any answer but ETCS_NOR_OK don't use the flash. */
+ETCS_MUST_USE
+static inline uint32_t etcs_nor_check_blocks(const etcs_nor *nor) {
+    const uint64_t most = UINT64_C(1048577);
+    uint32_t fault = (uint32_t)ETCS_NOR_OK;
+    if ((nor->block_bytes < (uint64_t)ETCS_NOR_BLOCK_BYTES) || (nor->blocks < 3u) || (nor->blocks > most) || (nor->block_bytes > (UINT64_MAX / most))) {
+        fault = (uint32_t)ETCS_NOR_BAD_SIZE;
+    }
+    for (uint64_t block = 0; (fault == (uint32_t)ETCS_NOR_OK) && (block < nor->blocks); block++) {
+        fault = etcs_nor_try_(nor, block);
+    }
+    for (uint64_t block = 0; (fault == (uint32_t)ETCS_NOR_OK) && (block < nor->blocks); block++) {
+        fault = etcs_nor_is_tried_(nor, block);
+    }
+    return fault;
 }
 
 #ifdef __cplusplus

@@ -154,17 +154,18 @@ link=(-L "$prefix/lib" -letcs_unit)
 for name in misuse two reading starts; do build "$name.shared" "$top/tests/unit/$name.c" gcc -x c -std=c99 -O2; done
 ETCS_UNIT_LIB=$prefix/lib RUSTFLAGS='-D warnings' cargo build --quiet --offline --locked --manifest-path "$top/examples/embedding/rust/Cargo.toml" --target-dir "$made/rust" ||
     fails "examples/embedding/rust doesn't compile"
-ETCS_UNIT_LIB=$prefix/lib RUSTFLAGS='-D warnings' cargo test --quiet --offline --locked --manifest-path "$top/bindings/rust/etcs-unit/Cargo.toml" --target-dir "$made/rust" --test refusals \
-    >"$made/said" 2>&1 && grep -q '^test result: ok. 4 passed' "$made/said" || { cat "$made/said"; fails "the tests of bindings/rust/etcs-unit: failures, or other than 4"; }
+ETCS_UNIT_LIB=$prefix/lib RUSTFLAGS='-D warnings' cargo test --quiet --offline --locked --manifest-path "$top/bindings/rust/etcs-unit/Cargo.toml" --target-dir "$made/rust" --test refusals --test images \
+    >"$made/said" 2>&1 && grep -q '^test result: ok. 4 passed' "$made/said" && grep -q '^test result: ok. 3 passed' "$made/said" ||
+    { cat "$made/said"; fails "the tests of bindings/rust/etcs-unit: failures, or other than 4 and 3"; }
 mkdir "$made/ada"
 "$top/tools/bindings" || fails "tools/bindings fails"
-for one in "$top/examples/embedding/ada/brake.adb" "$top/tests/unit/limits.adb"; do
+for one in "$top"/examples/embedding/ada/{brake,read_image}.adb "$top"/tests/unit/{limits,image_limits}.adb; do
     name=$(basename "${one%b}a")
     gnatmake -q -gnat2012 -gnata -gnatwa -gnatwe -I"$top/bindings/ada" -I"$top/examples/embedding/ada" -D "$made/ada" "$one" -o "$made/$name" -largs "$archive" && built=$((built + 1)) ||
         fails "$(basename "$one") doesn't compile"
 done
-for name in brake guard; do cp "$made/rust/debug/$name" "$made/${name/guard/stops}.rs" && built=$((built + 1)); done
-counted "programs built" $built 67
+for name in brake guard read_image; do cp "$made/rust/debug/$name" "$made/${name/guard/stops}.rs" && built=$((built + 1)); done
+counted "programs built" $built 70
 
 # ---- what they answer
 
@@ -186,6 +187,8 @@ runs_well "$made/media.gcc"
 for program in "$made"/media.*; do runs_well "$program" 37; done
 runs_well "$made/limits.ada" 1
 grep -q '^Ada: 18 tried, 0 of them wrong$' "$made/said" || { cat "$made/said"; fails "of what Ada refuses there are 18 to be tried"; }
+runs_well "$made/image_limits.ada"
+grep -q '^Ada, images: 21 tried, 0 of them wrong$' "$made/said" || { cat "$made/said"; fails "of images in Ada there are 21 to be tried"; }
 for program in "$made"/flash.*; do runs_well "$program"; done
 mv "$made/said" "$made/flash"
 for program in misuse.gcc sectors.gcc "media.gcc 2003" two.gcc reading.gcc starts.gcc telegrams.gcc guard.gcc executive.gcc "files.gcc $made/room" "kept.gcc $made/room" "brake.gcc $made/image.valgrind" flash.gcc "why.gcc $made/image.valgrind" \
@@ -232,6 +235,10 @@ counted "guards of the examples" $guards 4
 
 "$python" "$top/tests/unit/images.py" "$made/listing.gcc" "$made/listing.checked" "$made"/image.* || status=1
 
+# ---- the same in Rust and Ada, with the causes of brake commands: compared with etcs_lab and the plain program
+
+"$python" "$top/tests/unit/bound_images.py" "$lab" "$made"/read_image.* || status=1
+
 # ---- lives that are run again: compared with the plain programs and etcs_lab; and memory that is refused
 
 gcc -std=gnu11 -O2 -fPIC -shared "$top/tests/hostile/refuse.c" -o "$made/refuse.so" || fails "tests/hostile/refuse.c doesn't compile"
@@ -276,6 +283,8 @@ runs_well "$made/pieces.checked"
 runs_well "$made/string_calls.gcc"
 runs_well "$made/string_calls.checked"
 link=("$static")
+build capped.gcc "$top/tests/unit/capped.c" gcc -x c -std=c99 -O2
+"$python" "$top/tests/unit/capped.py" "$made/capped.gcc" || status=1
 build bounded.gcc "$top/tests/unit/bounded.c" gcc -x c -std=c99 -O2
 "$python" "$top/tests/unit/bounded_lives.py" "$made/bounded.gcc" || status=1
 "$python" "$top/tests/unit/bounded_lives.py" "$made/bounded.gcc" hours 24 || status=1

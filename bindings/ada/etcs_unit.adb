@@ -14,7 +14,6 @@ package body Etcs_Unit is
       end if;
    end Check;
 
-   --  The text of C at an address: it ends with a zero.
    function Text (At_Address : Address) return String is
       Letters : String (1 .. 64) with Import, Address => At_Address;
       Last    : Natural := 0;

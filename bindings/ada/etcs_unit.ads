@@ -116,6 +116,12 @@ package Etcs_Unit is
 
 private
 
+   function Status (Answer : Unsigned_32) return Etcs_C.Unit_Status;
+   procedure Check (Answer : Unsigned_32);
+   --  Raises Refused unless it is OK.
+   function Text (At_Address : System.Address) return String;
+   --  The text of C at an address: it ends with a zero.
+
    type Unit (On : not null access Medium'Class) is new Ada.Finalization.Limited_Controlled with record
       Handle : aliased Etcs_C.Unit_Struct := (System.Null_Address, 0);
    end record;

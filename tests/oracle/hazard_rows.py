@@ -7,22 +7,28 @@
   passes as a test case.
 - All small tracks to depth 2: no hazard that nothing explains, each one found has its cell in docs/hazards.yaml, and without merging the
   same are found.
+- Where C lets a step pass, no definition has a hazard: after drawn moments, steps and answers, also such as no unit gives. And to depth 2 the
+  same drives are found with C's judgement as without it.
 - Each planted change of the plain kernel (tests/plain) breaks a hazard: a search of it finds a drive that nothing explains; without a change
   the same search finds none.
 """
 import os
+import random
 import shutil
 import subprocess
 import sys
 import tempfile
 import time
+from collections import Counter
 from pathlib import Path
 
 import yaml
 
 TOP = Path(__file__).resolve().parents[2]
 sys.path.insert(0, str(TOP / "python"))
-from gaknifur.testing import hazard_search  # noqa: E402
+from gaknifur.testing import hazard_search, hazard_tracks, hazards  # noqa: E402
+from gaknifur.testing.branching import Answer, Branches, compiled  # noqa: E402
+from gaknifur.testing.sent_track import Track  # noqa: E402
 from plain_branches import PlainBranches  # noqa: E402
 
 FEW, DEPTH, LEAST_PLANTED = 4, 3, 21
@@ -30,6 +36,7 @@ SEARCH = ("--depth", "2", "--minutes", "10", "--jobs", "2")
 KNOWN = (*SEARCH, "--hazard", "H1", "--track", "end of authority")
 LIFE = "found: H1 in FS: safety 44: 8 steps"
 LEAST = 11  # kinds of hazards at depth 2
+DRAWN, SEED, LEAST_DRAWN = 20_000, 1, 100  # moments, and of each hazard
 
 # What is wrong, the file, the text before and after, the hazard, the small track and how a drive begins.
 PLANTED = [
@@ -111,6 +118,26 @@ class Rows:
         self.is_so("unmerged", {line.rpartition(":")[0] for line in self.lab(*SEARCH, "--unmerged")} == kinds)
         print(f"tests/oracle/hazard_rows.py: {len(found)} kinds of hazards, all explained")
 
+    def judged(self):
+        """What C lets pass is no hazard."""
+        with tempfile.TemporaryDirectory() as room:
+            unit, r, met = Branches(compiled(Path(room))), random.Random(SEED), Counter()
+            for _ in range(DRAWN):
+                now, step, answer = drawn(r)
+                later, passed = hazards.after(now, step, answer), 0
+                for number, (name, holds) in enumerate(hazards.HAZARDS.items()):
+                    is_suspect = unit.is_suspect(hazards.bounds(now), step, answer, 1 << number)
+                    met[name] += holds(later)
+                    passed += not is_suspect
+                    self.is_so(f"{name} passes", is_suspect or not holds(later), (now, step, answer))
+                met["passed"] += passed == len(hazards.HAZARDS)
+            self.is_so("drawn hazards", min(met[name] for name in hazards.HAZARDS) >= LEAST_DRAWN and met["passed"] >= DRAWN // 10, met)
+            both = [{work: walker.walk(work) for work in hazard_search.works(2, lambda _: True)}
+                    for walker in (hazard_search.Walker(unit, tuple(hazards.HAZARDS), time.monotonic() + 3600, True, filters) for filters in (False, True))]
+            differ = [work for work, one in both[0].items() if (one.found, one.inputs) != (both[1][work].found, both[1][work].inputs)]
+            self.is_so("the same drives", not differ, differ[:3])
+        print(f"tests/oracle/hazard_rows.py: {DRAWN} moments drawn, {met['passed']} of them pass; {len(both[0])} parts with the same drives")
+
     def planted(self, few):
         """The searches of the plain kernel."""
         for says, *plant, hazard, track, begin in PLANTED[:few]:
@@ -120,6 +147,27 @@ class Rows:
         for track, begin in sorted({(track, begin) for *_, track, begin in PLANTED[:few]}):
             found = in_copy(None, None, track, begin, 1)
             self.is_so(f"no change, {track}", found and "unexplained" not in found, found)
+
+
+def drawn(r):
+    """A moment of a train near what was sent, a step, and an answer."""
+    sent, time_ms = Track(), r.choice((0, 12_000))
+    for name in r.sample(sorted(hazard_tracks.TELEGRAMS), r.randrange(5)):
+        sent = sent.after(hazard_tracks.telegram(name)["telegram"], r.choice((0, 0, 5_000, 40_000)), 1, time_ms)
+    codes = [(1,), (2,), (3,), (4, 0), (4, 1), (5, 1), (5, 4), (6,), (7,), (11,)]
+    of = {r.choice(codes) for _ in range(r.randrange(8))}
+    place = r.choice([0, 100, *hazard_tracks.places(hazards.Moment(answer_of(r), sent, length=20_000))]) % (1 << 40) + r.choice((-3_000, -1, 0, 1, 1_000, 3_000))
+    speed = r.choice((0, 1_000, 5_000, 10_000, 10_001, 40_000, 50_001, 130_001))
+    now = hazards.Moment(answer_of(r), sent, place, speed, 0, r.choice((0, abs(place))), place + r.choice((0, 0, 100, 500)), False, time_ms, 1, 0,
+                         frozenset(of), r.choice((0, 20_000, 150_000)), r.choice((0, 100_000, 160_000)))
+    steps = []
+    while not steps:
+        steps = hazard_tracks.steps_of(r.choice(hazard_tracks.TRACKS[-1].symbols + hazard_tracks.TRACKS[-2].symbols), now)
+    return now, steps[0], answer_of(r)
+
+
+def answer_of(r):
+    return Answer(r.choice((0, 0, 0, 1, 1, 2, 3, 4, 6, 7, 8, 9)), r.randrange(3), r.choice((0, 1, 15_000, 30_000, 30_001, 40_000, 100_000, 120_000, 200_000)), b"")
 
 
 def search(folder, hazard, track, begin, depth):
@@ -158,6 +206,7 @@ def main(which=""):
     rows = Rows()
     rows.unit()
     rows.all_tracks()
+    rows.judged()
     rows.planted(None if which == "all" else FEW)
     rows.is_so("planted changes", len(PLANTED) >= LEAST_PLANTED, len(PLANTED))
     print(f"tests/oracle/hazard_rows.py: {len(PLANTED)} planted changes, {len(PLANTED) if which else FEW} tried, {rows.wrong} wrong")

@@ -1,4 +1,5 @@
-/* The unit over media that makers use: a NOR flash (include/etcs_nor.h), an FRAM, and an eMMC with a cache. Power is lost at any byte
+/* The unit over media that makers use: NOR flashes (include/etcs_nor.h), one of them with erase blocks in which two slots would have their
+ * places, an FRAM, and an eMMC with a cache. Flashes with other blocks than they are set up for are refused. Power is lost at any byte
  * that is programmed, erased or written; inputs come while requests are carried out; reads, programs, erasures, writes and syncs fail.
  * What is on the medium then is a beginning of the events that were taken, with each one whose output was released.
  *
@@ -8,7 +9,7 @@
 #include "etcs_nor.h"
 #include "medium.h"
 
-enum { SLOTS = 3, SECTORS = 1 + 6 * SLOTS, BLOCK = 4096, BYTES = (1 + SLOTS) * BLOCK, LIVES = 500, MOST_BYTES = 16000, MOST_EVENTS = 60000 };
+enum { SLOTS = 3, SECTORS = 1 + 6 * SLOTS, SMALL = 4096, LARGE = 8192, BYTES = (1 + SLOTS) * LARGE, LIVES = 500, MOST_BYTES = 16000, MOST_EVENTS = 60000 };
 
 static uint64_t drawn = 1;
 
@@ -23,7 +24,7 @@ static uint32_t draw(uint32_t below) {
 /* ---- the chip: bytes, how many more of them may be changed until power is lost, and which call fails */
 
 static uint8_t cells[BYTES];
-static uint64_t left, calls_left, erasures;
+static uint64_t left, calls_left, erasures, granule = SMALL, whole = BYTES; /* (what an erasure takes; after how many bytes places begin anew) */
 
 /* How many of so many bytes are changed by this call; all, unless power is lost or the call fails. */
 static size_t changed(size_t len, int *is_done) {
@@ -42,7 +43,7 @@ static int chip_read(void *of, uint64_t at, uint8_t *bytes, size_t len) {
     (void)of;
     (void)changed(0, &is_done);
     if (is_done)
-        memcpy(bytes, cells + at, len);
+        memcpy(bytes, cells + at % whole, len);
     return is_done;
 }
 
@@ -51,6 +52,7 @@ static int nor_program(void *of, uint64_t at, const uint8_t *bytes, size_t len) 
     int is_done, is_same = 1;
     const size_t most = changed(len, &is_done);
     (void)of;
+    at %= whole;
     for (size_t i = 0; i < most; i++) {
         cells[at + i] &= bytes[i];
         is_same &= cells[at + i] == bytes[i];
@@ -64,19 +66,20 @@ static int nor_program(void *of, uint64_t at, const uint8_t *bytes, size_t len) 
 /* A part of an erasure: the first bytes, the last ones, or any bits of all. */
 static int nor_erase(void *of, uint64_t at) {
     int is_done;
-    const size_t most = changed(BLOCK, &is_done);
+    const size_t len = (size_t)granule, most = changed(len, &is_done);
     const uint32_t way = draw(3);
     (void)of;
+    at = at % whole / granule * granule;
     erasures++;
-    for (size_t i = 0; i < BLOCK; i++)
-        if (way == 2 && most < BLOCK)
-            cells[at + i] |= (uint8_t)(draw(BLOCK) < most ? 0xFF : draw(256) & draw(256));
-        else if ((way == 0 ? i : BLOCK - 1 - i) < most)
+    for (size_t i = 0; i < len; i++)
+        if (way == 2 && most < len)
+            cells[at + i] |= (uint8_t)(draw((uint32_t)len) < most ? 0xFF : draw(256) & draw(256));
+        else if ((way == 0 ? i : len - 1 - i) < most)
             cells[at + i] = 0xFF;
     return is_done;
 }
 
-static etcs_nor nor = {NULL, BLOCK, 1 + SLOTS, chip_read, nor_program, nor_erase, 0};
+static etcs_nor nor = {NULL, SMALL, 1 + SLOTS, chip_read, nor_program, nor_erase, 0};
 
 static int as_it_is_read(void *of, uint64_t sector, uint8_t *bytes) {
     return chip_read(of, sector * ETCS_UNIT_SECTOR, bytes, ETCS_UNIT_SECTOR);
@@ -120,6 +123,7 @@ typedef struct {
     int (*carry_out)(void *of, const etcs_unit_request_info *request, const uint8_t *bytes);
     void (*loses)(void);
     int is_nor;
+    uint32_t block;
 } kind;
 
 static const kind *on;
@@ -251,7 +255,7 @@ static void formats(void) {
     calls_left = next = released = 0;
     for (size_t i = 0; i < BYTES; i++)
         cells[i] = (uint8_t)draw(256);
-    memset(cells + 3 * BLOCK, 0xFF, BLOCK);
+    memset(cells + 3 * on->block, 0xFF, on->block);
     for (uint32_t i = 0; etcs_unit_format_request(SLOTS, i, &request, bytes, sizeof bytes) == ETCS_UNIT_OK; i++)
         is("a formatting", (uint64_t)on->carry_out(&nor, &request, bytes), 1);
 }
@@ -261,7 +265,7 @@ static void at_each_byte(uint64_t step) {
     static uint8_t before[BYTES];
     const uint64_t next_before = next, released_before = released;
     memcpy(before, cells, BYTES);
-    for (uint64_t bytes = 1; bytes <= MOST_BYTES; bytes += step) {
+    for (uint64_t bytes = 1; bytes <= MOST_BYTES + 3 * (on->block - SMALL); bytes += step) {
         memcpy(cells, before, BYTES);
         memcpy(kept, cells, BYTES);
         next = next_before;
@@ -323,26 +327,54 @@ static void under_an_executive(void) {
 static void refuses(void) {
     static const etcs_unit_request_info requests[] = {{0, 2, ETCS_REQUEST_WRITE}, {1, 5, ETCS_REQUEST_WRITE}, {2, 1, ETCS_REQUEST_WRITE}, {3, 5, ETCS_REQUEST_WRITE},
                                                       {2, 6, ETCS_REQUEST_WRITE}, {6, 1, ETCS_REQUEST_WRITE}, {SECTORS, 1, ETCS_REQUEST_WRITE}};
+    static const uint64_t sizes[][2] = {{ETCS_NOR_BLOCK_BYTES - 1, 4}, {SMALL, 0}, {SMALL, 2}, {SMALL, 1048578}, {UINT64_MAX, 4}};
     static uint8_t before[BYTES], bytes[ETCS_UNIT_REQUEST_BYTES];
-    etcs_nor small[2] = {nor, nor};
-    small[0].block_bytes = ETCS_NOR_BLOCK_BYTES - 1;
-    small[1].blocks = 0;
     memcpy(before, cells, BYTES);
     for (unsigned i = 0; i < sizeof requests / sizeof requests[0]; i++)
         is("a request of no unit", (uint64_t)etcs_nor_carry_out(&nor, &requests[i], bytes), 0);
-    for (unsigned i = 0; i < 2; i++)
-        is("a sector of a small flash", (uint64_t)etcs_nor_read_sector(&small[i], 0, bytes), 0);
+    for (unsigned i = 0; i < sizeof sizes / sizeof sizes[0]; i++) {
+        etcs_nor other = {NULL, sizes[i][0], sizes[i][1], chip_read, nor_program, nor_erase, 0};
+        is("a flash of a wrong size", etcs_nor_check_blocks(&other), ETCS_NOR_BAD_SIZE);
+        is("a sector of a flash that is too small", i < 2 && etcs_nor_read_sector(&other, 0, bytes), 0);
+    }
     is("a sector after the last", (uint64_t)etcs_nor_read_sector(&nor, SECTORS, bytes), 0);
     is("nothing is done", (uint64_t)memcmp(before, cells, BYTES), 0);
 }
 
+/* Flashes set up with blocks of so many bytes, whose erasures take so many, and whose places begin anew after so many; and each of the calls of a
+ * check fails. */
+static void checks_blocks(void) {
+    static const uint64_t flashes[][4] = {
+        {SMALL, SMALL, BYTES, ETCS_NOR_OK}, {LARGE, LARGE, BYTES, ETCS_NOR_OK}, {SMALL, LARGE, BYTES, ETCS_NOR_ERASED_MORE},
+        {SMALL, 4 * SMALL, BYTES, ETCS_NOR_ERASED_MORE}, {SMALL, SMALL / 2, BYTES, ETCS_NOR_ERASED_LESS}, {SMALL * 3 / 2, SMALL, BYTES, ETCS_NOR_ERASED_LESS},
+        {LARGE, SMALL, BYTES, ETCS_NOR_ERASED_LESS}, {SMALL, SMALL, 2 * SMALL, ETCS_NOR_ERASED_MORE}, {LARGE, LARGE, 3 * LARGE, ETCS_NOR_ERASED_MORE}};
+    uint32_t fault = ETCS_NOR_FAILED, call;
+    for (unsigned i = 0; i < sizeof flashes / sizeof flashes[0]; i++) {
+        formats();
+        nor.block_bytes = flashes[i][0], granule = flashes[i][1], whole = flashes[i][2];
+        is("a flash is checked", etcs_nor_check_blocks(&nor), flashes[i][3]);
+        granule = nor.block_bytes = on->block, whole = BYTES;
+    }
+    for (call = 1; fault == ETCS_NOR_FAILED && call < 10000; call++) {
+        calls_left = call;
+        fault = etcs_nor_check_blocks(&nor);
+    }
+    is("a check whose calls fail", fault, ETCS_NOR_OK);
+    is("calls of a check", call > (1 + SLOTS) * (7 + on->block / 64), 1);
+    is("a block that is checked isn't ready", memcmp(cells + nor.block_bytes + 6 * ETCS_UNIT_SECTOR, ETCS_NOR_READY, 8) == 0, 0);
+    formats();
+    is("a life on what was checked", (uint64_t)lived(10, UINT64_MAX, 0), 1);
+}
+
 int main(int count, char **words) {
-    static const kind kinds[] = {{"NOR", etcs_nor_read_sector, etcs_nor_carry_out, NULL, 1},
-                                 {"FRAM", as_it_is_read, fram_carry_out, NULL, 0},
-                                 {"eMMC", as_it_is_read, emmc_carry_out, emmc_loses, 0}};
+    static const kind kinds[] = {{"NOR", etcs_nor_read_sector, etcs_nor_carry_out, NULL, 1, SMALL},
+                                 {"NOR of larger blocks", etcs_nor_read_sector, etcs_nor_carry_out, NULL, 1, LARGE},
+                                 {"FRAM", as_it_is_read, fram_carry_out, NULL, 0, SMALL},
+                                 {"eMMC", as_it_is_read, emmc_carry_out, emmc_loses, 0, SMALL}};
     const uint64_t step = count > 1 ? strtoull(words[1], NULL, 10) : 1;
-    for (unsigned i = 0; i < 3; i++) {
+    for (unsigned i = 0; i < 4; i++) {
         on = &kinds[i];
+        granule = nor.block_bytes = on->block;
         cuts = refused = 0;
         formats();
         lists = erasures = 0;
@@ -357,6 +389,7 @@ int main(int count, char **words) {
         if (on->is_nor) {
             under_an_executive();
             refuses();
+            checks_blocks();
         }
         is("lives that lose power", cuts > LIVES / 8, 1);
         is("lives whose medium fails", refused > LIVES / 8, 1);

@@ -14,6 +14,7 @@ from typing import Any, NamedTuple
 from .. import unit
 from ..program import DEVICE, REFUSED, Failed
 from ..units._header import TELEGRAM_BYTES, etcs_unit_why_info
+from . import sent_track
 from .scenarios import ACKNOWLEDGED, CONFIRMED
 
 Step = dict[str, Any]
@@ -22,6 +23,7 @@ SOURCE = Path(__file__).with_name("branching.c")
 POWER_UP, TELEGRAM, ODOMETER, CLOCK, ACTION, IDENTITY, RUNNING_NUMBER, TRAIN_DATA = range(8)
 EVENT_BYTES = 8
 """The bytes of the number of an event, with which an answer begins."""
+MODES = 10
 
 
 class Answer(NamedTuple):
@@ -33,11 +35,24 @@ class Answer(NamedTuple):
     reported: bytes
 
 
+class Sent(ctypes.Structure):
+    """`branch_sent` of branching.c."""
+
+    _fields_ = [(name, ctypes.c_int64) for name in sent_track.Bounds._fields]
+
+
 class Input(ctypes.Structure):
     """`branch_input` of branching.c."""
 
-    _fields_ = [("numbers", ctypes.c_int64 * 5), ("kind", ctypes.c_uint32), ("len", ctypes.c_uint32),
+    _fields_ = [("numbers", ctypes.c_int64 * 5), ("sent", Sent), ("kind", ctypes.c_uint32), ("len", ctypes.c_uint32),
                 ("bytes", ctypes.c_uint8 * TELEGRAM_BYTES)]
+
+
+class Bounds(ctypes.Structure):
+    """`branch_bounds` of branching.c."""
+
+    _fields_ = [*((name, ctypes.c_int64) for name in ("place", "farthest", "speed", "maximum", "length", "roll", "doubt", "margin", "is_revalidated")),
+                ("ceilings", ctypes.c_int64 * MODES), ("sent", Sent)]
 
 
 class Reported(ctypes.Structure):
@@ -71,6 +86,7 @@ def input_of(step: Step) -> Input:
         return given
 
     if word == "telegram":
+        given.sent = Sent(*sent_track.bounds_of_telegram(value))
         return of(TELEGRAM, data=bytes.fromhex(value))
     if word != "driver":
         return of({"cold": POWER_UP, "drive": ODOMETER, "clock": CLOCK}[word], value if word == "drive" else [value])
@@ -101,6 +117,14 @@ def compiled(folder: Path) -> Path:
     return made
 
 
+class Sequences(NamedTuple):
+    """Sequences of steps, with the addresses of their inputs one after another, and how many each has."""
+
+    steps: list[list[Step]]
+    inputs: Any
+    lengths: bytes
+
+
 class Branches:
     """The unit of a compiled library. One per process: all states are states of the same memory."""
 
@@ -118,17 +142,39 @@ class Branches:
         self.check(self.library.branch_first(state), {})
         return state
 
-    def check(self, status: int, step: Step) -> None:
+    def check(self, status: int, step: Step | list[list[Step]]) -> None:
         """Fails unless the unit took an input."""
         if status != unit.Status.OK:
             raise Failed(f"the unit answers {unit.Refused(status)} to {step}", REFUSED)
 
     def take(self, state: Any, step: Step, room: Any = None) -> tuple[Any, Answer]:
         """The state and the answer after an input; `room`: a state that is no longer needed."""
+        after = room or ctypes.create_string_buffer(self.size)
+        self.check(self.library.branch(state, ctypes.byref(self.input(step)), ctypes.byref(self.reported), after), step)
+        output = self.reported.why.output
+        return after, Answer(output.mode, output.brake, output.limit_m_per_h, bytes(self.reported)[EVENT_BYTES:])
+
+    def input(self, step: Step) -> Input:
+        """The input of a step, which is made once."""
         name = str(step)
         if name not in self.inputs:
             self.inputs[name] = input_of(step)
-        after = room or ctypes.create_string_buffer(self.size)
-        self.check(self.library.branch(state, ctypes.byref(self.inputs[name]), ctypes.byref(self.reported), after), step)
-        output = self.reported.why.output
-        return after, Answer(output.mode, output.brake, output.limit_m_per_h, bytes(self.reported)[EVENT_BYTES:])
+        return self.inputs[name]
+
+    def sequences(self, of: list[list[Step]]) -> Sequences:
+        """Sequences of steps, for `suspects`."""
+        inputs = [ctypes.addressof(self.input(step)) for steps in of for step in steps]
+        return Sequences(of, (ctypes.c_void_p * len(inputs))(*inputs), bytes(map(len, of)))
+
+    def suspects(self, state: Any, sequences: Sequences, bounds: Bounds, wanted: int) -> list[list[Step]]:
+        """The sequences of steps from a state in which one of the wanted hazards (bit 0 is H1) may come; none comes in the others."""
+        count = len(sequences.lengths)
+        found = ctypes.create_string_buffer(count)
+        self.check(self.library.branch_suspects(state, sequences.inputs, sequences.lengths, count, ctypes.byref(bounds), wanted, found), sequences.steps)
+        return [sequences.steps[at] for at, one in enumerate(found.raw) if one] if any(found.raw) else []
+
+    def is_suspect(self, bounds: Bounds, step: Step, answer: Answer, wanted: int) -> bool:
+        """Whether one of the wanted hazards may be there after a step with this answer."""
+        output = Reported().why.output
+        output.mode, output.brake, output.limit_m_per_h = answer.mode, answer.brake, answer.limit_m_per_h
+        return bool(self.library.branch_judge(ctypes.byref(bounds), ctypes.byref(self.input(step)), ctypes.byref(output), wanted))

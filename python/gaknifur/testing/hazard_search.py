@@ -1,5 +1,8 @@
 """Search small tracks for hazards: all sequences of symbols up to a depth, in processes, with equal states merged.
 
+After the last symbol of a sequence only hazards count: C judges which steps may lead to one (`is_suspect` of branching.c), and the
+definitions look at these. All other steps are taken one by one.
+
 Two states are merged if all that the unit reports is equal, and the true train, the track that was sent (each telegram with its place and
 moment), what the driver did, and the path and moment at which the mode was entered. That is a heuristic: the unit keeps more than it reports.
 """
@@ -19,9 +22,9 @@ from ..program import REFUSED, Failed
 from ..simulation.driving import MODES
 from ..unit import Brake, Mode
 from . import hazard_tracks
-from .branching import Answer, Branches, Step
+from .branching import Answer, Branches, Sequences, Step
 from .hazard_tracks import BEGINS, TRACKS, SmallTrack
-from .hazards import HAZARDS, Moment, after, found_at
+from .hazards import HAZARDS, Moment, after, bounds, found_at
 from .scenario_text import life_lines, telegram_lines
 from .yaml_text import quoted
 
@@ -30,6 +33,8 @@ Kind = tuple[str, Mode, str]
 FILE = files.beginning("a search for hazards", b'{"hazards": ')
 MOST_STATES = 1_500_000
 """The most states that one process remembers; then it forgets all, and merges less."""
+MOST_ENDS = 20_000
+"""The most sequences of last symbols that one process remembers."""
 LOOKS_AT_CLOCK = 256
 
 
@@ -92,10 +97,15 @@ class TimeIsOver(Exception):
 class Walker:
     """Walks through the states of a unit."""
 
-    def __init__(self, unit: Unit, wanted: tuple[str, ...], end: float, merges: bool = True) -> None:
+    def __init__(self, unit: Unit, wanted: tuple[str, ...], end: float, merges: bool = True, filters: bool = True) -> None:
         self.unit, self.wanted, self.end, self.merges = unit, wanted, end, merges
+        self.filter = unit if filters and isinstance(unit, Branches) else None
+        self.bits = sum(1 << number for number, name in enumerate(HAZARDS) if name in wanted)
         self.seen: dict[int, int] = {}
         self.of: tuple[int, str] | None = None
+        self.symbols: tuple[list[Any], list[Any]] = [], []
+        self.ends: dict[tuple[str | int, ...], Sequences] = {}
+        """The steps of each symbol, by what they depend on: the telegrams that were read, or the variables of hazard_tracks."""
         self.rooms: list[Any] = []
 
     def begun(self, begin: str) -> tuple[Node, list[Step]]:
@@ -113,11 +123,43 @@ class Walker:
         is_entered = node is None or node.now.answer.mode != answer.mode
         return Node(state, now, (now.path, now.time_ms) if is_entered or node is None else node.entered)
 
+    def followed(self, node: Node, path: list[Step], steps: list[Step], depth: int, result: Result) -> Node:
+        """The state after steps. Keeps the hazards on the way."""
+        child = node
+        for count, step in enumerate(steps):
+            child = self.taken(child, step, self.rooms[depth])
+            self.rooms[depth] = child.state
+            for kind in found_at(child.now, self.wanted):
+                if kind not in result.found:
+                    result.found[kind] = [*path, *steps[:count + 1]]
+        return child
+
+    def end_with_each(self, unit: Branches, node: Node, path: list[Step], result: Result) -> None:
+        """Ends sequences with each symbol: C judges which may lead to a hazard, and the definitions look at these."""
+        limits, read = bounds(node.now), tuple(digits for digits, *_ in node.now.track.groups)
+        keys: tuple[tuple[str | int, ...], ...] = (read, hazard_tracks.variables(node.now))
+        for symbols, key in zip(self.symbols, keys, strict=True):
+            if len(self.ends) > MOST_ENDS:
+                self.ends = {}
+            if key not in self.ends:
+                self.ends[key] = unit.sequences([steps for symbol in symbols if (steps := hazard_tracks.steps_of(symbol, node.now))])
+            sequences = self.ends[key]
+            for steps in unit.suspects(node.state, sequences, limits, self.bits) if sequences.steps else ():
+                self.followed(node, path, steps, 1, result)
+            result.inputs += len(sequences.inputs)
+        self.look_at_clock()
+
+    def look_at_clock(self) -> None:
+        """Ends the search where time is over."""
+        if time.monotonic() > self.end:
+            raise TimeIsOver
+
     def walk(self, work: Work) -> Result:
         """The result of a part."""
         result = Result(work)
         if self.of != work[:2] or len(self.seen) > MOST_STATES:
-            self.of, self.seen = work[:2], {}
+            self.of, self.seen, self.ends = work[:2], {}, {}
+            self.symbols = TRACKS[work.track].by_moment()
         node, path = self.begun(work.begin)
         self.rooms = [None] * (work.depth + 1)
         symbols = TRACKS[work.track].symbols
@@ -129,19 +171,16 @@ class Walker:
 
     def explore(self, node: Node, path: list[Step], first: Iterable[Any], symbols: tuple[Any, ...], depth: int, result: Result) -> None:
         """Tries symbols, and after each all sequences up to the depth."""
-        for symbol in first:
-            child, steps = node, hazard_tracks.steps_of(symbol, node.now)
-            for count, step in enumerate(steps):
-                child = self.taken(child, step, self.rooms[depth])
-                self.rooms[depth] = child.state
-                for kind in found_at(child.now, self.wanted):
-                    if kind not in result.found:
-                        result.found[kind] = [*path, *steps[:count + 1]]
+        if depth == 1 and self.filter and first is symbols:
+            self.end_with_each(self.filter, node, path, result)
+            return
+        for steps in (hazard_tracks.steps_of(symbol, node.now) for symbol in first):
+            child = self.followed(node, path, steps, depth, result)
             if not steps:
                 continue
             result.inputs += len(steps)
-            if result.inputs % LOOKS_AT_CLOCK < len(steps) and time.monotonic() > self.end:
-                raise TimeIsOver
+            if result.inputs % LOOKS_AT_CLOCK < len(steps):
+                self.look_at_clock()
             answer, track, *train = child.now
             key = hash((answer, track.groups, *train, child.entered))
             if self.merges and self.seen.get(key, 0) >= depth:

@@ -109,7 +109,8 @@ BEGINS: dict[str, list[Step]] = {
 }
 """The steps with which a drive begins, by the mode to which they lead."""
 STANDS, CREEPS, RUNS, FAST = ("drive", 0, 0), 4_000, 60_000, 160_000
-REACHES = tuple(("reach", way, speed) for way in (-1, 0, 1) for speed in (CREEPS, RUNS))
+WAYS = (-1, 0, 1)
+REACHES = tuple(("reach", way, speed) for way in WAYS for speed in (CREEPS, RUNS))
 FAR = ("drive", 50_000, RUNS)
 ANSWERS: tuple[Symbol, ...] = (*(("driver", code) for code in WITHOUT_VALUE.values()), *(("driver", 10, kind) for kind in ACKNOWLEDGED.values()))
 ENTRIES: tuple[Symbol, ...] = (("driver", 1, "IC 704"), ("driver", 2, 704), ("driver", 3, *TRAIN), ("driver", 4, 0), ("driver", 4, 1),
@@ -129,6 +130,11 @@ class SmallTrack:
     name: str
     begins: tuple[str, ...]
     symbols: tuple[Symbol, ...]
+
+    def by_moment(self) -> tuple[list[Symbol], list[Symbol]]:
+        """The symbols whose steps depend only on which telegrams were read, and those whose steps depend on `variables`."""
+        changing = [symbol for symbol in self.symbols if symbol[0] in ("reach", "wait", "ready")]
+        return [symbol for symbol in self.symbols if symbol not in changing], changing
 
 
 TRACKS = (
@@ -162,6 +168,17 @@ def places(now: Moment) -> list[int]:
     return [place for some in (*ends, *parts, *restrictions) for place in some]
 
 
+def nearest(of: list[int], more: int) -> int:
+    """The least way to one of these places and so much more; 0 where none is ahead."""
+    return min((place + more for place in of if 0 < place + more <= FARTHEST_AHEAD_CM), default=0)
+
+
+def variables(now: Moment) -> tuple[int, ...]:
+    """What the steps of movements to places, waits and entries depend on."""
+    of = places(now)
+    return (*(nearest(of, way - now.place) for way in WAYS), now.time_ms, now.length)
+
+
 def drive(way: int, speed: int) -> list[Step]:
     """The readings of a movement."""
     whole, rest = divmod(way, LONGEST_CM) if way > 0 else (0, way)
@@ -175,9 +192,8 @@ def steps_of(symbol: Symbol, now: Moment) -> list[Step]:
         step = telegram(values[0])
         return [] if any(digits == step["telegram"] for digits, *_ in now.track.groups) else [step]
     if word == "reach":
-        ahead = [place + values[0] - now.place for place in places(now)]
-        ahead = [way for way in ahead if 0 < way <= FARTHEST_AHEAD_CM]
-        return drive(min(ahead), values[1]) if ahead else []
+        way = nearest(places(now), values[0] - now.place)
+        return drive(way, values[1]) if way else []
     if word == "drive":
         return drive(*values)
     if word == "ready":

@@ -6,12 +6,13 @@ track sent, and the unit's answer. Nothing of it is the unit's own state. The od
 A hazard is a function of a moment. `WEAK_POINTS` has the entries of docs/explain/safety.md, and laws, by which a hazard may come:
 where none of them holds, a hazard that was found is unexplained.
 """
+import functools
 from collections.abc import Callable, Iterable, Iterator
 from typing import NamedTuple
 
 from ..unit import Brake, Cold, Mode
-from .branching import Answer, Step
-from .sent_track import Restriction, Track
+from .branching import Answer, Bounds, Sent, Step
+from .sent_track import National, Restriction, Track, bounds_of
 
 NONE, EMERGENCY = int(Brake.NONE), int(Brake.EMERGENCY)
 FS, OS, SR, SH, UN, SB, TR, PT, SF = (int(one) for one in (
@@ -25,6 +26,8 @@ NOWHERE_CM = -(1 << 50)
 REMEMBERED_CM = 100_000
 """The track is remembered to here from the rear; in Stand By and Shunting from the front."""
 TIMER_NEVER_S = 1023
+NATIONAL = {SR: "responsible", SH: "shunting", UN: "unfitted"}
+"""The modes whose speed is a national value."""
 CREEPING_M_PER_H = 1_200
 """From less a train may stop within a centimetre: 2,592 times 300 and 249 cm/s^2, the greatest deceleration and the steepest gradient."""
 
@@ -98,11 +101,16 @@ def is_revalidated(now: Moment) -> bool:
             and (7 in codes or 6 in codes and (3 in codes or (5, 3) in now.done)))
 
 
+@functools.lru_cache
+def national_ceilings(sent: tuple[National, ...]) -> dict[int, int]:
+    """The greatest speed that was sent for each mode of national values."""
+    return {mode: max(int(getattr(one, name)) for one in sent) for mode, name in NATIONAL.items()}
+
+
 def ceiling(now: Moment) -> int | None:
     """The greatest speed that was sent for the place and the mode; None where a train in FS or OS has none."""
-    values = {SR: "responsible", SH: "shunting", UN: "unfitted"}
-    if now.answer.mode in values:
-        return max(int(getattr(one, values[now.answer.mode])) for one in now.track.national)
+    if now.answer.mode in NATIONAL:
+        return national_ceilings(now.track.national)[now.answer.mode]
     if not is_by_authority(now):
         return 0
     here = [one.value for one in now.track.speeds if one.start <= now.place < one.end]
@@ -170,6 +178,16 @@ def h8(now: Moment) -> bool:
 
 
 HAZARDS: dict[str, Callable[[Moment], bool]] = {"H1": h1, "H2": h2, "H3": h3, "H4": h4, "H5": h5, "H6": h6, "H7": h7, "H8": h8}
+
+
+def bounds(now: Moment) -> Bounds:
+    """What the definitions compare with, for `is_suspect` of branching.c: it judges by these numbers after which steps from this moment a
+    definition has to look. A bound is never less strict than the definition."""
+    made = Bounds(now.place, now.farthest, now.speed, now.maximum, now.length, max(one.roll for one in now.track.national),
+                  2 * (ACCURACY_CM + now.path // PATH_PART), MARGIN_M_PER_H, is_revalidated(now), sent=Sent(*bounds_of(now.track, now.length)))
+    for mode, speed in national_ceilings(now.track.national).items():
+        made.ceilings[mode] = speed
+    return made
 
 
 # ---- the weak points

@@ -3,6 +3,7 @@
 Places are in cm from where the train stood at first, speeds in m/h. Distances count from where the group was read.
 """
 import functools
+from collections.abc import Iterable
 from typing import NamedTuple, Self
 
 from . import telegrams
@@ -12,6 +13,8 @@ SCALES_CM = (10, 100, 1000)
 STEP_M_PER_H = 5_000
 END_OF_SPEEDS, END_OF_GRADIENTS, EVERY_NUMBER = 127, 255, 255
 ENDLESS_CM = 1 << 50
+NO_SPEED = 1 << 50
+"""A speed that no train has, where none was sent."""
 
 
 class Authority(NamedTuple):
@@ -145,3 +148,41 @@ def digits_of(text: str) -> str:
 def packets_of(digits: str) -> list[Pairs]:
     """The packets of a telegram that `digits_of` made."""
     return KNOWN[digits]
+
+
+class Bounds(NamedTuple):
+    """Of all that was sent: the farthest supervised location and end of authority, the ends of static speeds and gradients, the least static
+    speed, the greatest V_MAIN, and of all restrictions the least speed, where they begin, and where the train has left them."""
+
+    location: int
+    end: int
+    speeds_end: int
+    gradients_end: int
+    least_speed: int
+    main: int
+    restriction: int
+    restricted: int
+    cleared: int
+
+
+@functools.lru_cache(maxsize=1 << 14)
+def bounds_of(sent: Track, length: int) -> Bounds:
+    """The bounds of a track, for a train of this length."""
+    return Bounds(farthest(one.location for one in sent.authorities), farthest(one.end for one in sent.authorities),
+                  farthest(one.end for one in sent.speeds), farthest(one.end for one in sent.gradients),
+                  min((one.value for one in sent.speeds), default=NO_SPEED), max((one.main for one in sent.authorities), default=0),
+                  min((one.speed for one in sent.restrictions), default=NO_SPEED),
+                  min((one.start for one in sent.restrictions), default=ENDLESS_CM), farthest(one.end + length for one in sent.restrictions))
+
+
+def farthest(places: Iterable[int]) -> int:
+    """The farthest place; if there is none, one that no train comes to."""
+    return max(places, default=-ENDLESS_CM)
+
+
+@functools.cache
+def bounds_of_telegram(digits: str) -> Bounds:
+    """The bounds of what a telegram sends, from its place. Of a telegram that wasn't made here they are as wide as can be."""
+    if digits not in KNOWN:
+        return Bounds(*(-ENDLESS_CM,) * 4, 0, 0, 0, -ENDLESS_CM, ENDLESS_CM)
+    return bounds_of(Track().after(digits, 0, 1, 0), 0)

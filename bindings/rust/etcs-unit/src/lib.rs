@@ -4,6 +4,7 @@
 //! outputs, and only after all of them are on the medium. Obey the [`command`] of them until the next one. What else the program
 //! has to guarantee is in include/etcs_unit.h and docs/explain/integration.md.
 mod guard;
+mod image;
 mod journal;
 mod numbers;
 
@@ -14,6 +15,7 @@ use std::os::raw::c_char;
 use etcs_unit_sys as sys;
 
 pub use guard::{Demand, Guard, Situation};
+pub use image::{slot_start, Block, Image, Reason, Recorded, Replay, Replayed, Slot, SlotStart};
 pub use journal::{Journal, Record};
 pub use numbers::*;
 pub use sys::etcs_train_data as TrainData;

@@ -386,8 +386,10 @@ def check_words(env, wrong):
         done = lab(env, "skipped.yaml", cwd=room)
         wanted("with the library", done.returncode == 4 and "SAFETY 45" in done.stdout, done)
         done = lab(env | {"GAKNIFUR_ETCS_UNIT": "none"}, "skipped.yaml", cwd=room)
-        wanted("without the library", done.returncode == 4 and "SAFETY" not in done.stdout
+        wanted("without the library", done.returncode == 3 and "/steps/4/telegram: packet 137 is skipped" in done.stdout and "SAFETY" not in done.stdout
                and "; telegrams that the unit skips or refuses are not judged" in done.stderr, done)
+        done = lab(env | {"GAKNIFUR_ETCS_UNIT": "none"}, "s.yaml", cwd=room)
+        wanted("no library needed", done.returncode == 4 and not done.stderr, done)
 
 
 def check_own(env, wrong):

@@ -1,6 +1,6 @@
 -- What C asks of a guard, in numbers (this project's profile; those of modes: SUBSET-026, 7.5.1). Where a number isn't one
 -- of those here, the status is 255, and nothing changes.
-use Rattle.std.specs.Prelude.{◌≡◌, ℕ, ◌==◌, nat_lt, Bool, true, false, List, length, Option, Some, None, if◌then◌else◌}
+use Rattle.std.specs.Prelude.{◌≡◌, ℕ, ◌==◌, nat_lt, Bool, true, false, List, Option, Some, None, if◌then◌else◌}
 use Rattle.std.specs.List.{slice_get}
 use Rattle.events.specs.declared.output.Brake.{Brake}
 use Rattle.events.specs.declared.output.Brake.TheVariants as brakes
@@ -10,11 +10,11 @@ use Rattle.telegram.specs.Faults.{number_of_fault}
 use Rattle.vars.specs.declared.linking.LinkOrientation.{LinkOrientation}
 use Rattle.vars.specs.declared.linking.LinkOrientation.TheVariants.{Reverse, Nominal}
 use Rattle.track_guard.specs.Demands.{Demanded}
-use Rattle.track_guard.specs.Guarding.{commanded, heard}
+use Rattle.track_guard.specs.Guarding.{HearsAll, commanded}
 use Rattle.track_guard.specs.Table.{table}
-use Rattle.track_guard.specs.declared.calls.EtcsDemand.{EtcsDemand}
-use Rattle.track_guard.specs.declared.calls.EtcsGuard.{EtcsGuard}
-use Rattle.track_guard.specs.declared.calls.EtcsSituation.{EtcsSituation}
+use Rattle.track_guard.specs.declared.demand_calls.EtcsDemand.{EtcsDemand}
+use Rattle.track_guard.specs.declared.guard_calls.EtcsGuard.{EtcsGuard}
+use Rattle.track_guard.specs.declared.situation.EtcsSituation.{EtcsSituation}
 use Rattle.track_guard.specs.declared.demanding.Demand.{Demand}
 use Rattle.track_guard.specs.declared.demanding.Situation.{Situation}
 use Rattle.track_guard.specs.declared.demanding.Source.{Source}
@@ -165,8 +165,7 @@ Becomes (Some becomes) before g status = (status ≡ 0) × (g ≡ guard_for_c be
 
 -- it hears a telegram, and counts its demands
 abbrev pub HearsIn : List ℕ → Situation → Guard → EtcsGuard → ℕ → ℕ → Type 0
-HearsIn bytes s before g count status =
-    (demands : List Demand) × Demanded s bytes demands × (status ≡ 0) × (g ≡ guard_for_c (heard demands before)) × (count ≡ length demands)
+HearsIn bytes s before g count status = (after : Guard) × HearsAll s bytes before after count × (status ≡ 0) × (g ≡ guard_for_c after)
 
 abbrev pub Hears : List ℕ → Option Situation → Option Guard → EtcsGuard → EtcsGuard → ℕ → ℕ → ℕ → Type 0
 Hears bytes None guard before g count_before count status = (status ≡ 255) × (g ≡ before) × (count ≡ count_before)

@@ -1,15 +1,18 @@
 -- What the equipment does with demands (this project's profile): `strict` brakes until the driver acknowledges at
 -- standstill, `warn` only reports. The guard is outside the unit and its journal, and can only add to the unit's brake.
-use Rattle.std.specs.Prelude.{◌≡◌, ◌≤◌, ℕ, Bool, true, false, List, [], ◌∷◌, if◌then◌else◌}
+use Rattle.std.specs.Prelude.{◌≡◌, ◌≤◌, ◌+◌, ℕ, Bool, true, false, List, [], ◌∷◌, length, Option, Some, None, if◌then◌else◌}
 use Rattle.std.specs.List.{AllByRecursion as Each, Contains}
 use Rattle.events.specs.declared.output.Brake.{Brake}
 use Rattle.events.specs.declared.output.Brake.TheVariants as brakes
+use Rattle.track_guard.specs.Demands.{Demanded}
 use Rattle.track_guard.specs.declared.demanding.Demand.{Demand}
+use Rattle.track_guard.specs.declared.demanding.Situation.{Situation}
 use Rattle.track_guard.specs.declared.finding.Action.{Action}
 use Rattle.track_guard.specs.declared.finding.Action.TheVariants as actions
 use Rattle.track_guard.specs.declared.guard.Guard.{Guard}
 use Rattle.track_guard.specs.declared.guard.Policy.{Policy}
 use Rattle.track_guard.specs.declared.guard.Policy.TheVariants.{Strict, Warn}
+use Rattle.track_guard.specs.declared.tally.Tally.{Tally}
 
 -- ---- brakes
 
@@ -37,6 +40,19 @@ abbrev pub brake_of_all : List Demand → Brake
 brake_of_all [] = brakes.None
 brake_of_all (d ∷ ds) = stronger (brake_of d.action) (brake_of_all ds)
 
+-- how many demands there are, and the strongest brake of them
+abbrev pub tally_of : List Demand → Tally
+tally_of ds = record { count = length ds; brake = brake_of_all ds }
+
+-- one more before them
+abbrev pub tally_with : Option Demand → Tally → Tally
+tally_with None t = t
+tally_with (Some d) t = record { count = t.count + 1; brake = stronger (brake_of d.action) t.brake }
+
+-- those of a telegram
+abbrev pub IsTally : Situation → List ℕ → Tally → Type 0
+IsTally s bytes t = (demands : List Demand) × Demanded s bytes demands × (t ≡ tally_of demands)
+
 -- ---- a guard
 
 -- after a power-up: it holds no brake, and has heard no telegram
@@ -50,6 +66,10 @@ held_by Warn brake demands = brake
 -- it heard a telegram with these demands
 abbrev pub heard : List Demand → Guard → Guard
 heard demands g = record { policy = g.policy; brake = held_by g.policy g.brake demands; has_heard = true }
+
+-- it heard a telegram, and counted its demands
+abbrev pub HearsAll : Situation → List ℕ → Guard → Guard → ℕ → Type 0
+HearsAll s bytes before after count = (demands : List Demand) × Demanded s bytes demands × (after ≡ heard demands before) × (count ≡ length demands)
 
 -- the driver acknowledged
 abbrev pub acknowledged : Bool → Guard → Guard

@@ -1,6 +1,6 @@
 //! The demands of a telegram: one for each row of the table that applies.
 ghost use Rattle.std.specs.Prelude.{◌≡◌, ◌+◌, ◌≤◌, [], ◌++◌, length};
-ghost use Rattle.track_guard.specs.Demands.{Demanded, IsFaultOf, concerns as concerns_train, demand_in, demand_of_packet, demands_in, fault_found};
+ghost use Rattle.track_guard.specs.Demands.{Demanded, IsFaultOf, concerns as concerns_train, demand_in, demand_of_packet, demands_in, fault_found, list_of};
 ghost use Rattle.track_guard.specs.Table.{action_by, table};
 
 use crate::finding::{Action, Finding};
@@ -16,7 +16,7 @@ use vars::{LinkOrientation, ValidityDirection};
 pub const MOST_DEMANDS: usize = 35;
 
 /// NID_PACKET of infill: it and what follows it are about a group ahead.
-const INFILL: u8 = 136;
+pub(crate) const INFILL: u8 = 136;
 
 /// The train as the telegram finds it.
 #[derive(Clone, Copy)]
@@ -97,7 +97,11 @@ fn concerns(valid: Option<ValidityDirection>, direction: Option<LinkOrientation>
 }
 
 /// What a packet demands, if anything.
-fn packet_demand(bytes: &[u8], place: PacketPlace, situation: Situation) -> Option<Demand>
+pub(crate) fn packet_demand(
+    bytes: &[u8],
+    place: PacketPlace,
+    situation: Situation,
+) -> Option<Demand>
     ensures { result ≡ demand_of_packet situation bytes.now place }
 {
     if !concerns(place.direction, situation.direction) {
@@ -130,13 +134,26 @@ fn add_packets(
 }
 
 /// Why a telegram is refused; None where bytes carry one.
-fn fault_of(bytes: &[u8]) -> Option<TelegramFault>
+pub(crate) fn fault_of(bytes: &[u8]) -> Option<TelegramFault>
     ensures { IsFaultOf bytes.now result }
 {
     match telegram::packets(bytes) {
         Ok(_) => None,
         Err(fault) => Some(fault),
     }
+}
+
+/// What a telegram demands that is refused; None where it isn't.
+pub(crate) fn refused_demand(
+    bytes: &[u8],
+    fault: Option<TelegramFault>,
+    situation: Situation,
+) -> Option<Demand>
+    ensures { list_of result ≡ fault_found situation bytes.now fault }
+{
+    let fault = fault?;
+    let finding = finding_in_refused(bytes, fault);
+    demand_for(finding, Source::Refused(fault), situation)
 }
 
 /// Adds what a telegram demands that is refused.
@@ -150,11 +167,7 @@ fn add_refused(
     ensures all { demands.new.items ≡ fault_found situation bytes.now fault }
     ensures few { length demands.new.items ≤ 1 }
 {
-    let Some(fault) = fault else {
-        return;
-    };
-    let finding = finding_in_refused(bytes, fault);
-    if let Some(demand) = demand_for(finding, Source::Refused(fault), situation) {
+    if let Some(demand) = refused_demand(bytes, fault, situation) {
         demands.push(demand);
     }
 }

@@ -1,11 +1,10 @@
 //! A guard between the unit's brake and the train's.
-ghost use Rattle.std.specs.Prelude.{◌≡◌};
-ghost use Rattle.track_guard.specs.Demands.{Demanded};
-ghost use Rattle.track_guard.specs.Guarding.{acknowledged, brake_of as brake_of_action, brake_of_all, commanded, empty, heard, held_by, stronger as stronger_of};
+ghost use Rattle.std.specs.Prelude.{◌≡◌, List};
+ghost use Rattle.track_guard.specs.Guarding.{HearsAll, acknowledged, brake_of_all, commanded, empty, heard, held_by};
+ghost use Rattle.track_guard.specs.declared.demanding.Demand.{Demand};
 
-use crate::demanding::{Demand, MOST_DEMANDS, Situation, demands};
-use crate::finding::Action;
-use arrayvec::ArrayVec;
+use crate::demanding::Situation;
+use crate::tally::{count_demands, stronger};
 use events::Brake;
 
 /// What the equipment does with demands: its maker's choice.
@@ -28,38 +27,6 @@ pub struct Guard {
     pub has_heard: bool,
 }
 
-/// The stronger one of two brakes.
-fn stronger(brake: Brake, other: Brake) -> Brake
-    ensures { result ≡ stronger_of brake other }
-{
-    match (brake, other) {
-        (Brake::Emergency, _) | (_, Brake::Emergency) => Brake::Emergency,
-        (Brake::Service, _) | (_, Brake::Service) => Brake::Service,
-        (Brake::None, Brake::None) => Brake::None,
-    }
-}
-
-/// The brake that an action is.
-fn brake_of(action: Action) -> Brake
-    ensures { result ≡ brake_of_action action }
-{
-    match action {
-        Action::Trip => Brake::Emergency,
-        Action::ServiceBrake => Brake::Service,
-        Action::NotObeyed | Action::Unreadable => Brake::None,
-    }
-}
-
-/// The strongest brake of some demands.
-fn strongest(demands: &[Demand]) -> Brake
-    ensures { result ≡ brake_of_all demands.now }
-{
-    match demands.split_first() {
-        Some((demand, others)) => stronger(brake_of(demand.action), strongest(others)),
-        None => Brake::None,
-    }
-}
-
 impl Guard {
     /// A guard after a power-up: it holds no brake.
     pub fn new(policy: Policy) -> Guard
@@ -72,12 +39,12 @@ impl Guard {
         }
     }
 
-    /// Takes in what a telegram demands.
-    fn take(&mut self, demands: &[Demand])
-        ensures { self.new ≡ heard demands.now self.old }
+    /// Takes in the strongest brake that a telegram demands.
+    fn take(&mut self, demanded: Brake)
+        ensures { (demands : List Demand) → demanded ≡ brake_of_all demands → self.new ≡ heard demands self.old }
     {
         let brake = match self.policy {
-            Policy::Strict => stronger(self.brake, strongest(demands)),
+            Policy::Strict => stronger(self.brake, demanded),
             Policy::Warn => self.brake,
         };
         *self = Guard {
@@ -87,15 +54,14 @@ impl Guard {
         };
     }
 
-    /// Hears a telegram, before the unit is handed it: returns what it demands (`demands`), and holds the brake that the
-    /// policy takes from that.
-    pub fn hear(&mut self, bytes: &[u8], situation: Situation) -> ArrayVec<Demand, MOST_DEMANDS>
-        ensures demanded { Demanded situation bytes.now result.items }
-        ensures held { self.new ≡ heard result.items self.old }
+    /// Hears a telegram, before the unit is handed it: returns how many demands it makes (`demands` lists them), and holds
+    /// the brake that the policy takes from them.
+    pub fn hear(&mut self, bytes: &[u8], situation: Situation) -> u32
+        ensures { HearsAll situation bytes.now self.old self.new result }
     {
-        let demanded = demands(bytes, situation);
-        self.take(demanded.as_slice());
-        demanded
+        let tally = count_demands(bytes, situation);
+        self.take(tally.brake);
+        tally.count
     }
 
     /// Releases the brake that it holds, where the driver acknowledges at standstill; else nothing changes.

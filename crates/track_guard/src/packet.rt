@@ -31,9 +31,8 @@ fn ends_in_one(bytes: &[u8], place: PacketPlace, layout: u32) -> bool
 fn is_endless(bytes: &[u8], start: u32) -> bool
     ensures { result ≡ is_endless_of (drop start (bits_of bytes.now)) }
 {
-    let speed = field_at(bytes, start, 32, 7);
-    let time = field_at(bytes, start, 39, 10);
-    matches!((speed, time), (Some(1..), Some(1_023)))
+    matches!(field_at(bytes, start, 32, 7), Some(1..))
+        && field_at(bytes, start, 39, 10) == Some(1_023)
 }
 
 /// A finding, unless the packet says that it doesn't restrict.

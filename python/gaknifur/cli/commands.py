@@ -288,14 +288,14 @@ TESTING: list[Command | Commands] = [
             option("--reached", "read this file of `lab test --reached` instead of running the cases", "FILE.json", PATH),
             option("--cases", "also list which case reaches each")),
     Command("lint", "testing", "testing.lint:lint", "List faults and weak points of scenarios and test cases",
-            "Runs `etcs_lab lint` and then the checks of docs/explain/safety.md. A case that is meant to show an item lists it under `shows`. Status 4: something "
-            "was found.", "lint suites --without advice",
+            "Runs `etcs_lab lint` and then the checks of docs/explain/safety.md. A case that is meant to show an item lists it under `shows`. Status 3: something "
+            "was not judged, since the unit's library is missing. Status 4: something was found.", "lint suites --without advice",
             Argument("paths", "FILE...", "a scenario in JSON or YAML, test cases, or a folder", nargs=-1, required=True), JSON_LINES,
             Checks(["--without"], metavar="ITEM", multiple=True)),
     Commands("line", "testing", "Check a whole line and its trains, given in one file", "docs/howto/line.md describes the file.",
              Command("check", "testing", "cli.line_commands:check_line", "List the weak points of a line in each direction, by place",
                      "Plays trains over each pair of groups in each mode, and with each group and balise unread, and runs the checks of `lab lint`. "
-                     "Status 4: something was found that the book doesn't explain.", "line check examples/lines/branch.yaml --html line.html",
+                     "Status 3: as of `lab lint`. Status 4: something was found that the book doesn't explain.", "line check examples/lines/branch.yaml --html line.html",
                      BOOK, option("--html", "write a report with pictures of the line", "OUT.html", PATH),
                      option("--json", "print one JSON object per line, also for findings that are explained"), FORCE),
              Command("drive", "testing", "cli.line_commands:drive_line", "Make drives of a line for `lab drive` and `lab test`",

@@ -7,12 +7,13 @@ from types import SimpleNamespace
 from .. import files
 from ..errors import say
 from ..journal.reading import Progress
-from ..program import FOUND, NOT_WHOLE, REFUSED, Failed
+from ..program import NOT_WHOLE, REFUSED, Failed
 
 
 def check_line(given: SimpleNamespace, progress: Progress) -> int:
     """Runs `lab line check`."""
     from ..line import book, findings
+    from ..testing.lint import status_of
     out = files.Out(given.html, files.REPORT, given.force) if given.html else None
     files.check_all([out] if out else [], [given.book])
     found = book.read(given.book)
@@ -26,7 +27,7 @@ def check_line(given: SimpleNamespace, progress: Progress) -> int:
         files.write(out, page.page(checked), [given.book])
     say(f"{given.book}: {len(found.groups)} groups, {len(found.trains)} trains, {checked.lives:,} lives played: "
         f"{len(checked.found)} findings, {len(checked.explained)} explained")
-    return FOUND if checked.found else 0
+    return status_of(bool(checked.found))
 
 
 def drive_line(given: SimpleNamespace, progress: Progress) -> None:

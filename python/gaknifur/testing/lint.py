@@ -162,6 +162,12 @@ def has_library() -> bool:
     return True
 
 
+def status_of(found: bool) -> int:
+    """The exit status after judging: 3 if something wasn't judged, since the library that it needs is missing; else 4 if something was found."""
+    was_needed = has_library.cache_info().currsize > 0
+    return DEVICE if was_needed and not has_library() else FOUND if found else 0
+
+
 def playable(life: Life) -> Life:
     """A life as far as it can be played."""
     return replace(life, drive=None) if life.drive and not has_library() else life
@@ -252,4 +258,4 @@ def lint(given: SimpleNamespace, progress: Progress) -> int:
             refused = True
             say(str(failed))
     sys.stdout.flush()
-    return REFUSED if refused else FOUND if found else 0
+    return REFUSED if refused else status_of(found)

@@ -1,5 +1,5 @@
 use Rattle.std.proofs.Common.{length}
-use Rattle.track_guard.proofs.calls.+nth.Given as goal
+use Rattle.track_guard.proofs.demand_calls.+nth.Given as goal
 
 abbrev pub decreases-nth : goal.decreases-nth
 decreases-nth l = length l.demands.now

@@ -5,6 +5,7 @@ value gets one or an error. A key that is given twice is refused. Anchors and al
 The size of a file is bounded, so that each file is read in a bounded time, and each error is one line.
 """
 import difflib
+import functools
 import re
 from collections.abc import Iterable, Iterator
 from dataclasses import dataclass
@@ -21,6 +22,8 @@ NUMBER = re.compile(r"-?[0-9][0-9_]*(\.[0-9]+)?")
 MOST_BYTES, MOST_DEPTH, MOST_VALUES, MOST_DIGITS, MOST_SHOWN, MOST_MESSAGE = 1 << 20, 64, 1 << 20, 28, 80, 4_000
 """The bounds of a file: its bytes, how deep lists and mappings are nested, and the number of its values, where each alias counts
 as what it refers to; the digits of a number; the length of a text that an error quotes, and of an error."""
+READ_OTHERWISE = "\t?\ufeff"
+"""libyaml allows a tab and a question mark in more places than PyYAML, and counts a column for a byte order mark."""
 PLAIN_TAGS = {f"tag:yaml.org,2002:{name}" for name in
               ("str", "int", "float", "bool", "null", "timestamp", "map", "seq", "value", "merge", "binary")}
 
@@ -198,12 +201,10 @@ class Value:
         return found
 
 
-class Loader(yaml.SafeLoader):  # type: ignore[misc]
-    """Makes nodes of YAML. Refuses nodes that are too deep or contain themselves."""
+class Bounded(yaml.composer.Composer):  # type: ignore[misc]
+    """Makes nodes of YAML's events. Refuses nodes that are too deep or contain themselves."""
 
-    def __init__(self, text: str) -> None:
-        super().__init__(text)
-        self.around: list[yaml.Node | None] = []
+    around: list[yaml.Node | None]
 
     def compose_node(self, parent: yaml.Node | None, index: Any) -> yaml.Node:
         """The next node, inside those around it."""
@@ -217,6 +218,23 @@ class Loader(yaml.SafeLoader):  # type: ignore[misc]
         node = super().compose_node(parent, index)
         self.around.pop()
         return node
+
+
+class Loader(Bounded, yaml.SafeLoader):  # type: ignore[misc]
+    """Reads YAML in Python, and says what is wrong with it."""
+
+    def __init__(self, text: str) -> None:
+        yaml.SafeLoader.__init__(self, text)
+        self.around = []
+
+
+class QuickLoader(Bounded, getattr(yaml, "CSafeLoader", yaml.SafeLoader)):  # type: ignore[misc]
+    """Reads YAML by libyaml, which PyYAML may have been built with, in less time. Its messages are others."""
+
+    def __init__(self, text: str) -> None:
+        yaml.CSafeLoader.__init__(self, text)
+        self.anchors: dict[str, yaml.Node] = {}
+        self.around = []
 
 
 def check(path: Path, node: yaml.Node, sizes: dict[int, int]) -> int:
@@ -268,9 +286,39 @@ def at_mark(path: Path, mark: Any, message: object) -> BadFile:
     return BadFile(path, mark.line + 1 if mark else 1, mark.column + 1 if mark else 1, f"not YAML: {message}")
 
 
+def quick_nodes(text: str) -> list[yaml.Node] | None:
+    """The documents of a text, as libyaml reads it; None if it finds a fault, isn't there, or may read the text in another way."""
+    if not yaml.__with_libyaml__ or any(sign in text for sign in READ_OTHERWISE):
+        return None
+    loader = QuickLoader(text)
+    nodes: list[yaml.Node] = []
+    try:
+        while loader.check_node():
+            nodes.append(loader.get_node())
+    except (yaml.YAMLError, ValueError, OverflowError):
+        return None
+    return nodes
+
+
 def documents(path: Path) -> list[Value]:
     """The documents of a file, `---` between them."""
-    text = text_of(path)
+    return [Value(path, node) for node in checked_nodes(path, text_of(path))]
+
+
+@functools.lru_cache(maxsize=32)
+def checked_nodes(path: Path, text: str) -> list[yaml.Node]:
+    """The documents of the text of a file, which are checked. Many files include the same ones."""
+    nodes = quick_nodes(text)
+    if nodes is None:
+        nodes = nodes_of(path, text)
+    sizes: dict[int, int] = {}
+    for node in nodes:
+        check(path, node, sizes)
+    return nodes
+
+
+def nodes_of(path: Path, text: str) -> list[yaml.Node]:
+    """The documents of the text of a file, as PyYAML reads it in Python. Says what is wrong with it."""
     nodes: list[yaml.Node] = []
     loader = None
     try:
@@ -285,10 +333,7 @@ def documents(path: Path) -> list[Value]:
     except (yaml.YAMLError, ValueError, OverflowError) as error:  # of a number that is no character's, among others
         message = " ".join(str(error).split()) if isinstance(error, yaml.YAMLError) else "there is no such character"
         raise at_mark(path, loader.get_mark() if loader else None, message) from error
-    sizes: dict[int, int] = {}
-    for node in nodes:
-        check(path, node, sizes)
-    return [Value(path, node) for node in nodes]
+    return nodes
 
 
 def document(path: Path) -> Value:

@@ -39,6 +39,8 @@ def take_times(journal: Journal, given: SimpleNamespace) -> None:
     journal.identity = identity.of(journal.path)
     path = times.marks_of(journal.path, given.times)
     if path is not None:
+        if not given.strangers:
+            times.check_marks(journal.path, path, "Nothing of it was written.")
         journal.times = times.Times.of(journal, path, times.DRIFT_PPM if given.drift is None else given.drift)
 
 

@@ -49,9 +49,9 @@ class Strangers(unittest.TestCase):
 
     def test_check(self) -> None:
         a, b, c = self.image("a", "unit: 1"), self.image("b", None), self.image("c", "unit: 2")
-        identity.check([a, b], "Nothing was done.")
+        identity.check(identity.known([a, b]), "Nothing was done.")
         with self.assertRaises(Failed) as refused:
-            identity.check([a, b, c], "Nothing was done.")
+            identity.check(identity.known([a, b, c]), "Nothing was done.")
         self.assertEqual((str(refused.exception), refused.exception.status), (f"{c}: is of unit 2, and {a} of unit 1; --strangers goes on. Nothing was done.", 1))
 
     def test_keep(self) -> None:

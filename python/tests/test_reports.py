@@ -126,6 +126,32 @@ class Briefs(unittest.TestCase):
         found = self.brief(journal())
         self.assertEqual((found.last, found.intervention, found.trips, found.newest), (None, None, [], None))
 
+    def braked(self, *runs: tuple[str, int]) -> Journal:
+        """A life with an intervention for each brake and speed above a limit of 40 km/h."""
+        records = [record(0, "powerup", brake="none")]
+        for brake, over in runs:
+            records += [reading(len(records), 40_000 + over, brake=brake), reading(len(records) + 1, 0)]
+        return journal(*records)
+
+    def test_the_worst_comes_first(self) -> None:
+        sample = self.braked(("service", 6_000), ("emergency", 11_000), ("service", 9_000), ("emergency", 20_000), ("service", 7_000))
+        page = report.page(sample)
+        emergency, service = (page.index(text) for text in ("<h3>With the emergency brake, the farthest above the limit first</h3>",
+                                                            "<h3>By the service brake only, the farthest above the limit first</h3>"))
+        lines = [(found.start(), int(found[1])) for found in re.finditer(r'<tr class="run"><td>.*?<a href="#r(\d)">', page)]
+        self.assertEqual([(event, emergency < at < service) for at, event in lines], [(7, True), (3, True), (5, False), (9, False), (1, False)])
+        found = self.brief(sample)
+        assert found.intervention and found.worst
+        self.assertEqual((found.intervention["first_event"], found.worst["first_event"]), (9, 7))
+        self.assertIn("<dt>Worst intervention</dt><dd>20.0 km/h above the limit: emergency brake, life 1, events <a href=\"#r7\">7</a> to 7,", page)
+        self.assertTrue({7, 9} <= found.rows)
+
+    def test_one_intervention_is_no_worst(self) -> None:
+        for runs in ((), (("service", 6_000),), (("service", 6_000), ("emergency", 0))):
+            self.assertIsNone(self.brief(self.braked(*runs)).worst)
+        page = report.page(self.braked(("service", 6_000)))
+        self.assertEqual([text in page for text in ("<h3>By the service brake only</h3>", "With the emergency brake", "Worst intervention")], [True, False, False])
+
     def test_only_power_ups_are_folded(self) -> None:
         page = report.page(tripped())
         _, _, rest = page.partition("<details><summary>1 power-up, each")

@@ -3,6 +3,8 @@ import csv
 import io
 import json
 import unittest
+from pathlib import Path
+from typing import Any
 
 import openpyxl
 import pandas as pd
@@ -11,7 +13,7 @@ from gaknifur import files
 from gaknifur.evidence import timeline, times
 from gaknifur.evidence.times import Times
 from gaknifur.files import Out
-from gaknifur.journal import tables
+from gaknifur.journal import tables, workbook
 from gaknifur.journal.reading import Journal
 from gaknifur.program import Failed
 
@@ -65,8 +67,8 @@ class Workbooks(Room):
     def test_numbers_are_numbers_and_texts_are_texts(self) -> None:
         table = tables.written(tables.frame(self.sample()))
         path = self.room / "out.xlsx"
-        files.write(Out(path, files.WORKBOOK), timeline.workbook(table, ["=note", "sha256 ab"]))
-        files.write(Out(path, files.WORKBOOK, True), timeline.workbook(table, ["=note", "sha256 ab"]))
+        files.write(Out(path, files.WORKBOOK), workbook.workbook(table, ["=note", "sha256 ab"]))
+        files.write(Out(path, files.WORKBOOK, True), workbook.workbook(table, ["=note", "sha256 ab"]))
         book = openpyxl.load_workbook(path)
         rows = list(book["events"].iter_rows())
         at = {cell.value: place for place, cell in enumerate(rows[0])}
@@ -77,12 +79,40 @@ class Workbooks(Room):
         self.assertEqual([cell.value for row in book["notes"].iter_rows() for cell in row], ["=note", "sha256 ab"])
         self.assertFalse([row for row in book["notes"].iter_rows() if row[0].data_type == "f"])
 
+    def test_cells_are_those_that_openpyxl_writes(self) -> None:
+        texts = [*BAD, "", " a ", "<b>&amp;", "a\r\nb", "#N/A", "TRUE", "1e3", "'7", "x" * 40_000, None]
+        count = workbook.AT_ONCE + len(texts)
+        whole = pd.array([None, 0, -2**40, 7] * count, "Int64")[:count]
+        table = pd.DataFrame({"text": (texts * count)[:count], "whole": whole, "real": pd.array([0.1, 36.0, None] * count, "Float64")[:count],
+                              "has": pd.array([True, False, None] * count, "boolean")[:count], "is": [True] * count, "none": [None] * count,
+                              "big": pd.array([2**63] * count, "UInt64")})
+        book = openpyxl.Workbook()
+        for at, row in enumerate([list(table), *table.to_numpy(object).tolist()], 1):
+            for column, value in enumerate(row, 1):
+                cell = book.active.cell(at, column, None if value is pd.NA else value)
+                if isinstance(value, str):
+                    cell.data_type, cell.quotePrefix = "s", value[:1] in ("=", "+", "-", "@", "\t", "\r") and value != ""
+        book.save(self.room / "wanted.xlsx")
+        (self.room / "got.xlsx").write_bytes(workbook.workbook(table, []))
+        wanted, got = (self.cells(self.room / name) for name in ("wanted.xlsx", "got.xlsx"))
+        self.assertEqual(len(got), 7 + 4 * count - sum(map(table.isna().sum().get, ("text", "whole", "real", "has"))) + 2 * count)
+        self.assertEqual([(place, got.get(place), value) for place, value in wanted.items() if got.get(place) != value], [])
+
+    def cells(self, path: Path) -> dict[str, Any]:
+        """The cells of a workbook's first sheet that aren't empty: each value, type and style."""
+        return {cell.coordinate: (cell.value, cell.data_type, bool(cell.quotePrefix)) for row in openpyxl.load_workbook(path).worksheets[0].iter_rows()
+                for cell in row if cell.value is not None}
+
+    def test_a_control_character_is_refused(self) -> None:
+        with self.assertRaises(openpyxl.utils.exceptions.IllegalCharacterError):
+            workbook.workbook(pd.DataFrame({"text": ["a\x1b"]}), [])
+
     def test_no_other_workbook_is_written_over(self) -> None:
         path, book = self.room / "other.xlsx", openpyxl.Workbook()
         book.save(path)
         before = path.read_bytes()
         with self.assertRaisesRegex(Failed, "is not a workbook that lab made"):
-            files.write(Out(path, files.WORKBOOK, True), timeline.workbook(pd.DataFrame(), []))
+            files.write(Out(path, files.WORKBOOK, True), workbook.workbook(pd.DataFrame(), []))
         self.assertEqual(path.read_bytes(), before)
 
 

@@ -4,7 +4,8 @@ import tempfile
 import unittest
 from pathlib import Path
 
-from gaknifur.evidence import times
+from gaknifur.evidence import identity, times
+from gaknifur.evidence.identity import Identity
 from gaknifur.evidence.times import Marks, Times
 from gaknifur.journal import report, tables
 from gaknifur.journal.reading import Journal
@@ -204,6 +205,63 @@ class Files(Room):
             self.assertEqual((marks.faults(), marks.utc(1, 600_000)), (["line 2 isn't used: its checksum is wrong"], (TEN_MS + 600_000, 50)))
             tried += 1
         self.assertEqual(tried, 46 * 8 + 45)
+
+
+class Whose(Room):
+    """Whose marks are."""
+
+    def test_lines_of_the_file(self) -> None:
+        marks = self.times(LINES + "unit: 17\nvehicle: 402 001, b\nunit: 18\nsoftware:\ndriver: 1\n")
+        self.assertEqual((marks.whose, marks.utc(1, 0)), (Identity("17", "402 001, b"), (TEN_MS, 50)))
+        self.assertEqual([fault.partition(":")[0] for fault in marks.faults()], [f"line {at} isn't used" for at in (8, 9, 10)])
+        self.assertTrue(marks.note().endswith("; whose they are: unit 17, vehicle 402 001, b"), marks.note())
+
+    def test_a_file_without_them(self) -> None:
+        for text in (LINES, HOST):
+            marks = self.times(text)
+            self.assertEqual((marks.whose, marks.faults()), (Identity(), []))
+            self.assertTrue(marks.note().endswith("; whose they are: nothing is known"))
+
+    def test_checksums(self) -> None:
+        marks = self.times(HOST + "unit: 17,a0899320\nvehicle: 1,00000000\n")  # (the checksum that gzip writes of "unit: 17")
+        self.assertEqual((marks.whose, marks.faults()), (Identity("17"), ["line 5 isn't used: its checksum is wrong"]))
+
+    def test_a_host_says_it_once(self) -> None:
+        path = self.room / "image.times"
+        for whose in (Identity(), Identity("17"), Identity("17"), Identity("17", software="2.3.0"), Identity(vehicle="402 001")):
+            with Marks(path, whose) as marks:
+                marks.mark(1, 0, TEN_MS, 50, "GNSS")
+        lines = path.read_text().splitlines()
+        self.assertEqual([line.rpartition(",")[0] for line in lines if ": " in line], ["unit: 17", "software: 2.3.0", "vehicle: 402 001"])
+        self.assertEqual(self.times(path.read_text()).whose, Identity("17", "402 001", "2.3.0"))
+        with self.assertRaisesRegex(Failed, "is of unit 17, vehicle 402 001, software 2.3.0, and this host is of unit 18. Nothing was written."):
+            Marks(path, Identity("18"))
+        self.assertEqual(path.read_text().splitlines(), lines)
+        Marks(path).close()  # (the refused one holds no lock)
+
+    def test_marks_of_another_unit_are_refused(self) -> None:
+        image, marks = self.room / "image", self.room / "image.times"
+        for text, own, is_refused in (("unit: 18\n", "unit: 17", True), ("unit: 17\nsoftware: 1\n", "unit: 17\nsoftware: 2", False), ("", "unit: 17", False),
+                                      ("vehicle: 1\n", "unit: 17\nvehicle: 2", True), ("unit: 18\n", None, False)):
+            marks.write_text(LINES + text)
+            identity.path_of(image).unlink(missing_ok=True)
+            if own is not None:
+                identity.path_of(image).write_text(own)
+            if is_refused:
+                with self.assertRaisesRegex(Failed, "image.times: is of .*, and .*image of unit 17.*; --strangers goes on. Left.") as caught:
+                    times.check_marks(image, marks, "Left.")
+                self.assertEqual(caught.exception.status, REFUSED)
+            else:
+                times.check_marks(image, marks, "Left.")
+
+    def test_images_with_their_marks(self) -> None:
+        image, other = self.room / "image", self.room / "other"
+        identity.path_of(image).write_text("unit: 17")
+        (self.room / "image.times").write_text("no marks")
+        (self.room / "other.times").write_text(LINES + "unit: 18\n")
+        self.assertEqual(list(times.known_with_marks([image, other])), [(image, Identity("17")), (self.room / "other.times", Identity("18"))])
+        with self.assertRaisesRegex(Failed, "other.times: is of unit 18, and .*image of unit 17; --strangers goes on. Left."):
+            identity.check(times.known_with_marks([image, other]), "Left.")
 
 
 class Outputs(Room):

@@ -14,6 +14,7 @@
 import errno
 import json
 import os
+import shutil
 import sys
 import tempfile
 from pathlib import Path
@@ -26,7 +27,7 @@ from blocks import block, data_of, entry  # noqa: E402
 from compared import Compared, run  # noqa: E402
 from gaknifur.evidence import archive  # noqa: E402
 from gaknifur.evidence.archive import Archive, Ring  # noqa: E402
-from gaknifur.evidence.times import CHECKED, Marks  # noqa: E402
+from gaknifur.evidence.times import CHECKED, FIRST, Marks  # noqa: E402
 from gaknifur.journal import layout  # noqa: E402
 from gaknifur.program import Failed  # noqa: E402
 from image_cases import image_of, patched, ring  # noqa: E402
@@ -193,6 +194,24 @@ def identities(rows, room):
         rows.same(f"{' '.join(map(str, words))}", (found, message if wanted is not None else None), (status, wanted))
     names = sorted(path.name for path in at.iterdir() if path.name.endswith(".identity"))
     rows.same("files of identities", names, [f"{name}.identity" for name in ("again", "kept", "one", "other", "same", "two")])
+    marks_of_strangers(rows, at)
+
+
+def marks_of_strangers(rows, at):
+    """Marks that name another unit than the image are refused by each command that reads marks, unless they are wanted."""
+    (at / "one.times").write_text(f"{FIRST}\n1,0,,2026-03-01T10:00:00.000Z,50,GNSS\nunit: 18\n")
+    one, whose = at / "one", "unit 18, and {} of unit 17; --strangers goes on."
+    for words, left in ((["table", one, at / "marked.csv"], "Nothing of it was written."), (["timeline", one, at / "marked.jsonl"], "Nothing of it was written."),
+                        (["database", one, at / "marked.db"], "Nothing of it was written."), (["report", one, at / "marked.html"], "Nothing of it was written."),
+                        (["seal", one, at / "marked"], "Nothing was sealed."), (["join", at / "marked.image", one, at / "two"], "Nothing was written.")):
+        _, message, found = run(TOP / "lab", words)
+        rows.same(f"{words[0]}, marks of a stranger", (found, message), (1, f"lab: {one}.times: is of {whose.format(one)} {left}\n"))
+        rows.same(f"{words[0]} made nothing", [path.name for path in at.glob("marked*") if path.suffix != ".db"], [])
+        _, message, found = run(TOP / "lab", [*words[:1], "--strangers", *words[1:]])
+        rows.same(f"{words[0]} --strangers", (found, "stranger" in message), (4, False))
+        for path in at.glob("marked*"):
+            shutil.rmtree(path) if path.is_dir() else path.unlink()
+    (at / "one.times").unlink()
 
 
 def strangers(rows, room):

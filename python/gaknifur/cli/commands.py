@@ -181,7 +181,8 @@ FORCE = option("--force", "overwrite files that lab made (no option overwrites o
 JSON = option("--json", "print JSON")
 JSON_LINES = option("--json", "print one JSON object per line")
 TIMES = [option("--times", "marks of the time of day (default: IMAGE.times, if it exists)", "FILE", PATH),
-         option("--drift", "maximum clock drift in ppm (default: 100)", "PPM", int)]
+         option("--drift", "maximum clock drift in ppm (default: 100)", "PPM", int),
+         option("--strangers", "go on where the marks name another unit or vehicle than IMAGE.identity")]
 STRANGERS = option("--strangers", "go on where IMAGE.identity names another unit or vehicle")
 WITHIN = Setting("--answer-within", "time limit for each answer of the other unit", "SECONDS", float, "units.other_unit:WITHIN_S")
 JOURNAL = [

@@ -39,6 +39,8 @@ def take_times(journal: Journal, given: SimpleNamespace) -> None:
     journal.identity = identity.of(journal.path)
     path = times.marks_of(journal.path, given.times)
     if path is not None:
+        if not given.strangers:
+            times.check_marks(journal.path, path, "Nothing of it was written.")
         journal.times = times.Times.of(journal, path, times.DRIFT_PPM if given.drift is None else given.drift)
 
 
@@ -71,11 +73,10 @@ def write_table(given: SimpleNamespace, progress: Progress) -> int:
     journal = read(given.image, other_blocks=given.other_blocks, replay=True, why=not given.damaged, progress=progress,
                    strays=given.damaged)
     take_times(journal, given)
-    from ..evidence import timeline
-    from ..journal import tables
+    from ..journal import tables, workbook
     table = tables.strays(journal) if given.damaged else tables.frame(journal)
     notes = [f"sha256 {journal.sha256}", f"read by {program.reader()}", *([journal.times.note()] if journal.times else [])]
-    write(out, timeline.workbook(tables.written(table), notes) if is_book else tables.csv_parts(table), given.image)
+    write(out, workbook.workbook(tables.written(table), notes) if is_book else tables.csv_parts(table), given.image)
     return note(journal)
 
 

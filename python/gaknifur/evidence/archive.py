@@ -23,7 +23,7 @@ from ..journal import layout, verdict
 from ..journal.reading import Json, examine, read
 from ..journal.verdict import Verdict
 from ..program import DEVICE, REFUSED, Failed
-from . import identity
+from . import identity, times
 
 
 AT_ONCE = 4_096
@@ -297,7 +297,7 @@ def choose_all(found: Joined) -> None:
 def join(out: Path, paths: list[Path], strangers: bool = False) -> Joined:
     """Joins images and archives of one unit into one image, and copies their identity. Refuses strangers, unless they are wanted."""
     if not strangers:
-        identity.check(paths, "Nothing was written.")
+        identity.check(times.known_with_marks(paths), "Nothing was written.")
         if any(identity.of(path) for path in paths) and identity.path_of(out).exists():
             raise Failed(f"{identity.path_of(out)}: exists. Nothing was written.", REFUSED)
     found = Joined([source(path) for path in paths])

@@ -15,7 +15,7 @@ from ..journal import layout, verdict
 from ..journal.reading import Json, objects, read
 from ..journal.verdict import Verdict
 from ..program import DEVICE, NOT_WHOLE, WHOLE, Failed
-from . import identity
+from . import identity, times
 
 VERDICTS = {
     "same": "both hold the same journal",
@@ -183,7 +183,7 @@ def relation(a: Side, b: Side, differ: Iterable[int]) -> str:
 def compare(one: Path, other: Path, strangers: bool = False) -> Difference:
     """Compares two images. Refuses strangers, unless they are wanted."""
     if not strangers:
-        identity.check([one, other], "Nothing was compared.")
+        identity.check(times.known_with_marks([one, other]), "Nothing was compared.")
     a, b = side(one), side(other)
     found = differing(a, b)
     result = Difference(a, b, relation(a, b, found), differences_of(a, b, found), list(found))

@@ -24,7 +24,7 @@ from ..journal.verdict import Verdict
 from ..program import DEVICE, NOT_WHOLE, REFUSED, WHOLE, Failed, Run
 from . import bag, formats, identity, signing
 from .formats import Unfit
-from .times import DRIFT_PPM, Times
+from .times import DRIFT_PPM, Times, check_marks
 
 IMAGE, SEAL, PARTS, TIMES = "image", "seal.json", "digests.csv", "image.times"
 IDENTITY = IMAGE + identity.ENDING
@@ -52,6 +52,8 @@ class Sealing:
     times: Path | None = None
     drift_ppm: int = DRIFT_PPM
     keys: list[signing.Key] = field(default_factory=list)
+    strangers: bool = False
+    """Whether marks of another unit or vehicle are sealed too."""
 
 
 def now() -> str:
@@ -171,6 +173,8 @@ def info_of(seal: Json) -> list[tuple[str, str]]:
 def seal(image: Path, folder: Path, how: Sealing, progress: Progress = silent) -> tuple[Json, Verdict]:
     """Makes a bag of an image; returns the content of `seal.json` and the verdict of the image. An image that isn't formatted is sealed
     too, without table, database and report."""
+    if how.times is not None and not how.strangers:
+        check_marks(image, how.times, "Nothing was sealed.")
     with files.open_to_read(image) as source, files.new_folder(folder, BAG) as new:
         data = new / bag.PAYLOAD
         data.mkdir()

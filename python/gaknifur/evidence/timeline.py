@@ -1,13 +1,9 @@
-"""Write events for other programs: a timeline for Timesketch and Plaso (CSV, or JSON Lines), and a table as a workbook (XLSX)."""
+"""Write events for other programs: a timeline for Timesketch and Plaso (CSV, or JSON Lines)."""
 import csv
 import io
 import json
 from collections.abc import Iterator
-from typing import Any
 
-import pandas as pd
-
-from ..files import MAKER
 from ..journal.reading import Journal, Json
 from ..journal.wording import MODES, event_text, kmh
 from . import times
@@ -17,8 +13,6 @@ DESCRIPTION = "onboard unit, by marks next to the journal"
 COLUMNS = ("datetime", "timestamp_desc", "message", "timestamp", "uncertainty_ms", "image", "block", "event", "life", "time_ms", "kind", "mode",
            "level", "brake", "limit_m_per_h", "place_cm", "uncertainty_cm")
 """The columns of the CSV; Timesketch needs the first three."""
-NO_FORMULA = ("=", "+", "-", "@", "\t", "\r")
-"""The beginnings of cells that a spreadsheet takes for formulas."""
 
 
 def message(record: Json, differs: str | None = None) -> str:
@@ -54,31 +48,3 @@ def as_csv(journal: Journal) -> tuple[str, int]:
         else:
             writer.writerow([line[name] for name in COLUMNS])
     return out.getvalue(), left
-
-
-def workbook(table: pd.DataFrame, notes: list[str]) -> bytes:
-    """A table as a workbook: numbers as numbers and everything else as text, so that nothing is a formula. A second sheet has notes."""
-    from openpyxl import Workbook
-    from openpyxl.cell import WriteOnlyCell
-
-    book = Workbook(write_only=True)
-    book.properties.creator = MAKER
-    sheet, note_sheet = book.create_sheet("events"), book.create_sheet("notes")
-
-    def cell(value: Any, at: Any) -> Any:
-        if value is None or value is pd.NA or (isinstance(value, float) and value != value):
-            return None
-        if isinstance(value, str):
-            text = WriteOnlyCell(at, value=value)
-            text.data_type, text.quotePrefix = "s", value.startswith(NO_FORMULA)
-            return text
-        return value.item() if hasattr(value, "item") else value
-
-    sheet.append(list(table))
-    for row in table.itertuples(index=False):
-        sheet.append([cell(value, sheet) for value in row])
-    for note in notes:
-        note_sheet.append([cell(note, note_sheet)])
-    out = io.BytesIO()
-    book.save(out)
-    return out.getvalue()

@@ -3,8 +3,9 @@ at a moment of a life, or at an event, with its uncertainty in ms. Marks are out
 
 The drift of the unit's clock is bounded, so each mark bounds the time of day of every moment of its life. The time of day of a moment is
 the midpoint of the interval that all marks of its life allow, with its half-width. If two marks of a life contradict, both are named, and
-that life has no time of day.
+that life has no time of day. Lines such as `unit: 17` say whose the marks are (module `identity`).
 """
+import contextlib
 import csv
 import datetime
 import itertools
@@ -20,6 +21,7 @@ from .. import files
 from ..escaping import shown
 from ..journal.reading import Journal, Json
 from ..program import REFUSED, Failed
+from .identity import Identity, check, known, stranger
 
 COLUMNS = ("life", "moment_ms", "event", "utc", "uncertainty_ms", "source")
 FIRST = ",".join(COLUMNS)
@@ -115,15 +117,15 @@ def mark_of(line: int, text: str) -> Mark:
     return Mark(line, life, moment, event, utc_of(row[3]), uncertainty, shown(source))
 
 
-def read_marks(path: Path) -> tuple[list[Mark], list[str], str | None]:
-    """The marks of a file, the messages about lines that aren't marks, and the part of a line that a loss of power left at the end. Without
-    checksums, empty lines and lines that begin with # are ignored. A wrong line doesn't affect others."""
+def read_marks(path: Path) -> tuple[list[Mark], list[str], str | None, Identity]:
+    """The marks of a file, the messages about lines that aren't marks, the part of a line that a loss of power left at the end, and whose the
+    marks are. Without checksums, empty lines and lines that begin with # are ignored. A wrong line doesn't affect others."""
     text = files.bytes_of(path).decode("utf-8", errors="replace")
     lines = text.split("\n")
     first = lines[0].rstrip("\r")
     if first not in (FIRST, CHECKED):
         raise Failed(f"{path}: line 1 isn't {FIRST}, nor that with ,crc32 at its end", REFUSED)
-    found, wrong = [], []
+    found, wrong, whose = [], [], Identity()
     for at, line in enumerate(lines[1:-1], 2):
         if first == FIRST and (not line.strip() or line.startswith("#")):
             continue
@@ -131,11 +133,13 @@ def read_marks(path: Path) -> tuple[list[Mark], list[str], str | None]:
         try:
             if mark is None:
                 wrong.append(f"line {at} isn't used: its checksum is wrong")
+            elif Identity.is_line(mark):
+                whose = whose.with_line(mark)
             else:
                 found.append(mark_of(at, mark.rstrip("\r")))
         except ValueError:
             wrong.append(f"line {at} isn't used: it isn't a mark ({WANTED})")
-    return found, wrong, lines[-1] or None
+    return found, wrong, lines[-1] or None, whose
 
 
 def greatest(numbers: Iterable[int]) -> list[int]:
@@ -192,12 +196,30 @@ class Life:
 
 
 class Marks(files.Appended):
-    """A file of marks that a unit's host appends to, as `etcs_times_mark` of `etcs_file.h` does."""
+    """A file of marks that a unit's host appends to, as `etcs_times_mark` of `etcs_file.h` does. A host that says whose the marks are gets
+    them into the file once; a file of another unit or vehicle is refused."""
 
-    def __init__(self, path: str | Path) -> None:
+    def __init__(self, path: str | Path, whose: Identity = Identity()) -> None:
         super().__init__(Path(path), f"{CHECKED}\n".encode(), "a file of marks with checksums")
-        data = self.read(0, self.size)
-        self.drop(data.rfind(b"\n") + 1)
+        try:
+            data = self.read(0, self.size)
+            self.drop(data.rfind(b"\n") + 1)
+            self.name(whose)
+        except BaseException:
+            self.close()
+            raise
+
+    def name(self, whose: Identity) -> None:
+        """Appends what the file doesn't say yet of whose the marks are, and syncs."""
+        if whose == Identity():
+            return
+        named = read_marks(self.path)[3]
+        if named.is_stranger(whose):
+            raise stranger(self.path, named, f"this host is of {whose.text()}. Nothing was written.")
+        lines = [f"{name}: {value}" for name, value in named.missing(whose).items()]
+        if lines:
+            self.append("".join(f"{line},{checksum(line)}\n" for line in lines).encode())
+            self.sync()
 
     def mark(self, life: int, moment_ms: int, utc_ms: int, uncertainty_ms: int, source: str) -> None:
         """Appends a mark, and syncs. ValueError if the values are no mark."""
@@ -216,6 +238,8 @@ class Times:
     path: Path
     drift_ppm: int
     marks: list[Mark] = field(default_factory=list)
+    whose: Identity = Identity()
+    """Whose the marks are, by their file."""
     lives: dict[int, Life] = field(default_factory=dict)
     left_out: list[str] = field(default_factory=list)
     """The marks that aren't used, each with the reason."""
@@ -223,8 +247,8 @@ class Times:
     @classmethod
     def of(cls, journal: Journal, path: Path, drift_ppm: int = DRIFT_PPM) -> Self:
         """The marks in a file, for a journal."""
-        marks, wrong, cut = read_marks(path)
-        found = cls(path, drift_ppm, marks, left_out=wrong)
+        marks, wrong, cut, whose = read_marks(path)
+        found = cls(path, drift_ppm, marks, whose, left_out=wrong)
         bounds: dict[int, list[Bound]] = {}
         for mark in marks:
             life, bound = found.bound(journal, mark)
@@ -267,7 +291,8 @@ class Times:
 
     def note(self) -> str:
         """The note of each output."""
-        return f"{NOTE.format(name=shown(self.path.name))}; the unit's clock is taken to run off by {self.drift_ppm} ppm at most"
+        return (f"{NOTE.format(name=shown(self.path.name))}; the unit's clock is taken to run off by {self.drift_ppm} ppm at most; "
+                f"whose they are: {self.whose.text()}")
 
 
 def columns(journal: Journal) -> Json:
@@ -283,3 +308,18 @@ def marks_of(image: Path, named: Path | None) -> Path | None:
         return named
     path = image.with_name(image.name + ENDING)
     return path if path.exists() else None
+
+
+def check_marks(image: Path, marks: Path, left: str) -> None:
+    """Refuses marks of another unit or vehicle than the image."""
+    check([*known([image]), (marks, read_marks(marks)[3])], left)
+
+
+def known_with_marks(paths: Iterable[Path]) -> Iterator[tuple[Path, Identity]]:
+    """Whose images, archives and the marks next to them are, where files say it. Marks that can't be read say nothing."""
+    for path in paths:
+        yield from known([path])
+        marks = marks_of(path, None)
+        if marks is not None:
+            with contextlib.suppress(Failed):
+                yield marks, read_marks(marks)[3]

@@ -10,8 +10,8 @@ from operator import itemgetter
 
 from .. import guard
 from ..guard import Direction
-from ..testing.track_messages import Group, links_of, packets_of
 from ..unit import Mode
+from .groups import Group, direction, links_of, packets_of
 from .played_image import MODES
 from .reading import Journal, Json
 
@@ -33,7 +33,7 @@ def directions(records: Sequence[Json]) -> dict[int, Direction]:
     for group, telegrams in groupby(read, group_of):
         passed = list(telegrams)
         places = list(dict.fromkeys(one["decoded"]["header"]["N_PIG"] for one in passed))
-        nominal = int(places[0] < places[1]) if len(places) > 1 else announced.get(group)
+        nominal = direction(places, announced.get(group))
         if nominal is not None:
             found |= {one["event"]: Direction(nominal) for one in passed}
         for one in passed:
@@ -51,9 +51,9 @@ def rows(journal: Journal) -> Iterator[Json]:
         for before, record in pairwise(records):
             if record["kind"] != "telegram" or record["event"] != before["event"] + 1:
                 continue
-            direction = passed.get(record["event"], Direction.NOT_KNOWN)
-            for one in guard.demands(bytes.fromhex(record["telegram"]), MODE_OF[before["mode"]], direction,
+            known = passed.get(record["event"], Direction.NOT_KNOWN)
+            for one in guard.demands(bytes.fromhex(record["telegram"]), MODE_OF[before["mode"]], known,
                                      overridden="overridden" in before["indications"]):
-                yield {"event": record["event"], "life": life, "mode": before["mode"], "direction": direction.name.lower(),
+                yield {"event": record["event"], "life": life, "mode": before["mode"], "direction": known.name.lower(),
                        "demanded": one.demanded.name.lower(), "finding": one.finding.name.lower(), "packet": one.packet,
                        "section": one.section, "sureness": one.sureness.name.lower()}

@@ -251,7 +251,7 @@ def page(journal: Journal, extent: Extent = Extent(), progress: Progress = silen
     found, usual = interventions(table, is_newest_first)
     readings = tables.some_of(table, table["kind"] == "odometer", ("event", "speed_kmh"))
     fastest, over = top_of(readings, "speed_kmh"), top_of(table, "over_limit_kmh")
-    most = found.head(MOST_LISTED)
+    most = tables.worst_first(found).head(MOST_LISTED)
     chosen = in_order(farthest(found), is_newest_first) if len(table) > SHORT else found.head(0)
     most = most.assign(limit_text=[limit_text(table, row) for row in most["first_row"]])
     linked = {int(row) for row in chosen["first_row"]} | {top["row"] for top in (fastest, over) if top}

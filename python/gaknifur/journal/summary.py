@@ -60,6 +60,8 @@ class Brief:
     """The first listed event of the last life."""
     intervention: Json | None
     """The last brake intervention that didn't begin with a power-up."""
+    worst: Json | None
+    """The intervention with the emergency brake, or else with the service brake, that was farthest above the limit; None if that is the last one."""
     trips: list[Json]
     """The last trips, the newest first: where each was entered, and why."""
     more_trips: int
@@ -70,7 +72,7 @@ class Brief:
     @property
     def rows(self) -> set[int]:
         """The rows that it links to."""
-        found = {trip["row"] for trip in self.trips} | {one["row"] for one in (self.last, self.intervention) if one}
+        found = {trip["row"] for trip in self.trips} | {one["row"] for one in (self.last, self.intervention, self.worst) if one}
         return {int(row) for row in found}
 
 
@@ -89,10 +91,13 @@ def brief(journal: Journal, table: pd.DataFrame, found: pd.DataFrame) -> Brief:
         row = table.index[-1]
         last = {name: table[name].at[row] for name in LAST} | {"row": row}
     braked = found[found["kind"] != "powerup"]
-    intervention = braked.iloc[-1].to_dict() | {"row": braked["first_row"].iat[-1]} if len(braked) else None
+    intervention, worst = (one.iloc[at].to_dict() | {"row": one["first_row"].iat[at]} if len(one) else None
+                           for one, at in ((braked, -1), (tables.worst_first(braked), 0)))
+    if worst and intervention and worst["row"] == intervention["row"]:
+        worst = None
     entered = tables.trips(table)[::-1]
     of_life = table["event"][table["life"] == last["life"]] if last else table["event"]
     unobeyed = unused_packets.summary(table["not_obeyed"])
     trips = [trip_row(table, row) for row in entered[:MOST_TRIPS]]
-    return Brief(verdict.of(journal), last, int(of_life.iat[0]) if len(of_life) else None, intervention, trips,
+    return Brief(verdict.of(journal), last, int(of_life.iat[0]) if len(of_life) else None, intervention, worst, trips,
                  len(entered) - len(trips), newest(journal, table), unobeyed.text() if unobeyed.packets else None)

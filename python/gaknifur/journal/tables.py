@@ -268,6 +268,12 @@ def intervention(table: pd.DataFrame, brake: Any, first: int, last: int) -> Json
         "causes_not_known": value("causes_not_known", first)}
 
 
+def worst_first(found: pd.DataFrame) -> pd.DataFrame:
+    """Interventions: those with the emergency brake first, and of each brake those farthest above the limit first."""
+    over = pd.to_numeric(found["most_over_kmh"]).astype(float).fillna(-np.inf).to_numpy()
+    return found.iloc[np.lexsort((-over, found["worst"].to_numpy(object) != "emergency"))]
+
+
 def trips(table: pd.DataFrame) -> Any:
     """The rows of the records that entered Trip."""
     mode = before(table, "mode")

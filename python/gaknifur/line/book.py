@@ -6,6 +6,7 @@ from dataclasses import dataclass, field
 from pathlib import Path
 
 from .. import program
+from ..journal.groups import Group as Identity
 from ..journal.reading import Json
 from ..journal.reading import read as read_journal
 from ..journal.wording import MODES
@@ -16,7 +17,6 @@ from ..simulation.drives import Drive, Driver
 from ..testing import cases, scenarios
 from ..testing.scenarios import Scenario
 from ..testing.telegrams import telegram
-from ..testing.track_messages import Group as Identity
 from ..yaml_files import Value, document, shortened
 
 OTHER_MODES = ("SR", "SH", "UN", "SB", "TR", "PT")

@@ -10,12 +10,13 @@ from pathlib import Path
 
 from ..escaping import shown
 from ..journal import causes
+from ..journal.groups import links_of, name_of
 from ..journal.reading import Json, Progress, parsed
 from ..program import Run
 from ..testing import cases, course, lint, track_checks
 from ..testing.course import Event
 from ..testing.track_checks import RESTRICTING, Judged, metres
-from ..testing.track_messages import Message, Walked, links_of, name_of, walk
+from ..testing.track_messages import Message, Walked, walk
 from ..yaml_files import Value
 from . import lives
 from .book import LINE, Book, Explained, Group, km

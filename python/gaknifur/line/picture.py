@@ -6,10 +6,11 @@ from collections.abc import Callable, Iterator
 from typing import Any
 
 from ..journal.charts import END, INK, QUIET, SPEED, STYLE, svg_of
+from ..journal.groups import Packet
 from ..journal.matplotlib_defaults import Figure, FigureCanvasSVG, plain
 from ..journal.wording import kmh
 from ..testing.track_checks import gradients_of
-from ..testing.track_messages import NO_SPEED, Packet, Walked, speed_of
+from ..testing.track_messages import NO_SPEED, Walked, speed_of
 from .findings import SUPERVISED, Checked
 from .lives import Life
 

@@ -9,12 +9,13 @@ from dataclasses import dataclass, field
 from itertools import pairwise
 
 from ..journal.causes import Known as Causes, known as causes_of, rows_of
+from ..journal.groups import Link, Packet
 from ..journal.reading import Journal, Json
 from . import coverage_sets
 from .course import Event
 from .coverage_sets import ACKNOWLEDGED, ACTIONS, BOTH, IN_ANOTHER_MODE, ITEM, NOT_STANDING, SECOND, Action
 from .mode_table import mode_table
-from .track_messages import ALWAYS, NOW, Known, Link, Message, Packet, Walk
+from .track_messages import ALWAYS, NOW, Known, Message, Walk
 
 LEVEL_OF = {0: 0, 2: 1}
 """M_LEVELTR of the levels that the train can run in."""

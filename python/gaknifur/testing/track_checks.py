@@ -10,13 +10,14 @@ from itertools import pairwise
 
 from .. import guard, unit
 from ..journal import unused_packets
+from ..journal.groups import Link, Packet, links_of, name_of
 from ..journal.reading import Json
 from ..journal.wording import kmh
 from ..simulation.drives import Drive
 from .course import DRIVE, Event
 from .telegrams import WIDTH, packets_in
-from .track_messages import (NATIONAL_SPEED, NEAR_CM, NONE, ONBOARD, ON_SIGHT, SHUNTING, TRIP, Area, Known, Link, Message,
-                             National, Packet, Restriction, Train, Walked, links_of, name_of, rounded_up, speed_of)
+from .track_messages import (NATIONAL_SPEED, NEAR_CM, NONE, ONBOARD, ON_SIGHT, SHUNTING, TRIP, Area, Known, Message, National,
+                             Restriction, Train, Walked, rounded_up, speed_of)
 
 RESTRICTING = (3, 12, 27, 41, 65, 80)
 """Packets that may restrict: if one is lost, something is allowed that it would have forbidden."""

@@ -6,13 +6,11 @@ the records of the kernel.
 from collections.abc import Iterable, Sequence
 from dataclasses import dataclass, field, replace
 
+from ..journal.groups import Group, Link, Packet, direction, links_of, name_of, packets_of
 from ..journal.reading import Json
-from ..journal.wording import SCALES_CM
 from .course import Event
 
 NEAR_CM, NO_END, NOW = 1_300, 32_767, 32_767
-INFILL = 136
-"""The packet that ends the used part of a telegram."""
 BY_AUTHORITY = ("FS", "OS")
 """The modes that keep announced groups, authority, profiles and areas; entering any other mode deletes them."""
 USED = {"SH": (3, 65, 66), "TR": (3, 65, 66), "PT": (3, 41, 65, 66), "SF": ()}
@@ -23,8 +21,6 @@ TRIP, SERVICE, NONE = 0, 1, 2
 NATIONAL_SPEED, ONBOARD, NO_SPEED = 127, 126, 127
 ALWAYS = 255
 """A restriction of this number isn't revoked."""
-Group = tuple[int, int]
-"""NID_C and NID_BG."""
 
 
 def rounded_up(part: int, whole: int) -> int:
@@ -40,60 +36,6 @@ def uncertainty(fixed_cm: int, fixed_path_cm: int, path_cm: int) -> int:
 def speed_of(steps: int) -> int:
     """Steps of 5 km/h in m/h."""
     return 5_000 * steps
-
-
-@dataclass(frozen=True)
-class Packet:
-    """A packet, and the pointer of its telegram."""
-
-    number: int
-    fields: tuple[tuple[str, int], ...]
-    pointer: str
-
-    def get(self, name: str) -> int | None:
-        """A variable that occurs once; None if the packet doesn't have it."""
-        return next((number for one, number in self.fields if one == name), None)
-
-    def value(self, name: str) -> int:
-        """A variable that the packet has."""
-        number = self.get(name)
-        assert number is not None
-        return number
-
-    def all(self, name: str) -> list[int]:
-        """All values of a variable that occurs in a list."""
-        return [number for one, number in self.fields if one == name]
-
-    def cm(self, distance: int) -> int:
-        """A distance in the packet's scale."""
-        return distance * SCALES_CM[self.value("Q_SCALE")]
-
-    def elements(self, first: str) -> list[dict[str, int]]:
-        """The elements of a list, each beginning with the variable `first`."""
-        found: list[dict[str, int]] = []
-        for name, number in self.fields:
-            if name == first:
-                found.append({})
-            if found:
-                found[-1].setdefault(name, number)
-        return found
-
-    @property
-    def end_cm(self) -> int:
-        """The distance from the group to the end of an authority (packet 12)."""
-        return self.cm(sum(self.all("L_SECTION") + self.all("L_ENDSECTION")))
-
-
-@dataclass(frozen=True)
-class Link:
-    """An announced group, its place and its accuracy."""
-
-    group: Group
-    place_cm: int
-    accuracy_cm: int
-    nominal: int
-    reaction: int
-    pointer: str
 
 
 @dataclass(frozen=True)
@@ -265,31 +207,17 @@ class Message:
     @property
     def nominal(self) -> int | None:
         """The direction in which it was passed; None if fewer than two balises were read."""
-        if len(self.reads) < 2:
-            return None
-        return int(self.reads[0].header["N_PIG"] < self.reads[1].header["N_PIG"])
+        return self.passed(None)
+
+    def passed(self, announced: int | None) -> int | None:
+        """The direction in which it was passed, if it was announced in this one."""
+        return direction([read.header["N_PIG"] for read in self.reads], announced)
 
     @property
     def own(self) -> list[Packet]:
         """All packets that it sends, by number, used or not."""
         reads = sorted(self.reads, key=lambda read: read.header["N_PIG"])
         return sorted((packet for read in reads for packet in read.packets), key=lambda packet: packet.number)
-
-
-def name_of(group: Group) -> str:
-    """A group, as text."""
-    return f"{group[0]}/{group[1]}"
-
-
-def packets_of(decoded: Json, pointer: str) -> tuple[Packet, ...]:
-    """The known packets of a telegram before infill."""
-    found: list[Packet] = []
-    for packet in decoded["packets"]:
-        if packet["packet"] == INFILL:
-            break
-        if "skipped_bits" not in packet:
-            found.append(Packet(packet["packet"], tuple((name, number) for name, number in packet["fields"]), pointer))
-    return tuple(found)
 
 
 @dataclass(frozen=True)
@@ -427,7 +355,7 @@ class Walk:
             is_used = False
         makes_fix = is_used and (link is not None or self.known.is_free)
         place = link.place_cm if link and is_used else first.estimate_cm
-        nominal = link.nominal if link and message.nominal is None else message.nominal
+        nominal = message.passed(link.nominal if link else None)
         packets = tuple(packet for packet in message.own if is_used and packet.number in USED.get(mode, (packet.number,))
                         and packet.value("Q_DIR") in (2, nominal))
         message = replace(message, link=link, is_used=is_used, makes_fix=makes_fix, place_cm=place, mode=mode, direction=nominal,
@@ -479,15 +407,6 @@ def national_of(packet: Packet, country: int) -> National:
     """The values of a packet 3, for the countries that it lists and that of its group."""
     return National(speed_of(packet.value("V_NVSHUNT")), speed_of(packet.value("V_NVSTFF")), speed_of(packet.value("V_NVREL")),
                     speed_of(packet.value("V_NVSUPOVTRP")), (*packet.all("NID_C"), country), speed_of(packet.value("V_NVALLOWOVTRP")))
-
-
-def links_of(packet: Packet, country: int, place: int) -> Iterable[Link]:
-    """The groups that a packet 5 announces. Each distance counts from the group before; a missing country is that of the group before."""
-    for link in packet.elements("D_LINK"):
-        place += packet.cm(link["D_LINK"])
-        country = link.get("NID_C", country)
-        yield Link((country, link["NID_BG"]), place, 100 * link["Q_LOCACC"], link["Q_LINKORIENTATION"], link["Q_LINKREACTION"],
-                   packet.pointer)
 
 
 def speeds_end(packet: Packet, place: int) -> int | None:

@@ -74,7 +74,7 @@ export const BRAKED = {
     noTrain: "no train data",
     trip: (event: string): string => `trip at event ${event}`,
     more: (shown: string, all: string): string => `The last ${shown} of ${all}.`,
-    nothing: "There is nothing to draw: the train stands, or there are too few readings.",
+    nothing: "Nothing to draw: the train stands, or few readings.",
     title: (what: string, events: string): string => `Speed over ${what}, events ${events}`,
 };
 
